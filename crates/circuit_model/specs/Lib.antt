@@ -1,0 +1,5 @@
+pub mod Names
+pub mod Values
+pub mod Runs
+pub mod Soundness
+pub mod Text

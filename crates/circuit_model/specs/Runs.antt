@@ -1,0 +1,90 @@
+-- A circuit as a machine: its steps, its start states, its runs, and when one circuit refines another.
+-- Source: BLIF appendix of the SIS report (UCB/ERL M92/41), `.latch` and `.exdc`; De Micheli, "Synthesis and
+-- Optimization of Digital Circuits", chapter 9 (synchronous circuits as finite-state machines).
+-- A leaf is an input or a latch output. A state has a bit for each latch, an input row one for each input.
+use Rattle.std.specs.Prelude.{◌≡◌, ℕ, zero, suc, Bool, true, false, Option, Some, None, List, [], ◌∷◌, map, length, bytes_eq, is_some, ◌&&◌, if◌then◌else◌}
+use Rattle.std.specs.List.{AllZip, AllByRecursion}
+use Rattle.circuit_model.specs.Values.{Leaves, driver, signal_value}
+use Rattle.circuit_model.specs.declared.circuit.Tri.{Tri}
+use Rattle.circuit_model.specs.declared.circuit.Tri.TheVariants.{Zero, One, Free}
+use Rattle.circuit_model.specs.declared.circuit.Latch.{Latch}
+use Rattle.circuit_model.specs.declared.circuit.Circuit.{Circuit}
+
+-- the bit that stands at a name's place
+unfoldable pub bit_of : List (List ℕ) → List Bool → List ℕ → Option Bool
+bit_of [] bits name = None
+bit_of (first ∷ names) [] name = None
+bit_of (first ∷ names) (bit ∷ bits) name = if bytes_eq name first then Some bit else bit_of names bits name
+
+abbrev pub first_of : Option Bool → Option Bool → Option Bool
+first_of (Some bit) other = Some bit
+first_of None other = other
+
+abbrev pub latch_outputs : Circuit → List (List ℕ)
+latch_outputs circuit = map (λ (latch : Latch). latch.output) circuit.latches
+
+-- the leaves' bits in a state under an input row
+unfoldable pub leaves_of : Circuit → List Bool → List Bool → Leaves
+leaves_of circuit state row name = first_of (bit_of circuit.inputs row name) (bit_of (latch_outputs circuit) state name)
+
+-- the value of a signal of the circuit
+unfoldable pub value_in : Circuit → List Bool → List Bool → List ℕ → Bool
+value_in circuit state row signal = signal_value circuit.tables (leaves_of circuit state row) signal
+
+-- in the don't-care part a name is the part's own table where there is one, a leaf only where there is none
+unfoldable pub free_leaves : Circuit → List Bool → List Bool → Leaves
+free_leaves circuit state row name =
+    if is_some (driver circuit.dont_care name) then None else leaves_of circuit state row name
+
+-- an output is free where its don't-care table is 1
+unfoldable pub is_free : Circuit → List Bool → List Bool → List ℕ → Bool
+is_free circuit state row output =
+    is_some (driver circuit.dont_care output) && signal_value circuit.dont_care (free_leaves circuit state row) output
+
+abbrev pub tri_of : Bool → Tri
+tri_of true = One
+tri_of false = Zero
+
+unfoldable pub output_at : Circuit → List Bool → List Bool → List ℕ → Tri
+output_at circuit state row output =
+    if is_free circuit state row output then Free else tri_of (value_in circuit state row output)
+
+-- a step: the outputs at it, and the state after it, in which all latches have taken their inputs together
+unfoldable pub outputs_at : Circuit → List Bool → List Bool → List Tri
+outputs_at circuit state row = map (output_at circuit state row) circuit.outputs
+
+unfoldable pub next_state : Circuit → List Bool → List Bool → List Bool
+next_state circuit state row = map (λ (latch : Latch). value_in circuit state row latch.input) circuit.latches
+
+-- the outputs at each step from a state over a list of input rows
+unfoldable pub run : Circuit → List Bool → List (List Bool) → List (List Tri)
+run circuit state [] = []
+run circuit state (row ∷ rows) = outputs_at circuit state row ∷ run circuit (next_state circuit state row) rows
+
+-- a latch may start at a bit: at 0 and 1 where it says so, at either where it says 2 or 3
+abbrev pub may_start : ℕ → Bool → Type 0
+may_start zero bit = bit ≡ false
+may_start (suc zero) bit = bit ≡ true
+may_start init bit = Unit {0}
+
+-- the start states: a bit for each latch, each one at which the latch may start
+unfoldable pub IsStart : Circuit → List Bool → Type 0
+IsStart circuit state = AllZip (λ (latch : Latch) bit. may_start latch.init bit) circuit.latches state
+
+-- what the circuit shows meets what was asked for: the same bit wherever 0 or 1 was asked for
+abbrev pub Meets : Tri → Tri → Type 0
+Meets Free shown = Unit {0}
+Meets Zero shown = shown ≡ Zero
+Meets One shown = shown ≡ One
+
+unfoldable pub MeetsAll : List (List Tri) → List (List Tri) → Type 0
+MeetsAll asked shown = AllZip (AllZip Meets) asked shown
+
+-- a circuit refines another one: the ports have the same names in the same order, and for each start of the
+-- circuit there is a start of the other such that, for every list of input rows, its run meets the other's
+pub record Refines (asked circuit : Circuit) : Type 0 where
+  pub inputs : asked.inputs ≡ circuit.inputs
+  pub outputs : asked.outputs ≡ circuit.outputs
+  pub runs : (state : List Bool) → IsStart circuit state →
+      (start : List Bool) × IsStart asked start
+      × ((rows : List (List Bool)) → AllByRecursion (λ row. length row ≡ length circuit.inputs) rows → MeetsAll (run asked start rows) (run circuit state rows))

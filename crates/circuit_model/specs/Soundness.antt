@@ -1,0 +1,76 @@
+-- When a circuit is sound: what holds of every circuit that is read, and what every command keeps.
+-- Source: BLIF appendix of the SIS report (UCB/ERL M92/41): each signal has one driver, tables form no cycle,
+-- and all latches share one clock.
+use Rattle.std.specs.Prelude.{◌≡◌, ℕ, zero, suc, ◌≤◌, true, false, Option, Some, None, List, [], ◌∷◌, ◌++◌, map, flat_map, length, ◌||◌, codes, option_to_list}
+use Rattle.std.specs.List.{AllByRecursion}
+use Rattle.sis_base.specs.Written.{is_word}
+use Rattle.circuit_model.specs.Names.{has, all_different}
+use Rattle.circuit_model.specs.Values.{driver}
+use Rattle.circuit_model.specs.Runs.{latch_outputs}
+use Rattle.circuit_model.specs.declared.circuit.Tri.{Tri}
+use Rattle.circuit_model.specs.declared.circuit.Table.{Table}
+use Rattle.circuit_model.specs.declared.circuit.Latch.{Latch}
+use Rattle.circuit_model.specs.declared.circuit.Timing.{Timing}
+use Rattle.circuit_model.specs.declared.circuit.Circuit.{Circuit}
+
+abbrev pub outputs_of : List Table → List (List ℕ)
+outputs_of tables = map (λ (table : Table). table.output) tables
+
+abbrev pub latch_inputs : Circuit → List (List ℕ)
+latch_inputs circuit = map (λ (latch : Latch). latch.input) circuit.latches
+
+abbrev pub control_of : Option Timing → List (List ℕ)
+control_of None = []
+control_of (Some timing) = option_to_list timing.control
+
+-- the names that a table, or several, mention
+abbrev pub names_of : List Table → List (List ℕ)
+names_of tables = flat_map (λ (table : Table). table.output ∷ table.inputs) tables
+
+-- every name of a circuit
+unfoldable pub all_names : Circuit → List (List ℕ)
+all_names circuit =
+    circuit.name ∷ circuit.inputs ++ (circuit.outputs ++ (circuit.clocks ++ (control_of circuit.timing ++ (latch_outputs circuit
+    ++ (latch_inputs circuit ++ (names_of circuit.tables ++ names_of circuit.dont_care))))))
+
+-- all signals that something gives: inputs, latch outputs, table outputs
+unfoldable pub given : Circuit → List (List ℕ)
+given circuit = circuit.inputs ++ (latch_outputs circuit ++ outputs_of circuit.tables)
+
+-- all signals that something reads: a table, a latch, an output
+unfoldable pub taken : Circuit → List (List ℕ)
+taken circuit = flat_map (λ (table : Table). table.inputs) circuit.tables ++ (latch_inputs circuit ++ circuit.outputs)
+
+-- a table leads to another signal through tables in a number of steps, each from a table to one of its inputs
+unfoldable pub Leads : List Table → ℕ → List ℕ → List ℕ → Type 0
+Leads tables zero from to = from ≡ to
+Leads tables (suc steps) from to =
+    (table : Table) × (driver tables from ≡ Some table) × (next : List ℕ) × (has table.inputs next ≡ true) × Leads tables steps next to
+
+-- no table is reached from itself
+unfoldable pub IsAcyclic : List Table → Type 0
+IsAcyclic tables =
+    (signal : List ℕ) (steps : ℕ) → Leads tables (suc steps) signal signal → ⊥
+
+-- each row has one character for each input, and a table without rows has phase 1
+abbrev pub IsShaped : Table → Type 0
+IsShaped table = AllByRecursion (λ (row : List Tri). length row ≡ length table.inputs) table.rows × (table.rows ≡ [] → table.phase ≡ true)
+
+pub record IsSound (circuit : Circuit) : Type 0 where
+  pub words : AllByRecursion (λ name. is_word name ≡ true) (all_names circuit)
+  pub inputs_once : all_different circuit.inputs ≡ true
+  pub outputs_once : all_different circuit.outputs ≡ true
+  pub one_driver : all_different (given circuit) ≡ true
+  pub driven : AllByRecursion (λ name. has (given circuit) name ≡ true) (taken circuit)
+  pub inits : AllByRecursion (λ (latch : Latch). latch.init ≤ 3) circuit.latches
+  pub untimed : circuit.latches ≡ [] → circuit.timing ≡ None
+  pub shaped : AllByRecursion IsShaped circuit.tables
+  pub inputs_apart : AllByRecursion (λ (table : Table). all_different table.inputs ≡ true) circuit.tables
+  pub acyclic : IsAcyclic circuit.tables
+  pub free_control : AllByRecursion (λ name. has (latch_outputs circuit ++ outputs_of circuit.tables) name ≡ false) (control_of circuit.timing)
+  pub named_control : has (control_of circuit.timing) (codes "NIL") ≡ false
+  pub dont_care_once : all_different (outputs_of circuit.dont_care) ≡ true
+  pub dont_care_known : AllByRecursion (λ name. (has (outputs_of circuit.dont_care) name || has (circuit.inputs ++ latch_outputs circuit) name) ≡ true)
+      (flat_map (λ (table : Table). table.inputs) circuit.dont_care)
+  pub dont_care_acyclic : IsAcyclic circuit.dont_care
+  pub dont_care_shaped : AllByRecursion IsShaped circuit.dont_care

@@ -1,0 +1,15 @@
+//! Circuits: their types, what they mean as machines over bits, when they are sound, and their BLIF text.
+//!
+//! The types are those of a BLIF model (SIS report, UCB/ERL M92/41, appendix on BLIF): ports, latches of one
+//! clock step of delay, tables of rows, and the don't-care tables. `specs/` says what they mean: the value of
+//! a table (`Values`), the run of a circuit and when one circuit refines another (`Runs`), when a circuit is
+//! sound (`Soundness`), and its one text (`Text`). `laws` has the laws over these definitions, each the
+//! contract of a public call.
+#![tactic(auto)]
+
+mod circuit;
+pub mod laws;
+
+pub use circuit::{
+    Circuit, Kind, Latch, Latches, Name, Names, Row, Rows, Table, Tables, Timing, Tri,
+};
