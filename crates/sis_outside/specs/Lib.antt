@@ -1,0 +1,5 @@
+pub mod Counts
+pub mod Files
+pub mod Sink
+pub mod Source
+pub mod Store

@@ -1,0 +1,16 @@
+//! What the program sees of the outside: a store of files, a source and a sink of bytes, as traits.
+//!
+//! A contract sees an object of the outside as what it holds, where the object tells it, and as counts of
+//! what went wrong, which are kept in 64 bits. Each trait promises, after POSIX's read and write, what an
+//! answer says of the contents, what a failed call leaves, and that a fault comes only where its count
+//! rose. `MemStore`, `MemSource` and `MemSink` keep those promises in memory, and fail at the calls that
+//! were planned.
+#![tactic(auto)]
+
+mod sink;
+mod source;
+mod store;
+
+pub use sink::{PutFault, Sink};
+pub use source::{Source, TakeFault};
+pub use store::{LoadFault, SaveFault, Store};

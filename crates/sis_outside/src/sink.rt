@@ -1,0 +1,36 @@
+//! A sink of bytes, put piece by piece.
+
+ghost use Rattle.std.specs.Prelude.{◌≡◌, ℕ, Bool, IsTrue, List};
+ghost use Rattle.sis_outside.specs.Sink.{Puts, PutFaults};
+
+use thiserror::Error;
+
+/// Why a put did not write its piece.
+#[derive(Clone, Copy, Debug, PartialEq, Eq, Error)]
+pub enum PutFault {
+    /// The outside failed, and counted it.
+    #[error("the output failed")]
+    Failed,
+    /// Memory was wanting; nothing was written.
+    #[error("out of memory")]
+    Memory,
+}
+
+/// Bytes that are put behind one another.
+///
+/// Contracts see whether the sink tells its bytes, those that were written where it does, and how often
+/// it failed. No call changes whether it tells, and the count never falls.
+pub trait Sink {
+    ghost tells: { Self → Bool };
+    ghost written: { Self → List ℕ };
+    ghost faults: { Self → ℕ };
+
+    /// Writes the whole piece behind what was written before.
+    ///
+    /// After `Failed`, which comes only where the faults rose, a front of the piece is written. `Memory`
+    /// writes nothing.
+    fn put(&mut self, piece: &[u8]) -> Result<(), PutFault>
+        ensures tells { tells self.new ≡ tells self.old }
+        ensures puts { IsTrue (tells self.old) → Puts (written self.old) piece.now result (written self.new) }
+        ensures faults { PutFaults result (faults self.old) (faults self.new) };
+}

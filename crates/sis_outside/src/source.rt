@@ -1,0 +1,39 @@
+//! A source of bytes, taken piece by piece.
+
+ghost use Rattle.std.specs.Prelude.{◌≡◌, ℕ, ◌≤◌, Bool, IsTrue, List};
+ghost use Rattle.sis_outside.specs.Source.{Takes, IsTakeWithin, TakeFaults};
+
+use std::alloc::Global;
+use thiserror::Error;
+
+/// Why a take gave no piece.
+#[derive(Clone, Copy, Debug, PartialEq, Eq, Error)]
+pub enum TakeFault {
+    /// The outside failed, and counted it.
+    #[error("the input failed")]
+    Failed,
+    /// Memory was wanting; nothing was taken.
+    #[error("out of memory")]
+    Memory,
+}
+
+/// Bytes that are taken from the front.
+///
+/// Contracts see whether the source tells its bytes, those that are left where it does, and how often it
+/// failed. No call changes whether it tells, and the count never falls.
+pub trait Source {
+    ghost tells: { Self → Bool };
+    ghost left: { Self → List ℕ };
+    ghost faults: { Self → ℕ };
+
+    /// The next bytes, at least one and at most `max`, or none exactly at the end.
+    ///
+    /// After `Failed`, which comes only where the faults rose, at most `max` bytes are gone. `Memory`
+    /// takes nothing.
+    fn take(&mut self, alloc: Global, max: usize) -> Result<Vec<u8>, TakeFault>
+        requires { 1 ≤ max }
+        ensures tells { tells self.new ≡ tells self.old }
+        ensures takes { IsTrue (tells self.old) → Takes (left self.old) max result (left self.new) }
+        ensures within { IsTakeWithin max result }
+        ensures faults { TakeFaults result (faults self.old) (faults self.new) };
+}

@@ -1,0 +1,70 @@
+//! A store of files by name: whole files are loaded and saved.
+
+ghost use Rattle.std.specs.Prelude.{◌≡◌, ℕ, ◌-◌, ◌^◌, ◌<◌, Bool, IsTrue};
+ghost use Rattle.sis_outside.specs.Files.{Files, file_at};
+ghost use Rattle.sis_outside.specs.Store.{Loads, IsLoadWithin, LoadFaults, LoadMisses, Saves, SaveFaults};
+
+use std::alloc::Global;
+use thiserror::Error;
+
+/// Why a load gave no file.
+#[derive(Clone, Copy, Debug, PartialEq, Eq, Error)]
+pub enum LoadFault {
+    /// There is no file of this name.
+    #[error("no such file")]
+    Missing,
+    /// The file has more bytes than were asked for; the number is one more than those.
+    #[error("the file has {0} bytes or more")]
+    TooLong(usize),
+    /// The outside failed, and counted it.
+    #[error("the load failed")]
+    Failed,
+    /// Memory was wanting.
+    #[error("out of memory")]
+    Memory,
+}
+
+/// Why a save did not put its file in place.
+#[derive(Clone, Copy, Debug, PartialEq, Eq, Error)]
+pub enum SaveFault {
+    /// The outside failed, and counted it.
+    #[error("the save failed")]
+    Failed,
+    /// Memory was wanting; nothing has changed.
+    #[error("out of memory")]
+    Memory,
+}
+
+/// Files by name.
+///
+/// Contracts see whether the store tells its files, the files themselves where it does, how often it
+/// failed and how often a name was missed. No call changes whether it tells, and no count ever falls.
+pub trait Store {
+    ghost tells: { Self → Bool };
+    ghost files: { Self → Files };
+    ghost faults: { Self → ℕ };
+    ghost misses: { Self → ℕ };
+
+    /// The bytes of the file `name`, of which there are at most `max`; the files stay as they are.
+    ///
+    /// `Missing` comes only where there is no such file and the misses rose, `TooLong` with `max + 1`
+    /// only where the file has more bytes, and `Failed` only where the faults rose.
+    fn load(&mut self, alloc: Global, name: &str, max: usize) -> Result<Vec<u8>, LoadFault>
+        requires { max < 2 ^ 64 - 1 }
+        ensures tells { tells self.new ≡ tells self.old }
+        ensures kept { IsTrue (tells self.old) → files self.new ≡ files self.old }
+        ensures loads { IsTrue (tells self.old) → Loads (file_at (files self.old) name.now) max result }
+        ensures within { IsLoadWithin max result }
+        ensures faults { LoadFaults result (faults self.old) (faults self.new) }
+        ensures misses { LoadMisses result (misses self.old) (misses self.new) };
+
+    /// Puts a file of these bytes in place, of an old one of that name too; all other files stay.
+    ///
+    /// After `Failed`, which comes only where the faults rose, the file is as before or holds a front of
+    /// the bytes. `Memory` changes nothing.
+    fn save(&mut self, name: &str, bytes: &[u8]) -> Result<(), SaveFault>
+        ensures tells { tells self.new ≡ tells self.old }
+        ensures saves { IsTrue (tells self.old) → Saves (files self.old) name.now bytes.now result (files self.new) }
+        ensures faults { SaveFaults result (faults self.old) (faults self.new) }
+        ensures misses { misses self.new ≡ misses self.old };
+}
