@@ -2,9 +2,10 @@
 -- Source: BLIF appendix of the SIS report (UCB/ERL M92/41), `.latch` and `.exdc`; De Micheli, "Synthesis and
 -- Optimization of Digital Circuits", chapter 9 (synchronous circuits as finite-state machines).
 -- A leaf is an input or a latch output. A state has a bit for each latch, an input row one for each input.
-use Rattle.std.specs.Prelude.{◌≡◌, ℕ, zero, suc, Bool, true, false, Option, Some, None, List, [], ◌∷◌, map, length, bytes_eq, is_some, ◌&&◌, if◌then◌else◌}
+use Rattle.std.specs.Prelude.{◌≡◌, ℕ, zero, suc, Bool, true, false, Option, Some, None, List, [], ◌∷◌, map, length, bytes_eq, if◌then◌else◌}
 use Rattle.std.specs.List.{AllZip, AllByRecursion}
-use Rattle.circuit_model.specs.Values.{Leaves, driver, signal_value}
+use Rattle.std.specs.Option.{option_or}
+use Rattle.circuit_model.specs.Values.{Leaves, signal_value, is_free_under}
 use Rattle.circuit_model.specs.declared.circuit.Tri.{Tri}
 use Rattle.circuit_model.specs.declared.circuit.Tri.TheVariants.{Zero, One, Free}
 use Rattle.circuit_model.specs.declared.circuit.Latch.{Latch}
@@ -16,30 +17,20 @@ bit_of [] bits name = None
 bit_of (first ∷ names) [] name = None
 bit_of (first ∷ names) (bit ∷ bits) name = if bytes_eq name first then Some bit else bit_of names bits name
 
-abbrev pub first_of : Option Bool → Option Bool → Option Bool
-first_of (Some bit) other = Some bit
-first_of None other = other
-
 abbrev pub latch_outputs : Circuit → List (List ℕ)
 latch_outputs circuit = map (λ (latch : Latch). latch.output) circuit.latches
 
 -- the leaves' bits in a state under an input row
 unfoldable pub leaves_of : Circuit → List Bool → List Bool → Leaves
-leaves_of circuit state row name = first_of (bit_of circuit.inputs row name) (bit_of (latch_outputs circuit) state name)
+leaves_of circuit state row name = option_or (bit_of circuit.inputs row name) (bit_of (latch_outputs circuit) state name)
 
 -- the value of a signal of the circuit
 unfoldable pub value_in : Circuit → List Bool → List Bool → List ℕ → Bool
 value_in circuit state row signal = signal_value circuit.tables (leaves_of circuit state row) signal
 
--- in the don't-care part a name is the part's own table where there is one, a leaf only where there is none
-unfoldable pub free_leaves : Circuit → List Bool → List Bool → Leaves
-free_leaves circuit state row name =
-    if is_some (driver circuit.dont_care name) then None else leaves_of circuit state row name
-
 -- an output is free where its don't-care table is 1
 unfoldable pub is_free : Circuit → List Bool → List Bool → List ℕ → Bool
-is_free circuit state row output =
-    is_some (driver circuit.dont_care output) && signal_value circuit.dont_care (free_leaves circuit state row) output
+is_free circuit state row output = is_free_under circuit.dont_care (leaves_of circuit state row) output
 
 abbrev pub tri_of : Bool → Tri
 tri_of true = One
@@ -80,6 +71,10 @@ Meets One shown = shown ≡ One
 unfoldable pub MeetsAll : List (List Tri) → List (List Tri) → Type 0
 MeetsAll asked shown = AllZip (AllZip Meets) asked shown
 
+-- an input row has one bit for each input
+abbrev pub IsInputRow : Circuit → List Bool → Type 0
+IsInputRow circuit row = length row ≡ length circuit.inputs
+
 -- a circuit refines another one: the ports have the same names in the same order, and for each start of the
 -- circuit there is a start of the other such that, for every list of input rows, its run meets the other's
 pub record Refines (asked circuit : Circuit) : Type 0 where
@@ -87,4 +82,4 @@ pub record Refines (asked circuit : Circuit) : Type 0 where
   pub outputs : asked.outputs ≡ circuit.outputs
   pub runs : (state : List Bool) → IsStart circuit state →
       (start : List Bool) × IsStart asked start
-      × ((rows : List (List Bool)) → AllByRecursion (λ row. length row ≡ length circuit.inputs) rows → MeetsAll (run asked start rows) (run circuit state rows))
+      × ((rows : List (List Bool)) → AllByRecursion (IsInputRow circuit) rows → MeetsAll (run asked start rows) (run circuit state rows))

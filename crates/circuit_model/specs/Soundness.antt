@@ -1,7 +1,7 @@
 -- When a circuit is sound: what holds of every circuit that is read, and what every command keeps.
 -- Source: BLIF appendix of the SIS report (UCB/ERL M92/41): each signal has one driver, tables form no cycle,
 -- and all latches share one clock.
-use Rattle.std.specs.Prelude.{◌≡◌, ℕ, zero, suc, ◌≤◌, true, false, Option, Some, None, List, [], ◌∷◌, ◌++◌, map, flat_map, length, ◌||◌, codes, option_to_list}
+use Rattle.std.specs.Prelude.{◌≡◌, ℕ, zero, suc, ◌≤◌, true, false, Option, Some, None, List, [], ◌∷◌, ◌++◌, map, flat_map, length, codes, option_to_list}
 use Rattle.std.specs.List.{AllByRecursion}
 use Rattle.sis_base.specs.Written.{is_word}
 use Rattle.circuit_model.specs.Names.{has, all_different}
@@ -23,7 +23,7 @@ abbrev pub control_of : Option Timing → List (List ℕ)
 control_of None = []
 control_of (Some timing) = option_to_list timing.control
 
--- the names that a table, or several, mention
+-- the names that tables mention
 abbrev pub names_of : List Table → List (List ℕ)
 names_of tables = flat_map (λ (table : Table). table.output ∷ table.inputs) tables
 
@@ -33,21 +33,29 @@ all_names circuit =
     circuit.name ∷ circuit.inputs ++ (circuit.outputs ++ (circuit.clocks ++ (control_of circuit.timing ++ (latch_outputs circuit
     ++ (latch_inputs circuit ++ (names_of circuit.tables ++ names_of circuit.dont_care))))))
 
--- all signals that something gives: inputs, latch outputs, table outputs
+-- the leaves: inputs and latch outputs
+abbrev pub leaf_names : Circuit → List (List ℕ)
+leaf_names circuit = circuit.inputs ++ latch_outputs circuit
+
+-- the names that tables read
+abbrev pub table_inputs : List Table → List (List ℕ)
+table_inputs tables = flat_map (λ (table : Table). table.inputs) tables
+
+-- all signals that something drives: inputs, latch outputs, table outputs
 unfoldable pub given : Circuit → List (List ℕ)
 given circuit = circuit.inputs ++ (latch_outputs circuit ++ outputs_of circuit.tables)
 
 -- all signals that something reads: a table, a latch, an output
 unfoldable pub taken : Circuit → List (List ℕ)
-taken circuit = flat_map (λ (table : Table). table.inputs) circuit.tables ++ (latch_inputs circuit ++ circuit.outputs)
+taken circuit = table_inputs circuit.tables ++ (latch_inputs circuit ++ circuit.outputs)
 
--- a table leads to another signal through tables in a number of steps, each from a table to one of its inputs
+-- a signal leads to another one in a number of steps, each from a signal to an input of the table that drives it
 unfoldable pub Leads : List Table → ℕ → List ℕ → List ℕ → Type 0
 Leads tables zero from to = from ≡ to
 Leads tables (suc steps) from to =
     (table : Table) × (driver tables from ≡ Some table) × (next : List ℕ) × (has table.inputs next ≡ true) × Leads tables steps next to
 
--- no table is reached from itself
+-- no signal leads to itself in one step or more
 unfoldable pub IsAcyclic : List Table → Type 0
 IsAcyclic tables =
     (signal : List ℕ) (steps : ℕ) → Leads tables (suc steps) signal signal → ⊥
@@ -56,6 +64,13 @@ IsAcyclic tables =
 abbrev pub IsShaped : Table → Type 0
 IsShaped table = AllByRecursion (λ (row : List Tri). length row ≡ length table.inputs) table.rows × (table.rows ≡ [] → table.phase ≡ true)
 
+-- A circuit is sound where: its names are words; no port list names a signal twice; each signal has at most one
+-- driver, and exactly one where a table, latch or output reads it; each init is at most 3; there is timing only
+-- where a latch stands; each table's rows have one character for each input, and its phase is 1 where there are no
+-- rows; each own table has each input once; no table is reached from itself; no table or latch drives the control,
+-- and it is not named `NIL`, which means none; in the don't-care part no two tables have one output, each name
+-- that is read is one of the part's tables or a leaf, no table is reached from itself, and rows and phases are as
+-- above.
 pub record IsSound (circuit : Circuit) : Type 0 where
   pub words : AllByRecursion (λ name. is_word name ≡ true) (all_names circuit)
   pub inputs_once : all_different circuit.inputs ≡ true
@@ -63,14 +78,13 @@ pub record IsSound (circuit : Circuit) : Type 0 where
   pub one_driver : all_different (given circuit) ≡ true
   pub driven : AllByRecursion (λ name. has (given circuit) name ≡ true) (taken circuit)
   pub inits : AllByRecursion (λ (latch : Latch). latch.init ≤ 3) circuit.latches
-  pub untimed : circuit.latches ≡ [] → circuit.timing ≡ None
+  pub untimed_without_latches : circuit.latches ≡ [] → circuit.timing ≡ None
   pub shaped : AllByRecursion IsShaped circuit.tables
-  pub inputs_apart : AllByRecursion (λ (table : Table). all_different table.inputs ≡ true) circuit.tables
+  pub table_inputs_once : AllByRecursion (λ (table : Table). all_different table.inputs ≡ true) circuit.tables
   pub acyclic : IsAcyclic circuit.tables
-  pub free_control : AllByRecursion (λ name. has (latch_outputs circuit ++ outputs_of circuit.tables) name ≡ false) (control_of circuit.timing)
-  pub named_control : has (control_of circuit.timing) (codes "NIL") ≡ false
+  pub control_undriven : AllByRecursion (λ name. has (latch_outputs circuit ++ outputs_of circuit.tables) name ≡ false) (control_of circuit.timing)
+  pub control_not_nil : has (control_of circuit.timing) (codes "NIL") ≡ false
   pub dont_care_once : all_different (outputs_of circuit.dont_care) ≡ true
-  pub dont_care_known : AllByRecursion (λ name. (has (outputs_of circuit.dont_care) name || has (circuit.inputs ++ latch_outputs circuit) name) ≡ true)
-      (flat_map (λ (table : Table). table.inputs) circuit.dont_care)
+  pub dont_care_known : AllByRecursion (λ name. has (outputs_of circuit.dont_care ++ leaf_names circuit) name ≡ true) (table_inputs circuit.dont_care)
   pub dont_care_acyclic : IsAcyclic circuit.dont_care
   pub dont_care_shaped : AllByRecursion IsShaped circuit.dont_care

@@ -49,6 +49,7 @@ unfoldable pub timing_words : Option Timing → List (List ℕ)
 timing_words None = []
 timing_words (Some timing) = kind_word timing.kind ∷ control_word timing.control ∷ []
 
+-- 0 to 3; a sound circuit has no other
 abbrev pub init_word : ℕ → List ℕ
 init_word zero = codes "0"
 init_word (suc zero) = codes "1"

@@ -1,8 +1,8 @@
 -- What a table and a signal are worth.
--- Source: BLIF appendix of the SIS report (UCB/ERL M92/41), `.names`; De Micheli, "Synthesis and Optimization
+-- Source: BLIF appendix of the SIS report (UCB/ERL M92/41), `.names` and `.exdc`; De Micheli, "Synthesis and Optimization
 -- of Digital Circuits", chapter 8 (logic networks): the value of a node is that of its local function at the
 -- values of its fan-ins.
-use Rattle.std.specs.Prelude.{ℕ, zero, suc, Bool, true, false, Option, Some, None, List, map, find, length, bytes_eq, unwrap_or}
+use Rattle.std.specs.Prelude.{ℕ, zero, suc, Bool, true, false, Option, Some, None, List, map, find, length, bytes_eq, unwrap_or, is_some, ◌&&◌, if◌then◌else◌}
 use Rattle.sis_base.specs.Rows.{value_by_phase}
 use Rattle.circuit_model.specs.declared.circuit.Tri.{Tri}
 use Rattle.circuit_model.specs.declared.circuit.Tri.TheVariants.{Zero, One, Free}
@@ -41,3 +41,11 @@ value_to tables leaves (suc depth) signal =
 -- the value of a signal: to the depth that is the number of tables
 unfoldable pub signal_value : List Table → Leaves → List ℕ → Bool
 signal_value tables leaves signal = value_to tables leaves (length tables) signal
+
+-- in the don't-care part a name is the part's own table where there is one, a leaf only where there is none
+unfoldable pub dont_care_leaves : List Table → Leaves → Leaves
+dont_care_leaves part leaves name = if is_some (driver part name) then None else leaves name
+
+-- whether an output is free: it has a don't-care table, and that is 1
+unfoldable pub is_free_under : List Table → Leaves → List ℕ → Bool
+is_free_under part leaves output = is_some (driver part output) && signal_value part (dont_care_leaves part leaves) output

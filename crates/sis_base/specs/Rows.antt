@@ -11,7 +11,8 @@ agrees None bit = true
 agrees (Some true) bit = bit
 agrees (Some false) bit = not bit
 
--- a row matches a point where each of its literals agrees with the point's bit
+-- a row matches a point where each of its literals agrees with the point's bit; row and point are of one width
+-- (places past the end of the shorter one do not count)
 unfoldable pub matches : List (Option Bool) → List Bool → Bool
 matches [] point = true
 matches (place ∷ places) [] = true

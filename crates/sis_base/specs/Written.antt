@@ -30,7 +30,7 @@ ends_open (byte ∷ next ∷ bytes) = ends_open (next ∷ bytes)
 unfoldable pub line_end : List ℕ → List ℕ
 line_end text = if ends_open text then 32 ∷ 10 ∷ [] else 10 ∷ []
 
--- a word behind another, with one blank between
+-- a word with a blank before it
 abbrev pub spaced : List ℕ → List ℕ
 spaced word = 32 ∷ word
 

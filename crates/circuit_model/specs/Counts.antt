@@ -1,0 +1,36 @@
+-- How large a circuit is: its literals, and the limits that every circuit that is read keeps.
+-- Source: De Micheli, "Synthesis and Optimization of Digital Circuits", chapter 8: literals measure the size of a
+-- logic network. The limits are the project's own.
+use Rattle.std.specs.Prelude.{ℕ, ◌+◌, ◌≤◌, Bool, true, false, List, length, count_by, sum_by}
+use Rattle.std.specs.List.{AllByRecursion}
+use Rattle.circuit_model.specs.declared.circuit.Tri.{Tri}
+use Rattle.circuit_model.specs.declared.circuit.Tri.TheVariants.{Zero, One, Free}
+use Rattle.circuit_model.specs.declared.circuit.Table.{Table}
+use Rattle.circuit_model.specs.declared.circuit.Circuit.{Circuit}
+
+-- a literal is a character of a row that is no dash
+abbrev pub is_literal : Tri → Bool
+is_literal Zero = true
+is_literal One = true
+is_literal Free = false
+
+unfoldable pub literals_of_row : List Tri → ℕ
+literals_of_row row = count_by is_literal row
+
+unfoldable pub literals_of_table : Table → ℕ
+literals_of_table table = sum_by literals_of_row table.rows
+
+-- the literals in all rows of all tables outside the don't-care part
+unfoldable pub literals_of : Circuit → ℕ
+literals_of circuit = sum_by literals_of_table circuit.tables
+
+-- a table of at most 32,767 rows over at most 1,000 inputs, each row with a character for each
+pub record IsSmallTable (table : Table) : Type 0 where
+  pub rows : length table.rows ≤ 32767
+  pub inputs : length table.inputs ≤ 1000
+  pub widths : AllByRecursion (λ (row : List Tri). length row ≤ 1000) table.rows
+
+-- at most 65,535 tables and latches, those of the don't-care part with them, and each table small
+pub record IsWithinLimits (circuit : Circuit) : Type 0 where
+  pub nodes : length circuit.tables + length circuit.latches + length circuit.dont_care ≤ 65535
+  pub tables : AllByRecursion IsSmallTable circuit.tables
