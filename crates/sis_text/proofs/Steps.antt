@@ -1,5 +1,7 @@
 -- One step of each walk over a text, and its end, as loops take them.
-use Rattle.std.proofs.Common.{◌≡◌, ℕ, ◌+◌, ◌<◌, ◌≤◌, Bool, true, false, cond, List, [], ◌∷◌, ◌++◌, length, get_or, drop, refl, eqb, add_assoc, ◌&&◌, not}
+use Rattle.std.proofs.Common.{◌≡◌, ℕ, ◌+◌, ◌<◌, ◌≤◌, Bool, true, false, cond, List, [], ◌∷◌, ◌++◌, length, get_or, drop, refl, eqb, add_assoc, ◌&&◌, not, take, ap}
+use Rattle.std.specs.List.{take_while}
+use Rattle.std.proofs.lemmas.List.Folds.{length-prefix_len}
 use Rattle.std.proofs.lemmas.List.{drop_more, drop_all}
 use Rattle.sis_text.specs.declared.places.Span.{Span}
 use Rattle.sis_text.specs.Words.{is_blank, word_len, words_from, part_len, parts_from}
@@ -19,3 +21,7 @@ parts_more mark place i after_mark xs h = rw (drop_more xs i 0 h, add_assoc plac
 pub parts_done : (mark place i : ℕ) (after_mark : Bool) (xs : List ℕ) → length xs ≤ i → parts_from mark (place + i) after_mark (drop i xs) ≡ []
 unfolding parts_from
 parts_done mark place i after_mark xs h = rw (drop_all i xs h) refl
+
+-- as many elements as pass at the front are those that pass
+pub front_taken : (p : ℕ → Bool) (xs : List ℕ) → take (length (take_while p xs)) xs ≡ take_while p xs
+front_taken p xs = ap (λ n. take n xs) (length-prefix_len p xs)

@@ -4,8 +4,12 @@
 //! M92/41): comments from `#` on, lines joined by a `\` at the end, words parted by blanks.
 #![tactic(auto)]
 
+mod joining;
 mod parting;
 mod places;
+mod scripts;
+
 
 pub use parting::words;
 pub use places::{Line, Lines, Span, Spans, bytes_at};
+pub use scripts::script_pieces;

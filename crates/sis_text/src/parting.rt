@@ -33,7 +33,7 @@ fn part_len(mark: u8, bytes: &[u8]) -> usize
 
 /// Puts the words of `line`, whose bytes stand from `place` on, behind `found`.
 #[tactic(auto, using(crate::proofs::Steps::words_more, crate::proofs::Steps::words_done, std::proofs::lemmas::Grind::common_steps))]
-fn add_words(found: &mut Spans, place: usize, line: &[u8]) -> Result<(), AllocFailed<Span>>
+pub fn add_words(found: &mut Spans, place: usize, line: &[u8]) -> Result<(), AllocFailed<Span>>
     requires { place + length line.now < 2 ^ 64 }
     ensures { OnOk result (found.new ≡ found.old ++ words_from place true line.now) }
 {
@@ -50,7 +50,7 @@ fn add_words(found: &mut Spans, place: usize, line: &[u8]) -> Result<(), AllocFa
 
 /// Puts the parts of `text` between marks, whose bytes stand from `place` on, behind `found`.
 #[tactic(auto, using(crate::proofs::Steps::parts_more, crate::proofs::Steps::parts_done, std::proofs::lemmas::Grind::common_steps))]
-fn add_parts(found: &mut Spans, mark: u8, place: usize, text: &[u8]) -> Result<(), AllocFailed<Span>>
+pub fn add_parts(found: &mut Spans, mark: u8, place: usize, text: &[u8]) -> Result<(), AllocFailed<Span>>
     requires { place + length text.now < 2 ^ 64 }
     ensures { OnOk result (found.new ≡ found.old ++ parts_from mark place true text.now) }
 {
@@ -70,5 +70,14 @@ pub fn words(alloc: Global, line: &[u8]) -> Result<Spans, AllocError>
 {
     let mut found = Sequence::new(alloc);
     add_words(&mut found, 0, line)?;
+    Ok(found)
+}
+
+/// The parts of a text between marks, as spans of it; an error only for want of memory.
+pub fn parts(alloc: Global, mark: u8, text: &[u8]) -> Result<Spans, AllocError>
+    ensures { IfOk result (λ found. found ≡ parts_from mark 0 true text.now) }
+{
+    let mut found = Sequence::new(alloc);
+    add_parts(&mut found, mark, 0, text)?;
     Ok(found)
 }
