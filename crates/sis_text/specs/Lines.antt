@@ -1,7 +1,7 @@
 -- The logical lines of a text: comments cut, lines joined, words as spans of the text.
 -- Source: "Berkeley Logic Interchange Format (BLIF)", appendix of the SIS report (UCB/ERL M92/41): `#`
 -- begins a comment, a `\` at the end of a line joins the next one.
-use Rattle.std.specs.Prelude.{ℕ, ◌+◌, ◌-◌, ◌==◌, not, Bool, true, Option, Some, None, false, List, [], ◌∷◌, ◌++◌, length, take, slice_index, if◌then◌else◌}
+use Rattle.std.specs.Prelude.{ℕ, ◌+◌, ◌-◌, ◌==◌, not, Bool, true, false, List, [], ◌∷◌, ◌++◌, length, take, slice_index, if◌then◌else◌}
 use Rattle.std.specs.List.{take_while, suffix_len, filter}
 use Rattle.sis_text.specs.declared.places.Span.{Span}
 use Rattle.sis_text.specs.declared.places.Line.{Line}
@@ -48,11 +48,6 @@ joined source number (line ∷ lines) =
     if is_open (kept (bytes_at source line))
     then before number (words_at source line) (joined source (number + 1) lines)
     else (record { number = number; words = words_at source line } ∷ joined source (number + 1) lines)
-
--- lines to which a line that has begun goes first
-unfoldable pub resume : Option Line → List Line → List Line
-resume None lines = lines
-resume (Some begun) lines = before begun.number begun.words lines
 
 -- lines without words are read past
 unfoldable pub has_words : Line → Bool

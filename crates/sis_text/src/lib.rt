@@ -9,7 +9,7 @@ mod parting;
 mod places;
 mod scripts;
 
-
+pub use joining::logical_lines;
 pub use parting::words;
 pub use places::{Line, Lines, Span, Spans, bytes_at};
 pub use scripts::script_pieces;
