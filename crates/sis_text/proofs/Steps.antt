@@ -1,10 +1,12 @@
 -- One step of each walk over a text, and its end, as loops take them.
-use Rattle.std.proofs.Common.{◌≡◌, ℕ, ◌+◌, ◌<◌, ◌≤◌, Bool, true, false, cond, List, [], ◌∷◌, ◌++◌, length, get_or, drop, refl, eqb, add_assoc, ◌&&◌, not, take, ap}
-use Rattle.std.specs.List.{take_while}
+use Rattle.std.proofs.Common.{◌≡◌, ℕ, ◌+◌, ◌<◌, ◌≤◌, Bool, true, false, cond, List, [], ◌∷◌, ◌++◌, length, get_or, drop, refl, eqb, add_assoc, ◌&&◌, not, take, ap, map}
+use Rattle.std.specs.List.{take_while, filter}
+use Rattle.std.proofs.lemmas.List.Elements.{filter-append}
 use Rattle.std.proofs.lemmas.List.Folds.{length-prefix_len}
 use Rattle.std.proofs.lemmas.List.{drop_more, drop_all}
 use Rattle.sis_text.specs.declared.places.Span.{Span}
-use Rattle.sis_text.specs.Lines.{joined}
+use Rattle.sis_text.specs.Lines.{joined, has_words}
+use Rattle.sis_text.specs.Pieces.{piece_at, line_pieces, pieces_from}
 use Rattle.sis_text.specs.Words.{is_blank, word_len, words_from, part_len, parts_from}
 
 pub words_more : (place i : ℕ) (after_blank : Bool) (xs : List ℕ) → i < length xs → words_from (place + i) after_blank (drop i xs) ≡ (cond (after_blank && not (is_blank (get_or xs i 0))) (record { place = place + i; len = word_len (drop i xs) } ∷ []) []) ++ words_from (place + (i + 1)) (is_blank (get_or xs i 0)) (drop (i + 1) xs)
@@ -30,3 +32,22 @@ front_taken p xs = ap (λ n. take n xs) (length-prefix_len p xs)
 pub joined_done : (source : List ℕ) (number i : ℕ) (lines : List Span) → length lines ≤ i → joined source number (drop i lines) ≡ []
 unfolding joined
 joined_done source number i lines h = rw (drop_all i lines h) refl
+
+abbrev nowhere : Span
+nowhere = record { place = 0; len = 0 }
+
+pub kept_more : (source : List ℕ) (number i : ℕ) (parts : List Span) → i < length parts → filter has_words (map (piece_at source number) (drop i parts)) ≡ filter has_words (piece_at source number (get_or parts i nowhere) ∷ []) ++ filter has_words (map (piece_at source number) (drop (i + 1) parts))
+kept_more source number i parts h =
+    rw (drop_more parts i nowhere h) (filter-append has_words (piece_at source number (get_or parts i nowhere) ∷ []) (map (piece_at source number) (drop (i + 1) parts)))
+
+pub kept_done : (source : List ℕ) (number i : ℕ) (parts : List Span) → length parts ≤ i → filter has_words (map (piece_at source number) (drop i parts)) ≡ []
+kept_done source number i parts h = rw (drop_all i parts h) refl
+
+pub pieces_more : (source : List ℕ) (number i : ℕ) (lines : List Span) → i < length lines → filter has_words (pieces_from source number (drop i lines)) ≡ filter has_words (line_pieces source number (get_or lines i nowhere)) ++ filter has_words (pieces_from source (number + 1) (drop (i + 1) lines))
+unfolding pieces_from
+pieces_more source number i lines h =
+    rw (drop_more lines i nowhere h) (filter-append has_words (line_pieces source number (get_or lines i nowhere)) (pieces_from source (number + 1) (drop (i + 1) lines)))
+
+pub pieces_done : (source : List ℕ) (number i : ℕ) (lines : List Span) → length lines ≤ i → filter has_words (pieces_from source number (drop i lines)) ≡ []
+unfolding pieces_from
+pieces_done source number i lines h = rw (drop_all i lines h) refl
