@@ -1,11 +1,12 @@
 -- One step of each walk over a text, and its end, as loops take them.
-use Rattle.std.proofs.Common.{◌≡◌, ℕ, ◌+◌, ◌<◌, ◌≤◌, Bool, true, false, cond, List, [], ◌∷◌, ◌++◌, length, get_or, drop, refl, eqb, add_assoc, ◌&&◌, not, take, ap, map}
+use Rattle.std.proofs.Common.{◌≡◌, ℕ, ◌+◌, ◌<◌, ◌≤◌, Bool, true, false, cond, List, [], ◌∷◌, ◌++◌, length, get_or, drop, refl, eqb, add_assoc, ◌&&◌, not, take, ap, map, arith}
 use Rattle.std.specs.List.{take_while, filter}
 use Rattle.std.proofs.lemmas.List.Elements.{filter-append}
 use Rattle.std.proofs.lemmas.List.Folds.{length-prefix_len}
+use Rattle.std.proofs.lemmas.Bool.Decides.{nat_tests}
 use Rattle.std.proofs.lemmas.List.{drop_more, drop_all}
 use Rattle.sis_text.specs.declared.places.Span.{Span}
-use Rattle.sis_text.specs.Lines.{joined, has_words}
+use Rattle.sis_text.specs.Lines.{joined, has_words, not_empty}
 use Rattle.sis_text.specs.Pieces.{piece_at, line_pieces, pieces_from}
 use Rattle.sis_text.specs.Words.{is_blank, word_len, words_from, part_len, parts_from}
 
@@ -51,3 +52,8 @@ pieces_more source number i lines h =
 pub pieces_done : (source : List ℕ) (number i : ℕ) (lines : List Span) → length lines ≤ i → filter has_words (pieces_from source number (drop i lines)) ≡ []
 unfolding pieces_from
 pieces_done source number i lines h = rw (drop_all i lines h) refl
+
+-- a list is empty where its length is 0
+pub empty_tested : {A : Type 0} (xs : List A) → eqb (length xs) 0 ≡ not (not_empty xs)
+empty_tested [] = refl
+empty_tested (x ∷ xs) = grind (arith, nat_tests)

@@ -49,9 +49,13 @@ joined source number (line ∷ lines) =
     then before number (words_at source line) (joined source (number + 1) lines)
     else (record { number = number; words = words_at source line } ∷ joined source (number + 1) lines)
 
+abbrev pub not_empty : {A : Type 0} → List A → Bool
+not_empty [] = false
+not_empty (x ∷ xs) = true
+
 -- lines without words are read past
 unfoldable pub has_words : Line → Bool
-has_words line = not (length line.words == 0)
+has_words line = not_empty line.words
 
 unfoldable pub lines_of : List ℕ → List Line
 lines_of source = filter has_words (joined source 1 (physical_lines source))

@@ -88,7 +88,7 @@ fn started(alloc: Global, begun: Option<Line>, number: usize) -> Line
 }
 
 /// Puts `line` behind `lines`, unless it has no words.
-#[tactic(auto, unfolding(crate::specs::Lines::has_words))]
+#[tactic(auto, unfolding(crate::specs::Lines::has_words), using(crate::proofs::Steps::empty_tested))]
 pub fn finish(lines: &mut Lines, line: Line) -> Result<(), AllocFailed<Line>>
     ensures { OnOk result (lines.new ≡ lines.old ++ filter has_words (line ∷ [])) }
 {
