@@ -1,0 +1,24 @@
+use Rattle.std.proofs.Common.{◌≡◌, List, ◌++◌, ◌+◌, [], ◌∷◌, Some, None, ap, sym, ◌∙◌, arith, append_assoc}
+use Rattle.std.specs.List.{filter}
+use Rattle.sis_text.specs.declared.places.Span.{Span}
+use Rattle.sis_text.specs.Words.{bytes_at, words_from}
+use Rattle.sis_text.specs.Lines.{words_at, joined, has_words}
+use Rattle.sis_text.specs.Joining.{started, resume}
+use Rattle.sis_text.proofs.Joins.{taken_open, taken_closed, taking}
+use Rattle.sis_text.proofs.joining.take_line.Goals as goal
+
+pub returns-then-is_open : goal.returns-then-is_open
+unfolding words_at
+returns-then-is_open c = λ (rest : List Span).
+    let e = taken_open c.args.source.now c.args.begun c.args.number c.args.line rest (cc) in
+    let w = c.in_ok-add_words.ensures in
+    cc
+
+pub returns : goal.returns
+unfolding words_at resume
+returns c = λ (rest : List Span).
+    let e = taken_closed c.args.source.now c.args.begun c.args.number c.args.line rest (cc) in
+    let w = c.in_ok-add_words.ensures in
+    let f = c.in_ok-finish.ensures in
+    let a = append_assoc c.args.lines.now (filter has_words (taking c.args.begun c.args.number (words_at c.args.source.now c.args.line) ∷ [])) (filter has_words (joined c.args.source.now (c.args.number + 1) rest)) in
+    cc

@@ -1,0 +1,6 @@
+pub mod Words
+pub mod Lines
+pub mod Joining
+pub mod Pieces
+pub mod Entries
+pub mod Order

@@ -1,0 +1,26 @@
+-- How the words that are found lie in their text.
+-- Source: "Berkeley Logic Interchange Format (BLIF)", appendix of the SIS report (UCB/ERL M92/41).
+use Rattle.std.specs.Prelude.{◌≡◌, ℕ, ◌+◌, ◌<◌, ◌≤◌, ◌==◌, ◌||◌, not, Bool, true, List, [], ◌∷◌, length}
+use Rattle.std.specs.List.{All, flat_map}
+use Rattle.sis_text.specs.declared.places.Span.{Span}
+use Rattle.sis_text.specs.declared.places.Line.{Line}
+use Rattle.sis_text.specs.Words.{is_blank}
+
+-- no span begins before the end of the one before it, the first not before `from`, and none ends behind `limit`
+unfoldable pub AreInOrder : ℕ → ℕ → List Span → Type 0
+AreInOrder from limit [] = Unit {0}
+AreInOrder from limit (span ∷ spans) =
+    (from ≤ span.place) × (span.place + span.len ≤ limit) × AreInOrder (span.place + span.len) limit spans
+
+-- the words of all lines, one after the other
+abbrev pub words_in : List Line → List Span
+words_in lines = flat_map (λ line. line.words) lines
+
+-- bytes that stand in a word of a logical line: no blank, no line end, no `#`
+abbrev pub is_plain : ℕ → Bool
+is_plain byte = not (is_blank byte || byte == 10 || byte == 35)
+
+-- a word is not empty, and all its bytes pass a test
+pub record IsWordOf (test : ℕ → Bool) (word : List ℕ) : Type 0 where
+  pub some : 0 < length word
+  pub passes : All (λ byte. test byte ≡ true) word

@@ -1,0 +1,150 @@
+//! Logical lines: comments cut, lines joined, lines without words read past.
+
+ghost use Rattle.std.specs.Prelude.{◌≡◌, List, ◌==◌, ◌+◌, ◌^◌, ◌<◌, ◌≤◌, ◌++◌, ◌∷◌, [], not, true, length, IfOk, OnOk};
+ghost use Rattle.std.specs.List.{take_while, suffix_len, filter};
+ghost use Rattle.sis_text.specs.declared.places.Span.{Span};
+ghost use Rattle.sis_text.specs.Words.{bytes_at, parts_from};
+ghost use Rattle.sis_text.specs.Lines.{uncommented, trimmed, kept, is_open, closed, words_at, joined, has_words, lines_of};
+ghost use Rattle.sis_text.specs.Joining.{started, resume};
+
+use sis_base::Sequence;
+use std::alloc::{AllocError, AllocFailed, Global};
+
+use crate::parting::{add_words, parts};
+use crate::places::{Line, Lines, Span, Spans, bytes_at};
+
+/// How many bytes stand before the first `#`.
+fn front_len(line: &[u8]) -> usize
+    ensures { result ≡ length (take_while (λ byte. not (byte == 35)) line.now) }
+{
+    line.iter().take_while(|byte| **byte != 35).count()
+}
+
+/// What stands before the first `#`.
+#[tactic(auto, unfolding(crate::specs::Lines::uncommented), using(crate::proofs::Steps::front_taken, std::proofs::lemmas::Grind::common_steps))]
+pub fn uncommented(line: &[u8]) -> &[u8]
+    ensures value { result.now ≡ uncommented line.now }
+    ensures shorter { length result.now ≤ length line.now }
+{
+    &line[..front_len(line)]
+}
+
+/// How many carriage returns stand at the end.
+fn returns_len(text: &[u8]) -> usize
+    ensures value { result ≡ suffix_len (λ byte. byte == 13) text.now }
+    ensures within { result ≤ length text.now }
+{
+    text.iter().rev().take_while(|byte| **byte == 13).count()
+}
+
+/// `text` without the carriage returns at its end.
+#[tactic(auto, unfolding(crate::specs::Lines::trimmed))]
+fn trimmed(text: &[u8]) -> &[u8]
+    ensures value { result.now ≡ trimmed text.now }
+    ensures shorter { length result.now ≤ length text.now }
+{
+    &text[..text.len() - returns_len(text)]
+}
+
+/// Whether the last byte is a `\`.
+#[tactic(auto, unfolding(crate::specs::Lines::is_open))]
+fn is_open(text: &[u8]) -> bool
+    ensures value { result ≡ is_open text.now }
+    ensures some { result ≡ true → 1 ≤ length text.now }
+{
+    !text.is_empty() && text[text.len() - 1] == 92
+}
+
+/// `text` without a `\` at its end.
+#[tactic(auto, unfolding(crate::specs::Lines::closed))]
+fn closed(text: &[u8]) -> &[u8]
+    ensures value { result.now ≡ closed text.now }
+    ensures shorter { length result.now ≤ length text.now }
+{
+    if is_open(text) {
+        &text[..text.len() - 1]
+    } else {
+        text
+    }
+}
+
+/// What is kept of the physical line at `line`.
+fn kept_at(source: &[u8], line: Span) -> &[u8]
+    ensures value { result.now ≡ kept (bytes_at source.now line) }
+    ensures within { line.place + length result.now < 2 ^ 64 }
+{
+    trimmed(uncommented(bytes_at(source, line)))
+}
+
+/// The line that has begun, or one with this number.
+#[tactic(auto, unfolding(crate::specs::Joining::started))]
+fn started(alloc: Global, begun: Option<Line>, number: usize) -> Line
+    ensures { result ≡ started begun number }
+{
+    match begun {
+        Some(line) => line,
+        None => Line { number, words: Sequence::new(alloc) },
+    }
+}
+
+/// Puts `line` behind `lines`, unless it has no words.
+#[tactic(auto, unfolding(crate::specs::Lines::has_words), using(crate::proofs::Steps::empty_tested))]
+pub fn finish(lines: &mut Lines, line: Line) -> Result<(), AllocFailed<Line>>
+    ensures { OnOk result (lines.new ≡ lines.old ++ filter has_words (line ∷ [])) }
+{
+    if line.words.is_empty() {
+        Ok(())
+    } else {
+        lines.push(line)
+    }
+}
+
+/// Takes one physical line to the line that has begun, and hands back the line that has begun then.
+fn take_line(lines: &mut Lines, alloc: Global, begun: Option<Line>, number: usize, source: &[u8], line: Span) -> Result<Option<Line>, AllocError>
+    ensures { IfOk result (λ next. (rest : List Span) → lines.new ++ filter has_words (resume next (joined source.now (number + 1) rest)) ≡ lines.old ++ filter has_words (resume begun (joined source.now number (line ∷ rest)))) }
+{
+    let text = kept_at(source, line);
+    let mut taken = started(alloc, begun, number);
+    add_words(&mut taken.words, line.place, closed(text))?;
+    if is_open(text) {
+        return Ok(Some(taken));
+    }
+    finish(lines, taken)?;
+    Ok(None)
+}
+
+/// Puts the line that has begun, if there is one, behind `lines`.
+#[tactic(auto, unfolding(crate::specs::Joining::resume, crate::specs::Lines::before))]
+fn finish_last(lines: &mut Lines, begun: Option<Line>) -> Result<(), AllocFailed<Line>>
+    ensures { OnOk result (lines.new ≡ lines.old ++ filter has_words (resume begun [])) }
+{
+    match begun {
+        Some(line) => finish(lines, line),
+        None => Ok(()),
+    }
+}
+
+/// The logical lines of these physical lines.
+#[tactic(auto, unfolding(crate::specs::Joining::resume), using(crate::proofs::Steps::joined_done, std::proofs::lemmas::Grind::common_steps))]
+fn join(alloc: Global, source: &[u8], physical: &[Span]) -> Result<Lines, AllocError>
+    ensures { IfOk result (λ lines. lines ≡ filter has_words (joined source.now 1 physical.now)) }
+{
+    let mut lines = Sequence::new(alloc);
+    let mut begun = None;
+    for i in 0..physical.len() {
+        begun = take_line(&mut lines, alloc, begun, i + 1, source, physical[i])?;
+    }
+    finish_last(&mut lines, begun)?;
+    Ok(lines)
+}
+
+/// The logical lines of a text: comments cut, lines joined by `\` at the end, lines without words read
+/// past. Spans are places in `source`; numbers of physical lines begin at 1. An error only for want of
+/// memory.
+#[tactic(auto, unfolding(crate::specs::Lines::lines_of))]
+pub fn logical_lines(alloc: Global, source: &[u8]) -> Result<Lines, AllocError>
+    ensures { IfOk result (λ lines. lines ≡ lines_of source.now) }
+{
+    let physical = parts(alloc, 10, source)?;
+    join(alloc, source, physical.as_slice())
+}

@@ -1,0 +1,83 @@
+//! Parts of a text between marks, and words of a line.
+
+ghost use Rattle.std.specs.Prelude.{◌≡◌, ◌==◌, ◌+◌, ◌*◌, ◌^◌, ◌<◌, ◌++◌, not, true, length, IfOk, OnOk};
+ghost use Rattle.sis_text.specs.Words.{is_blank, word_len, words_from, words_of, part_len, parts_from};
+
+use sis_base::Sequence;
+use std::alloc::{AllocError, AllocFailed, Global};
+
+use crate::places::{Span, Spans};
+
+/// Whether a byte is a tab, a carriage return or a space.
+fn is_blank(byte: u8) -> bool
+    ensures { result ≡ is_blank byte }
+{
+    byte == 9 || byte == 13 || byte == 32
+}
+
+/// How many bytes stand before the first blank.
+#[tactic(auto, unfolding(crate::specs::Words::word_len))]
+fn word_len(bytes: &[u8]) -> usize
+    ensures { result ≡ word_len bytes.now }
+{
+    bytes.iter().take_while(|byte| !is_blank(**byte)).count()
+}
+
+/// How many bytes stand before the first mark.
+#[tactic(auto, unfolding(crate::specs::Words::part_len))]
+fn part_len(mark: u8, bytes: &[u8]) -> usize
+    ensures { result ≡ part_len mark bytes.now }
+{
+    bytes.iter().take_while(|byte| **byte != mark).count()
+}
+
+/// Puts the words of `line`, whose bytes stand from `place` on, behind `found`.
+#[tactic(auto, using(crate::proofs::Steps::words_more, crate::proofs::Steps::words_done, std::proofs::lemmas::Grind::common_steps))]
+pub fn add_words(found: &mut Spans, place: usize, line: &[u8]) -> Result<(), AllocFailed<Span>>
+    requires { place + length line.now < 2 ^ 64 }
+    ensures { OnOk result (found.new ≡ found.old ++ words_from place true line.now) }
+{
+    let mut after_blank = true;
+    for i in 0..line.len() {
+        let blank = is_blank(line[i]);
+        if after_blank && !blank {
+            found.push(Span { place: place + i, len: word_len(&line[i..]) })?;
+        }
+        after_blank = blank;
+    }
+    Ok(())
+}
+
+/// Puts the parts of `text` between marks, whose bytes stand from `place` on, behind `found`.
+#[tactic(auto, using(crate::proofs::Steps::parts_more, crate::proofs::Steps::parts_done, std::proofs::lemmas::Grind::common_steps))]
+pub fn add_parts(found: &mut Spans, mark: u8, place: usize, text: &[u8]) -> Result<(), AllocFailed<Span>>
+    requires { place + length text.now < 2 ^ 64 }
+    ensures { OnOk result (found.new ≡ found.old ++ parts_from mark place true text.now) }
+{
+    let mut after_mark = true;
+    for i in 0..text.len() {
+        if after_mark {
+            found.push(Span { place: place + i, len: part_len(mark, &text[i..]) })?;
+        }
+        after_mark = text[i] == mark;
+    }
+    Ok(())
+}
+
+/// The words of one line, as spans of it; an error only for want of memory.
+pub fn words(alloc: Global, line: &[u8]) -> Result<Spans, AllocError>
+    ensures { IfOk result (λ found. found ≡ words_of line.now) }
+{
+    let mut found = Sequence::new(alloc);
+    add_words(&mut found, 0, line)?;
+    Ok(found)
+}
+
+/// The parts of a text between marks, as spans of it; an error only for want of memory.
+pub fn parts(alloc: Global, mark: u8, text: &[u8]) -> Result<Spans, AllocError>
+    ensures { IfOk result (λ found. found ≡ parts_from mark 0 true text.now) }
+{
+    let mut found = Sequence::new(alloc);
+    add_parts(&mut found, mark, 0, text)?;
+    Ok(found)
+}

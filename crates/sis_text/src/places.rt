@@ -1,0 +1,34 @@
+//! Places in a text.
+
+ghost use Rattle.std.specs.Prelude.{◌≡◌, length, take, drop};
+
+use sis_base::Sequence;
+
+/// A part of a text: `len` bytes from `place` on.
+#[derive(Clone, Copy, PartialEq, Eq, Debug)]
+pub struct Span {
+    pub place: usize,
+    pub len: usize,
+}
+
+/// Spans in order.
+pub type Spans = Sequence<Span>;
+
+/// The words of a line, with the number of its first physical line.
+#[derive(PartialEq, Debug, Drop)]
+pub struct Line {
+    pub number: usize,
+    pub words: Spans,
+}
+
+/// Lines in order.
+pub type Lines = Sequence<Line>;
+
+/// The bytes of `source` that `span` names; those past its end are left out.
+#[tactic(auto, using(std::proofs::lemmas::List::take_min, std::proofs::lemmas::List::drop_min, std::proofs::lemmas::Grind::common_steps))]
+pub fn bytes_at(source: &[u8], span: Span) -> &[u8]
+    ensures { result.now ≡ take span.len (drop span.place source.now) }
+{
+    let rest = &source[span.place.min(source.len())..];
+    &rest[..span.len.min(rest.len())]
+}

@@ -1,0 +1,69 @@
+//! Pieces of a script: physical lines without comments, parted at `;`, pieces without words read past.
+
+ghost use Rattle.std.specs.Prelude.{◌≡◌, ◌+◌, ◌++◌, ◌∷◌, [], map, IfOk, OnOk};
+ghost use Rattle.std.specs.List.{filter};
+ghost use Rattle.sis_text.specs.Lines.{has_words};
+ghost use Rattle.sis_text.specs.Pieces.{piece_at, line_pieces, pieces_from, pieces_of};
+
+use sis_base::Sequence;
+use std::alloc::{AllocError, Global};
+
+use crate::joining::{finish, uncommented};
+use crate::parting::{add_parts, add_words, parts};
+use crate::places::{Line, Lines, Span, bytes_at};
+
+/// Puts one piece behind `lines`, unless it has no words.
+#[tactic(auto, unfolding(crate::specs::Pieces::piece_at))]
+fn add_piece(lines: &mut Lines, alloc: Global, number: usize, source: &[u8], part: Span) -> Result<(), AllocError>
+    ensures { OnOk result (lines.new ≡ lines.old ++ filter has_words (piece_at source.now number part ∷ [])) }
+{
+    let mut words = Sequence::new(alloc);
+    add_words(&mut words, part.place, bytes_at(source, part))?;
+    finish(lines, Line { number, words })?;
+    Ok(())
+}
+
+/// Puts the pieces that these parts are behind `lines`.
+#[tactic(auto, using(crate::proofs::Steps::kept_more, crate::proofs::Steps::kept_done, std::proofs::lemmas::Grind::common_steps))]
+fn add_pieces(lines: &mut Lines, alloc: Global, number: usize, source: &[u8], parts: &[Span]) -> Result<(), AllocError>
+    ensures { OnOk result (lines.new ≡ lines.old ++ filter has_words (map (piece_at source.now number) parts.now)) }
+{
+    for i in 0..parts.len() {
+        add_piece(lines, alloc, number, source, parts[i])?;
+    }
+    Ok(())
+}
+
+/// Puts the pieces of one physical line behind `lines`.
+#[tactic(auto, unfolding(crate::specs::Pieces::line_pieces))]
+fn add_line(lines: &mut Lines, alloc: Global, number: usize, source: &[u8], line: Span) -> Result<(), AllocError>
+    ensures { OnOk result (lines.new ≡ lines.old ++ filter has_words (line_pieces source.now number line)) }
+{
+    let mut found = Sequence::new(alloc);
+    add_parts(&mut found, 59, line.place, uncommented(bytes_at(source, line)))?;
+    add_pieces(lines, alloc, number, source, found.as_slice())?;
+    Ok(())
+}
+
+/// The pieces of these physical lines.
+#[tactic(auto, using(crate::proofs::Steps::pieces_more, crate::proofs::Steps::pieces_done, std::proofs::lemmas::Grind::common_steps))]
+fn pieces(alloc: Global, source: &[u8], physical: &[Span]) -> Result<Lines, AllocError>
+    ensures { IfOk result (λ lines. lines ≡ filter has_words (pieces_from source.now 1 physical.now)) }
+{
+    let mut lines = Sequence::new(alloc);
+    for i in 0..physical.len() {
+        add_line(&mut lines, alloc, i + 1, source, physical[i])?;
+    }
+    Ok(lines)
+}
+
+/// The pieces of a script, each with the number of its physical line, from 1 on: lines are cut before the
+/// first `#` and parted at `;`; nothing is joined. Spans are places in `source`. An error only for want of
+/// memory.
+#[tactic(auto, unfolding(crate::specs::Pieces::pieces_of))]
+pub fn script_pieces(alloc: Global, source: &[u8]) -> Result<Lines, AllocError>
+    ensures { IfOk result (λ lines. lines ≡ pieces_of source.now) }
+{
+    let physical = parts(alloc, 10, source)?;
+    pieces(alloc, source, physical.as_slice())
+}
