@@ -36,7 +36,7 @@ stands_at source span = record {
     is = ap (λ n. take n (drop span.place source)) (length-take span.len (drop span.place source)) ∙ take_min span.len (drop span.place source)
 }
 
-cons_same : {A : Type 0} {x y : A} {xs ys : List A} → x ≡ y → xs ≡ ys → x ∷ xs ≡ y ∷ ys
+pub cons_same : {A : Type 0} {x y : A} {xs ys : List A} → x ≡ y → xs ≡ ys → x ∷ xs ≡ y ∷ ys
 cons_same e f = cc
 
 -- a front of the text, as long as the bytes that pass
