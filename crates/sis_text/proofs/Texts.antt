@@ -36,6 +36,9 @@ stands_at source span = record {
     is = ap (λ n. take n (drop span.place source)) (length-take span.len (drop span.place source)) ∙ take_min span.len (drop span.place source)
 }
 
+pub whole_stands : (source : List ℕ) → Stands source 0 source
+whole_stands source = record { is = take_all (length source) source (omega arith) }
+
 pub cons_same : {A : Type 0} {x y : A} {xs ys : List A} → x ≡ y → xs ≡ ys → x ∷ xs ≡ y ∷ ys
 cons_same e f = cc
 
@@ -64,6 +67,11 @@ parts_are_texts source mark place after_mark (byte ∷ rest) s =
     step : (b : Bool) → map (bytes_at source) (parts_from mark (place + 1) (eqb byte mark) rest) ≡ part_texts mark (eqb byte mark) rest → map (bytes_at source) (cond b (record { place = place; len = part_len mark (byte ∷ rest) } ∷ []) [] ++ parts_from mark (place + 1) (eqb byte mark) rest) ≡ cond b (take_while (λ byte. not (eqb byte mark)) (byte ∷ rest) ∷ []) [] ++ part_texts mark (eqb byte mark) rest
     step true e = cons_same (front_passing (λ byte. not (eqb byte mark)) source place (byte ∷ rest) s) e
     step false e = e
+
+pub uncommented_stands : (source : List ℕ) (line : Span) → Stands source line.place (uncommented (bytes_at source line))
+unfolding uncommented
+uncommented_stands source line =
+    stands_front source line.place (bytes_at source line) (prefix_len (λ byte. not (eqb byte 35)) (bytes_at source line)) (stands_at source line)
 
 -- what is kept of a line stands where the line does
 pub kept_stands : (source : List ℕ) (place : ℕ) (line : List ℕ) → Stands source place line → Stands source place (closed (kept line))
@@ -116,4 +124,4 @@ with_words source (l ∷ lines) =
 pub lines_are_entries : (source : List ℕ) → map (entry_at source) (lines_of source) ≡ entries_of source
 unfolding lines_of entries_of
 lines_are_entries source =
-    with_words source (joined source 1 (physical_lines source)) ∙ ap (filter says_words) (joined_texts source 1 (physical_lines source) ∙ ap (joined_entries 1) (parts_are_texts source 10 0 true source (record { is = take_all (length source) source (omega arith) })))
+    with_words source (joined source 1 (physical_lines source)) ∙ ap (filter says_words) (joined_texts source 1 (physical_lines source) ∙ ap (joined_entries 1) (parts_are_texts source 10 0 true source (whole_stands source)))

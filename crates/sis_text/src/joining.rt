@@ -1,11 +1,13 @@
 //! Logical lines: comments cut, lines joined, lines without words read past.
 
-ghost use Rattle.std.specs.Prelude.{◌≡◌, List, ◌==◌, ◌+◌, ◌^◌, ◌<◌, ◌≤◌, ◌++◌, ◌∷◌, [], not, true, length, IfOk, OnOk};
+ghost use Rattle.std.specs.Prelude.{◌≡◌, List, map, ◌==◌, ◌+◌, ◌^◌, ◌<◌, ◌≤◌, ◌++◌, ◌∷◌, [], not, true, length, IfOk, OnOk};
 ghost use Rattle.std.specs.List.{take_while, suffix_len, filter};
 ghost use Rattle.sis_text.specs.declared.places.Span.{Span};
 ghost use Rattle.sis_text.specs.Words.{bytes_at, parts_from};
 ghost use Rattle.sis_text.specs.Lines.{uncommented, trimmed, kept, is_open, closed, words_at, joined, has_words, lines_of};
 ghost use Rattle.sis_text.specs.Joining.{started, resume};
+ghost use Rattle.sis_text.specs.Entries.{entry_at, entries_of};
+ghost use Rattle.sis_text.specs.Order.{AreInOrder, AreWordsOf, HaveWords, words_in, is_plain};
 
 use sis_base::Sequence;
 use std::alloc::{AllocError, AllocFailed, Global};
@@ -138,13 +140,25 @@ fn join(alloc: Global, source: &[u8], physical: &[Span]) -> Result<Lines, AllocE
     Ok(lines)
 }
 
-/// The logical lines of a text: comments cut, lines joined by `\` at the end, lines without words read
-/// past. Spans are places in `source`; numbers of physical lines begin at 1. An error only for want of
-/// memory.
+/// The logical lines of a text, exactly.
 #[tactic(auto, unfolding(crate::specs::Lines::lines_of))]
-pub fn logical_lines(alloc: Global, source: &[u8]) -> Result<Lines, AllocError>
+fn found_lines(alloc: Global, source: &[u8]) -> Result<Lines, AllocError>
     ensures { IfOk result (λ lines. lines ≡ lines_of source.now) }
 {
     let physical = parts(alloc, 10, source)?;
     join(alloc, source, physical.as_slice())
+}
+
+/// The logical lines of a text: comments cut, lines joined by `\` at the end, lines without words read
+/// past. Spans are places in `source`; numbers of physical lines begin at 1. The words of all lines stand
+/// in order and do not overlap; none is empty or has a blank, a line end or a `#`. An error only for want
+/// of memory.
+pub fn logical_lines(alloc: Global, source: &[u8]) -> Result<Lines, AllocError>
+    ensures value { IfOk result (λ lines. lines ≡ lines_of source.now) }
+    ensures entries { IfOk result (λ lines. map (entry_at source.now) lines ≡ entries_of source.now) }
+    ensures in_order { IfOk result (λ lines. AreInOrder 0 (length source.now) (words_in lines)) }
+    ensures plain { IfOk result (λ lines. AreWordsOf is_plain source.now (words_in lines)) }
+    ensures have_words { IfOk result (λ lines. HaveWords lines) }
+{
+    found_lines(alloc, source)
 }

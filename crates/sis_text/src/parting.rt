@@ -2,6 +2,7 @@
 
 ghost use Rattle.std.specs.Prelude.{◌≡◌, ◌==◌, ◌+◌, ◌*◌, ◌^◌, ◌<◌, ◌++◌, not, true, length, IfOk, OnOk};
 ghost use Rattle.sis_text.specs.Words.{is_blank, word_len, words_from, words_of, part_len, parts_from};
+ghost use Rattle.sis_text.specs.Order.{AreInOrder, AreWordsOf, is_solid};
 
 use sis_base::Sequence;
 use std::alloc::{AllocError, AllocFailed, Global};
@@ -64,13 +65,23 @@ pub fn add_parts(found: &mut Spans, mark: u8, place: usize, text: &[u8]) -> Resu
     Ok(())
 }
 
-/// The words of one line, as spans of it; an error only for want of memory.
-pub fn words(alloc: Global, line: &[u8]) -> Result<Spans, AllocError>
+/// The words of one line, exactly.
+fn found_words(alloc: Global, line: &[u8]) -> Result<Spans, AllocError>
     ensures { IfOk result (λ found. found ≡ words_of line.now) }
 {
     let mut found = Sequence::new(alloc);
     add_words(&mut found, 0, line)?;
     Ok(found)
+}
+
+/// The words of one line, as spans of it: the longest runs of bytes other than tab, carriage return and
+/// space. They stand in order, do not overlap, and each is such a run. An error only for want of memory.
+pub fn words(alloc: Global, line: &[u8]) -> Result<Spans, AllocError>
+    ensures value { IfOk result (λ found. found ≡ words_of line.now) }
+    ensures in_order { IfOk result (λ found. AreInOrder 0 (length line.now) found) }
+    ensures solid { IfOk result (λ found. AreWordsOf is_solid line.now found) }
+{
+    found_words(alloc, line)
 }
 
 /// The parts of a text between marks, as spans of it; an error only for want of memory.

@@ -1,9 +1,11 @@
 //! Pieces of a script: physical lines without comments, parted at `;`, pieces without words read past.
 
-ghost use Rattle.std.specs.Prelude.{◌≡◌, ◌+◌, ◌++◌, ◌∷◌, [], map, IfOk, OnOk};
+ghost use Rattle.std.specs.Prelude.{◌≡◌, ◌+◌, ◌++◌, ◌∷◌, [], length, map, IfOk, OnOk};
 ghost use Rattle.std.specs.List.{filter};
 ghost use Rattle.sis_text.specs.Lines.{has_words};
 ghost use Rattle.sis_text.specs.Pieces.{piece_at, line_pieces, pieces_from, pieces_of};
+ghost use Rattle.sis_text.specs.Entries.{entry_at, script_entries_of};
+ghost use Rattle.sis_text.specs.Order.{AreInOrder, AreWordsOf, HaveWords, words_in, is_script_plain};
 
 use sis_base::Sequence;
 use std::alloc::{AllocError, Global};
@@ -57,13 +59,25 @@ fn pieces(alloc: Global, source: &[u8], physical: &[Span]) -> Result<Lines, Allo
     Ok(lines)
 }
 
-/// The pieces of a script, each with the number of its physical line, from 1 on: lines are cut before the
-/// first `#` and parted at `;`; nothing is joined. Spans are places in `source`. An error only for want of
-/// memory.
+/// The pieces of a script, exactly.
 #[tactic(auto, unfolding(crate::specs::Pieces::pieces_of))]
-pub fn script_pieces(alloc: Global, source: &[u8]) -> Result<Lines, AllocError>
+fn found_pieces(alloc: Global, source: &[u8]) -> Result<Lines, AllocError>
     ensures { IfOk result (λ lines. lines ≡ pieces_of source.now) }
 {
     let physical = parts(alloc, 10, source)?;
     pieces(alloc, source, physical.as_slice())
+}
+
+/// The pieces of a script, each with the number of its physical line, from 1 on: lines are cut before the
+/// first `#` and parted at `;`; nothing is joined, and pieces without words are read past. Spans are places
+/// in `source`. The words of all pieces stand in order and do not overlap; none is empty or has a blank, a
+/// line end, a `#` or a `;`. An error only for want of memory.
+pub fn script_pieces(alloc: Global, source: &[u8]) -> Result<Lines, AllocError>
+    ensures value { IfOk result (λ lines. lines ≡ pieces_of source.now) }
+    ensures entries { IfOk result (λ lines. map (entry_at source.now) lines ≡ script_entries_of source.now) }
+    ensures in_order { IfOk result (λ lines. AreInOrder 0 (length source.now) (words_in lines)) }
+    ensures plain { IfOk result (λ lines. AreWordsOf is_script_plain source.now (words_in lines)) }
+    ensures have_words { IfOk result (λ lines. HaveWords lines) }
+{
+    found_pieces(alloc, source)
 }
