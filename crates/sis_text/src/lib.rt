@@ -11,5 +11,5 @@ mod scripts;
 
 pub use joining::logical_lines;
 pub use parting::words;
-pub use places::{Line, Lines, Span, Spans, bytes_at};
+pub use places::{Line, Lines, Span, Spans, bytes_at, texts_at};
 pub use scripts::script_pieces;
