@@ -8,8 +8,10 @@ mod joining;
 mod parting;
 mod places;
 mod scripts;
+mod writing;
 
 pub use joining::logical_lines;
 pub use parting::words;
 pub use places::{Line, Lines, Span, Spans, bytes_at, texts_at};
 pub use scripts::script_pieces;
+pub use writing::written_lines_are_read;
