@@ -1,6 +1,6 @@
 -- Words and parts lie in their text and stand in order.
-use Rattle.std.proofs.Common.{◌≡◌, ℕ, ◌+◌, ◌-◌, ◌<◌, ◌≤◌, Bool, true, false, cond, List, [], ◌∷◌, ◌++◌, length, take, drop, min, refl, sym, ◌∙◌, ap, subst, eqb, map, not, ◌&&◌, arith, suc}
-use Rattle.std.specs.List.{take_while, filter, prefix_len, suffix_len, flat_map}
+use Rattle.std.proofs.Common.{◌≡◌, ℕ, ◌+◌, ◌-◌, ◌≤◌, Bool, true, false, cond, List, [], ◌∷◌, ◌++◌, length, take, drop, refl, sym, ◌∙◌, ap, subst, eqb, map, not, ◌&&◌, arith, suc}
+use Rattle.std.specs.List.{filter, prefix_len, suffix_len, flat_map}
 use Rattle.std.proofs.lemmas.List.{length-take, append_assoc}
 use Rattle.std.proofs.lemmas.List.Folds.{length-prefix_len}
 use Rattle.std.proofs.lemmas.List.Sums.{prefix_len-le-length}
@@ -173,7 +173,7 @@ line_piece_order : (source : List ℕ) (line : Span) → AreInOrder line.place (
 unfolding uncommented
 line_piece_order source line =
     let parts : AreInOrder line.place (line.place + line.len) (parts_from 59 line.place true (uncommented (bytes_at source line))) =
-        order_wider line.place line.place (line.place + length (uncommented (bytes_at source line))) (line.place + line.len) (parts_from 59 line.place true (uncommented (bytes_at source line))) (omega arith) (omega (arith, length-take (prefix_len (λ byte. not (eqb byte 35)) (bytes_at source line)) (bytes_at source line), length-take line.len (drop line.place source))) (parts_order 59 line.place true (uncommented (bytes_at source line))) in
+    order_wider line.place line.place (line.place + length (uncommented (bytes_at source line))) (line.place + line.len) (parts_from 59 line.place true (uncommented (bytes_at source line))) (omega arith) (omega (arith, length-take (prefix_len (λ byte. not (eqb byte 35)) (bytes_at source line)) (bytes_at source line), length-take line.len (drop line.place source))) (parts_order 59 line.place true (uncommented (bytes_at source line))) in
     order_flat (piece_words source) line.place (line.place + line.len) (parts_from 59 line.place true (uncommented (bytes_at source line))) (piece_order source) parts
 
 pub pieces_in_order : (source : List ℕ) → AreInOrder 0 (length source) (words_in (pieces_of source))

@@ -1,13 +1,13 @@
 -- Pieces of scripts as spans, and the bytes that they name.
-use Rattle.std.proofs.Common.{◌≡◌, ℕ, ◌+◌, List, [], ◌∷◌, ◌++◌, refl, sym, ◌∙◌, ap, map, true, eqb, not, arith, length}
-use Rattle.std.specs.List.{filter, prefix_len}
-use Rattle.std.proofs.lemmas.List.{map-append, take_all}
+use Rattle.std.proofs.Common.{◌≡◌, ℕ, ◌+◌, List, [], ◌∷◌, ◌++◌, refl, ◌∙◌, ap, map, true}
+use Rattle.std.specs.List.{filter}
+use Rattle.std.proofs.lemmas.List.{map-append}
 use Rattle.sis_text.specs.declared.places.Span.{Span}
-use Rattle.sis_text.specs.Words.{bytes_at, words_from, parts_from}
+use Rattle.sis_text.specs.Words.{bytes_at, parts_from}
 use Rattle.sis_text.specs.Lines.{uncommented, physical_lines}
 use Rattle.sis_text.specs.Pieces.{piece_at, line_pieces, pieces_from, pieces_of}
-use Rattle.sis_text.specs.Entries.{word_texts, part_texts, Entry, entry_at, says_words, line_entries, script_entries_from, script_entries_of}
-use Rattle.sis_text.proofs.Texts.{Stands, stands_at, stands_front, words_are_texts, parts_are_texts, with_words, cons_same, whole_stands, uncommented_stands}
+use Rattle.sis_text.specs.Entries.{word_texts, entry_at, says_words, line_entries, script_entries_from, script_entries_of}
+use Rattle.sis_text.proofs.Texts.{stands_at, words_are_texts, parts_are_texts, with_words, cons_same, whole_stands, uncommented_stands}
 
 parts_texts : (source : List ℕ) (number : ℕ) (parts : List Span) → map (entry_at source) (map (piece_at source number) parts) ≡ map (λ (part : List ℕ). record { number = number; words = word_texts true part }) (map (bytes_at source) parts)
 unfolding piece_at

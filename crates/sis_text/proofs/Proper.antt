@@ -1,7 +1,6 @@
 -- What stands in words: no blank, no mark at which the text was cut.
-use Rattle.std.proofs.Common.{◌≡◌, ℕ, ◌+◌, ◌-◌, ◌<◌, ◌≤◌, Bool, true, false, cond, List, [], ◌∷◌, ◌++◌, length, take, drop, refl, sym, ◌∙◌, ap, subst, eqb, map, not, ◌&&◌, arith, suc, zero, get_or}
-use Rattle.std.specs.List.{take_while, filter, prefix_len, suffix_len, flat_map, All, AllByRecursion}
-use Rattle.std.proofs.lemmas.List.{map-append}
+use Rattle.std.proofs.Common.{◌≡◌, ℕ, ◌-◌, ◌<◌, Bool, true, false, cond, List, [], ◌∷◌, ◌++◌, length, take, refl, sym, ◌∙◌, ap, subst, eqb, map, not, ◌&&◌, arith, suc, zero, get_or}
+use Rattle.std.specs.List.{take_while, filter, prefix_len, suffix_len, flat_map, AllByRecursion}
 use Rattle.std.proofs.lemmas.List.Elements.{All-from_recursion}
 use Rattle.std.proofs.lemmas.List.Sums.{take_while-cons}
 use Rattle.sis_text.specs.declared.places.Span.{Span}
@@ -11,7 +10,7 @@ use Rattle.sis_text.specs.Lines.{uncommented, trimmed, kept, closed, is_open, wo
 use Rattle.sis_text.specs.Pieces.{pieces_of, pieces_from}
 use Rattle.sis_text.specs.Entries.{word_texts, part_texts}
 use Rattle.sis_text.specs.Order.{words_in, is_solid, is_of_line, is_plain, is_script_plain, IsWordOf, AreWordsOf, HaveWords}
-use Rattle.sis_text.proofs.Texts.{Stands, stands_at, words_are_texts, parts_are_texts, line_words, whole_stands, uncommented_stands}
+use Rattle.sis_text.proofs.Texts.{stands_at, words_are_texts, parts_are_texts, line_words, whole_stands, uncommented_stands}
 use Rattle.sis_text.proofs.Ordered.{lines_words, pieces_words, piece_words, line_piece_words}
 
 -- all bytes pass
@@ -46,8 +45,8 @@ word_is test byte rest e h =
     let P : List ℕ → Type 0 = IsWordOf (λ byte. is_solid byte && test byte) in
     let begins : take_while is_solid (byte ∷ rest) ≡ byte ∷ take_while is_solid rest = take_while-cons is_solid byte rest ∙ ap (λ b. cond (not b) (byte ∷ take_while is_solid rest) []) e in
     record {
-        some = rw begins (omega arith);
-        passes = All-from_recursion (λ byte. (is_solid byte && test byte) ≡ true) (take_while is_solid (byte ∷ rest)) (pass_both is_solid test (take_while is_solid (byte ∷ rest)) (pass_while is_solid (byte ∷ rest)) (pass_take test (prefix_len is_solid (byte ∷ rest)) (byte ∷ rest) h));
+      some = rw begins (omega arith);
+      passes = All-from_recursion (λ byte. (is_solid byte && test byte) ≡ true) (take_while is_solid (byte ∷ rest)) (pass_both is_solid test (take_while is_solid (byte ∷ rest)) (pass_while is_solid (byte ∷ rest)) (pass_take test (prefix_len is_solid (byte ∷ rest)) (byte ∷ rest) h));
     }
 
 pub words_pass : (test : ℕ → Bool) (after_blank : Bool) (text : List ℕ) → Pass test text → AllByRecursion (IsWordOf (λ byte. is_solid byte && test byte)) (word_texts after_blank text)
@@ -122,7 +121,7 @@ lines_pass source =
     named NoEnd source (physical_lines source) (part_texts 10 true source) (parts_are_texts source 10 0 true source (whole_stands source)) (parts_pass anything 10 true source (pass_anything source))
 
 weaker : (p q : ℕ → Bool) (word : List ℕ) → ((byte : ℕ) → p byte ≡ true → q byte ≡ true) → IsWordOf p word → IsWordOf q word
-weaker p q word f w = record { some = w.some; passes = λ k d h. f (get_or word k d) (w.passes k d h); }
+weaker p q word f w = record { some = w.some; passes = λ k d h. f (get_or word k d) (w.passes k d h) }
 
 solid : (a b : Bool) → (a && b) ≡ true → a ≡ true
 solid true b e = refl
@@ -151,6 +150,7 @@ pieces_are_plain source =
     each_part : (part : Span) → Pass (λ byte. is_of_line byte && not (eqb byte 59)) (bytes_at source part) → AllByRecursion (λ span. IsWordOf is_script_plain (bytes_at source span)) (piece_words source part)
     each_part part h =
         named (IsWordOf is_script_plain) source (piece_words source part) (word_texts true (bytes_at source part)) (words_are_texts source part.place true (bytes_at source part) (stands_at source part)) (words_pass (λ byte. is_of_line byte && not (eqb byte 59)) true (bytes_at source part) h)
+
     each : (line : Span) → NoEnd (bytes_at source line) → AllByRecursion (λ span. IsWordOf is_script_plain (bytes_at source span)) (line_piece_words source line)
     each line h =
         let parts = parts_from 59 line.place true (uncommented (bytes_at source line)) in

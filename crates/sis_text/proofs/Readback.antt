@@ -1,13 +1,13 @@
 -- Lines of words that are written are read as they were.
-use Rattle.std.proofs.Common.{◌≡◌, ℕ, ◌+◌, ◌-◌, ◌<◌, ◌≤◌, Bool, true, false, cond, List, [], ◌∷◌, ◌++◌, length, take, refl, sym, ◌∙◌, ap, subst, eqb, not, ◌&&◌, ◌||◌, arith, suc, zero, get_or}
-use Rattle.std.specs.List.{take_while, filter, prefix_len, suffix_len, flat_map, All, AllByRecursion}
+use Rattle.std.proofs.Common.{◌≡◌, ℕ, ◌+◌, ◌-◌, ◌<◌, Bool, true, false, cond, List, [], ◌∷◌, ◌++◌, length, take, refl, sym, ◌∙◌, ap, subst, eqb, not, ◌&&◌, ◌||◌, arith, get_or}
+use Rattle.std.specs.List.{take_while, filter, suffix_len, flat_map, All, AllByRecursion}
 use Rattle.std.proofs.lemmas.Bool.{false≢true}
 use Rattle.std.proofs.lemmas.List.{append_assoc, append-nil, get_or_at, length-append, take_all}
 use Rattle.std.proofs.lemmas.List.Elements.{All-from_recursion, recursion_from_All}
 use Rattle.std.proofs.lemmas.List.Sums.{take_while-cons, suffix_len_is}
 use Rattle.sis_text.specs.Words.{is_blank}
-use Rattle.sis_text.specs.Lines.{uncommented, trimmed, kept, closed, is_open, not_empty}
-use Rattle.sis_text.specs.Entries.{Entry, word_texts, part_texts, joined_entries, says_words, entries_of}
+use Rattle.sis_text.specs.Lines.{uncommented, trimmed, kept, closed, is_open}
+use Rattle.sis_text.specs.Entries.{word_texts, part_texts, joined_entries, says_words, entries_of}
 use Rattle.sis_text.specs.Order.{is_solid, is_of_line, is_plain, IsWordOf}
 use Rattle.sis_text.specs.Written.{Written, spaced, padded, line_text, written_text, IsWritten, numbered}
 use Rattle.sis_text.proofs.Proper.{Pass}

@@ -1,12 +1,12 @@
 -- Spans of a text and the bytes that they name: the same words, parts and lines.
-use Rattle.std.proofs.Common.{◌≡◌, ℕ, ◌+◌, ◌<◌, ◌≤◌, Bool, true, false, cond, List, [], ◌∷◌, ◌++◌, length, take, drop, min, refl, sym, ◌∙◌, ap, eqb, map, not, ◌&&◌, arith, suc, ◌-◌}
+use Rattle.std.proofs.Common.{◌≡◌, ℕ, ◌+◌, ◌≤◌, Bool, true, false, cond, List, [], ◌∷◌, ◌++◌, length, take, drop, refl, sym, ◌∙◌, ap, eqb, map, not, ◌&&◌, arith, suc, ◌-◌}
 use Rattle.std.specs.List.{take_while, filter, prefix_len, suffix_len}
 use Rattle.std.proofs.lemmas.List.{take-take, drop-take, drop-drop, take_min, length-take, map-append, take_all}
 use Rattle.std.proofs.lemmas.List.Folds.{length-prefix_len}
 use Rattle.std.proofs.lemmas.List.Sums.{prefix_len-le-length}
 use Rattle.sis_text.specs.declared.places.Span.{Span}
 use Rattle.sis_text.specs.Words.{bytes_at, is_blank, word_len, words_from, part_len, parts_from}
-use Rattle.sis_text.specs.Entries.{word_texts, part_texts, Entry, entry_at, before_entry, joined_entries, says_words, entries_of}
+use Rattle.sis_text.specs.Entries.{word_texts, part_texts, entry_at, before_entry, joined_entries, says_words, entries_of}
 use Rattle.sis_text.specs.Lines.{uncommented, trimmed, kept, closed, is_open, words_at, before, joined, has_words, not_empty, lines_of, physical_lines}
 use Rattle.sis_text.specs.declared.places.Line.{Line}
 
@@ -23,17 +23,17 @@ stands_rest source place byte rest s =
     let b : drop 1 (take (suc (length rest)) (drop place source)) ≡ rest = ap (drop 1) s.is in
     let e : 1 + length rest ≡ suc (length rest) = omega arith in
     record {
-        is = ap (take (length rest)) (sym (drop-drop 1 place source)) ∙ sym (drop-take 1 (length rest) (drop place source)) ∙ ap (λ n. drop 1 (take n (drop place source))) e ∙ b
+      is = ap (take (length rest)) (sym (drop-drop 1 place source)) ∙ sym (drop-take 1 (length rest) (drop place source)) ∙ ap (λ n. drop 1 (take n (drop place source))) e ∙ b;
     }
 
 pub stands_front : (source : List ℕ) (place : ℕ) (text : List ℕ) (k : ℕ) → Stands source place text → Stands source place (take k text)
 stands_front source place text k s = record {
-    is = front_at source place text (length (take k text)) s (omega (arith, length-take k text)) ∙ ap (λ n. take n text) (length-take k text) ∙ take_min k text
+  is = front_at source place text (length (take k text)) s (omega (arith, length-take k text)) ∙ ap (λ n. take n text) (length-take k text) ∙ take_min k text;
 }
 
 pub stands_at : (source : List ℕ) (span : Span) → Stands source span.place (bytes_at source span)
 stands_at source span = record {
-    is = ap (λ n. take n (drop span.place source)) (length-take span.len (drop span.place source)) ∙ take_min span.len (drop span.place source)
+  is = ap (λ n. take n (drop span.place source)) (length-take span.len (drop span.place source)) ∙ take_min span.len (drop span.place source);
 }
 
 pub whole_stands : (source : List ℕ) → Stands source 0 source

@@ -1,7 +1,7 @@
 -- Texts that writers make of lines of words: one blank between words, byte 10 behind each line.
 -- Source: "Berkeley Logic Interchange Format (BLIF)", appendix of the SIS report (UCB/ERL M92/41). A `\` at
 -- the end of a line would join the next one, so there a blank is put behind it.
-use Rattle.std.specs.Prelude.{ℕ, ◌+◌, ◌<◌, List, [], ◌∷◌, ◌++◌, if◌then◌else◌}
+use Rattle.std.specs.Prelude.{ℕ, ◌+◌, List, [], ◌∷◌, ◌++◌, if◌then◌else◌}
 use Rattle.std.specs.List.{All, flat_map}
 use Rattle.sis_text.specs.Lines.{is_open}
 use Rattle.sis_text.specs.Entries.{Entry}

@@ -36,7 +36,11 @@ pub fn bytes_at(source: &[u8], span: Span) -> &[u8]
 }
 
 /// The bytes of `source` that each of `spans` names, in order; an error only for want of memory.
-pub fn texts_at<'a>(alloc: Global, source: &'a [u8], spans: &[Span]) -> Result<Vec<&'a [u8]>, AllocError>
+pub fn texts_at<'a>(
+    alloc: Global,
+    source: &'a [u8],
+    spans: &[Span],
+) -> Result<Vec<&'a [u8]>, AllocError>
     ensures { IfOk result (λ texts. map (λ text. text.now) texts.items ≡ map (bytes_at source.now) spans.now) }
 {
     let mut texts = Vec::with_capacity(alloc, spans.len())?;

@@ -7,16 +7,21 @@ ghost use Rattle.sis_text.specs.Pieces.{piece_at, line_pieces, pieces_from, piec
 ghost use Rattle.sis_text.specs.Entries.{entry_at, script_entries_of};
 ghost use Rattle.sis_text.specs.Order.{AreInOrder, AreWordsOf, HaveWords, words_in, is_script_plain};
 
-use sis_base::Sequence;
-use std::alloc::{AllocError, Global};
-
 use crate::joining::{finish, uncommented};
 use crate::parting::{add_parts, add_words, parts};
 use crate::places::{Line, Lines, Span, bytes_at};
+use sis_base::Sequence;
+use std::alloc::{AllocError, Global};
 
 /// Puts one piece behind `lines`, unless it has no words.
 #[tactic(auto, unfolding(crate::specs::Pieces::piece_at))]
-fn add_piece(lines: &mut Lines, alloc: Global, number: usize, source: &[u8], part: Span) -> Result<(), AllocError>
+fn add_piece(
+    lines: &mut Lines,
+    alloc: Global,
+    number: usize,
+    source: &[u8],
+    part: Span,
+) -> Result<(), AllocError>
     ensures { OnOk result (lines.new ≡ lines.old ++ filter has_words (piece_at source.now number part ∷ [])) }
 {
     let mut words = Sequence::new(alloc);
@@ -27,7 +32,13 @@ fn add_piece(lines: &mut Lines, alloc: Global, number: usize, source: &[u8], par
 
 /// Puts the pieces that these parts are behind `lines`.
 #[tactic(auto, using(crate::proofs::Steps::kept_more, crate::proofs::Steps::kept_done, std::proofs::lemmas::Grind::common_steps))]
-fn add_pieces(lines: &mut Lines, alloc: Global, number: usize, source: &[u8], parts: &[Span]) -> Result<(), AllocError>
+fn add_pieces(
+    lines: &mut Lines,
+    alloc: Global,
+    number: usize,
+    source: &[u8],
+    parts: &[Span],
+) -> Result<(), AllocError>
     ensures { OnOk result (lines.new ≡ lines.old ++ filter has_words (map (piece_at source.now number) parts.now)) }
 {
     for i in 0..parts.len() {
@@ -38,11 +49,22 @@ fn add_pieces(lines: &mut Lines, alloc: Global, number: usize, source: &[u8], pa
 
 /// Puts the pieces of one physical line behind `lines`.
 #[tactic(auto, unfolding(crate::specs::Pieces::line_pieces))]
-fn add_line(lines: &mut Lines, alloc: Global, number: usize, source: &[u8], line: Span) -> Result<(), AllocError>
+fn add_line(
+    lines: &mut Lines,
+    alloc: Global,
+    number: usize,
+    source: &[u8],
+    line: Span,
+) -> Result<(), AllocError>
     ensures { OnOk result (lines.new ≡ lines.old ++ filter has_words (line_pieces source.now number line)) }
 {
     let mut found = Sequence::new(alloc);
-    add_parts(&mut found, 59, line.place, uncommented(bytes_at(source, line)))?;
+    add_parts(
+        &mut found,
+        b';',
+        line.place,
+        uncommented(bytes_at(source, line)),
+    )?;
     add_pieces(lines, alloc, number, source, found.as_slice())?;
     Ok(())
 }
@@ -64,7 +86,7 @@ fn pieces(alloc: Global, source: &[u8], physical: &[Span]) -> Result<Lines, Allo
 fn found_pieces(alloc: Global, source: &[u8]) -> Result<Lines, AllocError>
     ensures { IfOk result (λ lines. lines ≡ pieces_of source.now) }
 {
-    let physical = parts(alloc, 10, source)?;
+    let physical = parts(alloc, b'\n', source)?;
     pieces(alloc, source, physical.as_slice())
 }
 

@@ -9,5 +9,4 @@ ghost use Rattle.sis_text.specs.Written.{Written, IsWritten, written_text, numbe
 /// lines of the text that is written of them are these lines, numbered 1, 2 and so on.
 pub fn written_lines_are_read()
     ensures { (lines : List Written) → All IsWritten lines → entries_of (written_text lines) ≡ numbered 1 lines }
-{
-}
+{}
