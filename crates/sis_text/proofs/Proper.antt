@@ -72,12 +72,12 @@ parts_pass test mark after_mark (byte ∷ rest) h =
     step true o = (pass_both test (λ byte. not (eqb byte mark)) (take_while (λ byte. not (eqb byte mark)) (byte ∷ rest)) (pass_take test (prefix_len (λ byte. not (eqb byte mark)) (byte ∷ rest)) (byte ∷ rest) h) (pass_while (λ byte. not (eqb byte mark)) (byte ∷ rest)), o)
     step false o = o
 
-uncommented_pass : (test : ℕ → Bool) (line : List ℕ) → Pass test line → Pass (λ byte. test byte && not (eqb byte 35)) (uncommented line)
+pub uncommented_pass : (test : ℕ → Bool) (line : List ℕ) → Pass test line → Pass (λ byte. test byte && not (eqb byte 35)) (uncommented line)
 unfolding uncommented
 uncommented_pass test line h =
     pass_both test (λ byte. not (eqb byte 35)) (take_while (λ byte. not (eqb byte 35)) line) (pass_take test (prefix_len (λ byte. not (eqb byte 35)) line) line h) (pass_while (λ byte. not (eqb byte 35)) line)
 
-kept_pass : (test : ℕ → Bool) (line : List ℕ) → Pass test line → Pass (λ byte. test byte && not (eqb byte 35)) (closed (kept line))
+pub kept_pass : (test : ℕ → Bool) (line : List ℕ) → Pass test line → Pass (λ byte. test byte && not (eqb byte 35)) (closed (kept line))
 unfolding closed trimmed
 kept_pass test line h =
     let t = pass_take (λ byte. test byte && not (eqb byte 35)) (length (uncommented line) - suffix_len (λ byte. eqb byte 13) (uncommented line)) (uncommented line) (uncommented_pass test line h) in
@@ -97,7 +97,7 @@ named P source spans texts e h =
     through [] h = tt
     through (span ∷ spans) h = (h.0, through spans h.1)
 
-all_append : {A : Type 0} (P : A → Type 0) (xs ys : List A) → AllByRecursion P xs → AllByRecursion P ys → AllByRecursion P (xs ++ ys)
+pub all_append : {A : Type 0} (P : A → Type 0) (xs ys : List A) → AllByRecursion P xs → AllByRecursion P ys → AllByRecursion P (xs ++ ys)
 all_append P [] ys h k = k
 all_append P (x ∷ xs) ys h k = (h.0, all_append P xs ys h.1 k)
 
@@ -106,14 +106,14 @@ all_flat P Q f [] each h = tt
 all_flat P Q f (x ∷ xs) each h = all_append Q (f x) (flat_map f xs) (each x h.0) (all_flat P Q f xs each h.1)
 
 -- any byte passes
-abbrev anything : ℕ → Bool
+abbrev pub anything : ℕ → Bool
 anything byte = true
 
-pass_anything : (text : List ℕ) → Pass anything text
+pub pass_anything : (text : List ℕ) → Pass anything text
 pass_anything [] = tt
 pass_anything (byte ∷ rest) = (refl, pass_anything rest)
 
-abbrev NoEnd : List ℕ → Type 0
+abbrev pub NoEnd : List ℕ → Type 0
 NoEnd = Pass (λ byte. anything byte && not (eqb byte 10))
 
 lines_pass : (source : List ℕ) → AllByRecursion (λ line. NoEnd (bytes_at source line)) (physical_lines source)

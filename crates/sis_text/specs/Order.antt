@@ -5,6 +5,7 @@ use Rattle.std.specs.List.{All, flat_map}
 use Rattle.sis_text.specs.declared.places.Span.{Span}
 use Rattle.sis_text.specs.declared.places.Line.{Line}
 use Rattle.sis_text.specs.Words.{bytes_at, is_blank}
+use Rattle.sis_text.specs.Entries.{Entry}
 
 -- no span begins before the end of the one before it, the first not before `from`, and none ends behind `limit`
 unfoldable pub AreInOrder : ℕ → ℕ → List Span → Type 0
@@ -41,3 +42,8 @@ AreWordsOf test source spans = All (λ span. IsWordOf test (bytes_at source span
 -- each line has words
 abbrev pub HaveWords : List Line → Type 0
 HaveWords lines = All (λ line. 0 < length line.words) lines
+
+-- an entry has words, and each is one
+pub record IsProper (test : ℕ → Bool) (entry : Entry) : Type 0 where
+  pub some : 0 < length entry.words
+  pub each : All (IsWordOf test) entry.words

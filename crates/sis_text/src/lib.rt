@@ -14,7 +14,7 @@ pub use joining::logical_lines;
 pub use parting::words;
 pub use places::{Line, Lines, Span, Spans, bytes_at, texts_at};
 pub use scripts::script_pieces;
-pub use writing::written_lines_are_read;
+pub use writing::{entries_are_proper, written_lines_are_read};
 
 #[cfg(test)]
 mod tests {
@@ -99,6 +99,7 @@ mod tests {
             b"c".as_slice()
         );
         assert!(rt; bytes_at(b"abc", Span { place: 7, len: 1 }).is_empty());
+        entries_are_proper();
         written_lines_are_read();
         Ok(())
     }
