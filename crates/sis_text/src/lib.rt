@@ -1,20 +1,28 @@
 //! Lines and words of a text, each word as a span of it, and the pieces of a script.
 //!
-//! The rules are those of the Berkeley Logic Interchange Format (appendix of the SIS report, UCB/ERL
-//! M92/41): comments from `#` on, lines joined by a `\` at the end, words parted by blanks.
+//! `logical_lines` follows the Berkeley Logic Interchange Format (appendix of the SIS report, UCB/ERL
+//! M92/41): a physical line ends with byte 10 or the end of the text; the first `#` and all after it are
+//! cut, then carriage returns at the end; a `\` that is now last is cut and joins the next line; words are
+//! parted by tabs, carriage returns and spaces, and none runs across a join. `script_pieces` parts the
+//! physical lines of a command script at `;` and joins nothing. Lines and pieces without words are left out.
+//!
+//! Promised: just the spans of the definitions (`specs/Lines.antt`, `specs/Pieces.antt`), in order and
+//! inside the text; that they name the words of `specs/Entries.antt`, where lines are said by their bytes
+//! alone; and that lines of words written by `specs/Written.antt` are read as they were. The only error
+//! is want of memory.
 #![tactic(auto)]
 
 mod joining;
+mod laws;
 mod parting;
 mod places;
 mod scripts;
-mod writing;
 
 pub use joining::logical_lines;
+pub use laws::{entries_are_proper, written_lines_are_read};
 pub use parting::words;
 pub use places::{Line, Lines, Span, Spans, bytes_at, texts_at};
 pub use scripts::script_pieces;
-pub use writing::{entries_are_proper, written_lines_are_read};
 
 #[cfg(test)]
 mod tests {
