@@ -1,5 +1,5 @@
 -- The walk that joins lines: one step of it.
-use Rattle.std.proofs.Common.{◌≡◌, ℕ, ◌+◌, Bool, true, false, cond, List, [], ◌∷◌, ◌++◌, Option, Some, None, refl, sym, ◌∙◌, ap, append_assoc}
+use Rattle.std.proofs.Common.{◌≡◌, ℕ, ◌+◌, true, false, List, [], ◌∷◌, ◌++◌, Option, Some, None, refl, sym, ◌∙◌, ap, append_assoc}
 use Rattle.std.specs.List.{filter}
 use Rattle.std.proofs.lemmas.List.Elements.{filter-append}
 use Rattle.sis_text.specs.declared.places.Span.{Span}

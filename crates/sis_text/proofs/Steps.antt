@@ -1,5 +1,5 @@
 -- One step of each walk over a text, and its end, as loops take them.
-use Rattle.std.proofs.Common.{◌≡◌, ℕ, ◌+◌, ◌<◌, ◌≤◌, Bool, true, false, cond, List, [], ◌∷◌, ◌++◌, length, get_or, drop, refl, eqb, add_assoc, ◌&&◌, not, take, ap, map, arith}
+use Rattle.std.proofs.Common.{◌≡◌, ℕ, ◌+◌, ◌<◌, ◌≤◌, Bool, cond, List, [], ◌∷◌, ◌++◌, length, get_or, drop, refl, eqb, add_assoc, ◌&&◌, not, take, ap, map, arith}
 use Rattle.std.specs.List.{take_while, filter}
 use Rattle.std.proofs.lemmas.List.Elements.{filter-append}
 use Rattle.std.proofs.lemmas.List.Folds.{length-prefix_len}

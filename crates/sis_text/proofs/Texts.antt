@@ -1,12 +1,12 @@
 -- Spans of a text and the bytes that they name: the same words, parts and lines.
-use Rattle.std.proofs.Common.{◌≡◌, ℕ, ◌+◌, ◌<◌, ◌≤◌, Bool, true, false, cond, List, [], ◌∷◌, ◌++◌, length, take, drop, min, refl, sym, ◌∙◌, ap, eqb, map, not, ◌&&◌, arith, suc, ◌-◌}
+use Rattle.std.proofs.Common.{◌≡◌, ℕ, ◌+◌, ◌≤◌, Bool, true, false, cond, List, [], ◌∷◌, ◌++◌, length, take, drop, refl, sym, ◌∙◌, ap, eqb, map, not, ◌&&◌, arith, suc, ◌-◌}
 use Rattle.std.specs.List.{take_while, filter, prefix_len, suffix_len}
 use Rattle.std.proofs.lemmas.List.{take-take, drop-take, drop-drop, take_min, length-take, map-append, take_all}
 use Rattle.std.proofs.lemmas.List.Folds.{length-prefix_len}
 use Rattle.std.proofs.lemmas.List.Sums.{prefix_len-le-length}
 use Rattle.sis_text.specs.declared.places.Span.{Span}
 use Rattle.sis_text.specs.Words.{bytes_at, is_blank, word_len, words_from, part_len, parts_from}
-use Rattle.sis_text.specs.Entries.{word_texts, part_texts, Entry, entry_at, before_entry, joined_entries, says_words, entries_of}
+use Rattle.sis_text.specs.Entries.{word_texts, part_texts, entry_at, before_entry, joined_entries, says_words, entries_of}
 use Rattle.sis_text.specs.Lines.{uncommented, trimmed, kept, closed, is_open, words_at, before, joined, has_words, not_empty, lines_of, physical_lines}
 use Rattle.sis_text.specs.declared.places.Line.{Line}
 
@@ -23,20 +23,23 @@ stands_rest source place byte rest s =
     let b : drop 1 (take (suc (length rest)) (drop place source)) ≡ rest = ap (drop 1) s.is in
     let e : 1 + length rest ≡ suc (length rest) = omega arith in
     record {
-        is = ap (take (length rest)) (sym (drop-drop 1 place source)) ∙ sym (drop-take 1 (length rest) (drop place source)) ∙ ap (λ n. drop 1 (take n (drop place source))) e ∙ b
+      is = ap (take (length rest)) (sym (drop-drop 1 place source)) ∙ sym (drop-take 1 (length rest) (drop place source)) ∙ ap (λ n. drop 1 (take n (drop place source))) e ∙ b;
     }
 
 pub stands_front : (source : List ℕ) (place : ℕ) (text : List ℕ) (k : ℕ) → Stands source place text → Stands source place (take k text)
 stands_front source place text k s = record {
-    is = front_at source place text (length (take k text)) s (omega (arith, length-take k text)) ∙ ap (λ n. take n text) (length-take k text) ∙ take_min k text
+  is = front_at source place text (length (take k text)) s (omega (arith, length-take k text)) ∙ ap (λ n. take n text) (length-take k text) ∙ take_min k text;
 }
 
 pub stands_at : (source : List ℕ) (span : Span) → Stands source span.place (bytes_at source span)
 stands_at source span = record {
-    is = ap (λ n. take n (drop span.place source)) (length-take span.len (drop span.place source)) ∙ take_min span.len (drop span.place source)
+  is = ap (λ n. take n (drop span.place source)) (length-take span.len (drop span.place source)) ∙ take_min span.len (drop span.place source);
 }
 
-cons_same : {A : Type 0} {x y : A} {xs ys : List A} → x ≡ y → xs ≡ ys → x ∷ xs ≡ y ∷ ys
+pub whole_stands : (source : List ℕ) → Stands source 0 source
+whole_stands source = record { is = take_all (length source) source (omega arith) }
+
+pub cons_same : {A : Type 0} {x y : A} {xs ys : List A} → x ≡ y → xs ≡ ys → x ∷ xs ≡ y ∷ ys
 cons_same e f = cc
 
 -- a front of the text, as long as the bytes that pass
@@ -64,6 +67,11 @@ parts_are_texts source mark place after_mark (byte ∷ rest) s =
     step : (b : Bool) → map (bytes_at source) (parts_from mark (place + 1) (eqb byte mark) rest) ≡ part_texts mark (eqb byte mark) rest → map (bytes_at source) (cond b (record { place = place; len = part_len mark (byte ∷ rest) } ∷ []) [] ++ parts_from mark (place + 1) (eqb byte mark) rest) ≡ cond b (take_while (λ byte. not (eqb byte mark)) (byte ∷ rest) ∷ []) [] ++ part_texts mark (eqb byte mark) rest
     step true e = cons_same (front_passing (λ byte. not (eqb byte mark)) source place (byte ∷ rest) s) e
     step false e = e
+
+pub uncommented_stands : (source : List ℕ) (line : Span) → Stands source line.place (uncommented (bytes_at source line))
+unfolding uncommented
+uncommented_stands source line =
+    stands_front source line.place (bytes_at source line) (prefix_len (λ byte. not (eqb byte 35)) (bytes_at source line)) (stands_at source line)
 
 -- what is kept of a line stands where the line does
 pub kept_stands : (source : List ℕ) (place : ℕ) (line : List ℕ) → Stands source place line → Stands source place (closed (kept line))
@@ -116,4 +124,4 @@ with_words source (l ∷ lines) =
 pub lines_are_entries : (source : List ℕ) → map (entry_at source) (lines_of source) ≡ entries_of source
 unfolding lines_of entries_of
 lines_are_entries source =
-    with_words source (joined source 1 (physical_lines source)) ∙ ap (filter says_words) (joined_texts source 1 (physical_lines source) ∙ ap (joined_entries 1) (parts_are_texts source 10 0 true source (record { is = take_all (length source) source (omega arith) })))
+    with_words source (joined source 1 (physical_lines source)) ∙ ap (filter says_words) (joined_texts source 1 (physical_lines source) ∙ ap (joined_entries 1) (parts_are_texts source 10 0 true source (whole_stands source)))

@@ -21,14 +21,14 @@ unfoldable pub word_texts : Bool → List ℕ → List (List ℕ)
 word_texts after_blank [] = []
 word_texts after_blank (byte ∷ rest) =
     (if after_blank && not (is_blank byte) then take_while (λ byte. not (is_blank byte)) (byte ∷ rest) ∷ [] else [])
-        ++ word_texts (is_blank byte) rest
+    ++ word_texts (is_blank byte) rest
 
 -- the parts of a text: from each byte behind a mark or nothing, up to the next mark
 unfoldable pub part_texts : ℕ → Bool → List ℕ → List (List ℕ)
 part_texts mark after_mark [] = []
 part_texts mark after_mark (byte ∷ rest) =
     (if after_mark then take_while (λ byte. not (byte == mark)) (byte ∷ rest) ∷ [] else [])
-        ++ part_texts mark (byte == mark) rest
+    ++ part_texts mark (byte == mark) rest
 
 -- a line of this number whose words go before those of the first of the entries
 unfoldable pub before_entry : ℕ → List (List ℕ) → List Entry → List Entry

@@ -4,3 +4,4 @@ pub mod Joining
 pub mod Pieces
 pub mod Entries
 pub mod Order
+pub mod Written

@@ -1,10 +1,11 @@
 -- How the words that are found lie in their text.
 -- Source: "Berkeley Logic Interchange Format (BLIF)", appendix of the SIS report (UCB/ERL M92/41).
-use Rattle.std.specs.Prelude.{◌≡◌, ℕ, ◌+◌, ◌<◌, ◌≤◌, ◌==◌, ◌||◌, not, Bool, true, List, [], ◌∷◌, length}
+use Rattle.std.specs.Prelude.{◌≡◌, ℕ, ◌+◌, ◌<◌, ◌≤◌, ◌==◌, ◌&&◌, not, Bool, true, List, [], ◌∷◌, length}
 use Rattle.std.specs.List.{All, flat_map}
 use Rattle.sis_text.specs.declared.places.Span.{Span}
 use Rattle.sis_text.specs.declared.places.Line.{Line}
-use Rattle.sis_text.specs.Words.{is_blank}
+use Rattle.sis_text.specs.Words.{bytes_at, is_blank}
+use Rattle.sis_text.specs.Entries.{Entry}
 
 -- no span begins before the end of the one before it, the first not before `from`, and none ends behind `limit`
 unfoldable pub AreInOrder : ℕ → ℕ → List Span → Type 0
@@ -16,11 +17,33 @@ AreInOrder from limit (span ∷ spans) =
 abbrev pub words_in : List Line → List Span
 words_in lines = flat_map (λ line. line.words) lines
 
--- bytes that stand in a word of a logical line: no blank, no line end, no `#`
+-- bytes of words: no blank; in logical lines neither a line end nor `#`; in scripts no `;` either
+abbrev pub is_solid : ℕ → Bool
+is_solid byte = not (is_blank byte)
+
+abbrev pub is_of_line : ℕ → Bool
+is_of_line byte = not (byte == 10) && not (byte == 35)
+
 abbrev pub is_plain : ℕ → Bool
-is_plain byte = not (is_blank byte || byte == 10 || byte == 35)
+is_plain byte = is_solid byte && is_of_line byte
+
+abbrev pub is_script_plain : ℕ → Bool
+is_script_plain byte = is_solid byte && (is_of_line byte && not (byte == 59))
 
 -- a word is not empty, and all its bytes pass a test
 pub record IsWordOf (test : ℕ → Bool) (word : List ℕ) : Type 0 where
   pub some : 0 < length word
   pub passes : All (λ byte. test byte ≡ true) word
+
+-- each span names a word
+abbrev pub AreWordsOf : (ℕ → Bool) → List ℕ → List Span → Type 0
+AreWordsOf test source spans = All (λ span. IsWordOf test (bytes_at source span)) spans
+
+-- each line has words
+abbrev pub HaveWords : List Line → Type 0
+HaveWords lines = All (λ line. 0 < length line.words) lines
+
+-- an entry has words, and each is one
+pub record IsProper (test : ℕ → Bool) (entry : Entry) : Type 0 where
+  pub some : 0 < length entry.words
+  pub each : All (IsWordOf test) entry.words

@@ -23,7 +23,7 @@ unfoldable pub words_from : ℕ → Bool → List ℕ → List Span
 words_from place after_blank [] = []
 words_from place after_blank (byte ∷ rest) =
     (if after_blank && not (is_blank byte) then record { place = place; len = word_len (byte ∷ rest) } ∷ [] else [])
-        ++ words_from (place + 1) (is_blank byte) rest
+    ++ words_from (place + 1) (is_blank byte) rest
 
 -- the words of one line
 abbrev pub words_of : List ℕ → List Span
@@ -39,4 +39,4 @@ unfoldable pub parts_from : ℕ → ℕ → Bool → List ℕ → List Span
 parts_from mark place after_mark [] = []
 parts_from mark place after_mark (byte ∷ rest) =
     (if after_mark then record { place = place; len = part_len mark (byte ∷ rest) } ∷ [] else [])
-        ++ parts_from mark (place + 1) (byte == mark) rest
+    ++ parts_from mark (place + 1) (byte == mark) rest

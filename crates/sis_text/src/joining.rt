@@ -1,28 +1,29 @@
 //! Logical lines: comments cut, lines joined, lines without words read past.
 
-ghost use Rattle.std.specs.Prelude.{◌≡◌, List, ◌==◌, ◌+◌, ◌^◌, ◌<◌, ◌≤◌, ◌++◌, ◌∷◌, [], not, true, length, IfOk, OnOk};
+ghost use Rattle.std.specs.Prelude.{◌≡◌, List, map, ◌==◌, ◌+◌, ◌^◌, ◌<◌, ◌≤◌, ◌++◌, ◌∷◌, [], not, true, length, IfOk, OnOk};
 ghost use Rattle.std.specs.List.{take_while, suffix_len, filter};
 ghost use Rattle.sis_text.specs.declared.places.Span.{Span};
 ghost use Rattle.sis_text.specs.Words.{bytes_at, parts_from};
 ghost use Rattle.sis_text.specs.Lines.{uncommented, trimmed, kept, is_open, closed, words_at, joined, has_words, lines_of};
 ghost use Rattle.sis_text.specs.Joining.{started, resume};
-
-use sis_base::Sequence;
-use std::alloc::{AllocError, AllocFailed, Global};
+ghost use Rattle.sis_text.specs.Entries.{entry_at, entries_of};
+ghost use Rattle.sis_text.specs.Order.{AreInOrder, AreWordsOf, HaveWords, words_in, is_plain};
 
 use crate::parting::{add_words, parts};
 use crate::places::{Line, Lines, Span, Spans, bytes_at};
+use sis_base::Sequence;
+use std::alloc::{AllocError, AllocFailed, Global};
 
 /// How many bytes stand before the first `#`.
 fn front_len(line: &[u8]) -> usize
     ensures { result ≡ length (take_while (λ byte. not (byte == 35)) line.now) }
 {
-    line.iter().take_while(|byte| **byte != 35).count()
+    line.iter().take_while(|byte| **byte != b'#').count()
 }
 
 /// What stands before the first `#`.
 #[tactic(auto, unfolding(crate::specs::Lines::uncommented), using(crate::proofs::Steps::front_taken, std::proofs::lemmas::Grind::common_steps))]
-pub fn uncommented(line: &[u8]) -> &[u8]
+pub(crate) fn uncommented(line: &[u8]) -> &[u8]
     ensures value { result.now ≡ uncommented line.now }
     ensures shorter { length result.now ≤ length line.now }
 {
@@ -34,7 +35,7 @@ fn returns_len(text: &[u8]) -> usize
     ensures value { result ≡ suffix_len (λ byte. byte == 13) text.now }
     ensures within { result ≤ length text.now }
 {
-    text.iter().rev().take_while(|byte| **byte == 13).count()
+    text.iter().rev().take_while(|byte| **byte == b'\r').count()
 }
 
 /// `text` without the carriage returns at its end.
@@ -52,7 +53,7 @@ fn is_open(text: &[u8]) -> bool
     ensures value { result ≡ is_open text.now }
     ensures some { result ≡ true → 1 ≤ length text.now }
 {
-    !text.is_empty() && text[text.len() - 1] == 92
+    !text.is_empty() && text[text.len() - 1] == b'\\'
 }
 
 /// `text` without a `\` at its end.
@@ -83,13 +84,16 @@ fn started(alloc: Global, begun: Option<Line>, number: usize) -> Line
 {
     match begun {
         Some(line) => line,
-        None => Line { number, words: Sequence::new(alloc) },
+        None => Line {
+            number,
+            words: Sequence::new(alloc),
+        },
     }
 }
 
 /// Puts `line` behind `lines`, unless it has no words.
 #[tactic(auto, unfolding(crate::specs::Lines::has_words), using(crate::proofs::Steps::empty_tested))]
-pub fn finish(lines: &mut Lines, line: Line) -> Result<(), AllocFailed<Line>>
+pub(crate) fn finish(lines: &mut Lines, line: Line) -> Result<(), AllocFailed<Line>>
     ensures { OnOk result (lines.new ≡ lines.old ++ filter has_words (line ∷ [])) }
 {
     if line.words.is_empty() {
@@ -100,7 +104,14 @@ pub fn finish(lines: &mut Lines, line: Line) -> Result<(), AllocFailed<Line>>
 }
 
 /// Takes one physical line to the line that has begun, and hands back the line that has begun then.
-fn take_line(lines: &mut Lines, alloc: Global, begun: Option<Line>, number: usize, source: &[u8], line: Span) -> Result<Option<Line>, AllocError>
+fn take_line(
+    lines: &mut Lines,
+    alloc: Global,
+    begun: Option<Line>,
+    number: usize,
+    source: &[u8],
+    line: Span,
+) -> Result<Option<Line>, AllocError>
     ensures { IfOk result (λ next. (rest : List Span) → lines.new ++ filter has_words (resume next (joined source.now (number + 1) rest)) ≡ lines.old ++ filter has_words (resume begun (joined source.now number (line ∷ rest)))) }
 {
     let text = kept_at(source, line);
@@ -138,13 +149,25 @@ fn join(alloc: Global, source: &[u8], physical: &[Span]) -> Result<Lines, AllocE
     Ok(lines)
 }
 
-/// The logical lines of a text: comments cut, lines joined by `\` at the end, lines without words read
-/// past. Spans are places in `source`; numbers of physical lines begin at 1. An error only for want of
-/// memory.
+/// The logical lines of a text, exactly.
 #[tactic(auto, unfolding(crate::specs::Lines::lines_of))]
-pub fn logical_lines(alloc: Global, source: &[u8]) -> Result<Lines, AllocError>
+fn found_lines(alloc: Global, source: &[u8]) -> Result<Lines, AllocError>
     ensures { IfOk result (λ lines. lines ≡ lines_of source.now) }
 {
-    let physical = parts(alloc, 10, source)?;
+    let physical = parts(alloc, b'\n', source)?;
     join(alloc, source, physical.as_slice())
+}
+
+/// The logical lines of a text: comments cut, lines joined by `\` at the end, lines without words read
+/// past. Spans are places in `source`; numbers of physical lines begin at 1. The words of all lines stand
+/// in order and do not overlap; none is empty or has a blank, a line end or a `#`. An error only for want
+/// of memory.
+pub fn logical_lines(alloc: Global, source: &[u8]) -> Result<Lines, AllocError>
+    ensures value { IfOk result (λ lines. lines ≡ lines_of source.now) }
+    ensures entries { IfOk result (λ lines. map (entry_at source.now) lines ≡ entries_of source.now) }
+    ensures in_order { IfOk result (λ lines. AreInOrder 0 (length source.now) (words_in lines)) }
+    ensures plain { IfOk result (λ lines. AreWordsOf is_plain source.now (words_in lines)) }
+    ensures have_words { IfOk result (λ lines. HaveWords lines) }
+{
+    found_lines(alloc, source)
 }

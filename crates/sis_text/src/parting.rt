@@ -2,17 +2,17 @@
 
 ghost use Rattle.std.specs.Prelude.{◌≡◌, ◌==◌, ◌+◌, ◌*◌, ◌^◌, ◌<◌, ◌++◌, not, true, length, IfOk, OnOk};
 ghost use Rattle.sis_text.specs.Words.{is_blank, word_len, words_from, words_of, part_len, parts_from};
-
-use sis_base::Sequence;
-use std::alloc::{AllocError, AllocFailed, Global};
+ghost use Rattle.sis_text.specs.Order.{AreInOrder, AreWordsOf, is_solid};
 
 use crate::places::{Span, Spans};
+use sis_base::Sequence;
+use std::alloc::{AllocError, AllocFailed, Global};
 
 /// Whether a byte is a tab, a carriage return or a space.
 fn is_blank(byte: u8) -> bool
     ensures { result ≡ is_blank byte }
 {
-    byte == 9 || byte == 13 || byte == 32
+    byte == b'\t' || byte == b'\r' || byte == b' '
 }
 
 /// How many bytes stand before the first blank.
@@ -33,7 +33,11 @@ fn part_len(mark: u8, bytes: &[u8]) -> usize
 
 /// Puts the words of `line`, whose bytes stand from `place` on, behind `found`.
 #[tactic(auto, using(crate::proofs::Steps::words_more, crate::proofs::Steps::words_done, std::proofs::lemmas::Grind::common_steps))]
-pub fn add_words(found: &mut Spans, place: usize, line: &[u8]) -> Result<(), AllocFailed<Span>>
+pub(crate) fn add_words(
+    found: &mut Spans,
+    place: usize,
+    line: &[u8],
+) -> Result<(), AllocFailed<Span>>
     requires { place + length line.now < 2 ^ 64 }
     ensures { OnOk result (found.new ≡ found.old ++ words_from place true line.now) }
 {
@@ -41,7 +45,10 @@ pub fn add_words(found: &mut Spans, place: usize, line: &[u8]) -> Result<(), All
     for i in 0..line.len() {
         let blank = is_blank(line[i]);
         if after_blank && !blank {
-            found.push(Span { place: place + i, len: word_len(&line[i..]) })?;
+            found.push(Span {
+                place: place + i,
+                len: word_len(&line[i..]),
+            })?;
         }
         after_blank = blank;
     }
@@ -50,22 +57,30 @@ pub fn add_words(found: &mut Spans, place: usize, line: &[u8]) -> Result<(), All
 
 /// Puts the parts of `text` between marks, whose bytes stand from `place` on, behind `found`.
 #[tactic(auto, using(crate::proofs::Steps::parts_more, crate::proofs::Steps::parts_done, std::proofs::lemmas::Grind::common_steps))]
-pub fn add_parts(found: &mut Spans, mark: u8, place: usize, text: &[u8]) -> Result<(), AllocFailed<Span>>
+pub(crate) fn add_parts(
+    found: &mut Spans,
+    mark: u8,
+    place: usize,
+    text: &[u8],
+) -> Result<(), AllocFailed<Span>>
     requires { place + length text.now < 2 ^ 64 }
     ensures { OnOk result (found.new ≡ found.old ++ parts_from mark place true text.now) }
 {
     let mut after_mark = true;
     for i in 0..text.len() {
         if after_mark {
-            found.push(Span { place: place + i, len: part_len(mark, &text[i..]) })?;
+            found.push(Span {
+                place: place + i,
+                len: part_len(mark, &text[i..]),
+            })?;
         }
         after_mark = text[i] == mark;
     }
     Ok(())
 }
 
-/// The words of one line, as spans of it; an error only for want of memory.
-pub fn words(alloc: Global, line: &[u8]) -> Result<Spans, AllocError>
+/// The words of one line, exactly.
+fn found_words(alloc: Global, line: &[u8]) -> Result<Spans, AllocError>
     ensures { IfOk result (λ found. found ≡ words_of line.now) }
 {
     let mut found = Sequence::new(alloc);
@@ -73,8 +88,18 @@ pub fn words(alloc: Global, line: &[u8]) -> Result<Spans, AllocError>
     Ok(found)
 }
 
+/// The words of one line, as spans of it: the longest runs of bytes other than tab, carriage return and
+/// space. They stand in order, do not overlap, and each is such a run. An error only for want of memory.
+pub fn words(alloc: Global, line: &[u8]) -> Result<Spans, AllocError>
+    ensures value { IfOk result (λ found. found ≡ words_of line.now) }
+    ensures in_order { IfOk result (λ found. AreInOrder 0 (length line.now) found) }
+    ensures solid { IfOk result (λ found. AreWordsOf is_solid line.now found) }
+{
+    found_words(alloc, line)
+}
+
 /// The parts of a text between marks, as spans of it; an error only for want of memory.
-pub fn parts(alloc: Global, mark: u8, text: &[u8]) -> Result<Spans, AllocError>
+pub(crate) fn parts(alloc: Global, mark: u8, text: &[u8]) -> Result<Spans, AllocError>
     ensures { IfOk result (λ found. found ≡ parts_from mark 0 true text.now) }
 {
     let mut found = Sequence::new(alloc);

@@ -1,8 +1,10 @@
 //! Places in a text.
 
-ghost use Rattle.std.specs.Prelude.{◌≡◌, length, take, drop};
+ghost use Rattle.std.specs.Prelude.{◌≡◌, length, take, drop, map, IfOk};
+ghost use Rattle.sis_text.specs.Words.{bytes_at};
 
 use sis_base::Sequence;
+use std::alloc::{AllocError, Global};
 
 /// A part of a text: `len` bytes from `place` on.
 #[derive(Clone, Copy, PartialEq, Eq, Debug)]
@@ -31,4 +33,19 @@ pub fn bytes_at(source: &[u8], span: Span) -> &[u8]
 {
     let rest = &source[span.place.min(source.len())..];
     &rest[..span.len.min(rest.len())]
+}
+
+/// The bytes of `source` that each of `spans` names, in order; an error only for want of memory.
+pub fn texts_at<'a>(
+    alloc: Global,
+    source: &'a [u8],
+    spans: &[Span],
+) -> Result<Vec<&'a [u8]>, AllocError>
+    ensures { IfOk result (λ texts. map (λ text. text.now) texts.items ≡ map (bytes_at source.now) spans.now) }
+{
+    let mut texts = Vec::with_capacity(alloc, spans.len())?;
+    for span in spans {
+        texts.push(bytes_at(source, *span))?;
+    }
+    Ok(texts)
 }

@@ -1,20 +1,27 @@
 //! Pieces of a script: physical lines without comments, parted at `;`, pieces without words read past.
 
-ghost use Rattle.std.specs.Prelude.{◌≡◌, ◌+◌, ◌++◌, ◌∷◌, [], map, IfOk, OnOk};
+ghost use Rattle.std.specs.Prelude.{◌≡◌, ◌+◌, ◌++◌, ◌∷◌, [], length, map, IfOk, OnOk};
 ghost use Rattle.std.specs.List.{filter};
 ghost use Rattle.sis_text.specs.Lines.{has_words};
 ghost use Rattle.sis_text.specs.Pieces.{piece_at, line_pieces, pieces_from, pieces_of};
-
-use sis_base::Sequence;
-use std::alloc::{AllocError, Global};
+ghost use Rattle.sis_text.specs.Entries.{entry_at, script_entries_of};
+ghost use Rattle.sis_text.specs.Order.{AreInOrder, AreWordsOf, HaveWords, words_in, is_script_plain};
 
 use crate::joining::{finish, uncommented};
 use crate::parting::{add_parts, add_words, parts};
 use crate::places::{Line, Lines, Span, bytes_at};
+use sis_base::Sequence;
+use std::alloc::{AllocError, Global};
 
 /// Puts one piece behind `lines`, unless it has no words.
 #[tactic(auto, unfolding(crate::specs::Pieces::piece_at))]
-fn add_piece(lines: &mut Lines, alloc: Global, number: usize, source: &[u8], part: Span) -> Result<(), AllocError>
+fn add_piece(
+    lines: &mut Lines,
+    alloc: Global,
+    number: usize,
+    source: &[u8],
+    part: Span,
+) -> Result<(), AllocError>
     ensures { OnOk result (lines.new ≡ lines.old ++ filter has_words (piece_at source.now number part ∷ [])) }
 {
     let mut words = Sequence::new(alloc);
@@ -25,7 +32,13 @@ fn add_piece(lines: &mut Lines, alloc: Global, number: usize, source: &[u8], par
 
 /// Puts the pieces that these parts are behind `lines`.
 #[tactic(auto, using(crate::proofs::Steps::kept_more, crate::proofs::Steps::kept_done, std::proofs::lemmas::Grind::common_steps))]
-fn add_pieces(lines: &mut Lines, alloc: Global, number: usize, source: &[u8], parts: &[Span]) -> Result<(), AllocError>
+fn add_pieces(
+    lines: &mut Lines,
+    alloc: Global,
+    number: usize,
+    source: &[u8],
+    parts: &[Span],
+) -> Result<(), AllocError>
     ensures { OnOk result (lines.new ≡ lines.old ++ filter has_words (map (piece_at source.now number) parts.now)) }
 {
     for i in 0..parts.len() {
@@ -36,11 +49,22 @@ fn add_pieces(lines: &mut Lines, alloc: Global, number: usize, source: &[u8], pa
 
 /// Puts the pieces of one physical line behind `lines`.
 #[tactic(auto, unfolding(crate::specs::Pieces::line_pieces))]
-fn add_line(lines: &mut Lines, alloc: Global, number: usize, source: &[u8], line: Span) -> Result<(), AllocError>
+fn add_line(
+    lines: &mut Lines,
+    alloc: Global,
+    number: usize,
+    source: &[u8],
+    line: Span,
+) -> Result<(), AllocError>
     ensures { OnOk result (lines.new ≡ lines.old ++ filter has_words (line_pieces source.now number line)) }
 {
     let mut found = Sequence::new(alloc);
-    add_parts(&mut found, 59, line.place, uncommented(bytes_at(source, line)))?;
+    add_parts(
+        &mut found,
+        b';',
+        line.place,
+        uncommented(bytes_at(source, line)),
+    )?;
     add_pieces(lines, alloc, number, source, found.as_slice())?;
     Ok(())
 }
@@ -57,13 +81,25 @@ fn pieces(alloc: Global, source: &[u8], physical: &[Span]) -> Result<Lines, Allo
     Ok(lines)
 }
 
-/// The pieces of a script, each with the number of its physical line, from 1 on: lines are cut before the
-/// first `#` and parted at `;`; nothing is joined. Spans are places in `source`. An error only for want of
-/// memory.
+/// The pieces of a script, exactly.
 #[tactic(auto, unfolding(crate::specs::Pieces::pieces_of))]
-pub fn script_pieces(alloc: Global, source: &[u8]) -> Result<Lines, AllocError>
+fn found_pieces(alloc: Global, source: &[u8]) -> Result<Lines, AllocError>
     ensures { IfOk result (λ lines. lines ≡ pieces_of source.now) }
 {
-    let physical = parts(alloc, 10, source)?;
+    let physical = parts(alloc, b'\n', source)?;
     pieces(alloc, source, physical.as_slice())
+}
+
+/// The pieces of a script, each with the number of its physical line, from 1 on: lines are cut before the
+/// first `#` and parted at `;`; nothing is joined, and pieces without words are read past. Spans are places
+/// in `source`. The words of all pieces stand in order and do not overlap; none is empty or has a blank, a
+/// line end, a `#` or a `;`. An error only for want of memory.
+pub fn script_pieces(alloc: Global, source: &[u8]) -> Result<Lines, AllocError>
+    ensures value { IfOk result (λ lines. lines ≡ pieces_of source.now) }
+    ensures entries { IfOk result (λ lines. map (entry_at source.now) lines ≡ script_entries_of source.now) }
+    ensures in_order { IfOk result (λ lines. AreInOrder 0 (length source.now) (words_in lines)) }
+    ensures plain { IfOk result (λ lines. AreWordsOf is_script_plain source.now (words_in lines)) }
+    ensures have_words { IfOk result (λ lines. HaveWords lines) }
+{
+    found_pieces(alloc, source)
 }

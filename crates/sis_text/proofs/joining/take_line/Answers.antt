@@ -1,9 +1,8 @@
-use Rattle.std.proofs.Common.{◌≡◌, List, ◌++◌, ◌+◌, [], ◌∷◌, Some, None, ap, sym, ◌∙◌, arith, append_assoc}
+use Rattle.std.proofs.Common.{List, ◌+◌, [], ◌∷◌, append_assoc}
 use Rattle.std.specs.List.{filter}
 use Rattle.sis_text.specs.declared.places.Span.{Span}
-use Rattle.sis_text.specs.Words.{bytes_at, words_from}
 use Rattle.sis_text.specs.Lines.{words_at, joined, has_words}
-use Rattle.sis_text.specs.Joining.{started, resume}
+use Rattle.sis_text.specs.Joining.{resume}
 use Rattle.sis_text.proofs.Joins.{taken_open, taken_closed, taking}
 use Rattle.sis_text.proofs.joining.take_line.Goals as goal
 
