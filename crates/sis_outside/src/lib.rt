@@ -7,10 +7,13 @@
 //! were planned.
 #![tactic(auto)]
 
+mod mem_sink;
+mod plan;
 mod sink;
 mod source;
 mod store;
 
+pub use mem_sink::MemSink;
 pub use sink::{PutFault, Sink};
 pub use source::{Source, TakeFault};
 pub use store::{LoadFault, SaveFault, Store};
