@@ -1,9 +1,10 @@
 -- A store in memory: what it holds, and what a load and a save do by its schedule.
 -- Source: the project's own doubles of the outside.
-use Rattle.std.specs.Prelude.{◌≡◌, ℕ, List, take, Some, None, Result, Ok, Err}
+use Rattle.std.specs.Prelude.{◌≡◌, ℕ, List, take, Some, None, Result, Ok, Err, refl}
+use Rattle.std.specs.Coded.{Coded, code_by, coded×, coded_ℕ}
 use Rattle.sis_outside.specs.Counts.{one_more}
-use Rattle.sis_outside.specs.Files.{Files, with_file}
-use Rattle.sis_outside.specs.Plan.{Schedule, next_failure, after_call}
+use Rattle.sis_outside.specs.Files.{Files, files_code, with_file}
+use Rattle.sis_outside.specs.Plan.{Schedule, schedule_code, next_failure, after_call}
 use Rattle.sis_outside.specs.declared.store.LoadFault.{LoadFault}
 use Rattle.sis_outside.specs.declared.store.LoadFault.TheVariants as load
 use Rattle.sis_outside.specs.declared.store.SaveFault.{SaveFault}
@@ -14,6 +15,16 @@ pub record StoreState : Type 0 where
   pub schedule : Schedule
   pub faults : ℕ
   pub misses : ℕ
+
+-- how a model stores such a state: as the tuple of its parts
+abbrev pub state_code : Coded StoreState
+state_code =
+    code_by
+    (Files × (Schedule × (ℕ × ℕ)))
+    (coded× files_code (coded× schedule_code (coded× coded_ℕ coded_ℕ)))
+    (λ s. (s.files, (s.schedule, (s.faults, s.misses))))
+    (λ p. record { files = p.0; schedule = p.1.0; faults = p.1.1.0; misses = p.1.1.1 })
+    (λ _. refl)
 
 -- one call more was made, and nothing else changed
 abbrev pub called : StoreState → StoreState

@@ -8,12 +8,16 @@
 #![tactic(auto)]
 
 mod mem_sink;
+mod mem_source;
+mod mem_store;
 mod plan;
 mod sink;
 mod source;
 mod store;
 
 pub use mem_sink::MemSink;
+pub use mem_source::MemSource;
+pub use mem_store::MemStore;
 pub use sink::{PutFault, Sink};
 pub use source::{Source, TakeFault};
 pub use store::{LoadFault, SaveFault, Store};
