@@ -13,11 +13,14 @@ pub takes_front : (bytes piece : List ℕ) (taken count : ℕ) → piece ≡ sli
     taken + count ≤ length bytes → (count ≡ 0 → length bytes ≤ taken) →
     (drop taken bytes ≡ piece ++ drop (taken + count) bytes) × (piece ≡ [] ↔ drop taken bytes ≡ [])
 takes_front bytes piece taken count is within ends =
-    let size = length_of_piece bytes piece taken count is in
-    ( drop_split bytes taken (taken + count) (omega arith) ∙ ap (λ (front : List ℕ). front ++ drop (taken + count) bytes) (sym is)
-    , ( λ none.
-          let short : length piece ≡ 0 = ap length none in
-          drop_of_length-le bytes (ends (omega (arith, size, short)))
-      , λ none.
-          let short : length (drop taken bytes) ≡ 0 = ap length none in
-          drop_of_length-le piece {i = 0} (omega (arith, size, short, length-drop taken bytes)) ) )
+    let size = length_of_piece bytes piece taken count is in (
+      drop_split bytes taken (taken + count) (omega arith) ∙ ap (λ (front : List ℕ). front ++ drop (taken + count) bytes) (sym is),
+      (
+        λ none.
+            let short : length piece ≡ 0 = ap length none in
+            drop_of_length-le bytes (ends (omega (arith, size, short))),
+        λ none.
+            let short : length (drop taken bytes) ≡ 0 = ap length none in
+            drop_of_length-le piece {i = 0} (omega (arith, size, short, length-drop taken bytes)),
+      ),
+    )

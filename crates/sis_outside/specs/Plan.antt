@@ -36,5 +36,10 @@ abbrev pub after_call : Schedule → Schedule
 after_call schedule = record schedule { calls = one_more schedule.calls }
 
 -- a call more is to fail
-abbrev pub with_failure : Schedule → Failure → Schedule
-with_failure schedule failure = record schedule { failures = schedule.failures ++ failure ∷ [] }
+abbrev pub with_failure : Schedule → ℕ → ℕ → Schedule
+with_failure schedule call passes =
+    record schedule { failures = schedule.failures ++ record { call = call; passes = passes } ∷ [] }
+
+-- no call is to fail, and none was made
+abbrev pub nothing_planned : Schedule
+nothing_planned = record { failures = []; calls = 0 }

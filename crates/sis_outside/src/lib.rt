@@ -7,6 +7,7 @@
 //! were planned.
 #![tactic(auto)]
 
+mod counts;
 mod mem_sink;
 mod mem_source;
 mod mem_store;
@@ -14,7 +15,10 @@ mod plan;
 mod sink;
 mod source;
 mod store;
+#[cfg(test)]
+mod tests;
 
+pub use counts::risen_counts_stay;
 pub use mem_sink::MemSink;
 pub use mem_source::MemSource;
 pub use mem_store::MemStore;

@@ -2,10 +2,10 @@
 
 ghost use Rattle.std.specs.Prelude.{◌≡◌, [], true, OnOk, OnErr, IsTrue};
 ghost use Rattle.sis_outside.specs.MemSink.{PutsByPlan};
-ghost use Rattle.sis_outside.specs.Plan.{with_failure};
+ghost use Rattle.sis_outside.specs.Plan.{with_failure, nothing_planned};
 ghost use Rattle.sis_outside.specs.Sink.{Puts, PutFaults};
 
-use crate::plan::{Failure, Plan};
+use crate::plan::Plan;
 use crate::sink::{PutFault, Sink};
 use std::alloc::{AllocError, Global};
 use std::marker::Model;
@@ -29,7 +29,7 @@ impl Model for MemSink {
 impl MemSink {
     /// A sink into which nothing was written, and of which no put is to fail; takes no memory.
     pub fn new(alloc: Global) -> Self
-        ensures { result ≡ record { written = []; schedule = record { failures = []; calls = 0 }; faults = 0 } }
+        ensures { result ≡ record { written = []; schedule = nothing_planned; faults = 0 } }
     {
         MemSink {
             written: Vec::new(alloc),
@@ -40,10 +40,10 @@ impl MemSink {
 
     /// Has the put of this number, counted from 0, fail after `passes` bytes of its piece.
     pub fn fail_at(&mut self, call: usize, passes: usize) -> Result<(), AllocError>
-        ensures ok { OnOk result (self.new ≡ record self.old { schedule = with_failure self.old.schedule (record { call = call; passes = passes }) }) }
+        ensures ok { OnOk result (self.new ≡ record self.old { schedule = with_failure self.old.schedule call passes }) }
         ensures err { OnErr result (self.new ≡ self.old) }
     {
-        self.plan.add(Failure { call, passes })
+        self.plan.add(call, passes)
     }
 
     /// All bytes that were written.
@@ -69,8 +69,6 @@ impl Sink for MemSink {
     ghost faults = { λ s. s.faults };
 
     fn put(&mut self, piece: &[u8]) -> Result<(), PutFault>
-        ensures tells { true ≡ true }
-        ensures puts { IsTrue true → Puts self.old.written piece.now result self.new.written }
         ensures faults { PutFaults result self.old.faults self.new.faults }
         ensures plan { PutsByPlan self.old piece.now result self.new }
     {
@@ -82,7 +80,11 @@ impl Sink for MemSink {
                 Ok(())
             }
             Some(passes) => {
-                if self.written.extend_from_slice(&piece[..passes.min(piece.len())]).is_err() {
+                if self
+                    .written
+                    .extend_from_slice(&piece[..passes.min(piece.len())])
+                    .is_err()
+                {
                     return Err(PutFault::Memory);
                 }
                 self.faults = self.faults.saturating_add(1);

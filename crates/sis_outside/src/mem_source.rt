@@ -2,10 +2,10 @@
 
 ghost use Rattle.std.specs.Prelude.{◌≡◌, ◌-◌, ◌^◌, ◌≤◌, true, [], IfOk, OnOk, OnErr, IsTrue};
 ghost use Rattle.sis_outside.specs.MemSource.{TakesByPlan};
-ghost use Rattle.sis_outside.specs.Plan.{with_failure};
+ghost use Rattle.sis_outside.specs.Plan.{with_failure, nothing_planned};
 ghost use Rattle.sis_outside.specs.Source.{Takes, IsTakeWithin, TakeFaults};
 
-use crate::plan::{Failure, Plan};
+use crate::plan::Plan;
 use crate::source::{Source, TakeFault};
 use std::alloc::{AllocError, Global};
 use std::marker::Model;
@@ -34,7 +34,7 @@ impl Model for MemSource {
 impl MemSource {
     /// A source of these bytes, in pieces as long as they are asked for, of which no take is to fail.
     pub fn new(alloc: Global, bytes: &[u8]) -> Result<Self, AllocError>
-        ensures { IfOk result (λ made. made ≡ record { left = bytes.now; most = 2 ^ 64 - 1; schedule = record { failures = []; calls = 0 }; faults = 0 }) }
+        ensures { IfOk result (λ made. made ≡ record { left = bytes.now; most = 2 ^ 64 - 1; schedule = nothing_planned; faults = 0 }) }
     {
         Ok(MemSource {
             bytes: bytes.to_vec(alloc)?,
@@ -56,10 +56,10 @@ impl MemSource {
     /// Has the take of this number, counted from 0, fail after `passes` bytes are gone, or after as many
     /// as are asked for where those are fewer.
     pub fn fail_at(&mut self, call: usize, passes: usize) -> Result<(), AllocError>
-        ensures ok { OnOk result (self.new ≡ record self.old { schedule = with_failure self.old.schedule (record { call = call; passes = passes }) }) }
+        ensures ok { OnOk result (self.new ≡ record self.old { schedule = with_failure self.old.schedule call passes }) }
         ensures err { OnErr result (self.new ≡ self.old) }
     {
-        self.plan.add(Failure { call, passes })
+        self.plan.add(call, passes)
     }
 
     /// The bytes that are left.
@@ -86,9 +86,7 @@ impl Source for MemSource {
 
     fn take(&mut self, alloc: Global, max: usize) -> Result<Vec<u8>, TakeFault>
         requires { 1 ≤ max }
-        ensures tells { true ≡ true }
-        ensures takes { IsTrue true → Takes self.old.left max result self.new.left }
-        ensures within { IsTakeWithin max result }
+        ensures takes { Takes self.old.left max result self.new.left }
         ensures faults { TakeFaults result self.old.faults self.new.faults }
         ensures plan { TakesByPlan self.old max result self.new }
     {

@@ -7,10 +7,10 @@ ghost use Rattle.std.specs.FinMap as map;
 ghost use Rattle.std.specs.Option.{option_map};
 ghost use Rattle.sis_outside.specs.Files.{file_at, with_file};
 ghost use Rattle.sis_outside.specs.MemStore.{LoadsByPlan, SavesByPlan};
-ghost use Rattle.sis_outside.specs.Plan.{with_failure};
+ghost use Rattle.sis_outside.specs.Plan.{with_failure, nothing_planned};
 ghost use Rattle.sis_outside.specs.Store.{Loads, IsLoadWithin, LoadFaults, LoadMisses, Saves, SaveFaults};
 
-use crate::plan::{Failure, Plan};
+use crate::plan::Plan;
 use crate::store::{LoadFault, SaveFault, Store};
 use std::alloc::{AllocError, Global};
 use std::marker::Model;
@@ -106,7 +106,7 @@ fn copied_within(alloc: Global, bytes: &[u8], max: usize) -> Result<Vec<u8>, Loa
 impl MemStore {
     /// A store without files, of which no call is to fail; takes no memory.
     pub fn new(alloc: Global) -> Self
-        ensures { result ≡ record { files = map.empty; schedule = record { failures = []; calls = 0 }; faults = 0; misses = 0 } }
+        ensures { result ≡ record { files = map.empty; schedule = nothing_planned; faults = 0; misses = 0 } }
     {
         MemStore {
             alloc,
@@ -130,10 +130,10 @@ impl MemStore {
     /// Has the load or save of this number, counted from 0 over both, fail: a save after `passes` of its
     /// bytes, a load without any.
     pub fn fail_at(&mut self, call: usize, passes: usize) -> Result<(), AllocError>
-        ensures ok { OnOk result (self.new ≡ record self.old { schedule = with_failure self.old.schedule (record { call = call; passes = passes }) }) }
+        ensures ok { OnOk result (self.new ≡ record self.old { schedule = with_failure self.old.schedule call passes }) }
         ensures err { OnErr result (self.new ≡ self.old) }
     {
-        self.plan.add(Failure { call, passes })
+        self.plan.add(call, passes)
     }
 
     /// The bytes of the file of a name, where there is one.
@@ -169,9 +169,7 @@ impl Store for MemStore {
 
     fn load(&mut self, alloc: Global, name: &str, max: usize) -> Result<Vec<u8>, LoadFault>
         requires { max < 2 ^ 64 - 1 }
-        ensures tells { true ≡ true }
-        ensures kept { IsTrue true → self.new.files ≡ self.old.files }
-        ensures loads { IsTrue true → Loads (file_at self.old.files name.now) max result }
+        ensures loads { Loads (file_at self.old.files name.now) max result }
         ensures within { IsLoadWithin max result }
         ensures faults { LoadFaults result self.old.faults self.new.faults }
         ensures misses { LoadMisses result self.old.misses self.new.misses }
@@ -193,10 +191,7 @@ impl Store for MemStore {
     }
 
     fn save(&mut self, name: &str, bytes: &[u8]) -> Result<(), SaveFault>
-        ensures tells { true ≡ true }
-        ensures saves { IsTrue true → Saves self.old.files name.now bytes.now result self.new.files }
         ensures faults { SaveFaults result self.old.faults self.new.faults }
-        ensures misses { self.new.misses ≡ self.old.misses }
         ensures plan { SavesByPlan self.old name.now bytes.now result self.new }
     {
         match self.plan.next_call() {
@@ -205,7 +200,10 @@ impl Store for MemStore {
                 Err(_) => Err(SaveFault::Memory),
             },
             Some(passes) => {
-                if self.put_file(name, &bytes[..passes.min(bytes.len())]).is_err() {
+                if self
+                    .put_file(name, &bytes[..passes.min(bytes.len())])
+                    .is_err()
+                {
                     return Err(SaveFault::Memory);
                 }
                 self.faults = self.faults.saturating_add(1);

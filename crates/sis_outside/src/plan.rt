@@ -1,7 +1,7 @@
 //! The calls of an object in memory that are to fail.
 
 ghost use Rattle.std.specs.Prelude.{◌≡◌, [], OnOk, OnErr};
-ghost use Rattle.sis_outside.specs.Plan.{next_failure, after_call, with_failure, passes_at};
+ghost use Rattle.sis_outside.specs.Plan.{next_failure, after_call, with_failure, nothing_planned, passes_at};
 
 use std::alloc::{AllocError, Global};
 use std::marker::Model;
@@ -31,7 +31,7 @@ impl Model for Plan {
 impl Plan {
     /// No call is to fail, and none was made.
     pub fn new(alloc: Global) -> Self
-        ensures { result ≡ record { failures = []; calls = 0 } }
+        ensures { result ≡ nothing_planned }
     {
         Plan {
             failures: Vec::new(alloc),
@@ -39,12 +39,12 @@ impl Plan {
         }
     }
 
-    /// A call more is to fail.
-    pub fn add(&mut self, failure: Failure) -> Result<(), AllocError>
-        ensures ok { OnOk result (self.new ≡ with_failure self.old failure) }
+    /// Has the call of this number fail after `passes` bytes.
+    pub fn add(&mut self, call: usize, passes: usize) -> Result<(), AllocError>
+        ensures ok { OnOk result (self.new ≡ with_failure self.old call passes) }
         ensures err { OnErr result (self.new ≡ self.old) }
     {
-        self.failures.push(failure)?;
+        self.failures.push(Failure { call, passes })?;
         Ok(())
     }
 

@@ -8,6 +8,6 @@ use Rattle.sis_outside.proofs.mem_store.MemStore.file.Goals as goal
 pub returns : goal.returns
 returns c =
     rw (← c.self.view_is)
-      (c.first_of.ensures
-      ∙ ap (find (slice_cmp nat_cmp) c.args.name.now) c.as_slice.ensures.value
-      ∙ sym (get-from_entries nat_list_cmp_total c.self.inside.entries.items c.args.name.now))
+    (c.first_of.ensures
+    ∙ ap (find (slice_cmp nat_cmp) c.args.name.now) c.as_slice.ensures.value
+    ∙ sym (get-from_entries nat_list_cmp_total c.self.inside.entries.items c.args.name.now))
