@@ -1,5 +1,5 @@
 -- A piece that is taken off the front of what is left.
-use Rattle.std.proofs.Common.{◌≡◌, ◌+◌, ◌-◌, ◌≤◌, ◌↔◌, ℕ, min, List, [], ◌++◌, length, drop, take, ap, sym, ◌∙◌, arith, length-take, length-drop}
+use Rattle.std.proofs.Common.{◌≡◌, ◌+◌, ◌-◌, ◌≤◌, ◌↔◌, ℕ, min, List, [], ◌++◌, length, drop, ap, sym, ◌∙◌, arith, length-take, length-drop}
 use Rattle.std.specs.List.{slice_range}
 use Rattle.std.proofs.Math.ListN.{drop_of_length-le}
 use Rattle.std.proofs.lemmas.List.Folds.{drop_split}

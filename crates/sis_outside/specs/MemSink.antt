@@ -6,6 +6,7 @@ use Rattle.sis_outside.specs.Plan.{Schedule, next_failure, after_call}
 use Rattle.sis_outside.specs.declared.sink.PutFault.{PutFault}
 use Rattle.sis_outside.specs.declared.sink.PutFault.TheVariants.{Failed, Memory}
 
+-- what a sink in memory holds
 pub record SinkState : Type 0 where
   pub written : List ℕ
   pub schedule : Schedule

@@ -1,13 +1,13 @@
 -- A source in memory: what it holds, and what a take does by its schedule.
 -- Source: the project's own doubles of the outside.
-use Rattle.std.specs.Prelude.{◌≡◌, ℕ, List, length, take, drop, min, Some, None, Result, Ok, Err}
+use Rattle.std.specs.Prelude.{◌≡◌, ℕ, List, take, drop, min, Some, None, Result, Ok, Err}
 use Rattle.std.specs.Global.{Vec}
 use Rattle.sis_outside.specs.Counts.{one_more}
 use Rattle.sis_outside.specs.Plan.{Schedule, next_failure, after_call}
 use Rattle.sis_outside.specs.declared.source.TakeFault.{TakeFault}
 use Rattle.sis_outside.specs.declared.source.TakeFault.TheVariants.{Failed, Memory}
 
--- `most` is the greatest number of bytes in a piece
+-- what a source in memory holds; no piece has more than `most` bytes
 pub record SourceState : Type 0 where
   pub left : List ℕ
   pub most : ℕ

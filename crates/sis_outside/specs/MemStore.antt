@@ -10,6 +10,7 @@ use Rattle.sis_outside.specs.declared.store.LoadFault.TheVariants as load
 use Rattle.sis_outside.specs.declared.store.SaveFault.{SaveFault}
 use Rattle.sis_outside.specs.declared.store.SaveFault.TheVariants as save
 
+-- what a store in memory holds
 pub record StoreState : Type 0 where
   pub files : Files
   pub schedule : Schedule

@@ -1,5 +1,4 @@
-use Rattle.std.proofs.Common.{◌≡◌, ap, sym, ◌∙◌, refl, arith}
-use Rattle.std.specs.List.{slice_range}
+use Rattle.std.proofs.Common.{arith}
 use Rattle.sis_outside.proofs.Pieces.{takes_front}
 use Rattle.sis_outside.proofs.mem_source.MemSourceSource.take.Goals as goal
 
