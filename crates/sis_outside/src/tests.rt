@@ -38,21 +38,23 @@ fn a_store_gives_what_was_saved(rt: HostRuntime) -> Result<(), Fail> {
     store.put_file("old", b"12345")?;
     save(&mut store, "new", b"")?;
     save(&mut store, "old", b"abc")?;
-    let found: [(&str, usize, &[u8]); 3] = [
-        ("old", 3, b"abc"),
-        ("old", 9, b"abc"),
-        ("new", 0, b""),
-    ];
+    let found: [(&str, u8, &[u8]); 3] = [("old", 3, b"abc"), ("old", 9, b"abc"), ("new", 0, b"")];
     for (name, max, bytes) in found {
-        assert_eq!(rt; load(&mut store, alloc, name, max % 10)?.as_slice(), bytes);
+        assert_eq!(rt;
+            load(&mut store, alloc, name, usize::from(max))?.as_slice(),
+            bytes
+        );
     }
-    let refused = [
+    let refused: [(&str, u8, LoadFault); 3] = [
         ("older", 9, LoadFault::Missing),
         ("old", 2, LoadFault::TooLong(3)),
         ("", 9, LoadFault::Missing),
     ];
     for (name, max, fault) in refused {
-        assert_eq!(rt; load(&mut store, alloc, name, max % 10).err(), Some(fault));
+        assert_eq!(rt;
+            load(&mut store, alloc, name, usize::from(max)).err(),
+            Some(fault)
+        );
     }
     assert_eq!(rt; store.misses(), 2);
     assert_eq!(rt; store.faults(), 0);
