@@ -2,6 +2,10 @@
 -- Source: the project's own rule for the outside; a count stops at the greatest number of 64 bits.
 use Rattle.std.specs.Prelude.{ℕ, ◌+◌, ◌-◌, ◌^◌, ◌≤◌, min}
 
--- the count is greater than before, or stands at the greatest number of 64 bits
+-- one more, but no more than 64 bits hold
+abbrev pub one_more : ℕ → ℕ
+one_more count = min (count + 1) (2 ^ 64 - 1)
+
+-- the count is greater than before, or stands at the greatest number of 64 bits; it has not fallen
 abbrev pub Rose : ℕ → ℕ → Type 0
-Rose before now = (before ≤ now) × (min (before + 1) (2 ^ 64 - 1) ≤ now)
+Rose before now = (before ≤ now) × (one_more before ≤ now)

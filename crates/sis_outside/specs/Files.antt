@@ -3,7 +3,8 @@
 use Rattle.std.specs.Prelude.{ℕ, List, Option}
 use Rattle.std.specs.Ordering.{nat_cmp}
 use Rattle.std.specs.Cmp.Lexicographic.{slice_cmp}
-use Rattle.std.specs.FinMap.{FinMap, get, insert}
+use Rattle.std.specs.FinMap.{FinMap, get, insert, code}
+use Rattle.std.specs.Coded.{Coded, coded_list, coded_ℕ}
 
 -- the files by name
 abbrev pub Files : Type 0
@@ -16,3 +17,7 @@ file_at files name = get files name
 -- the files with one put in place, of an old one too; all others stay
 abbrev pub with_file : Files → List ℕ → List ℕ → Files
 with_file files name bytes = insert files name bytes
+
+-- how a model stores files
+abbrev pub files_code : Coded Files
+files_code = code (coded_list coded_ℕ) (coded_list coded_ℕ)

@@ -1,5 +1,9 @@
 pub mod Counts
 pub mod Files
+pub mod MemSink
+pub mod MemSource
+pub mod MemStore
+pub mod Plan
 pub mod Sink
 pub mod Source
 pub mod Store

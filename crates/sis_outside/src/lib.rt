@@ -7,10 +7,21 @@
 //! were planned.
 #![tactic(auto)]
 
+mod counts;
+mod mem_sink;
+mod mem_source;
+mod mem_store;
+mod plan;
 mod sink;
 mod source;
 mod store;
+#[cfg(test)]
+mod tests;
 
+pub use counts::risen_counts_stay;
+pub use mem_sink::MemSink;
+pub use mem_source::MemSource;
+pub use mem_store::MemStore;
 pub use sink::{PutFault, Sink};
 pub use source::{Source, TakeFault};
 pub use store::{LoadFault, SaveFault, Store};

@@ -22,7 +22,9 @@ pub enum PutFault {
 /// it failed. No call changes whether it tells, and the count never falls.
 pub trait Sink {
     ghost tells: { Self → Bool };
+
     ghost written: { Self → List ℕ };
+
     ghost faults: { Self → ℕ };
 
     /// Writes the whole piece behind what was written before.

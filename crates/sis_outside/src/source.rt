@@ -23,7 +23,9 @@ pub enum TakeFault {
 /// failed. No call changes whether it tells, and the count never falls.
 pub trait Source {
     ghost tells: { Self → Bool };
+
     ghost left: { Self → List ℕ };
+
     ghost faults: { Self → ℕ };
 
     /// The next bytes, at least one and at most `max`, or none exactly at the end.

@@ -41,8 +41,11 @@ pub enum SaveFault {
 /// failed and how often a name was missed. No call changes whether it tells, and no count ever falls.
 pub trait Store {
     ghost tells: { Self → Bool };
+
     ghost files: { Self → Files };
+
     ghost faults: { Self → ℕ };
+
     ghost misses: { Self → ℕ };
 
     /// The bytes of the file `name`, of which there are at most `max`; the files stay as they are.

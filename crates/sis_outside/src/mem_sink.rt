@@ -1,0 +1,95 @@
+//! A sink in memory.
+
+ghost use Rattle.std.specs.Prelude.{◌≡◌, [], true, OnOk, OnErr, IsTrue};
+ghost use Rattle.sis_outside.specs.MemSink.{PutsByPlan};
+ghost use Rattle.sis_outside.specs.Plan.{with_failure, nothing_planned};
+ghost use Rattle.sis_outside.specs.Sink.{Puts, PutFaults};
+
+use crate::plan::Plan;
+use crate::sink::{PutFault, Sink};
+use std::alloc::{AllocError, Global};
+use std::marker::Model;
+
+/// A sink that keeps what is written, and fails at the calls that were planned.
+#[derive(Drop)]
+pub struct MemSink {
+    written: Vec<u8>,
+    plan: Plan,
+    faults: u64,
+}
+
+impl Model for MemSink {
+    ghost use Rattle.sis_outside.specs.MemSink.{SinkState};
+
+    ghost Value = { SinkState };
+
+    ghost view = { λ s. record { written = s.written.items; schedule = s.plan; faults = s.faults } };
+}
+
+impl MemSink {
+    /// A sink into which nothing was written, and of which no put is to fail; takes no memory.
+    pub fn new(alloc: Global) -> Self
+        ensures { result ≡ record { written = []; schedule = nothing_planned; faults = 0 } }
+    {
+        MemSink {
+            written: Vec::new(alloc),
+            plan: Plan::new(alloc),
+            faults: 0,
+        }
+    }
+
+    /// Has the put of this number, counted from 0, fail after `passes` bytes of its piece.
+    pub fn fail_at(&mut self, call: usize, passes: usize) -> Result<(), AllocError>
+        ensures ok { OnOk result (self.new ≡ record self.old { schedule = with_failure self.old.schedule call passes }) }
+        ensures err { OnErr result (self.new ≡ self.old) }
+    {
+        self.plan.add(call, passes)
+    }
+
+    /// All bytes that were written.
+    pub fn written(&self) -> &[u8]
+        ensures { result.now ≡ self.now.written }
+    {
+        self.written.as_slice()
+    }
+
+    /// How many puts failed, at most the greatest `u64`.
+    pub fn faults(&self) -> u64
+        ensures { result ≡ self.now.faults }
+    {
+        self.faults
+    }
+}
+
+impl Sink for MemSink {
+    ghost tells = { λ _. true };
+
+    ghost written = { λ s. s.written };
+
+    ghost faults = { λ s. s.faults };
+
+    fn put(&mut self, piece: &[u8]) -> Result<(), PutFault>
+        ensures faults { PutFaults result self.old.faults self.new.faults }
+        ensures plan { PutsByPlan self.old piece.now result self.new }
+    {
+        match self.plan.next_call() {
+            None => {
+                if self.written.extend_from_slice(piece).is_err() {
+                    return Err(PutFault::Memory);
+                }
+                Ok(())
+            }
+            Some(passes) => {
+                if self
+                    .written
+                    .extend_from_slice(&piece[..passes.min(piece.len())])
+                    .is_err()
+                {
+                    return Err(PutFault::Memory);
+                }
+                self.faults = self.faults.saturating_add(1);
+                Err(PutFault::Failed)
+            }
+        }
+    }
+}

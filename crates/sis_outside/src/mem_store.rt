@@ -1,0 +1,214 @@
+//! A store in memory.
+
+ghost use Rattle.std.specs.Prelude.{◌≡◌, ◌-◌, ◌^◌, ◌<◌, true, [], IfOk, OnOk, OnErr, IsTrue};
+ghost use Rattle.std.specs.Ordering.{nat_cmp};
+ghost use Rattle.std.specs.Cmp.Lexicographic.{slice_cmp};
+ghost use Rattle.std.specs.FinMap as map;
+ghost use Rattle.std.specs.Option.{option_map};
+ghost use Rattle.sis_outside.specs.Files.{file_at, with_file};
+ghost use Rattle.sis_outside.specs.MemStore.{LoadsByPlan, SavesByPlan};
+ghost use Rattle.sis_outside.specs.Plan.{with_failure, nothing_planned};
+ghost use Rattle.sis_outside.specs.Store.{Loads, IsLoadWithin, LoadFaults, LoadMisses, Saves, SaveFaults};
+
+use crate::plan::Plan;
+use crate::store::{LoadFault, SaveFault, Store};
+use std::alloc::{AllocError, Global};
+use std::marker::Model;
+
+/// A file, which contracts see as its name's bytes and its bytes.
+#[derive(Drop)]
+struct Entry {
+    name: String,
+    bytes: Vec<u8>,
+}
+
+impl Model for Entry {
+    ghost use Rattle.std.specs.Prelude.{ℕ, List, string_bytes};
+
+    ghost Value = { List ℕ × List ℕ };
+
+    ghost view = { λ e. (string_bytes e.name, e.bytes.items) };
+}
+
+impl Entry {
+    fn new(alloc: Global, name: &str, bytes: &[u8]) -> Result<Self, AllocError>
+        ensures { IfOk result (λ made. made ≡ (name.now, bytes.now)) }
+    {
+        Ok(Entry {
+            name: String::from_str(alloc, name)?,
+            bytes: bytes.to_vec(alloc)?,
+        })
+    }
+
+    fn name(&self) -> &str
+        ensures { result.now ≡ self.now.0 }
+    {
+        self.name.as_str()
+    }
+
+    fn bytes(&self) -> &[u8]
+        ensures { result.now ≡ self.now.1 }
+    {
+        self.bytes.as_slice()
+    }
+}
+
+/// A store that keeps its files, and fails at the calls that were planned.
+#[derive(Drop)]
+pub struct MemStore {
+    alloc: Global,
+    entries: Vec<Entry>,
+    plan: Plan,
+    faults: u64,
+    misses: u64,
+}
+
+impl Model for MemStore {
+    ghost use Rattle.std.specs.FinMap.{from_entries};
+    ghost use Rattle.sis_outside.specs.MemStore.{StoreState, state_code};
+
+    ghost Value = { StoreState };
+
+    ghost coded = { state_code };
+
+    ghost view = { λ s. record { files = from_entries s.entries.items; schedule = s.plan; faults = s.faults; misses = s.misses } };
+}
+
+/// The bytes of the first entry of this name.
+fn first_of<'a>(entries: &'a [Entry], name: &str) -> Option<&'a [u8]>
+    ensures { option_map (λ bytes. bytes.now) result ≡ map.find (slice_cmp nat_cmp) name.now entries.now }
+{
+    for entry in entries {
+        if name == entry.name() {
+            return Some(entry.bytes());
+        }
+    }
+    None
+}
+
+/// A copy of a file's bytes, of which there are to be at most `max`.
+fn copied_within(alloc: Global, bytes: &[u8], max: usize) -> Result<Vec<u8>, LoadFault>
+    requires { max < 2 ^ 64 - 1 }
+    ensures loads { Loads (Some bytes.now) max result }
+    ensures within { IsLoadWithin max result }
+    ensures no_fault { LoadFaults result 0 0 }
+    ensures no_miss { LoadMisses result 0 0 }
+{
+    if bytes.len() > max {
+        return Err(LoadFault::TooLong(max + 1));
+    }
+    match bytes.to_vec(alloc) {
+        Ok(copy) => Ok(copy),
+        Err(_) => Err(LoadFault::Memory),
+    }
+}
+
+impl MemStore {
+    /// A store without files, of which no call is to fail; takes no memory.
+    pub fn new(alloc: Global) -> Self
+        ensures { result ≡ record { files = map.empty; schedule = nothing_planned; faults = 0; misses = 0 } }
+    {
+        MemStore {
+            alloc,
+            entries: Vec::new(alloc),
+            plan: Plan::new(alloc),
+            faults: 0,
+            misses: 0,
+        }
+    }
+
+    /// Puts a file in place, of an old one of that name too; this is no call that a plan counts.
+    pub fn put_file(&mut self, name: &str, bytes: &[u8]) -> Result<(), AllocError>
+        ensures ok { OnOk result (self.new ≡ record self.old { files = with_file self.old.files name.now bytes.now }) }
+        ensures err { OnErr result (self.new ≡ self.old) }
+    {
+        let entry = Entry::new(self.alloc, name, bytes)?;
+        self.entries.insert(0, entry)?;
+        Ok(())
+    }
+
+    /// Has the load or save of this number, counted from 0 over both, fail: a save after `passes` of its
+    /// bytes, a load without any.
+    pub fn fail_at(&mut self, call: usize, passes: usize) -> Result<(), AllocError>
+        ensures ok { OnOk result (self.new ≡ record self.old { schedule = with_failure self.old.schedule call passes }) }
+        ensures err { OnErr result (self.new ≡ self.old) }
+    {
+        self.plan.add(call, passes)
+    }
+
+    /// The bytes of the file of a name, where there is one.
+    pub fn file(&self, name: &str) -> Option<&[u8]>
+        ensures { option_map (λ bytes. bytes.now) result ≡ file_at self.now.files name.now }
+    {
+        first_of(self.entries.as_slice(), name)
+    }
+
+    /// How many loads and saves failed, at most the greatest `u64`.
+    pub fn faults(&self) -> u64
+        ensures { result ≡ self.now.faults }
+    {
+        self.faults
+    }
+
+    /// How many loads found no file of their name, at most the greatest `u64`.
+    pub fn misses(&self) -> u64
+        ensures { result ≡ self.now.misses }
+    {
+        self.misses
+    }
+}
+
+impl Store for MemStore {
+    ghost tells = { λ _. true };
+
+    ghost files = { λ s. s.files };
+
+    ghost faults = { λ s. s.faults };
+
+    ghost misses = { λ s. s.misses };
+
+    fn load(&mut self, alloc: Global, name: &str, max: usize) -> Result<Vec<u8>, LoadFault>
+        requires { max < 2 ^ 64 - 1 }
+        ensures loads { Loads (file_at self.old.files name.now) max result }
+        ensures within { IsLoadWithin max result }
+        ensures faults { LoadFaults result self.old.faults self.new.faults }
+        ensures misses { LoadMisses result self.old.misses self.new.misses }
+        ensures plan { LoadsByPlan self.old result self.new }
+    {
+        match self.plan.next_call() {
+            Some(_) => {
+                self.faults = self.faults.saturating_add(1);
+                Err(LoadFault::Failed)
+            }
+            None => match self.file(name) {
+                None => {
+                    self.misses = self.misses.saturating_add(1);
+                    Err(LoadFault::Missing)
+                }
+                Some(bytes) => copied_within(alloc, bytes, max),
+            },
+        }
+    }
+
+    fn save(&mut self, name: &str, bytes: &[u8]) -> Result<(), SaveFault>
+        ensures faults { SaveFaults result self.old.faults self.new.faults }
+        ensures plan { SavesByPlan self.old name.now bytes.now result self.new }
+    {
+        match self.plan.next_call() {
+            None => match self.put_file(name, bytes) {
+                Ok(()) => Ok(()),
+                Err(_) => Err(SaveFault::Memory),
+            },
+            Some(passes) => {
+                if self
+                    .put_file(name, &bytes[..passes.min(bytes.len())])
+                    .is_err()
+                {
+                    return Err(SaveFault::Memory);
+                }
+                self.faults = self.faults.saturating_add(1);
+                Err(SaveFault::Failed)
+            }
+        }
+    }
+}
