@@ -1,0 +1,5 @@
+pub mod Trees
+pub mod Unique
+pub mod Points
+pub mod Sizes
+pub mod Numbers

@@ -1,0 +1,10 @@
+//! Boolean functions named by numbers of one object, each the reduced decision tree of its function.
+#![tactic(auto)]
+
+mod diagram;
+mod functions;
+pub mod laws;
+mod plain;
+
+pub use functions::{Func, FuncFault, Functions};
+pub use plain::PlainFunctions;
