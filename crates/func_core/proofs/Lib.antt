@@ -3,3 +3,4 @@ pub mod Unique
 pub mod Points
 pub mod Sizes
 pub mod Numbers
+pub mod RowTrees

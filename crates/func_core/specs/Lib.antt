@@ -4,3 +4,4 @@ pub mod Points
 pub mod Numbers
 pub mod Laws
 pub mod Diagrams
+pub mod Tables
