@@ -68,8 +68,8 @@ pub fn is_same(a: &Diagram, b: &Diagram) -> bool
     }
 }
 
-#[tactic(auto, unfolding(crate::specs::Trees::node))]
 /// A node over two trees, or the first where both are one.
+#[tactic(auto, unfolding(crate::specs::Trees::node))]
 fn join_halves(alloc: Global, place: usize, lo: Diagram, hi: Diagram) -> Result<Diagram, AllocError>
     ensures { IfOk result (λ made. shape made ≡ node place (shape lo) (shape hi)) }
 {
@@ -79,8 +79,8 @@ fn join_halves(alloc: Global, place: usize, lo: Diagram, hi: Diagram) -> Result<
     Ok(Diagram::Branch(place, Box::new(alloc, lo)?, Box::new(alloc, hi)?))
 }
 
-#[tactic(auto, unfolding(crate::specs::Trees::on_leaves))]
 /// The tree of an operation on a constant and a tree.
+#[tactic(auto, unfolding(crate::specs::Trees::on_leaves))]
 pub fn with_constant(
     alloc: Global,
     operation: Operation,
@@ -100,8 +100,8 @@ pub fn with_constant(
     }
 }
 
-#[tactic(auto, unfolding(crate::specs::Trees::apply, crate::specs::Trees::under))]
 /// The tree of an operation on two trees.
+#[tactic(auto, unfolding(crate::specs::Trees::apply, crate::specs::Trees::under))]
 pub fn combine(
     alloc: Global,
     operation: Operation,
@@ -138,8 +138,8 @@ pub fn combine(
     }
 }
 
-#[tactic(auto, unfolding(crate::specs::Sizes::member))]
 /// Whether a tree is among some others.
+#[tactic(auto, unfolding(crate::specs::Sizes::member))]
 fn is_among(others: &[&Diagram], tree: &Diagram) -> bool
     ensures { result ≡ member (shape tree.now) (map (λ d. shape d.now) others.now) }
 {
@@ -163,8 +163,8 @@ fn see<'a>(seen: Vec<&'a Diagram>, tree: &'a Diagram) -> Result<Vec<&'a Diagram>
     Ok(all)
 }
 
-#[tactic(auto, unfolding(crate::specs::Sizes::join, crate::specs::Sizes::inner))]
 /// The trees seen, and behind them each inner subtree of a tree that is not among them yet.
+#[tactic(auto, unfolding(crate::specs::Sizes::join, crate::specs::Sizes::inner))]
 fn see_inner<'a>(seen: Vec<&'a Diagram>, tree: &'a Diagram) -> Result<Vec<&'a Diagram>, AllocError>
     ensures { IfOk result (λ all. map (λ d. shape d.now) all.items ≡ join (map (λ d. shape d.now) seen.entry.items) (inner (shape tree.now))) }
 {
@@ -179,8 +179,8 @@ fn see_inner<'a>(seen: Vec<&'a Diagram>, tree: &'a Diagram) -> Result<Vec<&'a Di
     }
 }
 
-#[tactic(auto, unfolding(crate::specs::Sizes::size))]
 /// The number of different inner subtrees.
+#[tactic(auto, unfolding(crate::specs::Sizes::size))]
 pub fn size_of(alloc: Global, tree: &Diagram) -> Result<usize, AllocError>
     ensures { IfOk result (λ count. count ≡ size (shape tree.now)) }
 {
@@ -198,8 +198,8 @@ pub fn is_false(tree: &Diagram) -> bool
     }
 }
 
-#[tactic(auto, unfolding(crate::specs::Points::path))]
 /// The variables on the path that takes the false half wherever that is not constant false.
+#[tactic(auto, unfolding(crate::specs::Points::path))]
 pub fn path_of(alloc: Global, tree: &Diagram) -> Result<Vec<(usize, bool)>, AllocError>
     ensures { IfOk result (λ literals. literals.items ≡ path (shape tree.now)) }
 {

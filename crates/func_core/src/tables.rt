@@ -8,8 +8,8 @@ ghost use Rattle.func_core.specs.Tables.{literal_tree, times_tree, row_tree, plu
 use crate::functions::{Func, FuncFault, Functions};
 use sis_base::Sequence;
 
-#[tactic(auto, unfolding(crate::specs::Tables::SomeBig, crate::specs::Tables::AllFit))]
 /// The variable at a place, or its complement.
+#[tactic(auto, unfolding(crate::specs::Tables::SomeBig, crate::specs::Tables::AllFit))]
 fn literal<F: Functions>(functions: &mut F, place: usize, bit: bool) -> Result<Func, FuncFault>
     ensures ok { IfOk result (λ h. StandsFor F.holds F.tree functions.new h.0 (literal_tree place bit)) }
     ensures big { result ≡ Err FuncFault.TooBig → SomeBig (F.limit functions.old) (literal_steps place bit) }
@@ -25,8 +25,8 @@ fn literal<F: Functions>(functions: &mut F, place: usize, bit: bool) -> Result<F
     Ok(made)
 }
 
-#[tactic(auto, using(crate::proofs::RowTrees::SomeBig_left, crate::proofs::RowTrees::SomeBig_right, crate::proofs::RowTrees::AllFit_append), unfolding(crate::specs::Tables::SomeBig, crate::specs::Tables::AllFit))]
 /// A product with the literal that a row has at a place, if it has one there.
+#[tactic(auto, using(crate::proofs::RowTrees::SomeBig_left, crate::proofs::RowTrees::SomeBig_right, crate::proofs::RowTrees::AllFit_append), unfolding(crate::specs::Tables::SomeBig, crate::specs::Tables::AllFit))]
 fn times<F: Functions>(
     functions: &mut F,
     product: Func,
@@ -50,8 +50,8 @@ fn times<F: Functions>(
     }
 }
 
-#[tactic(auto, using(crate::proofs::RowTrees::SomeBig_left, crate::proofs::RowTrees::SomeBig_right, crate::proofs::RowTrees::AllFit_append), unfolding(crate::specs::Tables::SomeBig, crate::specs::Tables::AllFit, crate::specs::Tables::row_steps, crate::specs::Tables::row_tree))]
 /// The product of a row's literals.
+#[tactic(auto, using(crate::proofs::RowTrees::SomeBig_left, crate::proofs::RowTrees::SomeBig_right, crate::proofs::RowTrees::AllFit_append), unfolding(crate::specs::Tables::SomeBig, crate::specs::Tables::AllFit, crate::specs::Tables::row_steps, crate::specs::Tables::row_tree))]
 fn of_row<F: Functions>(functions: &mut F, row: &[Option<bool>]) -> Result<Func, FuncFault>
     ensures ok { IfOk result (λ h. StandsFor F.holds F.tree functions.new h.0 (row_tree One 0 row.now)) }
     ensures big { result ≡ Err FuncFault.TooBig → SomeBig (F.limit functions.old) (One ∷ row_steps One 0 row.now) }
@@ -66,8 +66,8 @@ fn of_row<F: Functions>(functions: &mut F, row: &[Option<bool>]) -> Result<Func,
     Ok(product)
 }
 
-#[tactic(auto, using(crate::proofs::RowTrees::plus_big_row, crate::proofs::RowTrees::plus_big_sum, crate::proofs::RowTrees::plus_fit), unfolding(crate::specs::Tables::plus_tree))]
 /// A sum with the product of a row.
+#[tactic(auto, using(crate::proofs::RowTrees::plus_big_row, crate::proofs::RowTrees::plus_big_sum, crate::proofs::RowTrees::plus_fit), unfolding(crate::specs::Tables::plus_tree))]
 fn plus<F: Functions>(functions: &mut F, sum: Func, row: &[Option<bool>]) -> Result<Func, FuncFault>
     requires { F.holds functions.old sum.0 }
     ensures ok { IfOk result (λ h. StandsFor F.holds F.tree functions.new h.0 (plus_tree (F.tree functions.old sum.0) row.now)) }
@@ -81,8 +81,8 @@ fn plus<F: Functions>(functions: &mut F, sum: Func, row: &[Option<bool>]) -> Res
     Ok(made)
 }
 
-#[tactic(auto, unfolding(crate::specs::Tables::SomeBig, crate::specs::Tables::AllFit, crate::specs::Tables::rows_steps, crate::specs::Tables::rows_tree))]
 /// The sum of the products of rows.
+#[tactic(auto, unfolding(crate::specs::Tables::SomeBig, crate::specs::Tables::AllFit, crate::specs::Tables::rows_steps, crate::specs::Tables::rows_tree))]
 fn of_rows<F: Functions>(
     functions: &mut F,
     rows: &[Sequence<Option<bool>>],
@@ -100,12 +100,12 @@ fn of_rows<F: Functions>(
     Ok(sum)
 }
 
-#[tactic(auto, using(crate::proofs::RowTrees::SomeBig_left, crate::proofs::RowTrees::SomeBig_right, crate::proofs::RowTrees::AllFit_append, crate::proofs::RowTrees::table_computes), unfolding(crate::specs::Tables::SomeBig, crate::specs::Tables::AllFit))]
 /// The function of a table of rows: at phase 1 it is true where some row matches, at phase 0 where none
 /// does. A row has one place for each variable, from variable 0 on.
 ///
 /// TooBig comes exactly where a tree passes the limit that is made on the way: the constants, each literal,
 /// each product with one literal more, each sum with one row more, and at phase 0 the complement.
+#[tactic(auto, using(crate::proofs::RowTrees::SomeBig_left, crate::proofs::RowTrees::SomeBig_right, crate::proofs::RowTrees::AllFit_append, crate::proofs::RowTrees::table_computes), unfolding(crate::specs::Tables::SomeBig, crate::specs::Tables::AllFit))]
 pub fn from_rows<F: Functions>(
     functions: &mut F,
     rows: &[Sequence<Option<bool>>],

@@ -12,7 +12,7 @@ returns-in_err-sum-2-clause-big g c e =
     let q : p.0 ≡ TooBig = cc (sym p.1 ∙ e) in
     let here = c.in_err-sum-2.ensures.big (ap Err (sym p.2 ∙ q)) in
     c.loop-row.invariant.big
-    (rw (rows_steps-next _ _ _ _ (g.F.Functions.tree c.loop-row.functions c.loop-row.sum.0) c.loop-row-test.true
+    (rw (rows_steps-next c.args.rows.now c.loop-row.row-index c.row-item.result c.as_slice.result.now (g.F.Functions.tree c.loop-row.functions c.loop-row.sum.0) c.loop-row-test.true
     c.row-item.is c.as_slice.ensures)
     (SomeBig_left _ _ _ (rw c.loop-row.invariant.same_limit at here)))
 
@@ -21,7 +21,7 @@ loop-row-preserved g c =
     let before = g.F.Functions.tree c.loop-row.functions c.loop-row.sum.0 in
     let stands = c.in_ok-sum-2.ensures.ok in
     let within = rw c.loop-row.invariant.same_limit at c.in_ok-sum-2.ensures.within in
-    let steps = rows_steps-next _ _ _ _ before c.loop-row-test.true c.row-item.is c.as_slice.ensures in
+    let steps = rows_steps-next c.args.rows.now c.loop-row.row-index c.row-item.result c.as_slice.result.now before c.loop-row-test.true c.row-item.is c.as_slice.ensures in
     record {
       kept = λ n h.
           let p = c.loop-row.invariant.kept n h in
@@ -30,7 +30,7 @@ loop-row-preserved g c =
       same_limit = c.plus.ensures.limit ∙ c.loop-row.invariant.same_limit;
       stands = stands.0;
       rest = ap (λ (t : Tree). rows_tree t (drop (c.loop-row.row-index + 1) c.args.rows.now)) stands.1
-          ∙ sym (rows_tree-next _ _ _ _ before c.loop-row-test.true c.row-item.is c.as_slice.ensures)
+          ∙ sym (rows_tree-next c.args.rows.now c.loop-row.row-index c.row-item.result c.as_slice.result.now before c.loop-row-test.true c.row-item.is c.as_slice.ensures)
           ∙ c.loop-row.invariant.rest;
       big = λ h. c.loop-row.invariant.big (rw steps (SomeBig_right _ _ _ (rw stands.1 at h)));
       fit = λ h. c.loop-row.invariant.fit (rw steps (AllFit_append _ _ _ within (rw stands.1 at h)));
