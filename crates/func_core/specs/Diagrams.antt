@@ -1,4 +1,6 @@
 -- The trees that the code builds, as plain trees.
+-- Source: R. E. Bryant, "Graph-Based Algorithms for Boolean Function Manipulation", IEEE Transactions on
+-- Computers C-35 (1986).
 use Rattle.std.specs.Prelude.{ℕ, ◌<◌, Bool, ◌&&◌, ◌||◌, List, map, slice_index_or, length}
 use Rattle.func_core.specs.Trees.{Tree, Zero, One, Node, IsReduced, differ}
 use Rattle.func_core.specs.declared.diagram.Diagram.{Diagram, Zero as Zero_, One as One_, Branch'}

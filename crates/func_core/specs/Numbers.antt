@@ -1,4 +1,6 @@
 -- Functions named by numbers of one object: what a change of the object leaves as it was.
+-- Source: R. E. Bryant, "Graph-Based Algorithms for Boolean Function Manipulation", IEEE Transactions on
+-- Computers C-35 (1986), where a function is named by a vertex of a graph.
 use Rattle.std.specs.Prelude.{◌≡◌, ℕ}
 use Rattle.func_core.specs.Trees.{Tree}
 
