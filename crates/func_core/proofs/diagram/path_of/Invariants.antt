@@ -1,0 +1,8 @@
+use Rattle.std.proofs.Common.{◌≡◌, ◌++◌}
+use Rattle.func_core.specs.Points.{path}
+use Rattle.func_core.specs.Diagrams.{shape}
+use Rattle.func_core.proofs.diagram.path_of.Given as goal
+
+-- what is collected, and behind it the path of the tree where the walk stands
+abbrev pub invariant-loop-at : goal.invariant-loop-at
+invariant-loop-at l = l.literals.items ++ path (shape l.at) ≡ path (shape l.tree)

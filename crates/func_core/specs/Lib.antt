@@ -1,0 +1,7 @@
+pub mod Trees
+pub mod Sizes
+pub mod Points
+pub mod Numbers
+pub mod Laws
+pub mod Diagrams
+pub mod Tables

@@ -1,0 +1,31 @@
+-- A point at which a function is true, as the literals on one path of its reduced tree.
+-- Source: R. E. Bryant, "Graph-Based Algorithms for Boolean Function Manipulation", IEEE Transactions on
+-- Computers C-35 (1986), "satisfy-one".
+use Rattle.std.specs.Prelude.{◌≡◌, ℕ, suc, ◌≤◌, Bool, true, false, Option, Some, None, List, [], ◌∷◌, if◌then◌else◌}
+use Rattle.func_core.specs.Trees.{Tree, Zero, One, Node}
+
+-- whether a tree is the constant false
+abbrev pub is_constant_zero : Tree → Bool
+is_constant_zero Zero = true
+is_constant_zero One = false
+is_constant_zero (Node place lo hi) = false
+
+-- the variables on the path that takes the false half wherever that isn't Zero, each with the half taken
+unfoldable pub path : Tree → List (ℕ × Bool)
+path Zero = []
+path One = []
+path (Node place lo hi) = if is_constant_zero lo then (place, true) ∷ path hi else (place, false) ∷ path lo
+
+-- that path, where the tree isn't Zero
+abbrev pub one_path : Tree → Option (List (ℕ × Bool))
+one_path t = if is_constant_zero t then None else Some (path t)
+
+-- an assignment has the bits of a list of literals
+unfoldable pub Follows : (ℕ → Bool) → List (ℕ × Bool) → Type 0
+Follows point [] = Unit {0}
+Follows point (l ∷ ls) = (point l.0 ≡ l.1) × Follows point ls
+
+-- the places of the literals rise, from a least one
+unfoldable pub IsRising : ℕ → List (ℕ × Bool) → Type 0
+IsRising least [] = Unit {0}
+IsRising least (l ∷ ls) = (least ≤ l.0) × IsRising (suc l.0) ls

@@ -1,0 +1,218 @@
+//! Built decision trees, and the operations on them.
+
+ghost use Rattle.std.specs.Prelude.{◌≡◌, IfOk, map, [], ◌∷◌};
+ghost use Rattle.func_core.specs.Trees.{tree_eq, constant, variable, node, on_leaves, apply};
+ghost use Rattle.func_core.specs.Sizes.{member, join, inner, size};
+ghost use Rattle.func_core.specs.Points.{is_constant_zero, path};
+ghost use Rattle.func_core.specs.Diagrams.{shape, bits};
+
+use std::alloc::{AllocError, Global};
+
+/// A decision tree: a constant, or a variable with the tree where it is false and the tree where it is true.
+#[derive(Drop)]
+pub enum Diagram {
+    Zero,
+    One,
+    Branch(usize, Box<Diagram>, Box<Diagram>),
+}
+
+/// An operation on two bits.
+#[derive(Clone, Copy)]
+pub enum Operation {
+    And,
+    Or,
+    Xor,
+}
+
+/// What an operation makes of two bits.
+fn bit_of(operation: Operation, left: bool, right: bool) -> bool
+    ensures { result ≡ bits operation left right }
+{
+    match operation {
+        Operation::And => left && right,
+        Operation::Or => left || right,
+        Operation::Xor => if left { !right } else { right },
+    }
+}
+
+/// The tree of a constant.
+pub fn leaf(bit: bool) -> Diagram
+    ensures { shape result ≡ constant bit }
+{
+    if bit { Diagram::One } else { Diagram::Zero }
+}
+
+/// The tree of a variable.
+pub fn variable_at(alloc: Global, place: usize) -> Result<Diagram, AllocError>
+    ensures { IfOk result (λ made. shape made ≡ variable place) }
+{
+    Ok(Diagram::Branch(
+        place,
+        Box::new(alloc, Diagram::Zero)?,
+        Box::new(alloc, Diagram::One)?,
+    ))
+}
+
+/// Whether two trees are one.
+#[tactic(auto, unfolding(crate::specs::Trees::tree_eq))]
+pub fn is_same(a: &Diagram, b: &Diagram) -> bool
+    ensures { result ≡ tree_eq (shape a.now) (shape b.now) }
+{
+    match (a, b) {
+        (Diagram::Zero, Diagram::Zero) => true,
+        (Diagram::One, Diagram::One) => true,
+        (Diagram::Branch(v, lo, hi), Diagram::Branch(w, low, high)) => {
+            *v == *w && (is_same(lo, low) && is_same(hi, high))
+        }
+        _ => false,
+    }
+}
+
+/// A node over two trees, or the first where both are one.
+#[tactic(auto, unfolding(crate::specs::Trees::node))]
+fn join_halves(alloc: Global, place: usize, lo: Diagram, hi: Diagram) -> Result<Diagram, AllocError>
+    ensures { IfOk result (λ made. shape made ≡ node place (shape lo) (shape hi)) }
+{
+    if is_same(&lo, &hi) {
+        return Ok(lo);
+    }
+    Ok(Diagram::Branch(place, Box::new(alloc, lo)?, Box::new(alloc, hi)?))
+}
+
+/// The tree of an operation on a constant and a tree.
+#[tactic(auto, unfolding(crate::specs::Trees::on_leaves))]
+pub fn with_constant(
+    alloc: Global,
+    operation: Operation,
+    left: bool,
+    right: &Diagram,
+) -> Result<Diagram, AllocError>
+    ensures { IfOk result (λ made. shape made ≡ on_leaves (bits operation left) (shape right.now)) }
+{
+    match right {
+        Diagram::Zero => Ok(leaf(bit_of(operation, left, false))),
+        Diagram::One => Ok(leaf(bit_of(operation, left, true))),
+        Diagram::Branch(place, lo, hi) => {
+            let low = with_constant(alloc, operation, left, lo)?;
+            let high = with_constant(alloc, operation, left, hi)?;
+            join_halves(alloc, *place, low, high)
+        }
+    }
+}
+
+/// The tree of an operation on two trees.
+#[tactic(auto, unfolding(crate::specs::Trees::apply, crate::specs::Trees::under))]
+pub fn combine(
+    alloc: Global,
+    operation: Operation,
+    left: &Diagram,
+    right: &Diagram,
+) -> Result<Diagram, AllocError>
+    ensures { IfOk result (λ made. shape made ≡ apply (bits operation) (shape left.now) (shape right.now)) }
+{
+    match left {
+        Diagram::Zero => with_constant(alloc, operation, false, right),
+        Diagram::One => with_constant(alloc, operation, true, right),
+        Diagram::Branch(place, lo, hi) => match right {
+            Diagram::Branch(other, low, high) => {
+                if *place < *other {
+                    let l = combine(alloc, operation, lo, right)?;
+                    let h = combine(alloc, operation, hi, right)?;
+                    return join_halves(alloc, *place, l, h);
+                }
+                if *other < *place {
+                    let l = combine(alloc, operation, left, low)?;
+                    let h = combine(alloc, operation, left, high)?;
+                    return join_halves(alloc, *other, l, h);
+                }
+                let l = combine(alloc, operation, lo, low)?;
+                let h = combine(alloc, operation, hi, high)?;
+                join_halves(alloc, *place, l, h)
+            }
+            _ => {
+                let l = combine(alloc, operation, lo, right)?;
+                let h = combine(alloc, operation, hi, right)?;
+                join_halves(alloc, *place, l, h)
+            }
+        },
+    }
+}
+
+/// Whether a tree is among some others.
+#[tactic(auto, unfolding(crate::specs::Sizes::member))]
+fn is_among(others: &[&Diagram], tree: &Diagram) -> bool
+    ensures { result ≡ member (shape tree.now) (map (λ d. shape d.now) others.now) }
+{
+    for other in others {
+        if is_same(tree, other) {
+            return true;
+        }
+    }
+    false
+}
+
+/// The trees seen, and behind them a further one unless it is among them.
+fn see<'a>(seen: Vec<&'a Diagram>, tree: &'a Diagram) -> Result<Vec<&'a Diagram>, AllocError>
+    ensures { IfOk result (λ all. map (λ d. shape d.now) all.items ≡ join (map (λ d. shape d.now) seen.entry.items) (shape tree.now ∷ [])) }
+{
+    if is_among(&seen, tree) {
+        return Ok(seen);
+    }
+    let mut all = seen;
+    all.push(tree)?;
+    Ok(all)
+}
+
+/// The trees seen, and behind them each inner subtree of a tree that is not among them yet.
+#[tactic(auto, unfolding(crate::specs::Sizes::join, crate::specs::Sizes::inner))]
+fn see_inner<'a>(seen: Vec<&'a Diagram>, tree: &'a Diagram) -> Result<Vec<&'a Diagram>, AllocError>
+    ensures { IfOk result (λ all. map (λ d. shape d.now) all.items ≡ join (map (λ d. shape d.now) seen.entry.items) (inner (shape tree.now))) }
+{
+    match tree {
+        Diagram::Branch(_, lo, hi) => {
+            let with_tree = see(seen, tree)?;
+            let with_low = see_inner(with_tree, lo)?;
+            let all = see_inner(with_low, hi)?;
+            Ok(all)
+        }
+        Diagram::Zero | Diagram::One => Ok(seen),
+    }
+}
+
+/// The number of different inner subtrees.
+#[tactic(auto, unfolding(crate::specs::Sizes::size))]
+pub fn size_of(alloc: Global, tree: &Diagram) -> Result<usize, AllocError>
+    ensures { IfOk result (λ count. count ≡ size (shape tree.now)) }
+{
+    let seen = see_inner(Vec::new(alloc), tree)?;
+    Ok(seen.len())
+}
+
+/// Whether a tree is the constant false.
+pub fn is_false(tree: &Diagram) -> bool
+    ensures { result ≡ is_constant_zero (shape tree.now) }
+{
+    match tree {
+        Diagram::Zero => true,
+        _ => false,
+    }
+}
+
+/// The variables on the path that takes the false half wherever that is not constant false.
+#[tactic(auto, unfolding(crate::specs::Points::path))]
+pub fn path_of(alloc: Global, tree: &Diagram) -> Result<Vec<(usize, bool)>, AllocError>
+    ensures { IfOk result (λ literals. literals.items ≡ path (shape tree.now)) }
+{
+    let mut literals = Vec::new(alloc);
+    let mut at = tree;
+    while let Diagram::Branch(place, lo, hi) = at {
+        if is_false(lo) {
+            literals.push((*place, true))?;
+            at = hi;
+        } else {
+            literals.push((*place, false))?;
+            at = lo;
+        }
+    }
+    Ok(literals)
+}

@@ -1,0 +1,123 @@
+//! Functions by number: what any body owes, whether it holds plain trees or a shared table of nodes.
+
+ghost use Rattle.std.specs.Prelude.{◌≡◌, ℕ, ◌<◌, ◌≤◌, ◌↔◌, ◌&&◌, ◌||◌, not, IsTrue, IfOk, OnOk};
+ghost use Rattle.func_core.specs.Trees.{Tree, Zero, IsReduced, constant, variable, on_leaves, apply, differ};
+ghost use Rattle.func_core.specs.Sizes.{size};
+ghost use Rattle.func_core.specs.Points.{one_path};
+ghost use Rattle.func_core.specs.Numbers.{Keeps, StandsFor, NoneStands};
+
+use sis_base::Sequence;
+use std::alloc::AllocError;
+
+/// The number of a function, of the object that gave it, since its last `clear`.
+#[derive(Clone, Copy, Debug, PartialEq, Eq)]
+pub struct Func(pub usize);
+
+/// Why no function was given.
+#[derive(Clone, Copy, Debug, PartialEq, Eq)]
+pub enum FuncFault {
+    /// The function's size is above the limit.
+    TooBig,
+    /// No memory was left.
+    Memory,
+}
+
+impl From<AllocError> for FuncFault {
+    ghost use Rattle.std.specs.Prelude.{◌≡◌};
+    ghost use Rattle.func_core.specs.declared.functions.FuncFault.TheVariants.{Memory};
+
+    ghost from_gives = { λ _ e. e ≡ Memory };
+
+    fn from(_failed: AllocError) -> FuncFault {
+        FuncFault::Memory
+    }
+}
+
+/// An object that names Boolean functions by numbers. Each number that stands is that of one reduced
+/// decision tree; the object has a limit on the size of a tree, which no call changes.
+pub trait Functions: Drop {
+    ghost holds: { Self → ℕ → Type 0 };
+
+    ghost tree: { Self → ℕ → Tree };
+
+    ghost limit: { Self → ℕ };
+
+    /// The function that is the bit of the variable at a place.
+    fn var(&mut self, place: usize) -> Result<Func, FuncFault>
+        ensures ok { IfOk result (λ h. StandsFor holds tree self.new h.0 (variable place)) }
+        ensures big { result ≡ Err FuncFault.TooBig → limit self.old < size (variable place) }
+        ensures within { OnOk result (size (variable place) ≤ limit self.old) }
+        ensures kept { Keeps holds tree self.old self.new }
+        ensures limit { limit self.new ≡ limit self.old };
+
+    /// The function that is one bit everywhere.
+    fn constant(&mut self, value: bool) -> Result<Func, FuncFault>
+        ensures ok { IfOk result (λ h. StandsFor holds tree self.new h.0 (constant value)) }
+        ensures big { result ≡ Err FuncFault.TooBig → limit self.old < size (constant value) }
+        ensures within { OnOk result (size (constant value) ≤ limit self.old) }
+        ensures kept { Keeps holds tree self.old self.new }
+        ensures limit { limit self.new ≡ limit self.old };
+
+    /// The complement of a function.
+    fn not(&mut self, f: Func) -> Result<Func, FuncFault>
+        requires { holds self.old f.0 }
+        ensures ok { IfOk result (λ h. StandsFor holds tree self.new h.0 (on_leaves not (tree self.old f.0))) }
+        ensures big { result ≡ Err FuncFault.TooBig → limit self.old < size (on_leaves not (tree self.old f.0)) }
+        ensures within { OnOk result (size (on_leaves not (tree self.old f.0)) ≤ limit self.old) }
+        ensures kept { Keeps holds tree self.old self.new }
+        ensures limit { limit self.new ≡ limit self.old };
+
+    /// Where both functions are true.
+    fn and(&mut self, f: Func, g: Func) -> Result<Func, FuncFault>
+        requires f { holds self.old f.0 }
+        requires g { holds self.old g.0 }
+        ensures ok { IfOk result (λ h. StandsFor holds tree self.new h.0 (apply ◌&&◌ (tree self.old f.0) (tree self.old g.0))) }
+        ensures big { result ≡ Err FuncFault.TooBig → limit self.old < size (apply ◌&&◌ (tree self.old f.0) (tree self.old g.0)) }
+        ensures within { OnOk result (size (apply ◌&&◌ (tree self.old f.0) (tree self.old g.0)) ≤ limit self.old) }
+        ensures kept { Keeps holds tree self.old self.new }
+        ensures limit { limit self.new ≡ limit self.old };
+
+    /// Where one of the functions is true, or both are.
+    fn or(&mut self, f: Func, g: Func) -> Result<Func, FuncFault>
+        requires f { holds self.old f.0 }
+        requires g { holds self.old g.0 }
+        ensures ok { IfOk result (λ h. StandsFor holds tree self.new h.0 (apply ◌||◌ (tree self.old f.0) (tree self.old g.0))) }
+        ensures big { result ≡ Err FuncFault.TooBig → limit self.old < size (apply ◌||◌ (tree self.old f.0) (tree self.old g.0)) }
+        ensures within { OnOk result (size (apply ◌||◌ (tree self.old f.0) (tree self.old g.0)) ≤ limit self.old) }
+        ensures kept { Keeps holds tree self.old self.new }
+        ensures limit { limit self.new ≡ limit self.old };
+
+    /// Where just one of the functions is true.
+    fn xor(&mut self, f: Func, g: Func) -> Result<Func, FuncFault>
+        requires f { holds self.old f.0 }
+        requires g { holds self.old g.0 }
+        ensures ok { IfOk result (λ h. StandsFor holds tree self.new h.0 (apply differ (tree self.old f.0) (tree self.old g.0))) }
+        ensures big { result ≡ Err FuncFault.TooBig → limit self.old < size (apply differ (tree self.old f.0) (tree self.old g.0)) }
+        ensures within { OnOk result (size (apply differ (tree self.old f.0) (tree self.old g.0)) ≤ limit self.old) }
+        ensures kept { Keeps holds tree self.old self.new }
+        ensures limit { limit self.new ≡ limit self.old };
+
+    /// Whether a function is false everywhere; takes no memory.
+    fn is_zero(&self, f: Func) -> bool
+        requires { holds self.now f.0 }
+        ensures { IsTrue result ↔ (tree self.now f.0 ≡ Zero) };
+
+    /// The variables, each with its bit, on the path to a point where the function is true; none exactly
+    /// where it is false everywhere. Variables rise, those that are not named may have any bit, and the
+    /// path takes the half where a variable is false wherever that is not false everywhere.
+    fn one_point(&self, f: Func) -> Result<Option<Sequence<(usize, bool)>>, AllocError>
+        requires { holds self.now f.0 }
+        ensures { IfOk result (λ point. point ≡ one_path (tree self.now f.0)) };
+
+    /// The size of a function: the number of different inner subtrees of its tree.
+    fn size(&self, f: Func) -> Result<usize, AllocError>
+        requires { holds self.now f.0 }
+        ensures { IfOk result (λ count. count ≡ size (tree self.now f.0)) };
+
+    /// Takes all numbers back; takes no memory.
+    fn clear(&mut self)
+        ensures none { NoneStands holds self.new }
+        ensures limit { limit self.new ≡ limit self.old };
+
+    ghost reduced: { (state : Self) (n : ℕ) → holds state n → IsReduced 0 (tree state n) };
+}
