@@ -92,7 +92,12 @@ mod tests {
     #[test]
     fn compares_all_parts(rt: HostRuntime) -> Result<(), Fail> {
         let alloc = rt.alloc();
-        let first = circuit(alloc, 2, Kind::Re, table(alloc, &[Tri::One, Tri::Free], true)?)?;
+        let first = circuit(
+            alloc,
+            2,
+            Kind::Re,
+            table(alloc, &[Tri::One, Tri::Free], true)?,
+        )?;
         for i in 0..OTHERS.len() {
             let (row, phase, init, kind) = OTHERS[i];
             let other = circuit(alloc, init, kind, table(alloc, &row, phase)?)?;
