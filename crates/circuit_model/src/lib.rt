@@ -13,3 +13,112 @@ pub mod laws;
 pub use circuit::{
     Circuit, Kind, Latch, Latches, Name, Names, Row, Rows, Table, Tables, Timing, Tri,
 };
+
+#[cfg(test)]
+mod tests {
+    use super::*;
+    use sis_base::Sequence;
+    use std::alloc::{AllocError, Global};
+    use std::test::Fail;
+
+    /// A name, from its text.
+    fn name(alloc: Global, text: &str) -> Result<Name, AllocError> {
+        let mut made = Sequence::new(alloc);
+        for byte in text.as_bytes() {
+            made.push(*byte)?;
+        }
+        Ok(made)
+    }
+
+    /// The names of one character each.
+    fn names(alloc: Global, texts: &[&str]) -> Result<Names, AllocError> {
+        let mut made = Sequence::new(alloc);
+        for text in texts {
+            made.push(name(alloc, text)?)?;
+        }
+        Ok(made)
+    }
+
+    /// A table of one row, whose output is `c`.
+    fn table(alloc: Global, row: &[Tri], phase: bool) -> Result<Table, AllocError> {
+        let mut places = Sequence::new(alloc);
+        for place in row {
+            places.push(*place)?;
+        }
+        let mut rows = Sequence::new(alloc);
+        rows.push(places)?;
+        Ok(Table {
+            inputs: names(alloc, &["a", "b"])?,
+            output: name(alloc, "c")?,
+            rows,
+            phase,
+        })
+    }
+
+    /// A circuit with one latch, from `c` to `q`, and one table.
+    fn circuit(alloc: Global, init: u8, kind: Kind, table: Table) -> Result<Circuit, AllocError> {
+        let mut latches = Sequence::new(alloc);
+        latches.push(Latch {
+            input: name(alloc, "c")?,
+            output: name(alloc, "q")?,
+            init,
+        })?;
+        let mut tables = Sequence::new(alloc);
+        tables.push(table)?;
+        Ok(Circuit {
+            name: name(alloc, "m")?,
+            inputs: names(alloc, &["a", "b"])?,
+            outputs: names(alloc, &["q"])?,
+            clocks: Sequence::new(alloc),
+            timing: Some(Timing {
+                kind,
+                control: None,
+            }),
+            latches,
+            tables,
+            dont_care: Sequence::new(alloc),
+        })
+    }
+
+    /// Rows and phases of a table, values and kinds of a latch; all but the first make other circuits.
+    const OTHERS: [([Tri; 2], bool, u8, Kind); 5] = [
+        ([Tri::One, Tri::Free], true, 2, Kind::Re),
+        ([Tri::One, Tri::Zero], true, 2, Kind::Re),
+        ([Tri::One, Tri::Free], false, 2, Kind::Re),
+        ([Tri::One, Tri::Free], true, 3, Kind::Re),
+        ([Tri::One, Tri::Free], true, 2, Kind::Fe),
+    ];
+
+    #[test]
+    fn compares_all_parts(rt: HostRuntime) -> Result<(), Fail> {
+        let alloc = rt.alloc();
+        let first = circuit(
+            alloc,
+            2,
+            Kind::Re,
+            table(alloc, &[Tri::One, Tri::Free], true)?,
+        )?;
+        for i in 0..OTHERS.len() {
+            let (row, phase, init, kind) = OTHERS[i];
+            let other = circuit(alloc, init, kind, table(alloc, &row, phase)?)?;
+            assert_eq!(rt; first == other, i == 0, "at {i}");
+        }
+        Ok(())
+    }
+
+    #[test]
+    fn shows_parts(rt: HostRuntime) -> Result<(), Fail> {
+        let alloc = rt.alloc();
+        let timing = Timing {
+            kind: Kind::Re,
+            control: Some(name(alloc, "k")?),
+        };
+        assert_eq!(rt;
+            format!(in alloc; "{timing:?}")?.as_str(),
+            "Timing { kind: Re, control: Some([107]) }"
+        );
+        laws::refines_is_reflexive();
+        laws::refines_is_transitive();
+        Ok(())
+    }
+}

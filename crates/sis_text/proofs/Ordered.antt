@@ -4,9 +4,10 @@ use Rattle.std.specs.List.{filter, prefix_len, suffix_len, flat_map}
 use Rattle.std.proofs.lemmas.List.{length-take, append_assoc}
 use Rattle.std.proofs.lemmas.List.Folds.{length-prefix_len}
 use Rattle.std.proofs.lemmas.List.Sums.{prefix_len-le-length}
+use Rattle.sis_base.specs.Written.{is_blank}
 use Rattle.sis_text.specs.declared.places.Span.{Span}
 use Rattle.sis_text.specs.declared.places.Line.{Line}
-use Rattle.sis_text.specs.Words.{bytes_at, is_blank, word_len, words_from, part_len, parts_from}
+use Rattle.sis_text.specs.Words.{bytes_at, word_len, words_from, part_len, parts_from}
 use Rattle.sis_text.specs.Lines.{uncommented, trimmed, kept, closed, is_open, words_at, before, joined, has_words, not_empty, lines_of, physical_lines}
 use Rattle.sis_text.specs.Pieces.{piece_at, line_pieces, pieces_from, pieces_of}
 use Rattle.sis_text.specs.Order.{AreInOrder, words_in}

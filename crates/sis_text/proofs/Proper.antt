@@ -3,9 +3,10 @@ use Rattle.std.proofs.Common.{◌≡◌, ℕ, ◌-◌, ◌<◌, Bool, true, fals
 use Rattle.std.specs.List.{take_while, filter, prefix_len, suffix_len, flat_map, AllByRecursion}
 use Rattle.std.proofs.lemmas.List.Elements.{All-from_recursion}
 use Rattle.std.proofs.lemmas.List.Sums.{take_while-cons}
+use Rattle.sis_base.specs.Written.{is_blank}
 use Rattle.sis_text.specs.declared.places.Span.{Span}
 use Rattle.sis_text.specs.declared.places.Line.{Line}
-use Rattle.sis_text.specs.Words.{bytes_at, is_blank, words_from, parts_from}
+use Rattle.sis_text.specs.Words.{bytes_at, words_from, parts_from}
 use Rattle.sis_text.specs.Lines.{uncommented, trimmed, kept, closed, is_open, words_at, has_words, not_empty, lines_of, physical_lines, joined}
 use Rattle.sis_text.specs.Pieces.{pieces_of, pieces_from}
 use Rattle.sis_text.specs.Entries.{word_texts, part_texts}

@@ -1,15 +1,15 @@
 -- Lines of words that are written are read as they were.
-use Rattle.std.proofs.Common.{◌≡◌, ℕ, ◌+◌, ◌-◌, ◌<◌, Bool, true, false, cond, List, [], ◌∷◌, ◌++◌, length, take, refl, sym, ◌∙◌, ap, subst, eqb, not, ◌&&◌, ◌||◌, arith, get_or}
-use Rattle.std.specs.List.{take_while, filter, suffix_len, flat_map, All, AllByRecursion}
+use Rattle.std.proofs.Common.{◌≡◌, ℕ, ◌+◌, ◌-◌, ◌<◌, Bool, true, false, cond, List, [], ◌∷◌, ◌++◌, length, take, refl, sym, ◌∙◌, ap, eqb, not, ◌&&◌, ◌||◌, arith, get_or, suc}
+use Rattle.std.specs.List.{take_while, filter, suffix_len, flat_map, list_all, All, AllByRecursion}
 use Rattle.std.proofs.lemmas.Bool.{false≢true}
 use Rattle.std.proofs.lemmas.List.{append_assoc, append-nil, get_or_at, length-append, take_all}
 use Rattle.std.proofs.lemmas.List.Elements.{All-from_recursion, recursion_from_All}
 use Rattle.std.proofs.lemmas.List.Sums.{take_while-cons, suffix_len_is}
-use Rattle.sis_text.specs.Words.{is_blank}
+use Rattle.sis_base.specs.Written.{is_blank, is_word_byte, is_word, ends_open, line_end, spaced, Written, joined_words, line_text, lines_text}
 use Rattle.sis_text.specs.Lines.{uncommented, trimmed, kept, closed, is_open}
 use Rattle.sis_text.specs.Entries.{word_texts, part_texts, joined_entries, says_words, entries_of}
 use Rattle.sis_text.specs.Order.{is_solid, is_of_line, is_plain, IsWordOf}
-use Rattle.sis_text.specs.Written.{Written, spaced, padded, line_text, written_text, IsWritten, numbered}
+use Rattle.sis_text.specs.Written.{IsWritten, numbered}
 use Rattle.sis_text.proofs.Proper.{Pass}
 use Rattle.sis_text.proofs.Texts.{cons_same}
 
@@ -102,13 +102,65 @@ blank_closed text =
     let e : length text ≡ length (text ++ 32 ∷ []) - 1 = omega (arith, length-append text (32 ∷ [])) in
     ap (λ n. eqb n 92) (get_or_at text 32 [] 0 (length (text ++ 32 ∷ []) - 1) e)
 
+-- the last byte is asked for in two ways
+opens_same : (text : List ℕ) → is_open text ≡ ends_open text
+unfolding is_open ends_open
+opens_same [] = refl
+opens_same (byte ∷ []) = refl
+opens_same (byte ∷ next ∷ bytes) =
+    let e : length (byte ∷ next ∷ bytes) - 1 ≡ suc (length (next ∷ bytes) - 1) = omega arith in
+    ap (λ n. eqb (get_or (byte ∷ next ∷ bytes) n 0) 92) e ∙ opens_same (next ∷ bytes)
+
+-- the blank that may stand at the end of a line
+abbrev blank_end : Bool → List ℕ
+blank_end true = 32 ∷ []
+blank_end false = []
+
+-- a line without its byte 10
+abbrev padded : List ℕ → List ℕ
+padded text = text ++ blank_end (ends_open text)
+
 padded_closed : (text : List ℕ) → is_open (padded text) ≡ false
-unfolding padded
-padded_closed text = step (is_open text) refl
+padded_closed text = step (ends_open text) refl
   where
-    step : (b : Bool) → is_open text ≡ b → is_open (cond b (text ++ 32 ∷ []) text) ≡ false
+    step : (b : Bool) → ends_open text ≡ b → is_open (text ++ blank_end b) ≡ false
     step true e = blank_closed text
-    step false e = e
+    step false e = ap is_open (append-nil text) ∙ opens_same text ∙ e
+
+padded_ends : (text : List ℕ) → text ++ line_end text ≡ padded text ++ 10 ∷ []
+unfolding line_end
+padded_ends text = step (ends_open text)
+  where
+    step : (b : Bool) → text ++ cond b (32 ∷ 10 ∷ []) (10 ∷ []) ≡ (text ++ blank_end b) ++ 10 ∷ []
+    step true = sym (append_assoc text (32 ∷ []) (10 ∷ []))
+    step false = sym (append_assoc text [] (10 ∷ []))
+
+-- a word has bytes, and all are plain
+plain_of : (blank ten hash : Bool) → not (blank || ten || hash) ≡ true → (not blank && (not ten && not hash)) ≡ true
+plain_of true ten hash e = absurd (false≢true e)
+plain_of false true hash e = absurd (false≢true e)
+plain_of false false true e = absurd (false≢true e)
+plain_of false false false e = refl
+
+word_plain : (byte : ℕ) → is_word_byte byte ≡ true → is_plain byte ≡ true
+word_plain byte e = plain_of (is_blank byte) (eqb byte 10) (eqb byte 35) e
+
+listed_pass : (p : ℕ → Bool) (text : List ℕ) → list_all p text ≡ true → Pass p text
+listed_pass p [] e = tt
+listed_pass p (byte ∷ rest) e =
+    (both_first (p byte) (list_all p rest) e, listed_pass p rest (both_second (p byte) (list_all p rest) e))
+
+word_of : (word : List ℕ) → is_word word ≡ true → IsWordOf is_plain word
+unfolding is_word
+word_of [] e = absurd (false≢true e)
+word_of (byte ∷ rest) e = record {
+  some = omega arith;
+  passes = All-from_recursion (λ (byte : ℕ). is_plain byte ≡ true) (byte ∷ rest) (pass_weaker is_word_byte is_plain (byte ∷ rest) word_plain (listed_pass is_word_byte (byte ∷ rest) e));
+}
+
+are_words_of : (words : List (List ℕ)) → AllByRecursion (λ word. is_word word ≡ true) words → AllByRecursion (IsWordOf is_plain) words
+are_words_of [] h = tt
+are_words_of (word ∷ words) h = (word_of word h.0, are_words_of words h.1)
 
 -- words are found as they were
 words_past : (word rest : List ℕ) → Pass is_solid word → word_texts false (word ++ 32 ∷ rest) ≡ word_texts true rest
@@ -144,19 +196,6 @@ word_last (byte ∷ word) l h =
 word_pass : (p : ℕ → Bool) (word : List ℕ) → ((byte : ℕ) → is_plain byte ≡ true → p byte ≡ true) → IsWordOf is_plain word → Pass p word
 word_pass p word f w = pass_weaker is_plain p word f (recursion_from_All (λ (byte : ℕ). is_plain byte ≡ true) word w.passes)
 
--- the blank that may stand at the end of a line
-abbrev blank_end : Bool → List ℕ
-blank_end true = 32 ∷ []
-blank_end false = []
-
-padded_is : (text : List ℕ) → padded text ≡ text ++ blank_end (is_open text)
-unfolding padded
-padded_is text = step (is_open text)
-  where
-    step : (b : Bool) → cond b (text ++ 32 ∷ []) text ≡ text ++ blank_end b
-    step true = refl
-    step false = sym (append-nil text)
-
 words_of_line : (b : Bool) (first : List ℕ) (others : List (List ℕ)) → AllByRecursion (IsWordOf is_plain) (first ∷ others) → word_texts true (first ++ (flat_map spaced others ++ blank_end b)) ≡ first ∷ others
 unfolding word_texts
 words_of_line true first [] w = word_first first [] w.0.some (word_pass is_solid first plain_solid w.0)
@@ -173,18 +212,19 @@ blank_passes true = (refl, tt)
 blank_passes false = tt
 
 abbrev body : Written → List ℕ
-body line = padded (line.first ++ flat_map spaced line.others)
+body line = padded (joined_words line)
 
 body_pass : (line : Written) → AllByRecursion (IsWordOf is_plain) (line.first ∷ line.others) → Pass is_inner (body line)
+unfolding joined_words
 body_pass line w =
     let text = line.first ++ flat_map spaced line.others in
-    let P : List ℕ → Type 0 = Pass is_inner in
-    subst P (sym (padded_is text)) (pass_append is_inner text (blank_end (is_open text)) (pass_append is_inner line.first (flat_map spaced line.others) (word_pass is_inner line.first plain_inner w.0) (others_pass line.others w.1)) (blank_passes (is_open text)))
+    pass_append is_inner text (blank_end (ends_open text)) (pass_append is_inner line.first (flat_map spaced line.others) (word_pass is_inner line.first plain_inner w.0) (others_pass line.others w.1)) (blank_passes (ends_open text))
 
 body_words : (line : Written) → AllByRecursion (IsWordOf is_plain) (line.first ∷ line.others) → word_texts true (body line) ≡ line.first ∷ line.others
+unfolding joined_words
 body_words line w =
     let text = line.first ++ flat_map spaced line.others in
-    ap (word_texts true) (padded_is text ∙ append_assoc line.first (flat_map spaced line.others) (blank_end (is_open text))) ∙ words_of_line (is_open text) line.first line.others w
+    ap (word_texts true) (append_assoc line.first (flat_map spaced line.others) (blank_end (ends_open text))) ∙ words_of_line (ends_open text) line.first line.others w
 
 closed_whole : (text : List ℕ) → is_open text ≡ false → closed text ≡ text
 unfolding closed
@@ -194,23 +234,27 @@ line_read : (number : ℕ) (line : Written) (lines : List (List ℕ)) → AllByR
 unfolding joined_entries
 line_read number line lines w =
     let k : kept (body line) ≡ body line = kept_whole (body line) (body_pass line w) in
-    let o : is_open (kept (body line)) ≡ false = ap is_open k ∙ padded_closed (line.first ++ flat_map spaced line.others) in
+    let o : is_open (kept (body line)) ≡ false = ap is_open k ∙ padded_closed (joined_words line) in
     let c : closed (kept (body line)) ≡ body line = closed_whole (kept (body line)) o ∙ k in
     let t : word_texts true (closed (kept (body line))) ≡ line.first ∷ line.others = ap (word_texts true) c ∙ body_words line w in
     rw (o, t) refl
 
-read_from : (number : ℕ) (lines : List Written) → AllByRecursion IsWritten lines → joined_entries number (part_texts 10 true (written_text lines)) ≡ numbered number lines
-unfolding written_text numbered line_text part_texts joined_entries
+line_ends : (line : Written) (rest : List ℕ) → line_text line ++ rest ≡ body line ++ 10 ∷ rest
+unfolding line_text
+line_ends line rest = ap (λ text. text ++ rest) (padded_ends (joined_words line)) ∙ append_assoc (body line) (10 ∷ []) rest
+
+read_from : (number : ℕ) (lines : List Written) → AllByRecursion IsWritten lines → joined_entries number (part_texts 10 true (lines_text lines)) ≡ numbered number lines
+unfolding lines_text numbered part_texts joined_entries
 read_from number [] h = refl
 read_from number (line ∷ lines) h =
-    let w = recursion_from_All (IsWordOf is_plain) (line.first ∷ line.others) h.0 in
-    ap (λ (text : List ℕ). joined_entries number (part_texts 10 true text)) (append_assoc (body line) (10 ∷ []) (written_text lines)) ∙ ap (joined_entries number) (parts_line (body line) (written_text lines) (body_pass line w)) ∙ line_read number line (part_texts 10 true (written_text lines)) w ∙ ap (λ es. record { number = number; words = line.first ∷ line.others } ∷ es) (read_from (number + 1) lines h.1)
+    let w = are_words_of (line.first ∷ line.others) (recursion_from_All (λ word. is_word word ≡ true) (line.first ∷ line.others) h.0) in
+    ap (λ (text : List ℕ). joined_entries number (part_texts 10 true text)) (line_ends line (lines_text lines)) ∙ ap (joined_entries number) (parts_line (body line) (lines_text lines) (body_pass line w)) ∙ line_read number line (part_texts 10 true (lines_text lines)) w ∙ ap (λ es. record { number = number; words = line.first ∷ line.others } ∷ es) (read_from (number + 1) lines h.1)
 
 numbered_say : (number : ℕ) (lines : List Written) → filter says_words (numbered number lines) ≡ numbered number lines
 unfolding numbered says_words
 numbered_say number [] = refl
 numbered_say number (line ∷ lines) = ap (λ es. record { number = number; words = line.first ∷ line.others } ∷ es) (numbered_say (number + 1) lines)
 
-pub read_back : (lines : List Written) → All IsWritten lines → entries_of (written_text lines) ≡ numbered 1 lines
+pub read_back : (lines : List Written) → All IsWritten lines → entries_of (lines_text lines) ≡ numbered 1 lines
 unfolding entries_of
 read_back lines h = ap (filter says_words) (read_from 1 lines (recursion_from_All IsWritten lines h)) ∙ numbered_say 1 lines

@@ -5,10 +5,11 @@ use Rattle.std.proofs.lemmas.List.Elements.{filter-append}
 use Rattle.std.proofs.lemmas.List.Folds.{length-prefix_len}
 use Rattle.std.proofs.lemmas.Bool.Decides.{nat_tests}
 use Rattle.std.proofs.lemmas.List.{drop_more, drop_all}
+use Rattle.sis_base.specs.Written.{is_blank}
 use Rattle.sis_text.specs.declared.places.Span.{Span}
 use Rattle.sis_text.specs.Lines.{joined, has_words, not_empty}
 use Rattle.sis_text.specs.Pieces.{piece_at, line_pieces, pieces_from}
-use Rattle.sis_text.specs.Words.{is_blank, word_len, words_from, part_len, parts_from}
+use Rattle.sis_text.specs.Words.{word_len, words_from, part_len, parts_from}
 
 pub words_more : (place i : ℕ) (after_blank : Bool) (xs : List ℕ) → i < length xs → words_from (place + i) after_blank (drop i xs) ≡ (cond (after_blank && not (is_blank (get_or xs i 0))) (record { place = place + i; len = word_len (drop i xs) } ∷ []) []) ++ words_from (place + (i + 1)) (is_blank (get_or xs i 0)) (drop (i + 1) xs)
 unfolding words_from

@@ -4,8 +4,9 @@ use Rattle.std.specs.List.{take_while, filter, prefix_len, suffix_len}
 use Rattle.std.proofs.lemmas.List.{take-take, drop-take, drop-drop, take_min, length-take, map-append, take_all}
 use Rattle.std.proofs.lemmas.List.Folds.{length-prefix_len}
 use Rattle.std.proofs.lemmas.List.Sums.{prefix_len-le-length}
+use Rattle.sis_base.specs.Written.{is_blank}
 use Rattle.sis_text.specs.declared.places.Span.{Span}
-use Rattle.sis_text.specs.Words.{bytes_at, is_blank, word_len, words_from, part_len, parts_from}
+use Rattle.sis_text.specs.Words.{bytes_at, word_len, words_from, part_len, parts_from}
 use Rattle.sis_text.specs.Entries.{word_texts, part_texts, entry_at, before_entry, joined_entries, says_words, entries_of}
 use Rattle.sis_text.specs.Lines.{uncommented, trimmed, kept, closed, is_open, words_at, before, joined, has_words, not_empty, lines_of, physical_lines}
 use Rattle.sis_text.specs.declared.places.Line.{Line}

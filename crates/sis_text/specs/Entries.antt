@@ -3,8 +3,9 @@
 -- The same as in Words, Lines and Pieces, without places: readers and writers speak of these.
 use Rattle.std.specs.Prelude.{ℕ, ◌+◌, ◌==◌, ◌&&◌, not, Bool, true, List, [], ◌∷◌, ◌++◌, map, if◌then◌else◌}
 use Rattle.std.specs.List.{take_while, filter}
+use Rattle.sis_base.specs.Written.{is_blank}
 use Rattle.sis_text.specs.declared.places.Line.{Line}
-use Rattle.sis_text.specs.Words.{bytes_at, is_blank}
+use Rattle.sis_text.specs.Words.{bytes_at}
 use Rattle.sis_text.specs.Lines.{uncommented, kept, is_open, closed, not_empty}
 
 -- a line with its number and its words, each by its bytes

@@ -2,9 +2,10 @@
 -- Source: "Berkeley Logic Interchange Format (BLIF)", appendix of the SIS report (UCB/ERL M92/41).
 use Rattle.std.specs.Prelude.{◌≡◌, ℕ, ◌+◌, ◌<◌, ◌≤◌, ◌==◌, ◌&&◌, not, Bool, true, List, [], ◌∷◌, length}
 use Rattle.std.specs.List.{All, flat_map}
+use Rattle.sis_base.specs.Written.{is_blank}
 use Rattle.sis_text.specs.declared.places.Span.{Span}
 use Rattle.sis_text.specs.declared.places.Line.{Line}
-use Rattle.sis_text.specs.Words.{bytes_at, is_blank}
+use Rattle.sis_text.specs.Words.{bytes_at}
 use Rattle.sis_text.specs.Entries.{Entry}
 
 -- no span begins before the end of the one before it, the first not before `from`, and none ends behind `limit`

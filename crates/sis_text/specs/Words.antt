@@ -1,17 +1,14 @@
 -- The words of a line, and the parts of a text between marks, each as a span: a place and a length.
 -- Source: "Berkeley Logic Interchange Format (BLIF)", appendix of the SIS report (UCB/ERL M92/41): words
 -- are parted by blanks (tab, carriage return, space).
-use Rattle.std.specs.Prelude.{ℕ, ◌+◌, ◌==◌, ◌||◌, ◌&&◌, not, Bool, true, List, [], ◌∷◌, ◌++◌, length, take, drop, if◌then◌else◌}
+use Rattle.std.specs.Prelude.{ℕ, ◌+◌, ◌==◌, ◌&&◌, not, Bool, true, List, [], ◌∷◌, ◌++◌, length, take, drop, if◌then◌else◌}
 use Rattle.std.specs.List.{take_while}
+use Rattle.sis_base.specs.Written.{is_blank}
 use Rattle.sis_text.specs.declared.places.Span.{Span}
 
 -- the bytes of a text that a span names
 abbrev pub bytes_at : List ℕ → Span → List ℕ
 bytes_at source span = take span.len (drop span.place source)
-
--- tab, carriage return and space
-abbrev pub is_blank : ℕ → Bool
-is_blank byte = byte == 9 || byte == 13 || byte == 32
 
 -- how many bytes stand before the first blank
 unfoldable pub word_len : List ℕ → ℕ

@@ -8,8 +8,8 @@
 //!
 //! Promised: just the spans of the definitions (`specs/Lines.antt`, `specs/Pieces.antt`), in order and
 //! inside the text; that they name the words of `specs/Entries.antt`, where lines are said by their bytes
-//! alone; and that lines of words written by `specs/Written.antt` are read as they were. The only error
-//! is want of memory.
+//! alone; and that lines of words, written as the base crate says (its `specs/Written.antt`), are read as
+//! they were. The only error is want of memory.
 #![tactic(auto)]
 
 mod joining;

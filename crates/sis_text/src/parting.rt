@@ -1,7 +1,8 @@
 //! Parts of a text between marks, and words of a line.
 
 ghost use Rattle.std.specs.Prelude.{◌≡◌, ◌==◌, ◌+◌, ◌*◌, ◌^◌, ◌<◌, ◌++◌, not, true, length, IfOk, OnOk};
-ghost use Rattle.sis_text.specs.Words.{is_blank, word_len, words_from, words_of, part_len, parts_from};
+ghost use Rattle.sis_base.specs.Written.{is_blank};
+ghost use Rattle.sis_text.specs.Words.{word_len, words_from, words_of, part_len, parts_from};
 ghost use Rattle.sis_text.specs.Order.{AreInOrder, AreWordsOf, is_solid};
 
 use crate::places::{Span, Spans};
