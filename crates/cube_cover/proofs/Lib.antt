@@ -1,0 +1,3 @@
+pub mod Points
+pub mod Products
+pub mod Splits
