@@ -92,10 +92,10 @@ empty_answer s e =
 pub dashes_answer : (s : Shape) → some_dashes s.rows ≡ true → IsTrue true ↔ IsTautology s
 dashes_answer s h = (λ t p d. matches_some_dashes s.rows p h, λ k. refl)
 
-half_point : (s : Shape) (i : ℕ) (b : Bool) → HasWidth s.width s.rows → i < s.width → IsTautology s → IsTautology (record { width = s.width; rows = cofactor_rows i b s.rows })
+pub half_point : (s : Shape) (i : ℕ) (b : Bool) → HasWidth s.width s.rows → i < s.width → IsTautology s → IsTautology (record { width = s.width; rows = cofactor_rows i b s.rows })
 half_point s i b w lt h p d = value-cofactor s.width s.rows p i b w lt d ∙ h (set p i b) (length-set p i b ∙ d)
 
-whole_point : (s : Shape) (i : ℕ) → HasWidth s.width s.rows → i < s.width → IsTautology (record { width = s.width; rows = cofactor_rows i false s.rows })
+pub whole_point : (s : Shape) (i : ℕ) → HasWidth s.width s.rows → i < s.width → IsTautology (record { width = s.width; rows = cofactor_rows i false s.rows })
     → IsTautology (record { width = s.width; rows = cofactor_rows i true s.rows }) → IsTautology s
 whole_point s i w lt low high p d = cases (get_or p i false) refl
   where

@@ -1,6 +1,6 @@
 -- Tests by places, which the bodies compute, beside the meaning by points that contracts give.
 -- Source: De Micheli, "Synthesis and Optimization of Digital Circuits", chapter 7 (operations on cubes place by place).
-use Rattle.std.specs.Prelude.{ℕ, ◌+◌, Bool, true, false, not, ◌&&◌, ◌||◌, Option, Some, None, List, [], ◌∷◌, slice_index_or}
+use Rattle.std.specs.Prelude.{is_none, if◌then◌else◌, cond, ℕ, ◌+◌, Bool, true, false, not, ◌&&◌, ◌||◌, Option, Some, None, List, [], ◌∷◌, slice_index_or}
 use Rattle.sis_base.specs.Rows.{agrees}
 
 -- two places contradict where both have literals, and different ones
@@ -62,3 +62,18 @@ all_dashes (place ∷ places) = not (not_dash place) && all_dashes places
 unfoldable pub some_dashes : List (List (Option Bool)) → Bool
 some_dashes [] = false
 some_dashes (row ∷ rows) = all_dashes row || some_dashes rows
+
+-- how many rows have a given literal at a place
+abbrev pub literal_count : Bool → Option Bool → ℕ
+literal_count bit None = 0
+literal_count true (Some literal) = cond literal 1 0
+literal_count false (Some literal) = cond literal 0 1
+
+unfoldable pub rows_with : ℕ → Bool → List (List (Option Bool)) → ℕ
+rows_with place bit [] = 0
+rows_with place bit (row ∷ rows) = literal_count bit (slice_index_or row place None) + rows_with place bit rows
+
+-- the rows with a dash at a place
+unfoldable pub dashed_rows : ℕ → List (List (Option Bool)) → List (List (Option Bool))
+dashed_rows place [] = []
+dashed_rows place (row ∷ rows) = if is_none (slice_index_or row place None) then row ∷ dashed_rows place rows else dashed_rows place rows

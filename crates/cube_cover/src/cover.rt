@@ -114,7 +114,7 @@ impl<R: Row> Copied for Cover<R> {
 }
 
 // Copies of rows, in order.
-fn rows_copied<R: Row>(alloc: Global, rows: &[R]) -> Result<Vec<R>, AllocError>
+pub(crate) fn rows_copied<R: Row>(alloc: Global, rows: &[R]) -> Result<Vec<R>, AllocError>
     ensures { IfOk result (λ made. map R.places made.items ≡ map R.places rows.now) }
 {
     let mut made = Vec::with_capacity(alloc, rows.len())?;
@@ -174,7 +174,7 @@ fn row_without<R: Row>(alloc: Global, row: &R, place: usize) -> Result<R, AllocE
 
 // The rows that agree with a bit at a place, without their literal there.
 #[tactic(auto, using(crate::proofs::Points::width_read), unfolding(crate::specs::Covers::cofactor_rows))]
-fn rows_at<R: Row>(
+pub(crate) fn rows_at<R: Row>(
     alloc: Global,
     width: usize,
     rows: &[R],

@@ -13,6 +13,9 @@ mod cover;
 mod plain;
 mod row;
 mod tautology;
+#[cfg(test)]
+mod tests;
+mod thin;
 
 pub use cover::Cover;
 pub use plain::PlainRow;

@@ -3,11 +3,12 @@
 ghost use Rattle.std.specs.Prelude.{◌≡◌, ℕ, ◌<◌, ◌↔◌, Bool, true, Option, None, List, length, map, slice_index_or, MatchOption, IfOk, IsTrue};
 ghost use Rattle.sis_base.specs.Rows.{HasWidth};
 ghost use Rattle.cube_cover.specs.Covers.{IsTautology};
-ghost use Rattle.cube_cover.specs.Places.{all_dashes, not_dash};
+ghost use Rattle.cube_cover.specs.Places.{all_dashes, not_dash, some_dashes};
 ghost use Rattle.cube_cover.specs.Found.{IsFound};
 
-use crate::cover::Cover;
+use crate::cover::{Cover, rows_at, rows_copied};
 use crate::row::Row;
+use crate::thin::{split_place, thin};
 use std::alloc::{AllocError, Global};
 
 impl<R: Row> Cover<R> {
@@ -15,7 +16,8 @@ impl<R: Row> Cover<R> {
     pub fn is_tautology(&self, alloc: Global) -> Result<bool, AllocError>
         ensures { IfOk result (λ answer. IsTrue answer ↔ IsTautology self.now) }
     {
-        tautology_of(alloc, self)
+        let rows = rows_copied(alloc, self.rows())?;
+        tautology_of(alloc, self.width(), rows)
     }
 }
 
@@ -56,21 +58,38 @@ fn find_literal<R: Row>(width: usize, rows: &[R]) -> Found
     found
 }
 
-// Splits a cover at a place with a literal until a row of dashes or no row decides.
-fn tautology_of<R: Row>(alloc: Global, cover: &Cover<R>) -> Result<bool, AllocError>
-    ensures { IfOk result (λ answer. IsTrue answer ↔ IsTautology cover.now) }
+// Whether there is a row of dashes.
+fn has_dashes<R: Row>(width: usize, rows: &[R]) -> bool
+    requires { HasWidth width (map R.places rows.now) }
+    ensures { IsTrue result → some_dashes (map R.places rows.now) ≡ true }
 {
-    match find_literal(cover.width(), cover.rows()) {
+    match find_literal(width, rows) {
+        Found::Dashes => true,
+        _ => false,
+    }
+}
+
+// Leaves out rows that do not count, and splits at a place until a row of dashes or no row decides.
+fn tautology_of<R: Row>(alloc: Global, width: usize, rows: Vec<R>) -> Result<bool, AllocError>
+    requires { HasWidth width (map R.places rows.items) }
+    ensures { IfOk result (λ answer. IsTrue answer ↔ IsTautology (record { width = width; rows = map R.places rows.items })) }
+{
+    if has_dashes(width, rows.as_slice()) {
+        return Ok(true);
+    }
+    let kept = thin(alloc, width, rows)?;
+    match find_literal(width, kept.as_slice()) {
         Found::NoRow => Ok(false),
         Found::Dashes => Ok(true),
-        Found::Literal(place) => {
-            let low = cover.cofactor(alloc, place, false)?;
-            let high = cover.cofactor(alloc, place, true)?;
-            let low_answer = tautology_of(alloc, &low)?;
+        Found::Literal(first) => {
+            let place = split_place(alloc, width, kept.as_slice(), first)?;
+            let low = rows_at(alloc, width, kept.as_slice(), place, false)?;
+            let low_answer = tautology_of(alloc, width, low)?;
             if !low_answer {
                 return Ok(false);
             }
-            let high_answer = tautology_of(alloc, &high)?;
+            let high = rows_at(alloc, width, kept.as_slice(), place, true)?;
+            let high_answer = tautology_of(alloc, width, high)?;
             Ok(high_answer)
         }
     }
