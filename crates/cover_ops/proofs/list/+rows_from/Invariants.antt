@@ -1,0 +1,5 @@
+use Rattle.std.proofs.Common.{◌≡◌, ℕ, ◌<◌, ◌≤◌, ◌+◌, ◌-◌, Bool, true, false, Option, Some, None, List, [], ◌∷◌, ◌++◌, length, map, take, drop, replicate, MatchOption}
+use Rattle.cover_ops.proofs.list.+rows_from.Given as goal
+
+abbrev pub decreases-rows_from : goal.decreases-rows_from
+decreases-rows_from g l = l.left

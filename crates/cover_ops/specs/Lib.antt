@@ -1,0 +1,2 @@
+pub mod Shannon
+pub mod Halves
