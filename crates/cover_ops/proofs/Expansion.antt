@@ -80,12 +80,18 @@ value_shannon (suc n) f (b ∷ p) e =
     cases true h false low high = value_cons None (shannon n (λ q. f (false ∷ q))) false p ∙ low
     cases true h true low high = value_cons None (shannon n (λ q. f (false ∷ q))) true p ∙ low ∙ same_points n (λ q. f (false ∷ q)) (λ q. f (true ∷ q)) h p (omega arith)
     cases false h false low high =
-        rw (value-append (map (λ row. Some false ∷ row) (shannon n (λ q. f (false ∷ q)))) (map (λ row. Some true ∷ row) (shannon n (λ q. f (true ∷ q)))) (false ∷ p),
-            value_cons (Some false) (shannon n (λ q. f (false ∷ q))) false p, value_cons (Some true) (shannon n (λ q. f (true ∷ q))) false p)
+        rw (
+          value-append (map (λ row. Some false ∷ row) (shannon n (λ q. f (false ∷ q)))) (map (λ row. Some true ∷ row) (shannon n (λ q. f (true ∷ q)))) (false ∷ p),
+          value_cons (Some false) (shannon n (λ q. f (false ∷ q))) false p,
+          value_cons (Some true) (shannon n (λ q. f (true ∷ q))) false p,
+        )
         (or-false (some_matches (shannon n (λ q. f (false ∷ q))) p) ∙ low)
     cases false h true low high =
-        rw (value-append (map (λ row. Some false ∷ row) (shannon n (λ q. f (false ∷ q)))) (map (λ row. Some true ∷ row) (shannon n (λ q. f (true ∷ q)))) (true ∷ p),
-            value_cons (Some false) (shannon n (λ q. f (false ∷ q))) true p, value_cons (Some true) (shannon n (λ q. f (true ∷ q))) true p)
+        rw (
+          value-append (map (λ row. Some false ∷ row) (shannon n (λ q. f (false ∷ q)))) (map (λ row. Some true ∷ row) (shannon n (λ q. f (true ∷ q)))) (true ∷ p),
+          value_cons (Some false) (shannon n (λ q. f (false ∷ q))) true p,
+          value_cons (Some true) (shannon n (λ q. f (true ∷ q))) true p,
+        )
         high
 
 pub lists_same : (n : ℕ) (f g : List Bool → Bool) → shannon n f ≡ shannon n g → same n f g ≡ true

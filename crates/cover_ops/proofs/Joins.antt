@@ -249,13 +249,13 @@ joined_at w i left phase rows made h lt s j =
     let e : suc (left - 1) ≡ left = omega arith in
     subst (λ (k : ℕ). made ≡ list_from i k phase rows) e
     (joined_list w i (left - 1) phase rows made h (omega arith)
-        (subst (λ (k : ℕ). IsJoined i (list_from k (left - 1) phase (part_rows i false rows)) (list_from k (left - 1) phase (part_rows i true rows)) made) (add-one i) j))
+    (subst (λ (k : ℕ). IsJoined i (list_from k (left - 1) phase (part_rows i false rows)) (list_from k (left - 1) phase (part_rows i true rows)) made) (add-one i) j))
 
 pub skipped_at : (w i left : ℕ) (phase : Bool) (rows : List (List (Option Bool))) → HasWidth w rows → 0 < left → i + left ≡ w → has_literal i rows ≡ false → list_from i left phase rows ≡ list_from (i + 1) (left - 1) phase rows
 skipped_at w i left phase rows h lt s none =
     let e : suc (left - 1) ≡ left = omega arith in
     sym (subst (λ (k : ℕ). list_from (i + 1) (left - 1) phase rows ≡ list_from i k phase rows) e
-        (subst (λ (k : ℕ). list_from k (left - 1) phase rows ≡ list_from i (suc (left - 1)) phase rows) (sym (add-one i)) (skipped_list w i (left - 1) phase rows h (omega arith) none)))
+    (subst (λ (k : ℕ). list_from k (left - 1) phase rows ≡ list_from i (suc (left - 1)) phase rows) (sym (add-one i)) (skipped_list w i (left - 1) phase rows h (omega arith) none)))
 
 pub half_at : (w i left : ℕ) (phase : Bool) (rows : List (List (Option Bool))) (b : Bool) → HasWidth w rows → 0 < left → i + left ≡ w → length (list_from (i + 1) (left - 1) phase (part_rows i b rows)) ≤ length (list_from i left phase rows)
 half_at w i left phase rows b h lt s =

@@ -7,5 +7,7 @@
 #![tactic(auto)]
 
 mod list;
+#[cfg(test)]
+mod tests;
 
 pub use list::{ListFault, off_list, on_list};

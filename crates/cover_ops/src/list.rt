@@ -41,7 +41,12 @@ impl<T: Drop> From<AllocFailed<T>> for ListFault {
 }
 
 // One row of dashes, or no row.
-fn constant_rows<R: Row>(alloc: Global, width: usize, value: bool, limit: usize) -> Result<Vec<R>, ListFault>
+fn constant_rows<R: Row>(
+    alloc: Global,
+    width: usize,
+    value: bool,
+    limit: usize,
+) -> Result<Vec<R>, ListFault>
     ensures ok { IfOk result (λ list. map R.places list.items ≡ constant_list width value) }
     ensures within { OnOk result (length (constant_list width value) ≤ limit) }
     ensures limit { result ≡ Err ListFault.CubeLimit → limit < length (constant_list width value) }
@@ -114,7 +119,13 @@ fn agrees_with(place: Option<bool>, bit: bool) -> bool
 
 // The rows that agree with a bit at a place.
 #[tactic(auto, using(cube_cover::proofs::Points::width_read), unfolding(crate::specs::Halves::part_rows))]
-fn agreeing<'a, R: Row>(alloc: Global, rows: &[&'a R], width: usize, place: usize, bit: bool) -> Result<Vec<&'a R>, AllocError>
+fn agreeing<'a, R: Row>(
+    alloc: Global,
+    rows: &[&'a R],
+    width: usize,
+    place: usize,
+    bit: bool,
+) -> Result<Vec<&'a R>, AllocError>
     requires widths { HasWidth width (map (λ row. R.places row.now) rows.now) }
     requires place { place < width }
     ensures { IfOk result (λ part. map (λ row. R.places row.now) part.items ≡ part_rows place bit (map (λ row. R.places row.now) rows.now)) }
@@ -147,7 +158,13 @@ fn equal_lists<R: Row>(low: &[R], high: &[R], width: usize) -> bool
 
 // A list with the rows of another behind it, in which a literal was put at a place.
 #[tactic(auto, using(cube_cover::proofs::Points::width_read))]
-fn with_marked<R: Row>(list: Vec<R>, rows: Vec<R>, width: usize, place: usize, bit: bool) -> Result<Vec<R>, AllocError>
+fn with_marked<R: Row>(
+    list: Vec<R>,
+    rows: Vec<R>,
+    width: usize,
+    place: usize,
+    bit: bool,
+) -> Result<Vec<R>, AllocError>
     requires widths { HasWidth width (map R.places rows.items) }
     requires place { place < width }
     ensures { IfOk result (λ made. map R.places made.items ≡ map R.places list.items ++ marked place bit (map R.places rows.items)) }
@@ -162,7 +179,14 @@ fn with_marked<R: Row>(list: Vec<R>, rows: Vec<R>, width: usize, place: usize, b
 }
 
 // The list of a whole from those of its halves at a place.
-fn join_halves<R: Row>(alloc: Global, low: Vec<R>, high: Vec<R>, width: usize, place: usize, limit: usize) -> Result<Vec<R>, ListFault>
+fn join_halves<R: Row>(
+    alloc: Global,
+    low: Vec<R>,
+    high: Vec<R>,
+    width: usize,
+    place: usize,
+    limit: usize,
+) -> Result<Vec<R>, ListFault>
     requires low { HasWidth width (map R.places low.items) }
     requires high { HasWidth width (map R.places high.items) }
     requires place { place < width }
@@ -183,7 +207,15 @@ fn join_halves<R: Row>(alloc: Global, low: Vec<R>, high: Vec<R>, width: usize, p
 }
 
 // The list of the rows that are left at a place, of which `left` are before the end of the width.
-fn rows_from<R: Row>(alloc: Global, rows: &[&R], width: usize, phase: bool, place: usize, left: usize, limit: usize) -> Result<Vec<R>, ListFault>
+fn rows_from<R: Row>(
+    alloc: Global,
+    rows: &[&R],
+    width: usize,
+    phase: bool,
+    place: usize,
+    left: usize,
+    limit: usize,
+) -> Result<Vec<R>, ListFault>
     requires widths { HasWidth width (map (λ row. R.places row.now) rows.now) }
     requires places { place + left ≡ width }
     ensures ok { IfOk result (λ list. map R.places list.items ≡ list_from place left phase (map (λ row. R.places row.now) rows.now)) }
@@ -203,9 +235,25 @@ fn rows_from<R: Row>(alloc: Global, rows: &[&R], width: usize, phase: bool, plac
         return rows_from(alloc, rows, width, phase, place + 1, left - 1, limit);
     }
     let low_rows = agreeing(alloc, rows, width, place, false)?;
-    let low = rows_from(alloc, low_rows.as_slice(), width, phase, place + 1, left - 1, limit)?;
+    let low = rows_from(
+        alloc,
+        low_rows.as_slice(),
+        width,
+        phase,
+        place + 1,
+        left - 1,
+        limit,
+    )?;
     let high_rows = agreeing(alloc, rows, width, place, true)?;
-    let high = rows_from(alloc, high_rows.as_slice(), width, phase, place + 1, left - 1, limit)?;
+    let high = rows_from(
+        alloc,
+        high_rows.as_slice(),
+        width,
+        phase,
+        place + 1,
+        left - 1,
+        limit,
+    )?;
     let list = join_halves(alloc, low, high, width, place, limit)?;
     Ok(list)
 }
@@ -223,7 +271,12 @@ fn references<'a, R: Row>(alloc: Global, rows: &'a [R]) -> Result<Vec<&'a R>, Al
 
 /// The on-list of the function that a cover gives by a phase, over the cover's inputs; `CubeLimit` exactly where it
 /// has more than `limit` rows.
-pub fn on_list<R: Row>(alloc: Global, f: &Cover<R>, phase: bool, limit: usize) -> Result<Cover<R>, ListFault>
+pub fn on_list<R: Row>(
+    alloc: Global,
+    f: &Cover<R>,
+    phase: bool,
+    limit: usize,
+) -> Result<Cover<R>, ListFault>
     ensures ok { IfOk result (λ list. list ≡ record { width = f.now.width; rows = list_rows f.now.width phase f.now.rows }) }
     ensures value { IfOk result (λ list. (point : List Bool) → IsPoint f.now.width point → some_matches list.rows point ≡ value_by_phase phase f.now.rows point) }
     ensures within { OnOk result (length (list_rows f.now.width phase f.now.rows) ≤ limit) }
@@ -237,7 +290,12 @@ pub fn on_list<R: Row>(alloc: Global, f: &Cover<R>, phase: bool, limit: usize) -
 
 /// The off-list of the function that a cover gives by a phase, which is the on-list of its complement; `CubeLimit`
 /// exactly where it has more than `limit` rows.
-pub fn off_list<R: Row>(alloc: Global, f: &Cover<R>, phase: bool, limit: usize) -> Result<Cover<R>, ListFault>
+pub fn off_list<R: Row>(
+    alloc: Global,
+    f: &Cover<R>,
+    phase: bool,
+    limit: usize,
+) -> Result<Cover<R>, ListFault>
     ensures ok { IfOk result (λ list. list ≡ record { width = f.now.width; rows = list_rows f.now.width (not phase) f.now.rows }) }
     ensures value { IfOk result (λ list. (point : List Bool) → IsPoint f.now.width point → some_matches list.rows point ≡ not (value_by_phase phase f.now.rows point)) }
     ensures within { OnOk result (length (list_rows f.now.width (not phase) f.now.rows) ≤ limit) }

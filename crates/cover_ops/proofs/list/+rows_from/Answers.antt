@@ -132,6 +132,6 @@ returns-clause-within g t c =
     let high : map (λ (x : Bor g.row.R.Denot). g.R.Row.places x.now) c.as_slice-2.result.now ≡ part_rows c.args.place true (map (λ (x : Bor g.row.R.Denot). g.R.Row.places x.now) c.args.rows.now) = rw c.as_slice-2.ensures.value c.in_ok-high_rows.ensures in
     let highs : map g.R.Row.places c.in_ok-high.high.items ≡ (list_from (c.args.place + 1) (c.args.left - 1) c.args.phase (part_rows c.args.place true (map (λ (x : Bor g.row.R.Denot). g.R.Row.places x.now) c.args.rows.now))) = rw (← high) c.in_ok-high.ensures.ok in
     let whole : map g.R.Row.places c.in_ok-list.list.items ≡ list_from c.args.place c.args.left c.args.phase (map (λ (x : Bor g.row.R.Denot). g.R.Row.places x.now) c.args.rows.now) =
-        joined_at c.args.width c.args.place c.args.left c.args.phase (map (λ (x : Bor g.row.R.Denot). g.R.Row.places x.now) c.args.rows.now) (map g.R.Row.places c.in_ok-list.list.items) c.requires.widths (omega arith) c.requires.places (rw (← lows, ← highs) c.in_ok-list.ensures.ok) in
+    joined_at c.args.width c.args.place c.args.left c.args.phase (map (λ (x : Bor g.row.R.Denot). g.R.Row.places x.now) c.args.rows.now) (map g.R.Row.places c.in_ok-list.list.items) c.requires.widths (omega arith) c.requires.places (rw (← lows, ← highs) c.in_ok-list.ensures.ok) in
     let s : length c.in_ok-list.list.items ≡ length (list_from c.args.place c.args.left c.args.phase (map (λ (x : Bor g.row.R.Denot). g.R.Row.places x.now) c.args.rows.now)) = sym (length-map c.in_ok-list.list.items g.R.Row.places) ∙ ap length whole in
     omega (arith, s, c.in_ok-list.ensures.within)

@@ -11,6 +11,7 @@ equal_rows-requires g c =
     low ∙ sym high
 
 pub returns-then-not-equal_rows : goal.returns-then-not-equal_rows
-returns-then-not-equal_rows g c =
-    (λ h. cc,
-    λ h. sym c.if-not-equal_rows.true ∙ c.equal_rows.ensures.1 (same_read g.R.Row.places c.args.low.now c.args.high.now c.loop-i.i c.index-low-i.result c.index-high-i.result (omega arith) (omega arith) c.index-low-i.is c.index-high-i.is h))
+returns-then-not-equal_rows g c = (
+  λ h. cc,
+  λ h. sym c.if-not-equal_rows.true ∙ c.equal_rows.ensures.1 (same_read g.R.Row.places c.args.low.now c.args.high.now c.loop-i.i c.index-low-i.result c.index-high-i.result (omega arith) (omega arith) c.index-low-i.is c.index-high-i.is h),
+)
