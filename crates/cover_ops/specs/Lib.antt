@@ -1,2 +1,3 @@
 pub mod Shannon
 pub mod Halves
+pub mod Composed
