@@ -1,6 +1,6 @@
 //! Worked cases, and one run of each public call at `PlainRow` through its bound.
 
-use crate::{ListFault, off_list, on_list};
+use crate::{ListFault, compose, off_list, on_list};
 use cube_cover::{Cover, PlainRow, Row};
 use std::alloc::{AllocError, Global};
 use std::test::Fail;
@@ -175,5 +175,67 @@ fn lists_that_double(rt: HostRuntime) -> Result<(), Fail> {
     let long = on_list(alloc, &fifteen, false, 32768)?;
     assert_eq!(rt; long.rows().len(), 32768);
     assert!(rt; is_cube_limit(on_list(alloc, &fifteen, false, 32767)));
+    Ok(())
+}
+
+#[test]
+#[tactic(auto, unfolding(crate::specs::Composed::AreEntries, crate::specs::Composed::is_entry))]
+fn compositions(rt: HostRuntime) -> Result<(), Fail> {
+    let alloc = rt.alloc();
+    let inner: Cover<PlainRow> = cover_of(alloc, 2, &[b"11"])?;
+    assert_eq!(rt; inner.width(), 2);
+    let outer: Cover<PlainRow> = cover_of(alloc, 2, &[b"1-", b"-1"])?;
+    assert_eq!(rt; outer.width(), 2);
+    let first = compose(alloc, &outer, 0, &inner, true, &[None, None], 2)?;
+    assert_eq!(rt; first.width(), 3);
+    assert_eq!(rt;
+        written_rows(alloc, &first)?.as_slice(),
+        b"11-/--1/".as_slice()
+    );
+    assert!(rt; is_cube_limit(compose(alloc, &outer, 0, &inner, true, &[None, None], 1)));
+    let wide: Cover<PlainRow> = cover_of(alloc, 3, &[b"11-", b"1-1"])?;
+    assert_eq!(rt; wide.width(), 3);
+    let second = compose(alloc, &wide, 0, &inner, true, &[None, None], 2)?;
+    assert_eq!(rt;
+        written_rows(alloc, &second)?.as_slice(),
+        b"111-/11-1/".as_slice()
+    );
+    Ok(())
+}
+
+#[test]
+#[tactic(auto, unfolding(crate::specs::Composed::AreEntries, crate::specs::Composed::is_entry))]
+fn compositions_with_shared_inputs(rt: HostRuntime) -> Result<(), Fail> {
+    let alloc = rt.alloc();
+    let inner: Cover<PlainRow> = cover_of(alloc, 2, &[b"1-"])?;
+    assert_eq!(rt; inner.width(), 2);
+    let outer: Cover<PlainRow> = cover_of(alloc, 2, &[b"01", b"00", b"1-"])?;
+    assert_eq!(rt; outer.width(), 2);
+    let made = compose(alloc, &outer, 1, &inner, true, &[Some(0), None], 2)?;
+    assert_eq!(rt;
+        written_rows(alloc, &made)?.as_slice(),
+        b"0-/1-/".as_slice()
+    );
+    let other = compose(alloc, &outer, 1, &inner, false, &[Some(0), None], 2)?;
+    assert_eq!(rt;
+        written_rows(alloc, &other)?.as_slice(),
+        b"0-/1-/".as_slice()
+    );
+    Ok(())
+}
+
+#[test]
+#[tactic(auto, unfolding(crate::specs::Composed::AreEntries))]
+fn compositions_of_a_long_list(rt: HostRuntime) -> Result<(), Fail> {
+    let alloc = rt.alloc();
+    let inner: Cover<PlainRow> = pairs(alloc, 15)?;
+    assert_eq!(rt; inner.width(), 30);
+    let outer: Cover<PlainRow> = cover_of(alloc, 2, &[b"11"])?;
+    assert_eq!(rt; outer.width(), 2);
+    let places = [None; 30];
+    assert!(rt; is_cube_limit(compose(alloc, &outer, 0, &inner, false, &places, 32767)));
+    let made = compose(alloc, &outer, 0, &inner, false, &places, 32768)?;
+    assert_eq!(rt; made.width(), 31);
+    assert_eq!(rt; made.rows().len(), 32768);
     Ok(())
 }
