@@ -1,12 +1,12 @@
 -- The value of a composed cover: the outer cover's, with the inner table's value in its input's place.
-use Rattle.std.proofs.Common.{◌≡◌, ◌≢◌, ℕ, ◌<◌, ◌≤◌, ◌+◌, ◌-◌, zero, suc, Bool, true, false, not, cond, ◌&&◌, ◌||◌, if◌then◌else◌, Option, Some, None, List, [], ◌∷◌, ◌++◌, length, get_or, set, take, drop, map, replicate, refl, sym, ap, ◌∙◌, subst, arith, ◌⊎◌, inl, inr, add-one, ltb, eqb, length-append}
+use Rattle.std.proofs.Common.{◌≡◌, ◌≢◌, ℕ, ◌<◌, ◌≤◌, ◌+◌, ◌-◌, zero, suc, Bool, true, false, not, ◌&&◌, ◌||◌, if◌then◌else◌, Option, Some, None, List, [], ◌∷◌, ◌++◌, length, get_or, set, take, drop, map, replicate, refl, sym, ap, ◌∙◌, subst, arith, ◌⊎◌, inl, inr, add-one, ltb, eqb, length-append}
 use Rattle.std.proofs.lemmas.Bool.{eqb-true, eqb-false, ltb-true, ltb-false, false_from_ne_true}
 use Rattle.std.proofs.Math.Bool.{and-false, or-false, and-true, and_comm}
-use Rattle.std.proofs.lemmas.List.{length-set, length-map, length-replicate, get_or-set_other, get_or-set_same, get_or-replicate, length-take, length-drop, drop_more, length-take-le, get_or_append_left, get_or-append_right, get_or-take, get_or-drop}
-use Rattle.sis_base.specs.Rows.{agrees, matches, some_matches, value_by_phase, phase_value, HasWidth, IsPoint}
+use Rattle.std.proofs.lemmas.List.{length-set, length-map, length-replicate, get_or-set_other, get_or-replicate, length-take, length-drop, length-take-le, get_or_append_left, get_or-append_right, get_or-take, get_or-drop}
+use Rattle.sis_base.specs.Rows.{agrees, matches, some_matches, value_by_phase, HasWidth}
 use Rattle.cube_cover.specs.Covers.{Shape, product_of, Meets}
 use Rattle.cube_cover.specs.Places.{all_go}
-use Rattle.cube_cover.proofs.Points.{and_left, and_right, and_both, value-append, HasWidth-append}
+use Rattle.cube_cover.proofs.Points.{value-append, HasWidth-append}
 use Rattle.cube_cover.proofs.Products.{go_from_meets, meets_from_go, product_points, length-product_of}
 use Rattle.cover_ops.specs.Shannon.{bits_equal, list_rows}
 use Rattle.cover_ops.specs.Composed.{AreBelow, count_new, is_entry, AreEntries, moved, targets, opened, placed, products, composed_row, composed_rows, cover_for, asks, is_literal, placed_rows, composed, inner_point, outer_point}

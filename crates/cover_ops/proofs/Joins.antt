@@ -1,13 +1,13 @@
 -- The list from a place on: where it is constant, where no row has a literal at the place, and from its two halves.
-use Rattle.std.proofs.Common.{◌≡◌, ℕ, ◌<◌, ◌≤◌, ◌+◌, zero, suc, Bool, true, false, not, cond, ◌&&◌, ◌||◌, if◌then◌else◌, Option, Some, None, List, [], ◌∷◌, ◌++◌, length, get_or, set, take, drop, map, replicate, refl, sym, ap, ◌∙◌, subst, arith, ◌-◌, add-one, ◌⊎◌, inl, inr, append_assoc, length-append}
-use Rattle.std.proofs.lemmas.List.{length-map, length-replicate, replicate-append-replicate, map-append, drop_at, set_at}
+use Rattle.std.proofs.Common.{◌≡◌, ℕ, ◌<◌, ◌≤◌, ◌+◌, zero, suc, Bool, true, false, not, ◌&&◌, ◌||◌, if◌then◌else◌, Option, Some, None, List, [], ◌∷◌, ◌++◌, length, get_or, set, drop, map, replicate, refl, sym, ap, ◌∙◌, subst, arith, ◌-◌, add-one, inl, inr, length-append}
+use Rattle.std.proofs.lemmas.List.{length-map, length-replicate, replicate-append-replicate, map-append}
 use Rattle.sis_base.specs.Rows.{agrees, matches, some_matches, phase_value, value_by_phase, HasWidth}
 use Rattle.cube_cover.specs.Places.{has_literal, not_dash, all_dashes, some_dashes}
 use Rattle.cube_cover.proofs.Points.{HasWidth-append}
 use Rattle.cube_cover.proofs.Splits.{matches_some_dashes}
 use Rattle.cover_ops.specs.Shannon.{same, shannon, list_rows}
 use Rattle.cover_ops.specs.Halves.{constant_list, list_from, part_rows, marked, IsJoined}
-use Rattle.cover_ops.proofs.Expansion.{same_respects, same_points, points_same, lists_same, shannon_respects, shannon_constant, value_shannon}
+use Rattle.cover_ops.proofs.Expansion.{same_respects, same_points, lists_same, shannon_respects, shannon_constant, value_shannon}
 
 -- the function that rows give from a place on
 abbrev pub rest_value : ℕ → Bool → List (List (Option Bool)) → List Bool → Bool

@@ -2,8 +2,7 @@
 -- Source: SIS report UCB/ERL M92/41 (eliminate, collapse); De Micheli, "Synthesis and Optimization of Digital
 -- Circuits", chapter 8 (elimination, composition of a node into its readers).
 -- The outer cover reads the inner table at place x. Inputs that the outer cover lacks take x's place, in order.
-use Rattle.std.specs.Prelude.{◌≡◌, ◌≢◌, ℕ, ◌+◌, ◌-◌, ◌<◌, zero, suc, ltb, eqb, Bool, true, false, not, ◌||◌, if◌then◌else◌, Option, Some, None, List, [], ◌∷◌, ◌++◌, map, take, drop, replicate, slice_index_or, slice_set, length, ◌⊎◌}
-use Rattle.sis_base.specs.Rows.{agrees, value_by_phase}
+use Rattle.std.specs.Prelude.{◌≡◌, ◌≢◌, ℕ, ◌+◌, ◌-◌, ◌<◌, suc, ltb, eqb, Bool, true, false, not, ◌||◌, if◌then◌else◌, Option, Some, None, List, [], ◌∷◌, ◌++◌, map, take, drop, replicate, slice_index_or, slice_set, length, ◌⊎◌}
 use Rattle.cube_cover.specs.Covers.{Shape, product_of}
 use Rattle.cube_cover.specs.Places.{all_go}
 use Rattle.cover_ops.specs.Shannon.{bits_equal, list_rows}

@@ -1,6 +1,6 @@
 -- What the body computes from a place on: the rows that are left, and how the lists of two halves are joined.
 -- Source: Brayton et al., "Logic Minimization Algorithms for VLSI Synthesis" (recursion on cofactors).
-use Rattle.std.specs.Prelude.{◌≡◌, ℕ, ◌+◌, Bool, true, false, ◌&&◌, if◌then◌else◌, Option, Some, None, List, [], ◌∷◌, ◌++◌, map, drop, replicate, slice_index_or, slice_set, ◌⊎◌}
+use Rattle.std.specs.Prelude.{◌≡◌, ℕ, Bool, true, false, if◌then◌else◌, Option, Some, None, List, [], ◌∷◌, ◌++◌, map, drop, replicate, slice_index_or, slice_set, ◌⊎◌}
 use Rattle.sis_base.specs.Rows.{agrees, value_by_phase}
 use Rattle.cover_ops.specs.Shannon.{shannon}
 

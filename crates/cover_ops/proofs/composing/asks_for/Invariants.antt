@@ -1,4 +1,4 @@
-use Rattle.std.proofs.Common.{◌≡◌, ℕ, ◌<◌, ◌≤◌, ◌+◌, ◌-◌, Bool, true, false, Option, Some, None, List, [], ◌∷◌, ◌++◌, length, map, take, drop, replicate, MatchOption}
+use Rattle.std.proofs.Common.{◌≡◌, map, drop}
 use Rattle.cover_ops.specs.Composed.{asks}
 use Rattle.cover_ops.proofs.composing.asks_for.Given as goal
 

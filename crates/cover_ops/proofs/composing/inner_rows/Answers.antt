@@ -1,4 +1,3 @@
-use Rattle.std.proofs.Common.{◌≡◌, ℕ, ◌<◌, ◌≤◌, ◌+◌, ◌-◌, Bool, true, false, Option, Some, None, List, [], ◌∷◌, ◌++◌, length, map, take, drop, replicate, refl, sym, ap, ◌∙◌, subst, arith, rules}
 use Rattle.sis_base.specs.Rows.{HasWidth}
 use Rattle.cover_ops.proofs.Compositions.{HasWidth-placed_rows}
 use Rattle.cover_ops.proofs.composing.inner_rows.Goals as goal

@@ -1,4 +1,4 @@
-use Rattle.std.proofs.Common.{◌≡◌, ℕ, ◌<◌, ◌≤◌, ◌+◌, ◌-◌, Bool, true, false, Option, Some, None, List, [], ◌∷◌, ◌++◌, length, map, take, drop, replicate, MatchOption}
+use Rattle.std.proofs.Common.{◌≡◌, map, take}
 use Rattle.cover_ops.specs.Composed.{placed_rows}
 use Rattle.cover_ops.proofs.composing.place_rows.Given as goal
 

@@ -1,4 +1,4 @@
-use Rattle.std.proofs.Common.{◌≡◌, ℕ, ◌<◌, ◌≤◌, ◌+◌, ◌-◌, Bool, true, false, Option, Some, None, List, [], ◌∷◌, ◌++◌, length, map, take, drop, replicate, MatchOption}
+use Rattle.std.proofs.Common.{◌≡◌, None, length, drop, replicate}
 use Rattle.cover_ops.specs.Composed.{placed}
 use Rattle.cover_ops.proofs.composing.placed_row.Given as goal
 

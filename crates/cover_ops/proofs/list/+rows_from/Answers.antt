@@ -1,10 +1,9 @@
-use Rattle.std.proofs.Common.{◌≡◌, ℕ, ◌<◌, ◌≤◌, ◌+◌, ◌-◌, Bool, true, false, Option, Some, None, List, [], ◌∷◌, ◌++◌, length, map, take, drop, replicate, refl, sym, ap, ◌∙◌, subst, arith, rules}
-use Rattle.std.proofs.Common.{Bor, not, Ok, Err, ◌⊎◌}
+use Rattle.std.proofs.Common.{◌≡◌, ◌<◌, ◌+◌, ◌-◌, Bool, true, false, Option, List, length, map, sym, ap, ◌∙◌, arith}
+use Rattle.std.proofs.Common.{Bor, not, Err}
 use Rattle.std.proofs.lemmas.Result.{err_from_is_err_and}
 use Rattle.std.proofs.lemmas.List.{length-map, nil_from_length}
-use Rattle.sis_base.specs.Rows.{HasWidth}
 use Rattle.cover_ops.specs.declared.list.ListFault.TheVariants.{CubeLimit}
-use Rattle.cover_ops.specs.Halves.{constant_list, list_from, part_rows, IsJoined}
+use Rattle.cover_ops.specs.Halves.{constant_list, list_from, part_rows}
 use Rattle.cover_ops.proofs.Joins.{empty_at, free_at, last_at, skipped_at, half_at, sum_at, joined_at, HasWidth-part, HasWidth-list_from}
 use Rattle.cover_ops.proofs.list.+rows_from.Goals as goal
 

@@ -1,4 +1,3 @@
-use Rattle.std.proofs.Common.{◌≡◌, ℕ, ◌<◌, ◌≤◌, ◌+◌, ◌-◌, Bool, true, false, Option, Some, None, List, [], ◌∷◌, ◌++◌, length, map, take, drop, replicate, MatchOption}
 use Rattle.cover_ops.proofs.list.+rows_from.Given as goal
 
 abbrev pub decreases-rows_from : goal.decreases-rows_from

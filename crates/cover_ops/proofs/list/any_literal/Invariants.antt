@@ -1,4 +1,4 @@
-use Rattle.std.proofs.Common.{◌≡◌, ℕ, ◌<◌, ◌≤◌, ◌+◌, ◌-◌, Bool, true, false, Option, Some, None, List, [], ◌∷◌, ◌++◌, length, map, take, drop, replicate, MatchOption}
+use Rattle.std.proofs.Common.{◌≡◌, map, drop}
 use Rattle.std.proofs.Common.{Bor}
 use Rattle.cube_cover.specs.Places.{has_literal}
 use Rattle.cover_ops.proofs.list.any_literal.Given as goal

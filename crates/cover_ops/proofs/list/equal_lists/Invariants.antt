@@ -1,4 +1,4 @@
-use Rattle.std.proofs.Common.{◌≡◌, ℕ, ◌<◌, ◌≤◌, ◌+◌, ◌-◌, Bool, true, false, Option, Some, None, List, [], ◌∷◌, ◌++◌, length, map, take, drop, replicate, MatchOption}
+use Rattle.std.proofs.Common.{◌≡◌, length, map, take}
 use Rattle.cover_ops.proofs.list.equal_lists.Given as goal
 
 abbrev pub invariant-loop-i : goal.invariant-loop-i

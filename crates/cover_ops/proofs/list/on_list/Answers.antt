@@ -1,7 +1,6 @@
-use Rattle.std.proofs.Common.{◌≡◌, ℕ, ◌<◌, ◌≤◌, ◌+◌, ◌-◌, Bool, true, false, Option, Some, None, List, [], ◌∷◌, ◌++◌, length, map, take, drop, replicate, refl, sym, ap, ◌∙◌, subst, arith, rules}
-use Rattle.std.proofs.Common.{Bor, Ok, Err}
+use Rattle.std.proofs.Common.{◌≡◌, map, refl, sym, ap, ◌∙◌}
+use Rattle.std.proofs.Common.{Bor, Err}
 use Rattle.std.proofs.lemmas.Result.{err_from_is_err_and}
-use Rattle.sis_base.specs.Rows.{HasWidth}
 use Rattle.cover_ops.specs.declared.list.ListFault.TheVariants.{CubeLimit}
 use Rattle.cover_ops.specs.Shannon.{list_rows}
 use Rattle.cover_ops.specs.Halves.{list_from}

@@ -1,4 +1,4 @@
-use Rattle.std.proofs.Common.{◌≡◌, ℕ, ◌<◌, ◌≤◌, ◌+◌, ◌-◌, Bool, true, false, Option, Some, None, List, [], ◌∷◌, ◌++◌, length, map, take, drop, replicate, MatchOption}
+use Rattle.std.proofs.Common.{◌≡◌, ◌++◌, map}
 use Rattle.cover_ops.specs.Halves.{marked}
 use Rattle.cover_ops.proofs.list.with_marked.Given as goal
 
