@@ -1,0 +1,107 @@
+-- One table's cover put into another's: where the inputs stand in the result, its rows, and its value.
+-- Source: SIS report UCB/ERL M92/41 (eliminate, collapse); De Micheli, "Synthesis and Optimization of Digital
+-- Circuits", chapter 8 (elimination, composition of a node into its readers).
+-- The outer cover reads the inner table at place x. Inputs that the outer cover lacks take x's place, in order.
+use Rattle.std.specs.Prelude.{◌≡◌, ◌≢◌, ℕ, ◌+◌, ◌-◌, ◌<◌, suc, ltb, eqb, Bool, true, false, not, ◌||◌, if◌then◌else◌, Option, Some, None, List, [], ◌∷◌, ◌++◌, map, take, drop, replicate, slice_index_or, slice_set, length, ◌⊎◌}
+use Rattle.cube_cover.specs.Covers.{Shape, product_of}
+use Rattle.cube_cover.specs.Places.{all_go}
+use Rattle.cover_ops.specs.Shannon.{bits_equal, list_rows}
+
+-- how many inputs the outer cover lacks
+unfoldable pub count_new : List (Option ℕ) → ℕ
+count_new [] = 0
+count_new (None ∷ places) = suc (count_new places)
+count_new (Some place ∷ places) = count_new places
+
+-- whether a place stands among the entries
+unfoldable pub is_entry : ℕ → List (Option ℕ) → Bool
+is_entry place [] = false
+is_entry place (None ∷ places) = is_entry place places
+is_entry place (Some other ∷ places) = eqb place other || is_entry place places
+
+-- the entries that are there are different, below the width and not x
+unfoldable pub AreEntries : ℕ → ℕ → List (Option ℕ) → Type 0
+AreEntries width x [] = Unit {0}
+AreEntries width x (None ∷ places) = AreEntries width x places
+AreEntries width x (Some place ∷ places) = (place < width) × (place ≢ x) × (is_entry place places ≡ false) × AreEntries width x places
+
+-- where a place of the outer cover other than x stands in the result
+abbrev pub moved : ℕ → ℕ → ℕ → ℕ
+moved x added place = if ltb place x then place else place + added - 1
+
+-- where each input of the inner table stands in the result, the new ones from `next` on
+unfoldable pub targets : ℕ → ℕ → ℕ → List (Option ℕ) → List ℕ
+targets x added next [] = []
+targets x added next (None ∷ places) = next ∷ targets x added (next + 1) places
+targets x added next (Some place ∷ places) = moved x added place ∷ targets x added next places
+
+-- all targets are below a width
+unfoldable pub AreBelow : ℕ → List ℕ → Type 0
+AreBelow width [] = Unit {0}
+AreBelow width (target ∷ others) = (target < width) × AreBelow width others
+
+-- an outer row in the result: dashes for the new inputs in x's place
+abbrev pub opened : ℕ → ℕ → List (Option Bool) → List (Option Bool)
+opened x added row = take x row ++ replicate added None ++ drop (suc x) row
+
+-- an inner row in the result: each literal at its input's target
+unfoldable pub placed : List (Option Bool) → List ℕ → List (Option Bool) → List (Option Bool)
+placed row [] literals = row
+placed row (target ∷ others) [] = row
+placed row (target ∷ others) (literal ∷ literals) = placed (slice_set row target literal) others literals
+
+-- the products of a row with rows in order; contradictions go
+unfoldable pub products : List (Option Bool) → List (List (Option Bool)) → List (List (Option Bool))
+products row [] = []
+products row (other ∷ others) = if all_go row other then product_of row other ∷ products row others else products row others
+
+-- what a row becomes, by its literal of x
+abbrev pub composed_row : Option Bool → List (Option Bool) → List (List (Option Bool)) → List (List (Option Bool)) → List (List (Option Bool))
+composed_row None row on off = row ∷ []
+composed_row (Some true) row on off = products row on
+composed_row (Some false) row on off = products row off
+
+unfoldable pub composed_rows : ℕ → ℕ → List (List (Option Bool)) → List (List (Option Bool)) → List (List (Option Bool)) → List (List (Option Bool))
+composed_rows x added on off [] = []
+composed_rows x added on off (row ∷ rows) = composed_row (slice_index_or row x None) (opened x added row) on off ++ composed_rows x added on off rows
+
+-- the inner cover for a value: its rows where they give that value, else its list for that value
+abbrev pub cover_for : Shape → Bool → Bool → List (List (Option Bool))
+cover_for inner phase bit = if bits_equal bit phase then inner.rows else list_rows inner.width false inner.rows
+
+-- a place has the literal of a bit
+abbrev pub is_literal : Bool → Option Bool → Bool
+is_literal bit None = false
+is_literal bit (Some literal) = bits_equal bit literal
+
+-- some row has the literal of a bit at x, so the cover for that bit is asked for
+unfoldable pub asks : ℕ → Bool → List (List (Option Bool)) → Bool
+asks x bit [] = false
+asks x bit (row ∷ rows) = is_literal bit (slice_index_or row x None) || asks x bit rows
+
+-- the inner cover's rows for a value in a result of a width
+abbrev pub placed_rows : ℕ → List ℕ → List (List (Option Bool)) → List (List (Option Bool))
+placed_rows width places rows = map (λ row. placed (replicate width None) places row) rows
+
+abbrev pub composed : Shape → ℕ → Shape → Bool → List (Option ℕ) → Shape
+composed outer x inner phase places =
+    let added = count_new places in
+    let width = outer.width + added - 1 in
+    let at = targets x added x places in
+    record {
+      width = width;
+      rows = composed_rows x added (placed_rows width at (cover_for inner phase true)) (placed_rows width at (cover_for inner phase false)) outer.rows;
+    }
+
+-- the inner table's point in a point of the result
+abbrev pub inner_point : List ℕ → List Bool → List Bool
+inner_point places point = map (λ place. slice_index_or point place false) places
+
+-- the outer cover's point, with the inner table's value in x's place
+abbrev pub outer_point : ℕ → ℕ → Bool → List Bool → List Bool
+outer_point x added value point = take x point ++ value ∷ drop (x + added) point
+
+-- a list that is asked for, or the result, has more rows than the limit
+abbrev pub IsTooLong : ℕ → Shape → ℕ → Shape → Bool → List (Option ℕ) → Type 0
+IsTooLong limit outer x inner phase places =
+    ((asks x (not phase) outer.rows ≡ true) × (limit < length (list_rows inner.width false inner.rows))) ⊎ (limit < length (composed outer x inner phase places).rows)

@@ -1,0 +1,3 @@
+pub mod Shannon
+pub mod Halves
+pub mod Composed

@@ -1,0 +1,395 @@
+//! One table's cover put into another's.
+
+ghost use Rattle.std.specs.Prelude.{[], ◌∷◌, ◌≡◌, ◌≢◌, ℕ, ◌+◌, ◌-◌, ◌^◌, ◌<◌, ◌≤◌, ◌↔◌, Bool, true, false, not, Option, None, List, ◌++◌, length, map, replicate, slice_index_or, IfSome, IfOk, OnOk, IsTrue};
+ghost use Rattle.sis_base.specs.Rows.{HasWidth, IsPoint, some_matches, value_by_phase};
+ghost use Rattle.cube_cover.specs.Covers.{Meets};
+ghost use Rattle.cube_cover.specs.Places.{all_go};
+ghost use Rattle.cover_ops.specs.Shannon.{bits_equal, list_rows};
+ghost use Rattle.cover_ops.specs.Composed.{AreBelow, AreEntries, IsTooLong, count_new, moved, targets, opened, placed, products, composed_row, composed_rows, cover_for, asks, is_literal, placed_rows, composed, inner_point, outer_point};
+
+use crate::list::{ListFault, on_list};
+use cube_cover::{Cover, Row};
+use std::alloc::{AllocError, Global};
+
+// How many inputs the outer cover lacks.
+#[tactic(auto, unfolding(crate::specs::Composed::count_new))]
+fn new_inputs(places: &[Option<usize>]) -> usize
+    ensures count { result ≡ count_new places.now }
+    ensures few { result ≤ length places.now }
+{
+    let mut added = 0;
+    for place in places {
+        added += one_if_new(*place);
+    }
+    added
+}
+
+// One for an input that the outer cover lacks.
+#[tactic(auto, unfolding(crate::specs::Composed::count_new))]
+fn one_if_new(place: Option<usize>) -> usize
+    ensures count { result ≡ count_new (place ∷ []) }
+    ensures few { result ≤ 1 }
+{
+    match place {
+        None => 1,
+        Some(_) => 0,
+    }
+}
+
+// How many inputs the result has, where that is a number of the machine.
+fn result_width(width: usize, added: usize) -> Option<usize>
+    requires { 0 < width }
+    ensures { IfSome result (λ made. (made ≡ width + added - 1) × (width + added < 2 ^ 64)) }
+{
+    match width.checked_add(added) {
+        None => None,
+        Some(total) => Some(total - 1),
+    }
+}
+
+// Where a place of the outer cover stands in the result.
+fn moved_place(x: usize, added: usize, place: usize) -> usize
+    requires fits { place + added < 2 ^ 64 }
+    requires apart { place ≢ x }
+    ensures { result ≡ moved x added place }
+{
+    if place < x { place } else { place + added - 1 }
+}
+
+// Where each input of the inner table stands in the result.
+#[tactic(auto, unfolding(crate::specs::Composed::targets, crate::specs::Composed::AreEntries, crate::specs::Composed::count_new))]
+fn target_list(
+    alloc: Global,
+    x: usize,
+    added: usize,
+    width: usize,
+    places: &[Option<usize>],
+) -> Result<Vec<usize>, AllocError>
+    requires entries { AreEntries width x places.now }
+    requires fits { width + added < 2 ^ 64 }
+    requires place { x < width }
+    requires count { count_new places.now ≡ added }
+    ensures { IfOk result (λ list. list.items ≡ targets x added x places.now) }
+{
+    let mut list = Vec::new(alloc);
+    let mut next = x;
+    for place in places {
+        match *place {
+            None => {
+                list.push(next)?;
+                next += 1;
+            }
+            Some(other) => {
+                list.push(moved_place(x, added, other))?;
+            }
+        }
+    }
+    Ok(list)
+}
+
+// What stands at a place of an outer row in the result.
+#[tactic(auto, using(crate::proofs::Compositions::opened_front, crate::proofs::Compositions::opened_middle, crate::proofs::Compositions::opened_back))]
+fn opened_place<R: Row>(row: &R, x: usize, added: usize, place: usize) -> Option<bool>
+    requires x { x < length (R.places row.now) }
+    requires fits { length (R.places row.now) + added < 2 ^ 64 }
+    requires place { place < length (R.places row.now) + added - 1 }
+    ensures { result ≡ slice_index_or (opened x added (R.places row.now)) place None }
+{
+    if place < x {
+        return row.at(place);
+    }
+    if place < x + added {
+        return None;
+    }
+    row.at(place - added + 1)
+}
+
+// An outer row in the result.
+fn opened_row<R: Row>(
+    alloc: Global,
+    row: &R,
+    x: usize,
+    added: usize,
+    width: usize,
+) -> Result<R, AllocError>
+    requires x { x < length (R.places row.now) }
+    requires fits { length (R.places row.now) + added < 2 ^ 64 }
+    requires width { width ≡ length (R.places row.now) + added - 1 }
+    ensures { IfOk result (λ made. R.places made ≡ opened x added (R.places row.now)) }
+{
+    let mut made = R::dashes(alloc, width)?;
+    for place in 0..width {
+        made.set(place, opened_place(row, x, added, place));
+    }
+    Ok(made)
+}
+
+// An inner row in the result.
+#[tactic(auto, using(crate::proofs::Compositions::below_at), unfolding(crate::specs::Composed::placed))]
+fn placed_row<R: Row>(
+    alloc: Global,
+    row: &R,
+    places: &[usize],
+    width: usize,
+) -> Result<R, AllocError>
+    requires many { length (R.places row.now) ≡ length places.now }
+    requires below { AreBelow width places.now }
+    ensures { IfOk result (λ made. R.places made ≡ placed (replicate width None) places.now (R.places row.now)) }
+{
+    let mut made = R::dashes(alloc, width)?;
+    for (i, place) in places.iter().enumerate() {
+        made.set(*place, row.at(i));
+    }
+    Ok(made)
+}
+
+// The inner rows in the result.
+#[tactic(auto, using(cube_cover::proofs::Points::width_read))]
+fn place_rows<R: Row>(
+    alloc: Global,
+    rows: &[R],
+    places: &[usize],
+    width: usize,
+) -> Result<Vec<R>, AllocError>
+    requires widths { HasWidth (length places.now) (map R.places rows.now) }
+    requires below { AreBelow width places.now }
+    ensures { IfOk result (λ made. map R.places made.items ≡ placed_rows width places.now (map R.places rows.now)) }
+{
+    let mut made = Vec::new(alloc);
+    for row in rows {
+        made.push(placed_row(alloc, row, places, width)?)?;
+    }
+    Ok(made)
+}
+
+// Whether a place has the literal of a bit.
+fn is_bit(place: Option<bool>, bit: bool) -> bool
+    ensures { result ≡ is_literal bit place }
+{
+    match place {
+        None => false,
+        Some(literal) => bit == literal,
+    }
+}
+
+// Whether some row has the literal of a bit at a place.
+#[tactic(auto, using(cube_cover::proofs::Points::width_read), unfolding(crate::specs::Composed::asks))]
+fn asks_for<R: Row>(rows: &[R], width: usize, x: usize, bit: bool) -> bool
+    requires widths { HasWidth width (map R.places rows.now) }
+    requires place { x < width }
+    ensures { result ≡ asks x bit (map R.places rows.now) }
+{
+    for row in rows {
+        if is_bit(row.at(x), bit) {
+            return true;
+        }
+    }
+    false
+}
+
+// Whether no places of two rows contradict.
+#[tactic(auto, using(crate::proofs::Compositions::go_answer))]
+fn rows_go<R: Row>(row: &R, other: &R) -> bool
+    requires { length (R.places row.now) ≡ length (R.places other.now) }
+    ensures go { result ≡ all_go (R.places row.now) (R.places other.now) }
+    ensures meets { IsTrue result → Meets (R.places row.now) (R.places other.now) }
+{
+    row.meets(other)
+}
+
+// A list with the products of a row and other rows behind it, contradictions left out.
+#[tactic(auto, using(cube_cover::proofs::Points::width_read), unfolding(crate::specs::Composed::products))]
+fn with_products<R: Row>(
+    alloc: Global,
+    list: Vec<R>,
+    row: &R,
+    others: &[R],
+    limit: usize,
+) -> Result<Vec<R>, ListFault>
+    requires widths { HasWidth (length (R.places row.now)) (map R.places others.now) }
+    requires within { length list.items ≤ limit }
+    ensures ok { IfOk result (λ made. map R.places made.items ≡ map R.places list.items ++ products (R.places row.now) (map R.places others.now)) }
+    ensures within { IfOk result (λ made. length made.items ≤ limit) }
+    ensures limit { result ≡ Err ListFault.CubeLimit → limit < length list.items + length (products (R.places row.now) (map R.places others.now)) }
+{
+    let mut made = list;
+    for other in others {
+        if rows_go(row, other) {
+            if made.len() >= limit {
+                return Err(ListFault::CubeLimit);
+            }
+            let product = row.product(alloc, other)?;
+            made.push(product)?;
+        }
+    }
+    Ok(made)
+}
+
+// A list with a row behind it.
+fn with_row<R: Row>(list: Vec<R>, row: R, limit: usize) -> Result<Vec<R>, ListFault>
+    ensures ok { IfOk result (λ made. map R.places made.items ≡ map R.places list.items ++ R.places row ∷ []) }
+    ensures within { IfOk result (λ made. length made.items ≤ limit) }
+    ensures limit { result ≡ Err ListFault.CubeLimit → limit < length list.items + 1 }
+{
+    let mut made = list;
+    if made.len() >= limit {
+        return Err(ListFault::CubeLimit);
+    }
+    made.push(row)?;
+    Ok(made)
+}
+
+// A list with what an outer row becomes behind it.
+fn with_composed<R: Row>(
+    alloc: Global,
+    list: Vec<R>,
+    row: &R,
+    x: usize,
+    added: usize,
+    on: &[R],
+    off: &[R],
+    limit: usize,
+) -> Result<Vec<R>, ListFault>
+    requires x { x < length (R.places row.now) }
+    requires fits { length (R.places row.now) + added < 2 ^ 64 }
+    requires on { HasWidth (length (R.places row.now) + added - 1) (map R.places on.now) }
+    requires off { HasWidth (length (R.places row.now) + added - 1) (map R.places off.now) }
+    requires within { length list.items ≤ limit }
+    ensures ok { IfOk result (λ made. map R.places made.items ≡ map R.places list.items ++ composed_row (slice_index_or (R.places row.now) x None) (opened x added (R.places row.now)) (map R.places on.now) (map R.places off.now)) }
+    ensures within { IfOk result (λ made. length made.items ≤ limit) }
+    ensures limit { result ≡ Err ListFault.CubeLimit → limit < length list.items + length (composed_row (slice_index_or (R.places row.now) x None) (opened x added (R.places row.now)) (map R.places on.now) (map R.places off.now)) }
+{
+    let width = row.width() + added - 1;
+    let wide = opened_row(alloc, row, x, added, width)?;
+    match row.at(x) {
+        None => with_row(list, wide, limit),
+        Some(true) => with_products(alloc, list, &wide, on, limit),
+        Some(false) => with_products(alloc, list, &wide, off, limit),
+    }
+}
+
+// What all outer rows become.
+fn all_composed<R: Row>(
+    alloc: Global,
+    rows: &[R],
+    width: usize,
+    x: usize,
+    added: usize,
+    on: &[R],
+    off: &[R],
+    limit: usize,
+) -> Result<Vec<R>, ListFault>
+    requires widths { HasWidth width (map R.places rows.now) }
+    requires x { x < width }
+    requires fits { width + added < 2 ^ 64 }
+    requires on { HasWidth (width + added - 1) (map R.places on.now) }
+    requires off { HasWidth (width + added - 1) (map R.places off.now) }
+    ensures ok { IfOk result (λ made. map R.places made.items ≡ composed_rows x added (map R.places on.now) (map R.places off.now) (map R.places rows.now)) }
+    ensures within { OnOk result (length (composed_rows x added (map R.places on.now) (map R.places off.now) (map R.places rows.now)) ≤ limit) }
+    ensures limit { result ≡ Err ListFault.CubeLimit → limit < length (composed_rows x added (map R.places on.now) (map R.places off.now) (map R.places rows.now)) }
+{
+    let mut made = Vec::new(alloc);
+    for row in rows {
+        made = with_composed(alloc, made, row, x, added, on, off, limit)?;
+    }
+    Ok(made)
+}
+
+// The inner rows for a value, in the result; no row where no literal asks for them.
+fn inner_rows<R: Row>(
+    alloc: Global,
+    outer: &Cover<R>,
+    x: usize,
+    inner: &Cover<R>,
+    phase: bool,
+    bit: bool,
+    places: &[usize],
+    width: usize,
+    limit: usize,
+) -> Result<Vec<R>, ListFault>
+    requires x { x < outer.now.width }
+    requires many { length places.now ≡ inner.now.width }
+    requires below { AreBelow width places.now }
+    ensures ok { IfOk result (λ made. asks x bit outer.now.rows ≡ true → map R.places made.items ≡ placed_rows width places.now (cover_for inner.now phase bit)) }
+    ensures widths { IfOk result (λ made. HasWidth width (map R.places made.items)) }
+    ensures inner { HasWidth inner.now.width inner.now.rows }
+    ensures within { OnOk result (asks x bit outer.now.rows ≡ true → bits_equal bit phase ≡ false → length (list_rows inner.now.width false inner.now.rows) ≤ limit) }
+    ensures limit { result ≡ Err ListFault.CubeLimit → (asks x bit outer.now.rows ≡ true) × (bits_equal bit phase ≡ false) × (limit < length (list_rows inner.now.width false inner.now.rows)) }
+{
+    let rows = inner.rows();
+    if !asks_for(outer.rows(), outer.width(), x, bit) {
+        let none = Vec::new(alloc);
+        return Ok(none);
+    }
+    if bit == phase {
+        let own = place_rows(alloc, rows, places, width)?;
+        return Ok(own);
+    }
+    let list = on_list(alloc, inner, false, limit)?;
+    let made = place_rows(alloc, list.rows(), places, width)?;
+    Ok(made)
+}
+
+/// The cover of an outer table in which an inner table's cover took the place of the input at place `x`. `places` has
+/// an entry for each input of the inner table: its place in the outer cover, or `None` for an input that the outer
+/// cover lacks; these take x's place, in order. The outer table's phase stays. Rows with the literal 1 of x become
+/// their products with the inner rows that give 1, and rows with the literal 0 those that give 0, contradictions left
+/// out; where the inner phase does not give them, the inner table's list does. `CubeLimit` exactly where a list that
+/// is asked for, or the result, has more than `limit` rows.
+pub fn compose<R: Row>(
+    alloc: Global,
+    outer: &Cover<R>,
+    x: usize,
+    inner: &Cover<R>,
+    phase: bool,
+    places: &[Option<usize>],
+    limit: usize,
+) -> Result<Cover<R>, ListFault>
+    requires x { x < outer.now.width }
+    requires many { length places.now ≡ inner.now.width }
+    requires entries { AreEntries outer.now.width x places.now }
+    ensures ok { IfOk result (λ made. made ≡ composed outer.now x inner.now phase places.now) }
+    ensures value { IfOk result (λ made. (point : List Bool) → IsPoint made.width point → some_matches made.rows point ≡ some_matches outer.now.rows (outer_point x (count_new places.now) (value_by_phase phase inner.now.rows (inner_point (targets x (count_new places.now) x places.now) point)) point)) }
+    ensures within { OnOk result (IsTooLong limit outer.now x inner.now phase places.now → ⊥) }
+    ensures limit { result ≡ Err ListFault.CubeLimit → IsTooLong limit outer.now x inner.now phase places.now }
+{
+    let added = new_inputs(places);
+    let wide = match result_width(outer.width(), added) {
+        None => return Err(ListFault::Memory),
+        Some(wide) => wide,
+    };
+    let at = target_list(alloc, x, added, outer.width(), places)?;
+    let on = inner_rows(
+        alloc,
+        outer,
+        x,
+        inner,
+        phase,
+        true,
+        at.as_slice(),
+        wide,
+        limit,
+    )?;
+    let off = inner_rows(
+        alloc,
+        outer,
+        x,
+        inner,
+        phase,
+        false,
+        at.as_slice(),
+        wide,
+        limit,
+    )?;
+    let made = all_composed(
+        alloc,
+        outer.rows(),
+        outer.width(),
+        x,
+        added,
+        on.as_slice(),
+        off.as_slice(),
+        limit,
+    )?;
+    Ok(Cover::of(wide, made))
+}

@@ -1,0 +1,306 @@
+//! Lists of rows by Shannon expansion, on cofactors.
+
+ghost use Rattle.std.specs.Prelude.{◌≡◌, ℕ, ◌+◌, ◌^◌, ◌<◌, ◌≤◌, ◌↔◌, Bool, true, false, not, Option, List, ◌++◌, length, map, drop, IfOk, OnOk, IsTrue};
+ghost use Rattle.sis_base.specs.Rows.{HasWidth, IsPoint, agrees, some_matches, value_by_phase};
+ghost use Rattle.cube_cover.specs.Places.{has_literal, all_dashes, some_dashes};
+ghost use Rattle.cover_ops.specs.Shannon.{list_rows};
+ghost use Rattle.cover_ops.specs.Halves.{constant_list, list_from, part_rows, marked, IsJoined};
+
+use cube_cover::{Cover, Row, equal_rows};
+use std::alloc::{AllocError, AllocFailed, Global};
+
+/// Why there is no list.
+#[derive(Clone, Copy, Debug, PartialEq, Eq)]
+pub enum ListFault {
+    /// It has more rows than the limit.
+    CubeLimit,
+    /// There is not enough memory.
+    Memory,
+}
+
+impl From<AllocError> for ListFault {
+    ghost use Rattle.std.specs.Prelude.{◌≡◌};
+    ghost use Rattle.cover_ops.specs.declared.list.ListFault.TheVariants.{Memory};
+
+    ghost from_gives = { λ _ fault. fault ≡ Memory };
+
+    fn from(_error: AllocError) -> ListFault {
+        ListFault::Memory
+    }
+}
+
+impl<T: Drop> From<AllocFailed<T>> for ListFault {
+    ghost use Rattle.std.specs.Prelude.{◌≡◌};
+    ghost use Rattle.cover_ops.specs.declared.list.ListFault.TheVariants.{Memory};
+
+    ghost from_gives = { λ _ fault. fault ≡ Memory };
+
+    fn from(_error: AllocFailed<T>) -> ListFault {
+        ListFault::Memory
+    }
+}
+
+// One row of dashes, or no row.
+fn constant_rows<R: Row>(
+    alloc: Global,
+    width: usize,
+    value: bool,
+    limit: usize,
+) -> Result<Vec<R>, ListFault>
+    ensures ok { IfOk result (λ list. map R.places list.items ≡ constant_list width value) }
+    ensures within { OnOk result (length (constant_list width value) ≤ limit) }
+    ensures limit { result ≡ Err ListFault.CubeLimit → limit < length (constant_list width value) }
+{
+    let mut list = Vec::new(alloc);
+    if !value {
+        return Ok(list);
+    }
+    if limit == 0 {
+        return Err(ListFault::CubeLimit);
+    }
+    let row = R::dashes(alloc, width)?;
+    list.push(row)?;
+    Ok(list)
+}
+
+// Whether a row has no literal from a place on.
+#[tactic(auto, unfolding(cube_cover::specs::Places::all_dashes))]
+fn is_free<R: Row>(row: &R, place: usize) -> bool
+    requires { place ≤ length (R.places row.now) }
+    ensures { result ≡ all_dashes (drop place (R.places row.now)) }
+{
+    for next in place..row.width() {
+        if row.at(next).is_some() {
+            return false;
+        }
+    }
+    true
+}
+
+// Whether some row has no literal from a place on.
+#[tactic(auto, using(cube_cover::proofs::Points::width_read), unfolding(cube_cover::specs::Places::some_dashes))]
+fn some_free<R: Row>(rows: &[&R], width: usize, place: usize) -> bool
+    requires widths { HasWidth width (map (λ row. R.places row.now) rows.now) }
+    requires place { place ≤ width }
+    ensures { result ≡ some_dashes (map (drop place) (map (λ row. R.places row.now) rows.now)) }
+{
+    for row in rows {
+        if is_free(*row, place) {
+            return true;
+        }
+    }
+    false
+}
+
+// Whether some row has a literal at a place.
+#[tactic(auto, using(cube_cover::proofs::Points::width_read), unfolding(cube_cover::specs::Places::has_literal))]
+fn any_literal<R: Row>(rows: &[&R], width: usize, place: usize) -> bool
+    requires widths { HasWidth width (map (λ row. R.places row.now) rows.now) }
+    requires place { place < width }
+    ensures { result ≡ has_literal place (map (λ row. R.places row.now) rows.now) }
+{
+    for row in rows {
+        if row.at(place).is_some() {
+            return true;
+        }
+    }
+    false
+}
+
+// Whether a place is a dash or the literal of a bit.
+fn agrees_with(place: Option<bool>, bit: bool) -> bool
+    ensures { result ≡ agrees place bit }
+{
+    match place {
+        None => true,
+        Some(literal) => literal == bit,
+    }
+}
+
+// The rows that agree with a bit at a place.
+#[tactic(auto, using(cube_cover::proofs::Points::width_read), unfolding(crate::specs::Halves::part_rows))]
+fn agreeing<'a, R: Row>(
+    alloc: Global,
+    rows: &[&'a R],
+    width: usize,
+    place: usize,
+    bit: bool,
+) -> Result<Vec<&'a R>, AllocError>
+    requires widths { HasWidth width (map (λ row. R.places row.now) rows.now) }
+    requires place { place < width }
+    ensures { IfOk result (λ part. map (λ row. R.places row.now) part.items ≡ part_rows place bit (map (λ row. R.places row.now) rows.now)) }
+{
+    let mut part = Vec::new(alloc);
+    for row in rows {
+        if agrees_with(row.at(place), bit) {
+            part.push(*row)?;
+        }
+    }
+    Ok(part)
+}
+
+// Whether two lists have equal rows.
+fn equal_lists<R: Row>(low: &[R], high: &[R], width: usize) -> bool
+    requires low { HasWidth width (map R.places low.now) }
+    requires high { HasWidth width (map R.places high.now) }
+    ensures { IsTrue result ↔ (map R.places low.now ≡ map R.places high.now) }
+{
+    if low.len() != high.len() {
+        return false;
+    }
+    for (i, row) in low.iter().enumerate() {
+        if !equal_rows(row, &high[i]) {
+            return false;
+        }
+    }
+    true
+}
+
+// A list with the rows of another behind it, in which a literal was put at a place.
+#[tactic(auto, using(cube_cover::proofs::Points::width_read))]
+fn with_marked<R: Row>(
+    list: Vec<R>,
+    rows: Vec<R>,
+    width: usize,
+    place: usize,
+    bit: bool,
+) -> Result<Vec<R>, AllocError>
+    requires widths { HasWidth width (map R.places rows.items) }
+    requires place { place < width }
+    ensures { IfOk result (λ made. map R.places made.items ≡ map R.places list.items ++ marked place bit (map R.places rows.items)) }
+{
+    let mut made = list;
+    for row in rows {
+        let mut more = row;
+        more.set(place, Some(bit));
+        made.push(more)?;
+    }
+    Ok(made)
+}
+
+// The list of a whole from those of its halves at a place.
+fn join_halves<R: Row>(
+    alloc: Global,
+    low: Vec<R>,
+    high: Vec<R>,
+    width: usize,
+    place: usize,
+    limit: usize,
+) -> Result<Vec<R>, ListFault>
+    requires low { HasWidth width (map R.places low.items) }
+    requires high { HasWidth width (map R.places high.items) }
+    requires place { place < width }
+    requires within { length low.items ≤ limit }
+    ensures ok { IfOk result (λ list. IsJoined place (map R.places low.items) (map R.places high.items) (map R.places list.items)) }
+    ensures within { IfOk result (λ list. length list.items ≤ limit) }
+    ensures limit { result ≡ Err ListFault.CubeLimit → (map R.places low.items ≡ map R.places high.items → ⊥) × (limit < length low.items + length high.items) }
+{
+    if equal_lists(low.as_slice(), high.as_slice(), width) {
+        return Ok(low);
+    }
+    if high.len() > limit - low.len() {
+        return Err(ListFault::CubeLimit);
+    }
+    let first = with_marked(Vec::new(alloc), low, width, place, false)?;
+    let list = with_marked(first, high, width, place, true)?;
+    Ok(list)
+}
+
+// The list of the rows that are left at a place, of which `left` are before the end of the width.
+fn rows_from<R: Row>(
+    alloc: Global,
+    rows: &[&R],
+    width: usize,
+    phase: bool,
+    place: usize,
+    left: usize,
+    limit: usize,
+) -> Result<Vec<R>, ListFault>
+    requires widths { HasWidth width (map (λ row. R.places row.now) rows.now) }
+    requires places { place + left ≡ width }
+    ensures ok { IfOk result (λ list. map R.places list.items ≡ list_from place left phase (map (λ row. R.places row.now) rows.now)) }
+    ensures within { OnOk result (length (list_from place left phase (map (λ row. R.places row.now) rows.now)) ≤ limit) }
+    ensures limit { result ≡ Err ListFault.CubeLimit → limit < length (list_from place left phase (map (λ row. R.places row.now) rows.now)) }
+{
+    if rows.len() == 0 {
+        return constant_rows(alloc, width, !phase, limit);
+    }
+    if left == 0 {
+        return constant_rows(alloc, width, phase, limit);
+    }
+    if some_free(rows, width, place) {
+        return constant_rows(alloc, width, phase, limit);
+    }
+    if !any_literal(rows, width, place) {
+        return rows_from(alloc, rows, width, phase, place + 1, left - 1, limit);
+    }
+    let low_rows = agreeing(alloc, rows, width, place, false)?;
+    let low = rows_from(
+        alloc,
+        low_rows.as_slice(),
+        width,
+        phase,
+        place + 1,
+        left - 1,
+        limit,
+    )?;
+    let high_rows = agreeing(alloc, rows, width, place, true)?;
+    let high = rows_from(
+        alloc,
+        high_rows.as_slice(),
+        width,
+        phase,
+        place + 1,
+        left - 1,
+        limit,
+    )?;
+    let list = join_halves(alloc, low, high, width, place, limit)?;
+    Ok(list)
+}
+
+// References to the rows, in order.
+fn references<'a, R: Row>(alloc: Global, rows: &'a [R]) -> Result<Vec<&'a R>, AllocError>
+    ensures { IfOk result (λ made. map (λ row. R.places row.now) made.items ≡ map R.places rows.now) }
+{
+    let mut made = Vec::with_capacity(alloc, rows.len())?;
+    for row in rows {
+        made.push(row)?;
+    }
+    Ok(made)
+}
+
+/// The on-list of the function that a cover gives by a phase, over the cover's inputs; `CubeLimit` exactly where it
+/// has more than `limit` rows.
+pub fn on_list<R: Row>(
+    alloc: Global,
+    f: &Cover<R>,
+    phase: bool,
+    limit: usize,
+) -> Result<Cover<R>, ListFault>
+    ensures ok { IfOk result (λ list. list ≡ record { width = f.now.width; rows = list_rows f.now.width phase f.now.rows }) }
+    ensures value { IfOk result (λ list. (point : List Bool) → IsPoint f.now.width point → some_matches list.rows point ≡ value_by_phase phase f.now.rows point) }
+    ensures within { OnOk result (length (list_rows f.now.width phase f.now.rows) ≤ limit) }
+    ensures limit { result ≡ Err ListFault.CubeLimit → limit < length (list_rows f.now.width phase f.now.rows) }
+{
+    let rows = references(alloc, f.rows())?;
+    let width = f.width();
+    let list = rows_from(alloc, rows.as_slice(), width, phase, 0, width, limit)?;
+    Ok(Cover::of(width, list))
+}
+
+/// The off-list of the function that a cover gives by a phase, which is the on-list of its complement; `CubeLimit`
+/// exactly where it has more than `limit` rows.
+pub fn off_list<R: Row>(
+    alloc: Global,
+    f: &Cover<R>,
+    phase: bool,
+    limit: usize,
+) -> Result<Cover<R>, ListFault>
+    ensures ok { IfOk result (λ list. list ≡ record { width = f.now.width; rows = list_rows f.now.width (not phase) f.now.rows }) }
+    ensures value { IfOk result (λ list. (point : List Bool) → IsPoint f.now.width point → some_matches list.rows point ≡ not (value_by_phase phase f.now.rows point)) }
+    ensures within { OnOk result (length (list_rows f.now.width (not phase) f.now.rows) ≤ limit) }
+    ensures limit { result ≡ Err ListFault.CubeLimit → limit < length (list_rows f.now.width (not phase) f.now.rows) }
+{
+    let list = on_list(alloc, f, !phase, limit)?;
+    Ok(list)
+}
