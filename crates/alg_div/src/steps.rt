@@ -47,7 +47,7 @@ fn place_without(mask: Option<bool>, place: Option<bool>) -> Option<bool>
     }
 }
 
-// A row without its literals where the mask has one.
+/// A row without its literals where the mask has one; an error only for want of memory.
 #[tactic(auto, unfolding(crate::specs::Steps::strip))]
 pub fn stripped(
     alloc: Global,
