@@ -1,0 +1,6 @@
+use Rattle.std.proofs.Common.{◌≡◌, map, take}
+use Rattle.alg_div.specs.Steps.{literals_in}
+use Rattle.alg_div.proofs.literals.all_literals_of.Given as goal
+
+abbrev pub invariant-loop-row : goal.invariant-loop-row
+invariant-loop-row g l = literals_in l.made.items ≡ map g.R.Row.places (take l.row-index l.rows)

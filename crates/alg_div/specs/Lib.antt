@@ -1,0 +1,3 @@
+pub mod Cubes
+pub mod Quotient
+pub mod Steps

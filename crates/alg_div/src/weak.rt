@@ -1,0 +1,51 @@
+//! Division, and what its results say of one another.
+
+ghost use Rattle.std.specs.Prelude.{◌≡◌, ◌↔◌, ◌⊎◌, Bool, Option, List, IfOk};
+ghost use Rattle.cube_cover.specs.Covers.{Shape};
+ghost use Rattle.alg_div.specs.Cubes.{Has, products};
+ghost use Rattle.alg_div.specs.Quotient.{IsQuotient, IsRemainder};
+
+use crate::literals::{all_literals_of, cover_of};
+use crate::steps::{others_of, products_of, quotient_of};
+use cube_cover::{Cover, Row};
+use std::alloc::{AllocError, Global};
+
+/// The quotient and the remainder of f by d, covers of one width. The quotient's cubes stand in the order of the
+/// rows of f that they make with d's first cube, the remainder's in the order of f; without a cube in d the
+/// quotient is empty. An error only for want of memory.
+pub fn divide<R: Row>(
+    alloc: Global,
+    f: &Cover<R>,
+    d: &Cover<R>,
+) -> Result<(Cover<R>, Cover<R>), AllocError>
+    requires { f.now.width ≡ d.now.width }
+    ensures widths { IfOk result (λ both. (both.0.width ≡ f.now.width) × (both.1.width ≡ f.now.width)) }
+    ensures quotient { IfOk result (λ both. IsQuotient f.now.width f.now.rows d.now.rows both.0.rows) }
+    ensures remainder { IfOk result (λ both. IsRemainder f.now.rows d.now.rows both.0.rows both.1.rows) }
+{
+    let width = f.width();
+    let rows = all_literals_of(alloc, f.rows())?;
+    let cubes = all_literals_of(alloc, d.rows())?;
+    let terms = quotient_of(alloc, width, rows.as_slice(), cubes.as_slice())?;
+    let taken = products_of(alloc, width, terms.as_slice(), cubes.as_slice())?;
+    let rest = others_of(alloc, rows.as_slice(), taken.as_slice())?;
+    let quotient = cover_of(alloc, width, terms.as_slice())?;
+    let remainder = cover_of(alloc, width, rest.as_slice())?;
+    Ok((quotient, remainder))
+}
+
+/// A law, which computes nothing: the products of the quotient's and the divisor's cubes and the rows of the
+/// remainder are just the rows of f, and no row of the remainder is such a product.
+pub fn quotient_parts<R: Row>(f: &Cover<R>, d: &Cover<R>, quotient: &Cover<R>, remainder: &Cover<R>)
+    requires quotient { IsQuotient f.now.width f.now.rows d.now.rows quotient.now.rows }
+    requires remainder { IsRemainder f.now.rows d.now.rows quotient.now.rows remainder.now.rows }
+    ensures all { (row : List (Option Bool)) → Has row f.now.rows ↔ (Has row (products quotient.now.rows d.now.rows) ⊎ Has row remainder.now.rows) }
+    ensures apart { (row : List (Option Bool)) → Has row (products quotient.now.rows d.now.rows) → Has row remainder.now.rows → ⊥ }
+{}
+
+/// A law, which computes nothing: one list of rows is the quotient.
+pub fn quotient_one<R: Row>(f: &Cover<R>, d: &Cover<R>, quotient: &Cover<R>, other: &Cover<R>)
+    requires quotient { IsQuotient f.now.width f.now.rows d.now.rows quotient.now.rows }
+    requires other { IsQuotient f.now.width f.now.rows d.now.rows other.now.rows }
+    ensures { quotient.now.rows ≡ other.now.rows }
+{}

@@ -1,0 +1,146 @@
+//! Rows with a literal, what rows share, and rows without it.
+
+ghost use Rattle.std.specs.Prelude.{◌≡◌, ℕ, ◌<◌, Bool, Option, None, List, length, map, slice_index_or, IfOk};
+ghost use Rattle.sis_base.specs.Rows.{HasWidth};
+ghost use Rattle.alg_div.specs.Steps.{strip, literals_in};
+ghost use Rattle.alg_kernel.specs.Kernels.{row_cmp, Ascends};
+ghost use Rattle.alg_kernel.specs.Search.{alike, holding, both, both_rows, common, AreSame};
+
+use alg_div::{copy_of, stripped};
+use std::alloc::{AllocError, Global};
+
+// The rows in rising order, each once.
+pub fn rising(rows: Vec<Vec<Option<bool>>>) -> Vec<Vec<Option<bool>>>
+    ensures order { Ascends row_cmp (literals_in result.items) }
+    ensures same { AreSame (literals_in rows.items) (literals_in result.items) }
+{
+    let mut sorted = rows;
+    sorted.sort_unstable();
+    sorted.dedup();
+    sorted
+}
+
+// Whether a place has the literal.
+fn is_literal(place: Option<bool>, bit: bool) -> bool
+    ensures { result ≡ alike place bit }
+{
+    match place {
+        None => false,
+        Some(literal) => literal == bit,
+    }
+}
+
+// Whether a row has a literal.
+fn has_literal(row: &[Option<bool>], place: usize, bit: bool) -> bool
+    requires { place < length row.now }
+    ensures { result ≡ alike (slice_index_or row.now place None) bit }
+{
+    is_literal(row[place], bit)
+}
+
+// How many rows have a literal.
+#[tactic(auto, unfolding(crate::specs::Search::holding))]
+pub fn count_at(width: usize, rows: &[Vec<Option<bool>>], place: usize, bit: bool) -> usize
+    requires width { HasWidth width (literals_in rows.now) }
+    requires place { place < width }
+    ensures { result ≡ length (holding place bit (literals_in rows.now)) }
+{
+    let mut count = 0;
+    for row in rows {
+        if has_literal(row.as_slice(), place, bit) {
+            count += 1;
+        }
+    }
+    count
+}
+
+// Copies of the rows that have a literal.
+#[tactic(auto, unfolding(crate::specs::Search::holding))]
+pub fn rows_at(
+    alloc: Global,
+    width: usize,
+    rows: &[Vec<Option<bool>>],
+    place: usize,
+    bit: bool,
+) -> Result<Vec<Vec<Option<bool>>>, AllocError>
+    requires width { HasWidth width (literals_in rows.now) }
+    requires place { place < width }
+    ensures { IfOk result (λ made. literals_in made.items ≡ holding place bit (literals_in rows.now)) }
+{
+    let mut made = Vec::new(alloc);
+    for row in rows {
+        if has_literal(row.as_slice(), place, bit) {
+            made.push(copy_of(alloc, row.as_slice())?)?;
+        }
+    }
+    Ok(made)
+}
+
+// Copies of rows.
+pub fn copies_of(
+    alloc: Global,
+    rows: &[Vec<Option<bool>>],
+) -> Result<Vec<Vec<Option<bool>>>, AllocError>
+    ensures { IfOk result (λ made. literals_in made.items ≡ literals_in rows.now) }
+{
+    let mut made = Vec::with_capacity(alloc, rows.len())?;
+    for row in rows {
+        made.push(copy_of(alloc, row.as_slice())?)?;
+    }
+    Ok(made)
+}
+
+// The literal that two places share.
+fn shared(place: Option<bool>, other: Option<bool>) -> Option<bool>
+    ensures { result ≡ both place other }
+{
+    match place {
+        None => None,
+        Some(bit) => { if is_literal(other, bit) { place } else { None } }
+    }
+}
+
+// Leaves of a cube the literals that a row has too.
+fn meet(cube: &mut Vec<Option<bool>>, row: &[Option<bool>])
+    requires { length cube.old.items ≡ length row.now }
+    ensures { cube.new.items ≡ both_rows cube.old.items row.now }
+{
+    for (place, other) in row.iter().enumerate() {
+        cube[place] = shared(cube[place], *other);
+    }
+}
+
+// The literals that all rows share, of which there is one or more.
+pub fn common_of(
+    alloc: Global,
+    width: usize,
+    rows: &[Vec<Option<bool>>],
+) -> Result<Vec<Option<bool>>, AllocError>
+    requires width { HasWidth width (literals_in rows.now) }
+    requires some { 0 < length rows.now }
+    ensures { IfOk result (λ cube. cube.items ≡ common (literals_in rows.now)) }
+{
+    let mut cube = copy_of(alloc, rows[0].as_slice())?;
+    for row in rows {
+        meet(&mut cube, row.as_slice());
+    }
+    Ok(cube)
+}
+
+// The rows without the literals that all of them share, of which there is one or more.
+pub fn freed(
+    alloc: Global,
+    width: usize,
+    rows: &[Vec<Option<bool>>],
+) -> Result<Vec<Vec<Option<bool>>>, AllocError>
+    requires width { HasWidth width (literals_in rows.now) }
+    requires some { 0 < length rows.now }
+    ensures { IfOk result (λ made. literals_in made.items ≡ map (strip (common (literals_in rows.now))) (literals_in rows.now)) }
+{
+    let cube = common_of(alloc, width, rows)?;
+    let mut made = Vec::with_capacity(alloc, rows.len())?;
+    for row in rows {
+        made.push(stripped(alloc, cube.as_slice(), row.as_slice())?)?;
+    }
+    Ok(made)
+}
