@@ -1,0 +1,4 @@
+pub mod Points
+pub mod Products
+pub mod Splits
+pub mod Dashed

@@ -1,0 +1,43 @@
+-- Covers as a width and a list of rows, and what is said of rows and covers at all points.
+-- Source: Brayton, Hachtel, McMullen, Sangiovanni-Vincentelli, "Logic Minimization Algorithms for VLSI
+-- Synthesis" (cubes, cofactors, tautology); De Micheli, "Synthesis and Optimization of Digital Circuits",
+-- chapter 7. Rows, points and matching are those of sis_base.
+use Rattle.std.specs.Prelude.{◌≡◌, ℕ, Bool, true, ◌&&◌, if◌then◌else◌, Option, Some, None, List, [], ◌∷◌, length, slice_index_or, slice_set}
+use Rattle.sis_base.specs.Rows.{agrees, matches, some_matches, IsPoint}
+
+-- what contracts see of a cover: the number of inputs, and the rows in order
+pub record Shape : Type 0 where
+  pub width : ℕ
+  pub rows : List (List (Option Bool))
+
+-- some point lies in both rows
+abbrev pub Meets : List (Option Bool) → List (Option Bool) → Type 0
+Meets row other =
+    (point : List Bool) × IsPoint (length row) point × (matches row point ≡ true) × (matches other point ≡ true)
+
+-- each point of the other lies in the row
+abbrev pub Covers : List (Option Bool) → List (Option Bool) → Type 0
+Covers row other =
+    (point : List Bool) → IsPoint (length row) point → matches other point ≡ true → matches row point ≡ true
+
+-- a third row has just the points that the two share
+abbrev pub IsProduct : List (Option Bool) → List (Option Bool) → List (Option Bool) → Type 0
+IsProduct row other product =
+    (point : List Bool) → IsPoint (length row) point → matches product point ≡ (matches row point && matches other point)
+
+-- the product place by place: the first row's literal where it has one, else the other's place
+unfoldable pub product_of : List (Option Bool) → List (Option Bool) → List (Option Bool)
+product_of [] others = []
+product_of (place ∷ places) [] = []
+product_of (None ∷ places) (other ∷ others) = other ∷ product_of places others
+product_of (Some literal ∷ places) (other ∷ others) = Some literal ∷ product_of places others
+
+-- the rows that agree with a bit at a place, without their literal there
+unfoldable pub cofactor_rows : ℕ → Bool → List (List (Option Bool)) → List (List (Option Bool))
+cofactor_rows place bit [] = []
+cofactor_rows place bit (row ∷ rows) =
+    if agrees (slice_index_or row place None) bit then slice_set row place None ∷ cofactor_rows place bit rows else cofactor_rows place bit rows
+
+-- some row matches at each point
+abbrev pub IsTautology : Shape → Type 0
+IsTautology cover = (point : List Bool) → IsPoint cover.width point → some_matches cover.rows point ≡ true

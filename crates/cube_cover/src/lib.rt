@@ -1,0 +1,22 @@
+//! Rows of literals and covers of rows, the two-level form in which tables are kept.
+//!
+//! Source: Brayton, Hachtel, McMullen, Sangiovanni-Vincentelli, "Logic Minimization Algorithms for VLSI
+//! Synthesis", and De Micheli, "Synthesis and Optimization of Digital Circuits", chapter 7.
+//! A row has a place for each input: a positive literal, a negative one or a dash. `Row` is the trait of
+//! all representations of rows; its contracts speak of the places and of the points that a row matches, so
+//! what stands above is proved once for all of them. `Cover<R>` is a list of rows of one width, which
+//! contracts see as a width and the rows' places. Promised: each operation's exact meaning at all points.
+//! Conditions of the caller: places below the width, equal widths, and rows of a product that meet.
+#![tactic(auto)]
+
+mod cover;
+mod plain;
+mod row;
+mod tautology;
+#[cfg(test)]
+mod tests;
+mod thin;
+
+pub use cover::Cover;
+pub use plain::PlainRow;
+pub use row::{Row, equal_rows};
