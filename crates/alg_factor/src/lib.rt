@@ -1,0 +1,4 @@
+//! Factored forms of covers.
+#![tactic(auto)]
+
+fn nothing() {}
