@@ -74,3 +74,8 @@ form_literals (Split place bit quotient rest) = 1 + form_literals quotient + for
 unfoldable pub IsOver : ℕ → Form → Type 0
 IsOver width (Sum rows) = HasWidth width rows
 IsOver width (Split place bit quotient rest) = (place < width) × IsOver width quotient × IsOver width rest
+
+-- what contracts see of a factored form: the number of inputs, and the form
+pub record Factors : Type 0 where
+  pub width : ℕ
+  pub form : Form

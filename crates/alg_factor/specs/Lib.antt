@@ -1,1 +1,5 @@
 pub mod Forms
+pub mod Codes
+pub mod Choices
+pub mod Shapes
+pub mod Texts

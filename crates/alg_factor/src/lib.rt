@@ -1,4 +1,7 @@
 //! Factored forms of covers.
 #![tactic(auto)]
 
-fn nothing() {}
+mod choice;
+mod form;
+
+pub use form::Factored;
