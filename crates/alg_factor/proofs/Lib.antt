@@ -1,1 +1,4 @@
+pub mod Choosing
 pub mod Laws
+pub mod Parts
+pub mod Chains

@@ -3,3 +3,4 @@ pub mod Codes
 pub mod Choices
 pub mod Shapes
 pub mod Texts
+pub mod Chains

@@ -1,7 +1,7 @@
 //! The factored form and its tree.
 
 ghost use Rattle.std.specs.Prelude.{◌≡◌, ℕ, ◌^◌, ◌<◌, List, map};
-ghost use Rattle.alg_factor.specs.Forms.{form_literals};
+ghost use Rattle.alg_factor.specs.Forms.{Factors, IsOver, form_literals};
 ghost use Rattle.alg_factor.specs.Shapes.{shape};
 
 use cube_cover::Row;
@@ -44,4 +44,14 @@ impl<R: Row> Model for Factored<R> {
     ghost view = { λ factored. record { width = factored.width; form = shape R.places factored.tree } };
 
     ghost invariant = { λ factored. IsOver factored.width (shape R.places factored.tree) };
+}
+
+impl<R: Row> Factored<R> {
+    // The form of a tree over `width` inputs.
+    pub(crate) fn of(width: usize, tree: Tree<R>) -> Factored<R>
+        requires { IsOver width (shape R.places tree) }
+        ensures { result ≡ record { width = width; form = shape R.places tree } }
+    {
+        Factored { width, tree }
+    }
 }

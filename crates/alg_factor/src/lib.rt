@@ -2,6 +2,8 @@
 #![tactic(auto)]
 
 mod choice;
+mod factoring;
 mod form;
 
+pub use factoring::factor;
 pub use form::Factored;
