@@ -3,10 +3,10 @@ use Rattle.std.proofs.Common.{◌≡◌, ℕ, ◌+◌, ◌*◌, ◌<◌, ◌≤�
 use Rattle.std.proofs.lemmas.Bool.{ltb-true, ltb-false}
 use Rattle.sis_base.specs.Rows.{HasWidth}
 use Rattle.cube_cover.specs.Places.{literal_count, rows_with}
-use Rattle.alg_factor.specs.Forms.{rank, IsChosen, NoneShared}
+use Rattle.alg_factor.specs.Forms.{Form, Sum, Split, rank, IsChosen, NoneShared, IsFactored, IsOver, with_literal, no_literal}
 use Rattle.alg_factor.specs.Choices.{IsBestOf, IsBest, greater}
 use Rattle.alg_factor.specs.declared.choice.Best.{Best}
-use Rattle.alg_factor.proofs.Laws.{rank-one}
+use Rattle.alg_factor.proofs.Laws.{rank-one, HasWidth-with, HasWidth-no}
 
 -- a literal of the next rank is that literal
 pub rank_next : (i j : ℕ) (b d : Bool) (rows : List (List (Option Bool))) → rank i b < rank j d + 1 → (rank i b < rank j d) ⊎ (rows_with i b rows ≡ rows_with j d rows)
@@ -93,13 +93,13 @@ none-shared w rows h best i b = cases (ltb i w) refl
 
 pub chosen-best : (w : ℕ) (rows : List (List (Option Bool))) (best : Best) → HasWidth w rows → IsBest (2 * w) rows (Some best) → (best.place < w) × IsChosen best.place best.bit rows
 chosen-best w rows best h k = (
-      rank-below best.place w best.bit k.below,
-      record {
-        two = omega (arith, k.two, k.count);
-        most = λ i b. cases i b (ltb i w) refl;
-        first = λ i b below. omega (arith, k.first i b below, k.count);
-      },
-    )
+  rank-below best.place w best.bit k.below,
+  record {
+    two = omega (arith, k.two, k.count);
+    most = λ i b. cases i b (ltb i w) refl;
+    first = λ i b below. omega (arith, k.first i b below, k.count);
+  },
+)
   where
     cases : (i : ℕ) (b : Bool) (t : Bool) → ltb i w ≡ t → rows_with i b rows ≤ rows_with best.place best.bit rows
     cases i b true e = omega (arith, k.most i b (below-rank i w b (ltb-true i w e)), k.count)
@@ -109,3 +109,21 @@ pub best_answer : (w : ℕ) (rows : List (List (Option Bool))) (best : Option Be
     → MatchOption best (NoneShared rows) (λ (best : Best). (best.place < w) × IsChosen best.place best.bit rows)
 best_answer w rows None h k = none-shared w rows h k
 best_answer w rows (Some best) h k = chosen-best w rows best h k
+
+-- a chosen literal is one of the inputs
+pub chosen-below : (w i : ℕ) (b : Bool) (rows : List (List (Option Bool))) → HasWidth w rows → IsChosen i b rows → i < w
+chosen-below w i b rows h k = cases (ltb i w) refl
+  where
+    cases : (t : Bool) → ltb i w ≡ t → i < w
+    cases true e = ltb-true i w e
+    cases false e = absurd (omega (arith, rows_with-past w i b rows h (ltb-false i w e), k.two))
+
+-- the factored form of rows of a width is over its inputs
+pub over-factored : (w : ℕ) (rows : List (List (Option Bool))) (f : Form) → HasWidth w rows → IsFactored rows f → IsOver w f
+unfolding IsFactored IsOver
+over-factored w rows (Sum sum) h k = rw k.0 h
+over-factored w rows (Split i b q r) h k = (
+  chosen-below w i b rows h k.0,
+  over-factored w (with_literal i b rows) q (HasWidth-with w i b rows h) k.1,
+  over-factored w (no_literal i b rows) r (HasWidth-no w i b rows h) k.2,
+)

@@ -50,6 +50,7 @@ parts i b (row ∷ rows) = cases (is_literal b (get_or row i None)) refl (parts 
   where
     tail : List (List (Option Bool))
     tail = put_literal i b (with_literal i b rows) ++ no_literal i b rows
+
     cases : (t : Bool) → is_literal b (get_or row i None) ≡ t → IsPermutation rows (put_literal i b (with_literal i b rows) ++ no_literal i b rows)
         → IsPermutation (row ∷ rows) (put_literal i b (if t then set row i None ∷ with_literal i b rows else with_literal i b rows) ++ (if t then no_literal i b rows else row ∷ no_literal i b rows))
     cases true e rest =

@@ -2,3 +2,4 @@ pub mod Choosing
 pub mod Laws
 pub mod Parts
 pub mod Chains
+pub mod Expansions

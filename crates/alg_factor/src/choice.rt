@@ -67,13 +67,7 @@ fn greater_of(best: Option<Best>, next: Best) -> Option<Best>
     ensures { result ≡ greater best next }
 {
     match best {
-        None => {
-            if next.count < 2 {
-                None
-            } else {
-                Some(next)
-            }
-        }
+        None => { if next.count < 2 { None } else { Some(next) } }
         Some(known) => {
             if known.count < next.count {
                 Some(next)

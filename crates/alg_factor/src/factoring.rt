@@ -50,11 +50,7 @@ fn chain<R: Row>(
 
 // The factored form of rows. The rows without the chosen literal are left to the loop, so calls nest only into
 // quotients, which have no literal of the place any more.
-fn factored_rows<R: Row>(
-    alloc: Global,
-    width: usize,
-    rows: Vec<R>,
-) -> Result<Tree<R>, AllocError>
+fn factored_rows<R: Row>(alloc: Global, width: usize, rows: Vec<R>) -> Result<Tree<R>, AllocError>
     requires { HasWidth width (map R.places rows.items) }
     ensures { IfOk result (λ tree. IsFactored (map R.places rows.items) (shape R.places tree)) }
 {

@@ -1,10 +1,13 @@
 //! The factored form and its tree.
 
-ghost use Rattle.std.specs.Prelude.{◌≡◌, ℕ, ◌^◌, ◌<◌, List, map};
-ghost use Rattle.alg_factor.specs.Forms.{Factors, IsOver, form_literals};
+ghost use Rattle.std.specs.Prelude.{◌≡◌, ℕ, ◌^◌, ◌<◌, List, map, IfOk};
+ghost use Rattle.alg_factor.specs.Forms.{Factors, IsOver, form_literals, expanded};
 ghost use Rattle.alg_factor.specs.Shapes.{shape};
 
-use cube_cover::Row;
+use crate::expansion::expanded_rows;
+use crate::literals::tree_literals;
+use cube_cover::{Cover, Row};
+use std::alloc::{AllocError, Global};
 use std::marker::Model;
 
 /// A sum of rows; or a literal by its place and its bit, times a tree, and a tree that is added.
@@ -53,5 +56,30 @@ impl<R: Row> Factored<R> {
         ensures { result ≡ record { width = width; form = shape R.places tree } }
     {
         Factored { width, tree }
+    }
+
+    /// How many inputs the form is over.
+    pub fn width(&self) -> usize
+        ensures { result ≡ self.now.width }
+    {
+        self.width
+    }
+
+    /// The form multiplied out: of a literal times a form each row of that form with the literal, then the rows that
+    /// are added. An error only for want of memory.
+    pub fn expand(&self, alloc: Global) -> Result<Cover<R>, AllocError>
+        ensures { IfOk result (λ made. made ≡ record { width = self.now.width; rows = expanded self.now.form }) }
+    {
+        let rows = expanded_rows(alloc, self.width, &self.tree)?;
+        Ok(Cover::of(self.width, rows))
+    }
+
+    /// How many literals are written in the form, of which the caller knows that they are fewer than 2^64; takes no
+    /// memory.
+    pub fn literals(&self) -> u64
+        requires { form_literals self.now.form < 2 ^ 64 }
+        ensures { result ≡ form_literals self.now.form }
+    {
+        tree_literals(&self.tree)
     }
 }

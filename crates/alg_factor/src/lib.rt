@@ -2,8 +2,10 @@
 #![tactic(auto)]
 
 mod choice;
+mod expansion;
 mod factoring;
 mod form;
+mod literals;
 
 pub use factoring::factor;
 pub use form::Factored;
