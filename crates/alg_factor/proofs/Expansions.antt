@@ -28,3 +28,7 @@ split-literals form i b q r e = ap form_literals e
 pub split-expanded : (form : Form) (i : ℕ) (b : Bool) (q r : Form) → form ≡ Split i b q r → expanded form ≡ put_literal i b (expanded q) ++ expanded r
 unfolding expanded
 split-expanded form i b q r e = ap expanded e
+
+pub sum-over : (w : ℕ) (form : Form) (rows : List (List (Option Bool))) → form ≡ Sum rows → IsOver w form → HasWidth w rows
+unfolding IsOver
+sum-over w form rows e h = subst (λ (f : Form). IsOver w f) e h

@@ -3,3 +3,4 @@ pub mod Laws
 pub mod Parts
 pub mod Chains
 pub mod Expansions
+pub mod Texts

@@ -4,3 +4,4 @@ pub mod Choices
 pub mod Shapes
 pub mod Texts
 pub mod Chains
+pub mod Writing

@@ -14,21 +14,20 @@ abbrev pub literal_text : Bool → List ℕ → List ℕ
 literal_text true name = name
 literal_text false name = codes "!" ++ name
 
--- the literals of a row
+-- the literal of a place, if there is one
+abbrev pub place_texts : List ℕ → Option Bool → List (List ℕ)
+place_texts name None = []
+place_texts name (Some literal) = literal_text literal name ∷ []
+
+-- the literals of a row, in order
 unfoldable pub literal_texts : List (List ℕ) → List (Option Bool) → List (List ℕ)
 literal_texts names [] = []
 literal_texts [] (place ∷ places) = []
-literal_texts (name ∷ names) (None ∷ places) = literal_texts names places
-literal_texts (name ∷ names) (Some literal ∷ places) = literal_text literal name ∷ literal_texts names places
+literal_texts (name ∷ names) (place ∷ places) = place_texts name place ++ literal_texts names places
 
 -- a row: the product of its literals, `1` where it has none
 abbrev pub row_text : List (List ℕ) → List (Option Bool) → List ℕ
 row_text names row = joined (codes "1") (codes "*") (literal_texts names row)
-
--- how many summands a form has
-unfoldable pub summands : Form → ℕ
-summands (Sum rows) = length rows
-summands (Split place bit quotient rest) = 1 + summands rest
 
 -- a sum, `0` where it has no summand
 abbrev pub sum_text : List (List ℕ) → List ℕ

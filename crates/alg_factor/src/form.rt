@@ -1,11 +1,14 @@
 //! The factored form and its tree.
 
-ghost use Rattle.std.specs.Prelude.{◌≡◌, ℕ, ◌^◌, ◌<◌, List, map, IfOk};
+ghost use Rattle.std.specs.Prelude.{◌≡◌, ℕ, ◌^◌, ◌<◌, List, length, map, IfOk};
 ghost use Rattle.alg_factor.specs.Forms.{Factors, IsOver, form_literals, expanded};
 ghost use Rattle.alg_factor.specs.Shapes.{shape};
+ghost use Rattle.alg_factor.specs.Texts.{form_text};
 
 use crate::expansion::expanded_rows;
 use crate::literals::tree_literals;
+use crate::text::put_tree;
+use circuit_model::Name;
 use cube_cover::{Cover, Row};
 use std::alloc::{AllocError, Global};
 use std::marker::Model;
@@ -81,5 +84,17 @@ impl<R: Row> Factored<R> {
         ensures { result ≡ form_literals self.now.form }
     {
         tree_literals(&self.tree)
+    }
+
+    /// The text of the form, with a name for each input: a positive literal is its name and a negative one has `!`
+    /// before it, `*` stands in products and ` + ` in sums; a sum inside a product is in parentheses, a row without
+    /// literals is `1`, and no row at all `0`. An error only for want of memory.
+    pub fn print(&self, alloc: Global, names: &[Name]) -> Result<Vec<u8>, AllocError>
+        requires { length names.now ≡ self.now.width }
+        ensures { IfOk result (λ text. text.items ≡ form_text names.now self.now.form) }
+    {
+        let mut text = Vec::new(alloc);
+        put_tree(&mut text, &self.tree, names)?;
+        Ok(text)
     }
 }

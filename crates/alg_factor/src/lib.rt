@@ -6,6 +6,7 @@ mod expansion;
 mod factoring;
 mod form;
 mod literals;
+mod text;
 
 pub use factoring::factor;
 pub use form::Factored;
