@@ -1,6 +1,6 @@
 //! The factored form of a cover.
 
-ghost use Rattle.std.specs.Prelude.{◌≡◌, ℕ, ◌<◌, ◌↔◌, Option, Bool, List, map, IfOk};
+ghost use Rattle.std.specs.Prelude.{◌≡◌, ℕ, ◌<◌, ◌≤◌, ◌↔◌, Option, Bool, List, map, IfOk};
 ghost use Rattle.std.specs.List.Sorted.{IsPermutation};
 ghost use Rattle.sis_base.specs.Rows.{HasWidth};
 ghost use Rattle.cube_cover.specs.Places.{cover_literals};
@@ -77,6 +77,7 @@ pub fn factor<R: Row>(alloc: Global, f: &Cover<R>) -> Result<Factored<R>, AllocE
     ensures form { IfOk result (λ made. IsFactored f.now.rows made.form) }
     ensures only { IfOk result (λ made. (other : Form) → IsFactored f.now.rows other → other ≡ made.form) }
     ensures rows { IfOk result (λ made. IsPermutation f.now.rows (expanded made.form)) }
+    ensures most { IfOk result (λ made. form_literals made.form ≤ cover_literals f.now.rows) }
     ensures fewer { IfOk result (λ made. form_literals made.form < cover_literals f.now.rows ↔ SomeShared f.now.rows) }
     ensures equal { IfOk result (λ made. NoneShared f.now.rows → form_literals made.form ≡ cover_literals f.now.rows) }
 {
