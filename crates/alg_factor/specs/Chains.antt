@@ -1,0 +1,10 @@
+-- Products with a form that is added behind them, as one form.
+-- Source: the project's own representation.
+use Rattle.std.specs.Prelude.{Bool, Option, List, [], ◌∷◌}
+use Rattle.alg_factor.specs.Forms.{Form, Split}
+use Rattle.alg_factor.specs.Shapes.{shape}
+use Rattle.alg_factor.specs.declared.factoring.Product.{Product}
+
+unfoldable pub chained : {X : Type 0} → (X → List (Option Bool)) → List (Product X) → Form → Form
+chained f [] rest = rest
+chained f (product ∷ products) rest = Split product.place product.bit (shape f product.quotient) (chained f products rest)

@@ -1,0 +1,81 @@
+-- Factored forms of a list of rows, by the literal that stands in most rows.
+-- Source: Brayton, Rudell, Sangiovanni-Vincentelli, Wang, "MIS: A Multiple-Level Logic Optimization System"
+-- (literal factoring, 1987); De Micheli, "Synthesis and Optimization of Digital Circuits", chapter 8. Rows are
+-- those of sis_base: some bit where a literal stands (true the positive one), none for a dash.
+use Rattle.std.specs.Prelude.{◌≡◌, ℕ, ◌+◌, ◌*◌, ◌<◌, ◌≤◌, Bool, true, false, not, if◌then◌else◌, Option, Some, None, List, [], ◌∷◌, ◌++◌, map, slice_index_or, slice_set}
+use Rattle.sis_base.specs.Rows.{HasWidth}
+use Rattle.cube_cover.specs.Places.{rows_with, cover_literals}
+
+-- a form: a sum of rows; or a literal, given by its place and its bit, times a form, and then a form that is
+-- added to the product (the sum of no rows where nothing is added)
+pub data Form : Type 0 where
+  Sum : List (List (Option Bool)) → Form
+  Split : ℕ → Bool → Form → Form → Form
+
+-- whether a place has the literal of a bit
+abbrev pub is_literal : Bool → Option Bool → Bool
+is_literal bit None = false
+is_literal true (Some literal) = literal
+is_literal false (Some literal) = not literal
+
+-- the rows that have a literal, in order, each without it
+unfoldable pub with_literal : ℕ → Bool → List (List (Option Bool)) → List (List (Option Bool))
+with_literal place bit [] = []
+with_literal place bit (row ∷ rows) =
+    if is_literal bit (slice_index_or row place None) then slice_set row place None ∷ with_literal place bit rows else with_literal place bit rows
+
+-- the rows that have not, in order
+unfoldable pub no_literal : ℕ → Bool → List (List (Option Bool)) → List (List (Option Bool))
+no_literal place bit [] = []
+no_literal place bit (row ∷ rows) =
+    if is_literal bit (slice_index_or row place None) then no_literal place bit rows else row ∷ no_literal place bit rows
+
+-- the order of literals: by place, then 0 before 1
+abbrev pub rank : ℕ → Bool → ℕ
+rank place false = 2 * place
+rank place true = 2 * place + 1
+
+-- the literal in most rows, in two at least, and the first of those in as many
+pub record IsChosen (place : ℕ) (bit : Bool) (rows : List (List (Option Bool))) : Type 0 where
+  pub two : 2 ≤ rows_with place bit rows
+  pub most : (i : ℕ) (b : Bool) → rows_with i b rows ≤ rows_with place bit rows
+  pub first : (i : ℕ) (b : Bool) → rank i b < rank place bit → rows_with i b rows < rows_with place bit rows
+
+-- no literal stands in two rows
+abbrev pub NoneShared : List (List (Option Bool)) → Type 0
+NoneShared rows = (place : ℕ) (bit : Bool) → rows_with place bit rows < 2
+
+-- some literal stands in two rows
+abbrev pub SomeShared : List (List (Option Bool)) → Type 0
+SomeShared rows = (place : ℕ) × (bit : Bool) × (2 ≤ rows_with place bit rows)
+
+-- the factored form of rows: their sum where no literal stands in two of them; else the chosen literal times the
+-- factored form of the rows that have it, without it, and the factored form of the others
+unfoldable pub IsFactored : List (List (Option Bool)) → Form → Type 0
+IsFactored rows (Sum sum) = (sum ≡ rows) × NoneShared rows
+IsFactored rows (Split place bit quotient rest) =
+    IsChosen place bit rows × IsFactored (with_literal place bit rows) quotient × IsFactored (no_literal place bit rows) rest
+
+-- rows, each with a literal more
+abbrev pub put_literal : ℕ → Bool → List (List (Option Bool)) → List (List (Option Bool))
+put_literal place bit rows = map (λ row. slice_set row place (Some bit)) rows
+
+-- a form multiplied out
+unfoldable pub expanded : Form → List (List (Option Bool))
+expanded (Sum rows) = rows
+expanded (Split place bit quotient rest) = put_literal place bit (expanded quotient) ++ expanded rest
+
+-- how many literals are written in a form
+unfoldable pub form_literals : Form → ℕ
+form_literals (Sum rows) = cover_literals rows
+form_literals (Split place bit quotient rest) = 1 + form_literals quotient + form_literals rest
+
+-- a form over inputs of a number: each row has one place for each, and each literal is of one of them
+unfoldable pub IsOver : ℕ → Form → Type 0
+IsOver width (Sum rows) = HasWidth width rows
+IsOver width (Split place bit quotient rest) = (place < width) × IsOver width quotient × IsOver width rest
+
+-- what contracts see of a factored form: the number of inputs, and the form
+pub record Factors : Type 0 where
+  pub width : ℕ
+  pub form : Form

@@ -1,0 +1,48 @@
+-- How a factored form is printed.
+-- Source: De Micheli, "Synthesis and Optimization of Digital Circuits", chapter 8 (factored forms); the signs `!`,
+-- `*` and `+` are those of the equations of SIS (report UCB/ERL M92/41).
+use Rattle.std.specs.Prelude.{ℕ, ◌+◌, ltb, Bool, true, false, if◌then◌else◌, Option, Some, None, List, [], ◌∷◌, ◌++◌, length, map, flat_map, slice_index_or, codes}
+use Rattle.alg_factor.specs.Forms.{Form, Sum, Split}
+
+-- texts with a sign between them, or a text for no texts
+abbrev pub joined : List ℕ → List ℕ → List (List ℕ) → List ℕ
+joined none sign [] = none
+joined none sign (text ∷ texts) = text ++ flat_map (λ next. sign ++ next) texts
+
+-- a literal: the name, after `!` where it is negative
+abbrev pub literal_text : Bool → List ℕ → List ℕ
+literal_text true name = name
+literal_text false name = codes "!" ++ name
+
+-- the literal of a place, if there is one
+abbrev pub place_texts : List ℕ → Option Bool → List (List ℕ)
+place_texts name None = []
+place_texts name (Some literal) = literal_text literal name ∷ []
+
+-- the literals of a row, in order
+unfoldable pub literal_texts : List (List ℕ) → List (Option Bool) → List (List ℕ)
+literal_texts names [] = []
+literal_texts [] (place ∷ places) = []
+literal_texts (name ∷ names) (place ∷ places) = place_texts name place ++ literal_texts names places
+
+-- a row: the product of its literals, `1` where it has none
+abbrev pub row_text : List (List ℕ) → List (Option Bool) → List ℕ
+row_text names row = joined (codes "1") (codes "*") (literal_texts names row)
+
+-- a sum, `0` where it has no summand
+abbrev pub sum_text : List (List ℕ) → List ℕ
+sum_text texts = joined (codes "0") (codes " + ") texts
+
+-- a sum as a factor: in parentheses where it has two summands or more
+abbrev pub factor_text : List (List ℕ) → List ℕ
+factor_text texts = if ltb 1 (length texts) then codes "(" ++ sum_text texts ++ codes ")" else sum_text texts
+
+-- the summands of a form: a literal times a form is one, then those of the form that is added
+unfoldable pub summand_texts : List (List ℕ) → Form → List (List ℕ)
+summand_texts names (Sum rows) = map (row_text names) rows
+summand_texts names (Split place bit quotient rest) =
+    (literal_text bit (slice_index_or names place []) ++ codes "*" ++ factor_text (summand_texts names quotient)) ∷ summand_texts names rest
+
+-- the text of a form
+abbrev pub form_text : List (List ℕ) → Form → List ℕ
+form_text names form = sum_text (summand_texts names form)

@@ -1,0 +1,79 @@
+//! A form multiplied out.
+
+ghost use Rattle.std.specs.Prelude.{◌≡◌, ℕ, ◌<◌, ◌++◌, Bool, Option, Some, List, length, map, slice_set, IfOk};
+ghost use Rattle.sis_base.specs.Rows.{HasWidth};
+ghost use Rattle.alg_factor.specs.Forms.{IsOver, put_literal, expanded};
+ghost use Rattle.alg_factor.specs.Shapes.{shape};
+
+use crate::form::Tree;
+use cube_cover::Row;
+use std::alloc::{AllocError, Global};
+
+// Rows, and copies of others behind them.
+fn followed_by<R: Row>(alloc: Global, first: Vec<R>, others: &[R]) -> Result<Vec<R>, AllocError>
+    ensures { IfOk result (λ made. map R.places made.items ≡ map R.places first.items ++ map R.places others.now) }
+{
+    let mut made = first;
+    for row in others {
+        made.push(row.copy(alloc)?)?;
+    }
+    Ok(made)
+}
+
+// A row with a literal at a place.
+fn with_one<R: Row>(row: R, place: usize, bit: bool) -> R
+    requires { place < length (R.places row) }
+    ensures { R.places result ≡ slice_set (R.places row) place (Some bit) }
+{
+    let mut made = row;
+    made.set(place, Some(bit));
+    made
+}
+
+// Rows, and others behind them with a literal more.
+#[tactic(auto, using(cube_cover::proofs::Points::width_read))]
+fn followed_with<R: Row>(
+    width: usize,
+    first: Vec<R>,
+    others: Vec<R>,
+    place: usize,
+    bit: bool,
+) -> Result<Vec<R>, AllocError>
+    requires widths { HasWidth width (map R.places others.items) }
+    requires place { place < width }
+    ensures { IfOk result (λ made. map R.places made.items ≡ map R.places first.items ++ put_literal place bit (map R.places others.items)) }
+{
+    let mut made = first;
+    for row in others {
+        made.push(with_one(row, place, bit))?;
+    }
+    Ok(made)
+}
+
+/// The rows of a tree multiplied out; an error only for want of memory.
+#[tactic(auto, unfolding(crate::specs::Forms::expanded))]
+pub(crate) fn expanded_rows<R: Row>(
+    alloc: Global,
+    width: usize,
+    tree: &Tree<R>,
+) -> Result<Vec<R>, AllocError>
+    requires { IsOver width (shape R.places tree.now) }
+    ensures rows { IfOk result (λ made. map R.places made.items ≡ expanded (shape R.places tree.now)) }
+    ensures widths { IfOk result (λ made. HasWidth width (map R.places made.items)) }
+{
+    let mut made = Vec::new(alloc);
+    let mut here = tree;
+    loop {
+        match here {
+            Tree::Rows(rows) => {
+                let all = followed_by(alloc, made, rows.as_slice())?;
+                return Ok(all);
+            }
+            Tree::Term(place, bit, quotient, rest) => {
+                let part = expanded_rows(alloc, width, quotient)?;
+                made = followed_with(width, made, part, *place, *bit)?;
+                here = rest;
+            }
+        }
+    }
+}

@@ -1,0 +1,100 @@
+//! The factored form and its tree.
+
+ghost use Rattle.std.specs.Prelude.{◌≡◌, ℕ, ◌^◌, ◌<◌, List, length, map, IfOk};
+ghost use Rattle.alg_factor.specs.Forms.{Factors, IsOver, form_literals, expanded};
+ghost use Rattle.alg_factor.specs.Shapes.{shape};
+ghost use Rattle.alg_factor.specs.Texts.{form_text};
+
+use crate::expansion::expanded_rows;
+use crate::literals::tree_literals;
+use crate::text::put_tree;
+use circuit_model::Name;
+use cube_cover::{Cover, Row};
+use std::alloc::{AllocError, Global};
+use std::marker::Model;
+
+/// A sum of rows; or a literal by its place and its bit, times a tree, and a tree that is added.
+pub(crate) enum Tree<R: Row> {
+    Rows(Vec<R>),
+    Term(usize, bool, Box<Tree<R>>, Box<Tree<R>>),
+}
+
+impl<R: Row> Drop for Tree<R> {
+    fn drop(mut self) {
+        loop {
+            match self {
+                Tree::Rows(_) => return,
+                Tree::Term(_, _, _, rest) => self = Box::into_inner(rest),
+            }
+        }
+    }
+}
+
+/// A factored form over some inputs. Contracts see it as their number and the form.
+#[derive(Drop)]
+pub struct Factored<R: Row> {
+    width: usize,
+    tree: Tree<R>,
+}
+
+impl<R: Row> Model for Factored<R> {
+    ghost use Rattle.alg_factor.specs.Forms.{Factors, IsOver};
+    ghost use Rattle.alg_factor.specs.Codes.{factors_code};
+
+    ghost Value = { Factors };
+
+    ghost coded = { factors_code };
+
+    ghost use Rattle.alg_factor.specs.Shapes.{shape};
+
+    ghost view = { λ factored. record { width = factored.width; form = shape R.places factored.tree } };
+
+    ghost invariant = { λ factored. IsOver factored.width (shape R.places factored.tree) };
+}
+
+impl<R: Row> Factored<R> {
+    // The form of a tree over `width` inputs.
+    pub(crate) fn of(width: usize, tree: Tree<R>) -> Factored<R>
+        requires { IsOver width (shape R.places tree) }
+        ensures { result ≡ record { width = width; form = shape R.places tree } }
+    {
+        Factored { width, tree }
+    }
+
+    /// How many inputs the form is over.
+    pub fn width(&self) -> usize
+        ensures { result ≡ self.now.width }
+    {
+        self.width
+    }
+
+    /// The form multiplied out: of a literal times a form each row of that form with the literal, then the rows that
+    /// are added. An error only for want of memory.
+    pub fn expand(&self, alloc: Global) -> Result<Cover<R>, AllocError>
+        ensures { IfOk result (λ made. made ≡ record { width = self.now.width; rows = expanded self.now.form }) }
+    {
+        let rows = expanded_rows(alloc, self.width, &self.tree)?;
+        Ok(Cover::of(self.width, rows))
+    }
+
+    /// How many literals are written in the form, of which the caller knows that they are fewer than 2^64; takes no
+    /// memory.
+    pub fn literals(&self) -> u64
+        requires { form_literals self.now.form < 2 ^ 64 }
+        ensures { result ≡ form_literals self.now.form }
+    {
+        tree_literals(&self.tree)
+    }
+
+    /// The text of the form, with a name for each input: a positive literal is its name and a negative one has `!`
+    /// before it, `*` stands in products and ` + ` in sums; a sum inside a product is in parentheses, a row without
+    /// literals is `1`, and no row at all `0`. An error only for want of memory.
+    pub fn print(&self, alloc: Global, names: &[Name]) -> Result<Vec<u8>, AllocError>
+        requires { length names.now ≡ self.now.width }
+        ensures { IfOk result (λ text. text.items ≡ form_text names.now self.now.form) }
+    {
+        let mut text = Vec::new(alloc);
+        put_tree(&mut text, &self.tree, names)?;
+        Ok(text)
+    }
+}

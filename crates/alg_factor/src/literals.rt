@@ -1,0 +1,64 @@
+//! How many literals a form has.
+
+ghost use Rattle.std.specs.Prelude.{◌≡◌, ℕ, ◌+◌, ◌^◌, ◌<◌, ◌≤◌, Bool, Option, List, map};
+ghost use Rattle.cube_cover.specs.Places.{place_literals, row_literals, cover_literals};
+ghost use Rattle.alg_factor.specs.Forms.{form_literals};
+ghost use Rattle.alg_factor.specs.Shapes.{shape};
+
+use crate::form::Tree;
+use cube_cover::Row;
+
+// How many literals stand at a place.
+fn place_count(place: Option<bool>) -> u64
+    ensures { result ≡ place_literals place }
+{
+    match place {
+        None => 0,
+        Some(_) => 1,
+    }
+}
+
+// The literals of a row.
+#[tactic(auto, unfolding(cube_cover::specs::Places::row_literals))]
+fn row_count<R: Row>(row: &R) -> u64
+    requires { row_literals (R.places row.now) < 2 ^ 64 }
+    ensures { result ≡ row_literals (R.places row.now) }
+{
+    let mut count = 0;
+    for place in 0..row.width() {
+        count += place_count(row.at(place));
+    }
+    count
+}
+
+// The literals of rows.
+#[tactic(auto, unfolding(cube_cover::specs::Places::cover_literals))]
+fn rows_count<R: Row>(rows: &[R]) -> u64
+    requires { cover_literals (map R.places rows.now) < 2 ^ 64 }
+    ensures { result ≡ cover_literals (map R.places rows.now) }
+{
+    let mut count = 0;
+    for row in rows {
+        count += row_count(row);
+    }
+    count
+}
+
+/// The literals of a tree, of which there are fewer than 2^64.
+#[tactic(auto, unfolding(crate::specs::Forms::form_literals))]
+pub(crate) fn tree_literals<R: Row>(tree: &Tree<R>) -> u64
+    requires { form_literals (shape R.places tree.now) < 2 ^ 64 }
+    ensures { result ≡ form_literals (shape R.places tree.now) }
+{
+    let mut count = 0;
+    let mut here = tree;
+    loop {
+        match here {
+            Tree::Rows(rows) => return count + rows_count(rows.as_slice()),
+            Tree::Term(_, _, quotient, rest) => {
+                count += 1 + tree_literals(quotient);
+                here = rest;
+            }
+        }
+    }
+}

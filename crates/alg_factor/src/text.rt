@@ -1,0 +1,147 @@
+//! How a factored form is printed.
+
+ghost use Rattle.std.specs.Prelude.{◌≡◌, ℕ, ◌+◌, ◌<◌, ◌++◌, ◌∷◌, [], ltb, Bool, not, slice_index_or, Option, List, length, map, codes, ◌↔◌, IsTrue, IfOk, OnOk};
+ghost use Rattle.sis_base.specs.Rows.{HasWidth};
+ghost use Rattle.alg_factor.specs.Forms.{IsOver};
+ghost use Rattle.alg_factor.specs.Shapes.{shape};
+ghost use Rattle.alg_factor.specs.Texts.{literal_text, place_texts, row_text, form_text};
+ghost use Rattle.alg_factor.specs.Writing.{left_text, written_if, summands};
+
+use crate::form::Tree;
+use circuit_model::Name;
+use cube_cover::Row;
+use std::alloc::AllocError;
+
+// Puts a text behind another, or nothing.
+fn put_if(text: &mut Vec<u8>, wanted: bool, more: &[u8]) -> Result<(), AllocError>
+    ensures { OnOk result (text.new.items ≡ text.old.items ++ written_if wanted more.now) }
+{
+    if !wanted {
+        return Ok(());
+    }
+    text.extend_from_slice(more)
+}
+
+// Puts a literal behind a text.
+fn put_literal(text: &mut Vec<u8>, name: &Name, bit: bool) -> Result<(), AllocError>
+    ensures { OnOk result (text.new.items ≡ text.old.items ++ literal_text bit name.now) }
+{
+    put_if(text, !bit, b"!")?;
+    text.extend_from_slice(name.as_slice())
+}
+
+// Puts the literal of a place behind a text, if there is one, after a sign if it is not the first; and tells whether
+// there is none yet.
+fn put_place(
+    text: &mut Vec<u8>,
+    first: bool,
+    name: &Name,
+    place: Option<bool>,
+) -> Result<bool, AllocError>
+    ensures { IfOk result (λ none_yet. (texts : List (List ℕ)) → text.new.items ++ left_text none_yet (codes "1") (codes "*") texts ≡ text.old.items ++ left_text first (codes "1") (codes "*") (place_texts name.now place ++ texts)) }
+{
+    let Some(bit) = place else {
+        return Ok(first);
+    };
+    put_if(text, !first, b"*")?;
+    put_literal(text, name, bit)?;
+    Ok(false)
+}
+
+// Puts a row behind a text.
+#[tactic(auto, unfolding(crate::specs::Texts::literal_texts))]
+fn put_row<R: Row>(text: &mut Vec<u8>, row: &R, names: &[Name]) -> Result<(), AllocError>
+    requires { length names.now ≡ length (R.places row.now) }
+    ensures { OnOk result (text.new.items ≡ text.old.items ++ row_text names.now (R.places row.now)) }
+{
+    let mut first = true;
+    for (place, name) in names.iter().enumerate() {
+        first = put_place(text, first, name, row.at(place))?;
+    }
+    put_if(text, first, b"1")
+}
+
+// Puts the last summands behind a text, each after a sign if it is not the first, or `0` where there is none at all.
+#[tactic(auto, using(cube_cover::proofs::Points::width_read))]
+fn put_rows<R: Row>(
+    text: &mut Vec<u8>,
+    first: bool,
+    rows: &[R],
+    names: &[Name],
+) -> Result<(), AllocError>
+    requires { HasWidth (length names.now) (map R.places rows.now) }
+    ensures { OnOk result (text.new.items ≡ text.old.items ++ left_text first (codes "0") (codes " + ") (map (row_text names.now) (map R.places rows.now))) }
+{
+    let mut none_yet = first;
+    for row in rows {
+        put_if(text, !none_yet, b" + ")?;
+        put_row(text, row, names)?;
+        none_yet = false;
+    }
+    put_if(text, none_yet, b"0")
+}
+
+// Whether a form has a summand.
+#[tactic(auto, unfolding(crate::specs::Writing::summands))]
+fn has_summand<R: Row>(tree: &Tree<R>) -> bool
+    ensures { IsTrue result ↔ (0 < summands (shape R.places tree.now)) }
+{
+    match tree {
+        Tree::Rows(rows) => !rows.is_empty(),
+        Tree::Term(_, _, _, _) => true,
+    }
+}
+
+// Whether a form has two summands or more.
+#[tactic(auto, unfolding(crate::specs::Writing::summands))]
+fn is_sum<R: Row>(tree: &Tree<R>) -> bool
+    ensures { result ≡ ltb 1 (summands (shape R.places tree.now)) }
+{
+    match tree {
+        Tree::Rows(rows) => rows.len() > 1,
+        Tree::Term(_, _, _, rest) => has_summand(rest),
+    }
+}
+
+// Puts the literal of a summand behind a text, after a sign if it is not the first, and the sign of the product.
+fn put_head(
+    text: &mut Vec<u8>,
+    first: bool,
+    names: &[Name],
+    place: usize,
+    bit: bool,
+) -> Result<(), AllocError>
+    requires { place < length names.now }
+    ensures { OnOk result (text.new.items ≡ text.old.items ++ (written_if (not first) (codes " + ") ++ (literal_text bit (slice_index_or names.now place []) ++ codes "*"))) }
+{
+    put_if(text, !first, b" + ")?;
+    put_literal(text, &names[place], bit)?;
+    text.extend_from_slice(b"*")
+}
+
+/// Puts a form behind a text; an error only for want of memory.
+pub(crate) fn put_tree<R: Row>(
+    text: &mut Vec<u8>,
+    tree: &Tree<R>,
+    names: &[Name],
+) -> Result<(), AllocError>
+    requires { IsOver (length names.now) (shape R.places tree.now) }
+    ensures { OnOk result (text.new.items ≡ text.old.items ++ form_text names.now (shape R.places tree.now)) }
+{
+    let mut first = true;
+    let mut here = tree;
+    loop {
+        match here {
+            Tree::Rows(rows) => return put_rows(text, first, rows.as_slice(), names),
+            Tree::Term(place, bit, quotient, rest) => {
+                put_head(text, first, names, *place, *bit)?;
+                let sum = is_sum(quotient);
+                put_if(text, sum, b"(")?;
+                put_tree(text, quotient, names)?;
+                put_if(text, sum, b")")?;
+                first = false;
+                here = rest;
+            }
+        }
+    }
+}
