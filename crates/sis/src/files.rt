@@ -1,0 +1,91 @@
+//! The real files as a store. It tells no contents, and counts its faults and misses.
+
+ghost use Rattle.std.specs.Prelude.{◌≡◌, ◌<◌, ◌-◌, ◌^◌, ℕ, false, IsTrue};
+ghost use Rattle.std.specs.FinMap.{empty};
+ghost use Rattle.sis_outside.specs.Store.{IsLoadWithin};
+
+use crate::streams::write_whole;
+use sis_outside::{LoadFault, SaveFault, Store};
+use std::alloc::Global;
+use std::fs;
+use std::io::{ErrorKind, Read};
+use std::rt::Files;
+
+/// How many bytes one read asks for.
+const PIECE: usize = 65_536;
+
+/// A store over the files of the runtime, by their paths.
+#[derive(Drop)]
+pub struct RealStore<'a, R: Files> {
+    rt: &'a R,
+    faults: u64,
+    misses: u64,
+}
+
+impl<'a, R: Files> RealStore<'a, R> {
+    /// The store of the files of a runtime.
+    pub fn new(rt: &'a R) -> Self {
+        RealStore {
+            rt,
+            faults: 0,
+            misses: 0,
+        }
+    }
+}
+
+/// Reads a whole file of at most `max` bytes.
+fn read_whole<F: Read>(alloc: Global, file: &mut F, max: usize) -> Result<Vec<u8>, LoadFault>
+    requires { max < 2 ^ 64 - 1 }
+    ensures { IsLoadWithin max result }
+{
+    let mut bytes = Vec::new(alloc);
+    let mut piece = [0u8; PIECE];
+    while bytes.len() <= max {
+        match file.read(&mut piece) {
+            Ok(0) => return Ok(bytes),
+            Ok(count) => {
+                if bytes.extend_from_slice(&piece[..count]).is_err() {
+                    return Err(LoadFault::Memory);
+                }
+            }
+            Err(_) => return Err(LoadFault::Failed),
+        }
+    }
+    Err(LoadFault::TooLong(max + 1))
+}
+
+impl<R: Files> Store for RealStore<'_, R> {
+    ghost tells = { λ _. false };
+
+    ghost files = { λ _. empty };
+
+    ghost faults = { λ store. store.faults };
+
+    ghost misses = { λ store. store.misses };
+
+    fn load(&mut self, alloc: Global, name: &str, max: usize) -> Result<Vec<u8>, LoadFault> {
+        let loaded = match fs::open(self.rt, name) {
+            Ok(mut file) => read_whole(alloc, &mut file, max),
+            Err(error) if error.kind() == ErrorKind::NotFound => Err(LoadFault::Missing),
+            Err(_) => Err(LoadFault::Failed),
+        };
+        match loaded {
+            Err(LoadFault::Missing) => self.misses = self.misses.saturating_add(1),
+            Err(LoadFault::Failed) => self.faults = self.faults.saturating_add(1),
+            _ => {}
+        }
+        loaded
+    }
+
+    fn save(&mut self, name: &str, bytes: &[u8]) -> Result<(), SaveFault> {
+        let saved = match fs::create(self.rt, name) {
+            Ok(mut file) => write_whole(&mut file, bytes),
+            Err(_) => false,
+        };
+        if saved {
+            return Ok(());
+        }
+        self.faults = self.faults.saturating_add(1);
+        Err(SaveFault::Failed)
+    }
+}

@@ -1,0 +1,47 @@
+//! The program: it makes the real store, input and outputs, hands them to the top call with the words of the
+//! command line, and ends with its status. The adapters tell no contents: what a real file or stream holds is
+//! trusted and not proved.
+#![tactic(auto)]
+
+mod files;
+mod streams;
+
+use files::RealStore;
+use sis_top::{Status, Word, run_sis};
+use std::alloc::AllocError;
+use std::env;
+use std::env::Env;
+use std::process::ExitCode;
+use streams::{StdSink, StdSource};
+
+/// The words behind the program's name; none where the arguments are not text.
+fn words<R: Env + AllocGlobal>(rt: &R) -> Result<Vec<Word>, AllocError> {
+    let alloc = rt.alloc();
+    let mut words = Vec::new(alloc);
+    let Ok(arguments) = env::args(rt) else {
+        return Ok(words);
+    };
+    for argument in arguments.skip(1) {
+        words.push(Word::new(alloc, argument.as_str())?)?;
+    }
+    Ok(words)
+}
+
+fn main(rt: HostRuntime) -> ExitCode {
+    let Ok(words) = words(&rt) else {
+        return ExitCode::from(Status::Memory.code());
+    };
+    let mut store = RealStore::new(&rt);
+    let mut input = StdSource::new(rt.stdin());
+    let mut out = StdSink::new(rt.stdout());
+    let mut err = StdSink::new(rt.stderr());
+    let status = run_sis(
+        rt.alloc(),
+        words.as_slice(),
+        &mut store,
+        &mut input,
+        &mut out,
+        &mut err,
+    );
+    ExitCode::from(status.code())
+}

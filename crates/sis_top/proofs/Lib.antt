@@ -1,0 +1,17 @@
+pub mod Answering
+pub mod Advancing
+pub mod Goings
+pub mod Endings
+pub mod Faithful
+pub mod Completing
+pub mod ScriptWords
+pub mod TextsLimits
+pub mod WriterLines
+pub mod ReaderNames
+pub mod ReaderWalk
+pub mod ReaderAgreement
+pub mod ReaderLimits
+pub mod ReaderNameSets
+pub mod ReaderOrder
+pub mod ReaderSoundness
+pub mod ReaderProperWords

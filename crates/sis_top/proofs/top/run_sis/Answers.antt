@@ -1,0 +1,12 @@
+use Rattle.sis_top.proofs.Faithful.{writes}
+use Rattle.sis_top.proofs.Completing.{completes, is_refused}
+use Rattle.sis_top.proofs.top.run_sis.Goals as goal
+
+pub returns-clause-circuits : goal.returns-clause-circuits
+returns-clause-circuits g c = writes _ _ _ _ _
+
+pub returns-clause-refusal : goal.returns-clause-refusal
+returns-clause-refusal g c = λ st ot et. is_refused _ _ _ _ _ (c.run_words.ensures.ends st ot et)
+
+pub returns-clause-complete : goal.returns-clause-complete
+returns-clause-complete g c = λ st ot et. completes _ _ _ _ _ (c.run_words.ensures.ends st ot et)

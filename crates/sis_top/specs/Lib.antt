@@ -1,0 +1,13 @@
+pub mod Answers
+pub mod Causes
+pub mod Headline
+pub mod Keyword
+pub mod OrderedForm
+pub mod Outcome
+pub mod ReaderSteps
+pub mod Replies
+pub mod Run
+pub mod Running
+pub mod Script
+pub mod State
+pub mod Step

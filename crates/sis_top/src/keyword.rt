@@ -1,0 +1,13 @@
+//! What a logical line is, by its first word.
+
+/// The kinds of lines: the five dotted words that are known, rows, and every other dotted word.
+#[derive(Clone, Copy, Debug, PartialEq, Eq)]
+pub enum Keyword {
+    Model,
+    Inputs,
+    Outputs,
+    Names,
+    End,
+    Row,
+    Other,
+}

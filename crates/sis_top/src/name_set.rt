@@ -1,0 +1,58 @@
+//! Names in the order in which they came, looked up by their bytes. The bytes stay where they are: in the text
+//! that is read.
+
+ghost use Rattle.std.specs.Prelude.{◌≡◌, not, [], ◌∷◌, ◌++◌, IfOk, OnOk};
+ghost use Rattle.circuit_model.specs.Names.{has};
+ghost use Rattle.sis_top.specs.ReaderSteps.{texts, with_name};
+
+use indexmap::IndexSet;
+use std::alloc::{AllocError, Global};
+use std::marker::Model;
+
+/// Different names, which contracts see as the list of them in the order in which they came.
+#[derive(Drop)]
+pub struct NameSet<'a> {
+    names: IndexSet<&'a [u8]>,
+}
+
+impl<'a> Model for NameSet<'a> {
+    ghost use Rattle.std.specs.Prelude.{List, ℕ, map};
+
+    ghost Value = { List (List ℕ) };
+
+    ghost view = { λ set. map (λ name. name.now) set.names.keys };
+}
+
+impl<'a> NameSet<'a> {
+    /// The set without names; takes no memory.
+    pub fn new(alloc: Global) -> Self
+        ensures { result ≡ [] }
+    {
+        NameSet {
+            names: IndexSet::new(alloc),
+        }
+    }
+
+    /// Whether a name is in the set.
+    pub fn holds(&self, name: &[u8]) -> bool
+        ensures { result ≡ has self.now name.now }
+    {
+        self.names.contains(name)
+    }
+
+    /// Puts a name behind the last where it is not in the set yet, and says whether it did; an error only for
+    /// want of memory.
+    pub fn add(&mut self, name: &'a [u8]) -> Result<bool, AllocError>
+        ensures added { IfOk result (λ added. added ≡ not (has self.old name.now)) }
+        ensures names { OnOk result (self.new ≡ with_name self.old name.now) }
+    {
+        Ok(self.names.insert(name)?)
+    }
+
+    /// The names, in the order in which they came; takes no memory.
+    pub fn as_words(&self) -> &[&'a [u8]]
+        ensures { texts result.now ≡ self.now }
+    {
+        self.names.as_slice()
+    }
+}

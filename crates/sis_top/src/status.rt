@@ -1,0 +1,34 @@
+//! How a call of the program ended.
+
+ghost use Rattle.std.specs.Prelude.{◌≡◌};
+ghost use Rattle.sis_top.specs.Headline.{code_of};
+
+/// The answer of the top call.
+#[derive(Clone, Copy, Debug, PartialEq, Eq)]
+pub enum Status {
+    /// Every command was done.
+    Done,
+    /// A command was refused, or the script is too long.
+    Refused,
+    /// The words of the command line are not taken.
+    Usage,
+    /// A load, a save or a put failed.
+    Fault,
+    /// Memory was wanting.
+    Memory,
+}
+
+impl Status {
+    /// The exit status of the program, from 0 for done to 4 for want of memory.
+    pub fn code(self) -> u8
+        ensures { result ≡ code_of self }
+    {
+        match self {
+            Status::Done => 0,
+            Status::Refused => 1,
+            Status::Usage => 2,
+            Status::Fault => 3,
+            Status::Memory => 4,
+        }
+    }
+}

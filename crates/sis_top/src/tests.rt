@@ -1,0 +1,247 @@
+use crate::{Status, Word, run_sis};
+use sis_outside::{MemSink, MemSource, MemStore};
+use std::alloc::Global;
+use std::process::Abort;
+use std::test::Fail;
+
+/// Which call of an object fails, and after how many bytes.
+#[derive(Clone, Copy)]
+enum Failing {
+    Nothing,
+    Store(u8, u8),
+    Out(u8, u8),
+    Err(u8, u8),
+}
+
+/// A call of the program over a few files, and what it must leave.
+#[derive(Drop)]
+struct Case<'a> {
+    words: &'a [&'a str],
+    failing: Failing,
+    status: Status,
+    out: &'a [u8],
+    err: &'a [u8],
+    written: Option<&'a [u8]>,
+}
+
+const PASS: &[u8] = b".model a\n.inputs x\n.outputs x\n.end\n";
+
+/// The files of all cases.
+const FILES: [(&str, &[u8]); 6] = [
+    ("a", PASS),
+    (
+        "f",
+        b".model t\n.outputs q\n.latch n q 0\n.names q n\n0 1\n",
+    ),
+    ("j", b".model m\n.outputs j\n.names j"),
+    (
+        "n",
+        b".model m # nand\n.inputs a \\\nb\n.outputs y\n.names a b y\n11 0\n.end\n",
+    ),
+    ("u", b".inputs a\n.outputs y z\n.names a y\n1 1\n"),
+    ("r", b".inputs a b\n.outputs y\n.names a b y\n1\n"),
+];
+
+fn words_of(alloc: Global, texts: &[&str]) -> Result<Vec<Word>, Fail> {
+    let mut words = Vec::new(alloc);
+    for text in texts {
+        words.push(Word::new(alloc, text)?)?;
+    }
+    Ok(words)
+}
+
+fn store_of(alloc: Global) -> Result<MemStore, Fail> {
+    let mut store = MemStore::new(alloc);
+    for (name, bytes) in FILES {
+        store.put_file(name, bytes)?;
+    }
+    Ok(store)
+}
+
+/// Runs the cases; each must leave just what it says, the file `b` among it.
+fn run_cases<R: Abort + AllocGlobal>(rt: &R, cases: &[Case<'_>]) -> Result<(), Fail> {
+    let alloc = rt.alloc();
+    for case in cases {
+        let words = words_of(alloc, case.words)?;
+        let mut store = store_of(alloc)?;
+        let mut input = MemSource::new(alloc, b"")?;
+        let mut out = MemSink::new(alloc);
+        let mut err = MemSink::new(alloc);
+        match case.failing {
+            Failing::Nothing => {}
+            Failing::Store(call, passes) => store.fail_at(usize::from(call), usize::from(passes))?,
+            Failing::Out(call, passes) => out.fail_at(usize::from(call), usize::from(passes))?,
+            Failing::Err(call, passes) => err.fail_at(usize::from(call), usize::from(passes))?,
+        }
+        let status = run_sis(
+            alloc,
+            words.as_slice(),
+            &mut store,
+            &mut input,
+            &mut out,
+            &mut err,
+        );
+        assert_eq!(rt; status, case.status);
+        assert_eq!(rt; out.written(), case.out);
+        assert_eq!(rt; err.written(), case.err);
+        assert_eq!(rt; store.file("b"), case.written);
+        assert_eq!(rt; store.file("a"), Some(PASS));
+    }
+    Ok(())
+}
+
+#[test]
+fn commands_are_done(rt: HostRuntime) -> Result<(), Fail> {
+    let done = |words, out, written| Case {
+        words,
+        failing: Failing::Nothing,
+        status: Status::Done,
+        out,
+        err: b"",
+        written,
+    };
+    run_cases(
+        &rt,
+        &[
+            done(
+                &["-c", "read_blif a; print_stats; write_blif"],
+                b"a pi=1 po=1 nodes=0 latches=0 lits=0 dc=0\n.model a\n.inputs x\n.outputs x\n.end\n",
+                None,
+            ),
+            done(&["-c", ""], b"", None),
+            done(&["-c", " ;; # read_blif ?\n\n"], b"", None),
+            done(
+                &["-c", "read_blif j;write_blif b"],
+                b"",
+                Some(b".model m\n.inputs\n.outputs j\n.names j\n.end\n"),
+            ),
+            done(
+                &[
+                    "-c",
+                    "read_blif a\nread_blif n # again\nprint_stats;write_blif b",
+                ],
+                b"m pi=2 po=1 nodes=1 latches=0 lits=2 dc=0\n",
+                Some(b".model m\n.inputs a b\n.outputs y\n.names a b y\n11 0\n.end\n"),
+            ),
+        ],
+    )
+}
+
+#[test]
+fn commands_are_refused(rt: HostRuntime) -> Result<(), Fail> {
+    let refused = |words, err| Case {
+        words,
+        failing: Failing::Nothing,
+        status: Status::Refused,
+        out: b"",
+        err,
+        written: None,
+    };
+    run_cases(
+        &rt,
+        &[
+            refused(
+                &["-c", "read_blif f"],
+                b"sis: line 1: f: line 3: unknown word\n",
+            ),
+            refused(&["-c", "read_blif x"], b"sis: line 1: no file x\n"),
+            refused(&["-c", "print_stats"], b"sis: line 1: no network\n"),
+            refused(
+                &["-c", "\n write_blif b; read_blif a"],
+                b"sis: line 2: no network\n",
+            ),
+            refused(&["-c", "frob"], b"sis: line 1: unknown command\n"),
+            refused(&["-c", "read_blif a b"], b"sis: line 1: unknown command\n"),
+            refused(&["-c", "read_blif -x"], b"sis: line 1: unknown command\n"),
+            refused(&["-c", "read_blif u"], b"sis: line 1: u: undriven z\n"),
+            refused(
+                &["-c", "read_blif r; write_blif b"],
+                b"sis: line 1: r: line 4: unknown word\n",
+            ),
+        ],
+    )
+}
+
+#[test]
+fn faults_and_words(rt: HostRuntime) -> Result<(), Fail> {
+    let ended = |words, failing, status, out, err, written| Case {
+        words,
+        failing,
+        status,
+        out,
+        err,
+        written,
+    };
+    let usage = b"sis: usage: sis [-k] [-f FILE | -c TEXT]\n".as_slice();
+    run_cases(
+        &rt,
+        &[
+            ended(
+                &["-c", "read_blif a; write_blif b"],
+                Failing::Store(1, 7),
+                Status::Fault,
+                b"",
+                b"sis: line 1: store failed\n",
+                Some(b".model "),
+            ),
+            ended(
+                &["-c", "read_blif a; print_stats"],
+                Failing::Store(0, 0),
+                Status::Fault,
+                b"",
+                b"sis: line 1: store failed\n",
+                None,
+            ),
+            ended(
+                &["-c", "read_blif a;\nprint_stats; print_stats"],
+                Failing::Out(1, 2),
+                Status::Fault,
+                b"a pi=1 po=1 nodes=0 latches=0 lits=0 dc=0\na ",
+                b"sis: line 2: output failed\n",
+                None,
+            ),
+            ended(
+                &["-c", "frob; read_blif a"],
+                Failing::Err(0, 5),
+                Status::Fault,
+                b"",
+                b"sis: sis: line 1: output failed\n",
+                None,
+            ),
+            ended(
+                &["-f", "s", "-c", "t"],
+                Failing::Nothing,
+                Status::Usage,
+                b"",
+                usage,
+                None,
+            ),
+            ended(
+                &["-f", "s", "-c", "t"],
+                Failing::Err(0, 5),
+                Status::Usage,
+                b"",
+                b"sis: ",
+                None,
+            ),
+            ended(&[], Failing::Nothing, Status::Usage, b"", usage, None),
+            ended(&["-c"], Failing::Nothing, Status::Usage, b"", usage, None),
+            ended(
+                &["-c", "-x"],
+                Failing::Nothing,
+                Status::Usage,
+                b"",
+                usage,
+                None,
+            ),
+            ended(
+                &["-k", "-c"],
+                Failing::Nothing,
+                Status::Usage,
+                b"",
+                usage,
+                None,
+            ),
+        ],
+    )
+}
