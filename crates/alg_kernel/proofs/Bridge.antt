@@ -1,16 +1,16 @@
 -- The search's kernels of the rising rows are the kernels of the sum.
-use Rattle.std.proofs.Common.{◌≡◌, ℕ, ◌+◌, ◌<◌, ◌≤◌, zero, suc, Bool, true, false, ◌&&◌, if◌then◌else◌, Option, Some, None, List, [], ◌∷◌, length, get_or, refl, sym, ap, ◌∙◌, subst, arith, inl, inr, ◌⊎◌, ◌↔◌, true≢false, Ordering, Less, Equal, Greater}
+use Rattle.std.proofs.Common.{◌≡◌, ℕ, ◌<◌, ◌≤◌, Bool, true, false, if◌then◌else◌, Option, Some, None, List, [], ◌∷◌, length, get_or, refl, sym, ap, ◌∙◌, subst, arith, inl, inr, ◌⊎◌, ◌↔◌, Ordering, Equal}
 use Rattle.std.specs.Ordering.{bool_cmp, ordering_then}
 use Rattle.std.specs.Option.{option_cmp}
 use Rattle.std.specs.Cmp.Lexicographic.{slice_cmp}
 use Rattle.sis_base.specs.Rows.{HasWidth}
 use Rattle.alg_div.specs.Cubes.{Has, times_at, times}
 use Rattle.alg_div.specs.Steps.{without, strip}
-use Rattle.alg_div.specs.Quotient.{IsApart, IsTerm}
+use Rattle.alg_div.specs.Quotient.{IsTerm}
 use Rattle.alg_div.proofs.Cubes.{times_none, get_or-times, length-times, get_or-strip, length-strip, ext}
 use Rattle.alg_div.proofs.Terms.{width-has, width-from}
-use Rattle.alg_kernel.specs.Kernels.{row_cmp, rows_cmp, Ascends, NoCommon, IsKernel, AreKernels, MoreKernels}
-use Rattle.alg_kernel.specs.Search.{alike, within, holds, over, IsFound, limit, AreFound, MoreFound, AreSame}
+use Rattle.alg_kernel.specs.Kernels.{row_cmp, rows_cmp, Ascends, IsKernel, AreKernels, MoreKernels}
+use Rattle.alg_kernel.specs.Search.{alike, holds, over, IsFound, limit, AreFound, MoreFound, AreSame}
 use Rattle.alg_kernel.proofs.Orders.{row_total, rows_total, same-ascending, fewer-ascending}
 use Rattle.alg_kernel.proofs.Parts.{and_left, and_right, alike-is, holds-at, holds-from, Has-over, over-has, over-width}
 use Rattle.alg_kernel.proofs.Found.{none-found}

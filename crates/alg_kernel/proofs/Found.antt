@@ -1,15 +1,14 @@
 -- A search that explores each kernel has found them all, and finds nothing else.
-use Rattle.std.proofs.Common.{◌≡◌, ℕ, ◌+◌, ◌<◌, ◌≤◌, zero, suc, Bool, true, false, ◌&&◌, if◌then◌else◌, Option, Some, None, List, [], ◌∷◌, ◌++◌, length, get_or, map, refl, sym, ap, ◌∙◌, subst, arith, inl, inr, ◌⊎◌, ◌↔◌, true≢false}
+use Rattle.std.proofs.Common.{◌≡◌, ℕ, ◌+◌, ◌<◌, ◌≤◌, zero, suc, Bool, true, false, if◌then◌else◌, Option, Some, None, List, [], ◌∷◌, length, get_or, refl, sym, ap, ◌∙◌, subst, arith, inl, inr, ◌⊎◌}
 use Rattle.std.proofs.lemmas.List.{length-map}
 use Rattle.sis_base.specs.Rows.{HasWidth}
 use Rattle.alg_div.specs.Cubes.{Has, times_at, times}
 use Rattle.alg_div.specs.Steps.{without, strip}
-use Rattle.alg_div.specs.Quotient.{IsApart, IsTerm}
-use Rattle.alg_div.proofs.Cubes.{times_none, get_or-times, length-times, get_or-strip, length-strip, ext}
-use Rattle.alg_div.proofs.Terms.{width-has, width-from}
+use Rattle.alg_div.proofs.Cubes.{get_or-times, length-times, get_or-strip, length-strip, ext}
+use Rattle.alg_div.proofs.Terms.{width-has}
 use Rattle.alg_kernel.specs.Kernels.{NoCommon}
 use Rattle.alg_kernel.specs.Search.{alike, holds, over, holding, common, IsFree, IsFound, kernel_at, IsExplored}
-use Rattle.alg_kernel.proofs.Parts.{is-alike, holds-at, holds-from, Has-over, over-has, over-width, Has-holding, holding-has, common-at, common-all, common-length, kernel-rows, start-rows, free-of-common, AreApart, over-over}
+use Rattle.alg_kernel.proofs.Parts.{is-alike, holds-at, holds-from, Has-over, over-width, Has-holding, holding-has, common-at, common-all, common-length, kernel-rows, start-rows, free-of-common, AreApart, over-over}
 
 some_none : (b : Bool) (x : Option Bool) → x ≡ Some b → x ≡ None → ⊥
 some_none b x h k = cc

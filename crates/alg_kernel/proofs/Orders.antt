@@ -1,14 +1,13 @@
 -- Rising lists: what one has, how it grows, and that two of the same elements are one.
-use Rattle.std.proofs.Common.{◌≡◌, ℕ, ◌+◌, ◌<◌, ◌≤◌, zero, suc, Bool, true, false, Option, Some, None, List, [], ◌∷◌, ◌++◌, length, get_or, take, drop, map, refl, sym, ap, ◌∙◌, subst, arith, inl, inr, ◌⊎◌, Ordering, Less, Equal, Greater}
+use Rattle.std.proofs.Common.{◌≡◌, ℕ, ◌≤◌, zero, suc, Bool, true, false, Option, Some, None, List, [], ◌∷◌, ◌++◌, length, take, drop, refl, sym, ◌∙◌, subst, arith, inl, inr, ◌⊎◌, Ordering, Less, Equal, Greater}
 use Rattle.std.specs.Cmp.{IsTotalOrder, bool_cmp_total}
 use Rattle.std.specs.Cmp.Lexicographic.{options_total, lists_total}
 use Rattle.std.specs.Ordering.{bool_cmp, ordering_then}
 use Rattle.std.specs.Option.{option_cmp}
 use Rattle.std.specs.Cmp.Lexicographic.{slice_cmp}
-use Rattle.std.specs.List.{insert}
 use Rattle.std.proofs.lemmas.Cmp.{tied_itself}
 use Rattle.alg_div.specs.Cubes.{Has}
-use Rattle.alg_div.proofs.Lists.{Has-left, Has-right, Has-append}
+use Rattle.alg_div.proofs.Lists.{Has-append}
 use Rattle.alg_kernel.specs.Kernels.{row_cmp, rows_cmp, Ascends}
 
 pub row_total : IsTotalOrder row_cmp

@@ -1,17 +1,12 @@
 -- The rows that have a cube, without it; what rows share; and how one such step follows another.
-use Rattle.std.proofs.Common.{◌≡◌, ℕ, ◌+◌, ◌<◌, ◌≤◌, zero, suc, Bool, true, false, not, ◌&&◌, if◌then◌else◌, Option, Some, None, List, [], ◌∷◌, ◌++◌, length, get_or, take, drop, map, refl, sym, ap, ◌∙◌, subst, arith, inl, inr, ◌⊎◌, ◌↔◌, true≢false, Ordering, Less, Equal, Greater}
-use Rattle.std.specs.Ordering.{bool_cmp, ordering_then}
-use Rattle.std.specs.Option.{option_cmp}
-use Rattle.std.specs.Cmp.Lexicographic.{slice_cmp}
+use Rattle.std.proofs.Common.{◌≡◌, ℕ, ◌<◌, ◌≤◌, zero, suc, Bool, true, false, ◌&&◌, if◌then◌else◌, Option, Some, None, List, [], ◌∷◌, ◌++◌, length, get_or, take, drop, map, refl, sym, ap, ◌∙◌, arith, inl, inr, ◌⊎◌, true≢false}
 use Rattle.sis_base.specs.Rows.{HasWidth}
 use Rattle.alg_div.specs.Cubes.{Has, times_at, times}
 use Rattle.alg_div.specs.Steps.{without, strip}
-use Rattle.alg_div.specs.Quotient.{IsApart, IsTerm}
-use Rattle.alg_div.proofs.Lists.{bool_cases}
-use Rattle.alg_div.proofs.Cubes.{times_none, get_or-times, length-times, get_or-strip, length-strip, ext}
+use Rattle.alg_div.proofs.Cubes.{get_or-times, get_or-strip, length-strip, ext}
 use Rattle.alg_div.proofs.Terms.{width-has, width-from}
-use Rattle.alg_kernel.specs.Kernels.{row_cmp, Ascends, NoCommon}
-use Rattle.alg_kernel.specs.Search.{alike, within, holds, over, holding, both, both_rows, common_from, common, IsFree, kernel_at}
+use Rattle.alg_kernel.specs.Kernels.{NoCommon}
+use Rattle.alg_kernel.specs.Search.{alike, within, holds, over, holding, both, both_rows, common_from, common, kernel_at}
 
 some_none : (b : Bool) (x : Option Bool) → x ≡ Some b → x ≡ None → ⊥
 some_none b x h k = cc

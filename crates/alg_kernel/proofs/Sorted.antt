@@ -1,15 +1,13 @@
 -- What sorting and `dedup` leave of rows: the same rows, rising.
-use Rattle.std.proofs.Common.{◌≡◌, ℕ, ◌+◌, ◌<◌, ◌≤◌, zero, suc, Bool, true, false, Option, List, [], ◌∷◌, length, get_or, map, refl, sym, ap, ◌∙◌, subst, arith, inl, inr, ◌⊎◌, ◌↔◌, true≢false, Ordering, Less, Equal, Greater, is_eq}
+use Rattle.std.proofs.Common.{◌≡◌, suc, Bool, true, Option, List, [], ◌∷◌, map, refl, sym, ap, ◌∙◌, subst, arith, inl, inr, true≢false, Ordering, Less, Equal, Greater, is_eq}
 use Rattle.std.specs.Cmp.{IsEquivalence}
-use Rattle.std.specs.List.{dedup, AllByRecursion, Contains, Any}
+use Rattle.std.specs.List.{dedup, AllByRecursion, Contains}
 use Rattle.std.specs.List.Sorted.{IsPermutation, IsStrictlySortedBy, IsSorted}
 use Rattle.std.specs.Ordering.{eq_by_cmp}
 use Rattle.std.proofs.lemmas.Cmp.{tied_itself, on_total}
 use Rattle.std.proofs.lemmas.List.Sorted.{Contains-permutation, IsPermutation-sym}
 use Rattle.std.proofs.lemmas.List.Kept.{Any-dedup, Contains-from_dedup, IsStrictlySortedBy-dedup}
-use Rattle.std.specs.declared.vec.Vec.{Vec}
 use Rattle.alg_div.specs.Cubes.{Has, row_eq}
-use Rattle.alg_div.specs.Steps.{literals_in}
 use Rattle.alg_div.proofs.Lists.{Has-at, same_from_eq, eq_from_same}
 use Rattle.alg_kernel.specs.Kernels.{row_cmp, Ascends}
 use Rattle.alg_kernel.specs.Search.{AreSame}

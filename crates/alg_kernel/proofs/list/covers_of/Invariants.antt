@@ -1,4 +1,4 @@
-use Rattle.std.proofs.Common.{◌≡◌, List, take}
+use Rattle.std.proofs.Common.{◌≡◌, take}
 use Rattle.cube_cover.specs.Covers.{Shape}
 use Rattle.alg_div.specs.Cubes.{Has}
 use Rattle.alg_kernel.specs.Kernels.{rows_in}

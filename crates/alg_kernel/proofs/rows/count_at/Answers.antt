@@ -1,10 +1,9 @@
-use Rattle.std.proofs.Common.{◌≡◌, ℕ, ◌+◌, ◌<◌, Option, Bool, None, List, ◌∷◌, drop, length, get_or, append_assoc, Vec, Global, ◌++◌, [], ap, sym, ◌∙◌, arith}
+use Rattle.std.proofs.Common.{◌≡◌, ◌+◌, Option, Bool, None, List, ◌∷◌, drop, length, get_or, ap, sym, ◌∙◌, arith}
 use Rattle.cube_cover.proofs.Points.{width_read}
 use Rattle.alg_div.specs.Steps.{literals_in}
 use Rattle.alg_div.proofs.Lists.{map-drop}
 use Rattle.alg_kernel.specs.Search.{alike, holding}
 use Rattle.alg_kernel.proofs.Parts.{holding-yes, holding-not}
-use Rattle.std.proofs.lemmas.List.{map_push}
 use Rattle.alg_kernel.proofs.rows.count_at.Goals as goal
 use Rattle.alg_kernel.proofs.rows.count_at.Goals.{then-has_literal, else-has_literal}
 

@@ -1,6 +1,5 @@
-use Rattle.std.proofs.Common.{◌≡◌, ℕ, ◌+◌, ◌<◌, Option, Bool, None, List, length, ap, sym, ◌∙◌, arith}
+use Rattle.std.proofs.Common.{◌≡◌, length, ap, sym, ◌∙◌, arith}
 use Rattle.cube_cover.proofs.Points.{width_read}
-use Rattle.sis_base.specs.Rows.{HasWidth}
 use Rattle.alg_div.specs.Steps.{literals_in}
 use Rattle.std.proofs.lemmas.List.{length-map}
 use Rattle.alg_kernel.proofs.Parts.{common-wide}

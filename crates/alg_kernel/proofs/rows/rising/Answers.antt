@@ -1,4 +1,4 @@
-use Rattle.std.proofs.Common.{◌≡◌, List, Vec, Option, Bool, Global, subst, sym, ap, map}
+use Rattle.std.proofs.Common.{◌≡◌, List, Vec, Option, Bool, Global, subst, sym}
 use Rattle.std.specs.List.{dedup}
 use Rattle.std.proofs.lemmas.List.Filters.{dedup_is}
 use Rattle.alg_div.specs.Cubes.{row_eq}

@@ -1,4 +1,4 @@
-use Rattle.std.proofs.Common.{◌≡◌, ℕ, ◌+◌, ◌<◌, Option, Bool, None, List, ◌∷◌, drop, length, get_or, append_assoc, Vec, Global, ◌++◌, [], ap, sym, ◌∙◌, arith}
+use Rattle.std.proofs.Common.{◌≡◌, ◌+◌, Option, Bool, None, List, ◌∷◌, drop, length, get_or, append_assoc, Vec, Global, ◌++◌, [], ap, sym, ◌∙◌, arith}
 use Rattle.cube_cover.proofs.Points.{width_read}
 use Rattle.alg_div.specs.Steps.{literals_in}
 use Rattle.alg_div.proofs.Lists.{map-drop}

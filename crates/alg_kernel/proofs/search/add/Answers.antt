@@ -1,4 +1,4 @@
-use Rattle.std.proofs.Common.{◌≡◌, List, Option, Bool, Vec, Global, ◌++◌, ◌∷◌, [], map, ap, sym, ◌∙◌}
+use Rattle.std.proofs.Common.{List, Option, Bool, ◌++◌, ◌∷◌, [], ap, ◌∙◌}
 use Rattle.std.proofs.lemmas.List.{map_push}
 use Rattle.alg_div.specs.Steps.{literals_in}
 use Rattle.alg_kernel.specs.Search.{kernels_in}

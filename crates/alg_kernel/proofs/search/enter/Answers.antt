@@ -1,4 +1,4 @@
-use Rattle.std.proofs.Common.{◌≡◌, List, Option, Bool, Vec, Global, subst, sym, ap}
+use Rattle.std.proofs.Common.{◌≡◌, List, Option, Bool, Vec, Global, subst}
 use Rattle.alg_div.specs.Cubes.{Has}
 use Rattle.alg_div.specs.Steps.{literals_in}
 use Rattle.alg_kernel.specs.Search.{kernels_in, IsBetween}

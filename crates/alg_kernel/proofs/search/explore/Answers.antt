@@ -1,8 +1,8 @@
-use Rattle.std.proofs.Common.{◌≡◌, ◌≤◌, ◌<◌, List, Option, Bool, Err, length, subst, sym, ap, ◌∙◌, arith}
+use Rattle.std.proofs.Common.{◌≤◌, List, Option, Bool, length, arith}
 use Rattle.std.proofs.lemmas.Result.{err_from_is_err_and}
 use Rattle.alg_div.specs.Cubes.{Has}
 use Rattle.alg_div.specs.Steps.{literals_in}
-use Rattle.alg_kernel.specs.Search.{kernels_in, holding, kernel_at, IsStep, IsMore}
+use Rattle.alg_kernel.specs.Search.{kernels_in, holding, kernel_at, IsStep}
 use Rattle.alg_kernel.proofs.Faults.{ok-no-fault, fault-as}
 use Rattle.alg_kernel.proofs.Searches.{more-none, more-trans, many-more, explored-all, explored-more, both-bits}
 use Rattle.alg_kernel.proofs.search.explore.Goals as goal

@@ -1,9 +1,8 @@
-use Rattle.std.proofs.Common.{◌≡◌, ℕ, ◌+◌, ◌-◌, ◌*◌, ◌<◌, ◌≤◌, Bool, Option, Some, None, List, [], ◌∷◌, ◌++◌, map, length, ap, sym, subst, refl, ◌∙◌, arith, Vec, Global, vec_len}
+use Rattle.std.proofs.Common.{◌≡◌, ◌+◌, ◌-◌, ◌*◌, ◌<◌, ◌≤◌, Bool, Option, List, [], ◌∷◌, ◌++◌, length, ap, sym, subst, ◌∙◌, arith, Vec, Global, vec_len}
 use Rattle.std.proofs.lemmas.List.{length-map, map_push, length-append, length-take}
 use Rattle.std.proofs.lemmas.Result.{err_from_is_err_and}
-use Rattle.sis_base.specs.Rows.{HasWidth}
 use Rattle.alg_div.specs.Cubes.{Has}
-use Rattle.alg_div.specs.Steps.{strip, literals_in}
+use Rattle.alg_div.specs.Steps.{literals_in}
 use Rattle.alg_kernel.specs.Kernels.{rows_cmp, Ascends}
 use Rattle.alg_kernel.specs.Search.{kernels_in, over, common, limit, IsMore, IsSearch, TooMany}
 use Rattle.alg_kernel.proofs.Faults.{ok-no-fault, memory-no-limit, fault-as}

@@ -1,4 +1,4 @@
-use Rattle.std.proofs.Common.{◌≡◌, ◌≤◌, List, Option, Some, None, Bool, Vec, Global, length, subst, sym, ap, ◌∙◌, arith, option_map}
+use Rattle.std.proofs.Common.{◌≡◌, ◌≤◌, List, Option, Some, None, Bool, Vec, Global, length, subst, ◌∙◌, arith, option_map}
 use Rattle.std.proofs.lemmas.Result.{err_from_is_err_and}
 use Rattle.alg_div.specs.Cubes.{Has}
 use Rattle.alg_div.specs.Steps.{literals_in}
