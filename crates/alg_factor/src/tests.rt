@@ -32,9 +32,7 @@ fn cover_of<R: Row>(alloc: Global, width: usize, text: &[u8]) -> Result<Cover<R>
     let mut place: usize = 0;
     for byte in text {
         if *byte == b'/' {
-            if row.width() == cover.width() {
-                cover.push(row)?;
-            }
+            push_fitting(&mut cover, row)?;
             row = R::dashes(alloc, width)?;
             place = 0;
         } else if place < row.width() {
@@ -208,23 +206,33 @@ fn worked_forms(rt: HostRuntime) -> Result<(), Fail> {
     Ok(())
 }
 
+// A copy of a row with a positive literal more.
+fn with_positive<R: Row>(alloc: Global, row: &R, place: usize) -> Result<R, AllocError> {
+    let mut made = row.copy(alloc)?;
+    if place < made.width() {
+        made.set(place, Some(true));
+    }
+    Ok(made)
+}
+
+// Puts a row behind a cover, if it is of its width.
+fn push_fitting<R: Row>(cover: &mut Cover<R>, row: R) -> Result<(), AllocError> {
+    if row.width() == cover.width() {
+        cover.push(row)?;
+    }
+    Ok(())
+}
+
 // The cover of a product of sums of two inputs each, multiplied out.
-fn product_of_sums<R: Row>(alloc: Global, sums: usize) -> Result<Cover<R>, AllocError>
-    requires { sums < 1000 }
-{
+fn product_of_sums<R: Row>(alloc: Global, number: u8) -> Result<Cover<R>, AllocError> {
+    let sums = number as usize;
     let mut product = Cover::new(alloc, 2 * sums);
-    product.push(R::dashes(alloc, 2 * sums)?)?;
+    push_fitting(&mut product, R::dashes(alloc, 2 * sums)?)?;
     for sum in 0..sums {
         let mut more = Cover::new(alloc, 2 * sums);
         for row in product.rows() {
-            let mut first = row.copy(alloc)?;
-            let mut second = row.copy(alloc)?;
-            if first.width() == 2 * sums && second.width() == 2 * sums {
-                first.set(2 * sum, Some(true));
-                second.set(2 * sum + 1, Some(true));
-                more.push(first)?;
-                more.push(second)?;
-            }
+            push_fitting(&mut more, with_positive(alloc, row, 2 * sum)?)?;
+            push_fitting(&mut more, with_positive(alloc, row, 2 * sum + 1)?)?;
         }
         product = more;
     }
