@@ -89,3 +89,29 @@ impl<R: Files> Store for RealStore<'_, R> {
         Err(SaveFault::Failed)
     }
 }
+
+#[cfg(test)]
+mod tests {
+    use super::*;
+    use std::test::Fail;
+
+    #[test]
+    fn files_are_saved_and_loaded(rt: HostRuntime) -> Result<(), Fail> {
+        let alloc = rt.alloc();
+        let mut store = RealStore::new(&rt);
+        store.save("kept", b"12345")?;
+        store.save("kept", b"abc")?;
+        assert_eq!(rt; store.load(alloc, "kept", 3)?.as_slice(), b"abc".as_slice());
+        assert_eq!(rt;
+            store.load(alloc, "kept", 2).err(),
+            Some(LoadFault::TooLong(3))
+        );
+        assert_eq!(rt;
+            store.load(alloc, "none", 9).err(),
+            Some(LoadFault::Missing)
+        );
+        assert_eq!(rt; store.save("no/folder", b"x"), Err(SaveFault::Failed));
+        assert_eq!(rt; (store.faults, store.misses), (1, 1));
+        Ok(())
+    }
+}

@@ -87,3 +87,30 @@ pub fn write_whole<W: Write>(writer: &mut W, piece: &[u8]) -> bool {
     }
     true
 }
+
+#[cfg(test)]
+mod tests {
+    use super::*;
+    use std::test::Fail;
+
+    #[test]
+    fn a_reader_is_taken_piece_by_piece(rt: HostRuntime) -> Result<(), Fail> {
+        let alloc = rt.alloc();
+        let mut source = StdSource::new(b"abc".as_slice());
+        assert_eq!(rt; source.take(alloc, 2)?.as_slice(), b"ab".as_slice());
+        assert_eq!(rt; source.take(alloc, 9)?.as_slice(), b"c".as_slice());
+        assert_eq!(rt; source.take(alloc, 9)?.as_slice(), b"".as_slice());
+        assert_eq!(rt; source.faults, 0);
+        Ok(())
+    }
+
+    #[test]
+    fn a_writer_takes_whole_pieces(rt: HostRuntime) -> Result<(), Fail> {
+        let mut sink = StdSink::new(Vec::new(rt.alloc()));
+        sink.put(b"ab")?;
+        sink.put(b"c")?;
+        assert_eq!(rt; sink.writer.as_slice(), b"abc".as_slice());
+        assert_eq!(rt; sink.faults, 0);
+        Ok(())
+    }
+}
