@@ -1,6 +1,6 @@
 -- Products with a form behind them: one more at the end, and what they are together.
-use Rattle.std.proofs.Common.{◌≡◌, ℕ, ◌+◌, ◌<◌, ◌≤◌, Bool, Option, List, [], ◌∷◌, ◌++◌, length, map, refl, ap, subst, arith}
-use Rattle.cube_cover.specs.Places.{cover_literals, rows_with}
+use Rattle.std.proofs.Common.{◌≡◌, ℕ, ◌<◌, Bool, Option, List, [], ◌∷◌, ◌++◌, length, refl, ap, subst, arith}
+use Rattle.cube_cover.specs.Places.{cover_literals}
 use Rattle.alg_factor.specs.Forms.{Form, Split, with_literal, no_literal, IsChosen, NoneShared, IsFactored, Sum}
 use Rattle.alg_factor.specs.Shapes.{shape}
 use Rattle.alg_factor.specs.Chains.{chained}

@@ -1,8 +1,8 @@
 -- The best literal of a rank below a bound, as the bound grows.
-use Rattle.std.proofs.Common.{◌≡◌, ℕ, ◌+◌, ◌*◌, ◌<◌, ◌≤◌, zero, suc, Bool, true, false, ltb, if◌then◌else◌, Option, Some, None, List, [], ◌∷◌, length, get_or, refl, sym, ap, ◌∙◌, subst, arith, inl, inr, ◌⊎◌, MatchOption}
+use Rattle.std.proofs.Common.{◌≡◌, ℕ, ◌+◌, ◌*◌, ◌<◌, ◌≤◌, zero, suc, Bool, true, false, ltb, if◌then◌else◌, Option, Some, None, List, [], ◌∷◌, length, get_or, refl, arith, inl, inr, ◌⊎◌, MatchOption}
 use Rattle.std.proofs.lemmas.Bool.{ltb-true, ltb-false}
 use Rattle.sis_base.specs.Rows.{HasWidth}
-use Rattle.cube_cover.specs.Places.{literal_count, rows_with}
+use Rattle.cube_cover.specs.Places.{rows_with}
 use Rattle.alg_factor.specs.Forms.{Form, Sum, Split, rank, IsChosen, NoneShared, IsFactored, IsOver, with_literal, no_literal}
 use Rattle.alg_factor.specs.Choices.{IsBestOf, IsBest, greater}
 use Rattle.alg_factor.specs.declared.choice.Best.{Best}

@@ -1,5 +1,5 @@
 -- The rows of a form multiplied out are of the form's width.
-use Rattle.std.proofs.Common.{◌≡◌, ℕ, ◌<◌, Bool, Option, Some, List, [], ◌∷◌, ◌++◌, length, set, ◌∙◌, ◌+◌, ap, subst}
+use Rattle.std.proofs.Common.{◌≡◌, ℕ, ◌<◌, Bool, Option, Some, List, [], ◌∷◌, ◌++◌, ◌∙◌, ◌+◌, ap, subst}
 use Rattle.std.proofs.lemmas.List.{length-set}
 use Rattle.sis_base.specs.Rows.{HasWidth}
 use Rattle.cube_cover.proofs.Points.{HasWidth-append}

@@ -1,11 +1,11 @@
 -- What holds of each factored form: it expands to the rows, saves literals just where one is shared, and is the only one.
-use Rattle.std.proofs.Common.{◌≡◌, ℕ, ◌+◌, ◌*◌, ◌<◌, ◌≤◌, zero, suc, Bool, true, false, not, if◌then◌else◌, Option, Some, None, List, [], ◌∷◌, ◌++◌, length, get_or, set, map, refl, sym, ap, ◌∙◌, subst, arith, ◌↔◌, inl, inr, ◌⊎◌}
-use Rattle.std.proofs.lemmas.List.{set-get_or, length-set}
+use Rattle.std.proofs.Common.{◌≡◌, ℕ, ◌+◌, ◌<◌, ◌≤◌, zero, suc, Bool, true, false, if◌then◌else◌, Option, Some, None, List, [], ◌∷◌, ◌++◌, get_or, set, refl, sym, ap, ◌∙◌, arith, ◌↔◌}
+use Rattle.std.proofs.lemmas.List.{length-set}
 use Rattle.std.specs.List.Sorted.{IsPermutation}
 use Rattle.std.proofs.lemmas.List.Sorted.{IsPermutation-refl, IsPermutation-trans, IsPermutation-append, IsPermutation-map, IsPermutation-middle, IsPermutation-sym}
 use Rattle.sis_base.specs.Rows.{HasWidth}
 use Rattle.cube_cover.specs.Places.{place_literals, row_literals, cover_literals, literal_count, rows_with}
-use Rattle.alg_factor.specs.Forms.{Form, Sum, Split, is_literal, with_literal, no_literal, rank, IsChosen, NoneShared, SomeShared, IsFactored, put_literal, expanded, form_literals, IsOver}
+use Rattle.alg_factor.specs.Forms.{Form, Sum, Split, is_literal, with_literal, no_literal, rank, IsChosen, NoneShared, SomeShared, IsFactored, put_literal, expanded, form_literals}
 
 -- a literal counts once where it stands
 pub count_literal : (b : Bool) (x : Option Bool) → is_literal b x ≡ true → literal_count b x ≡ 1

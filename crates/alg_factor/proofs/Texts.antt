@@ -1,9 +1,9 @@
 -- A sum or a product as it is written, a text after the other.
-use Rattle.std.proofs.Common.{◌≡◌, ℕ, ◌+◌, Bool, true, false, not, ltb, if◌then◌else◌, Option, Some, None, List, [], ◌∷◌, ◌++◌, length, map, refl, sym, ap, ◌∙◌, append_assoc, arith, get_or, codes}
+use Rattle.std.proofs.Common.{◌≡◌, ℕ, Bool, true, false, not, ltb, if◌then◌else◌, List, [], ◌∷◌, ◌++◌, length, refl, sym, ap, ◌∙◌, append_assoc, arith, get_or, codes}
 use Rattle.std.proofs.lemmas.List.{append-nil, length-map}
 use Rattle.std.specs.List.{flat_map}
 use Rattle.alg_factor.specs.Forms.{Form, Sum, Split}
-use Rattle.alg_factor.specs.Texts.{joined, row_text, factor_text, sum_text, literal_text, summand_texts}
+use Rattle.alg_factor.specs.Texts.{row_text, factor_text, sum_text, literal_text, summand_texts}
 use Rattle.alg_factor.specs.Writing.{left_text, written_if, summands}
 
 -- one text more, after the sign if it is not the first

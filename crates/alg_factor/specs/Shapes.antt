@@ -1,6 +1,6 @@
 -- What the trees of the code stand for.
 -- Source: the project's own representation.
-use Rattle.std.specs.Prelude.{Bool, Option, List, [], ◌∷◌, map}
+use Rattle.std.specs.Prelude.{Bool, Option, List, map}
 use Rattle.alg_factor.specs.Forms.{Form, Sum, Split}
 use Rattle.alg_factor.specs.declared.form.Tree.{Tree, Rows, Term'}
 

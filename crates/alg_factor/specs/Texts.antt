@@ -1,7 +1,7 @@
 -- How a factored form is printed.
 -- Source: De Micheli, "Synthesis and Optimization of Digital Circuits", chapter 8 (factored forms); the signs `!`,
 -- `*` and `+` are those of the equations of SIS (report UCB/ERL M92/41).
-use Rattle.std.specs.Prelude.{ℕ, ◌+◌, ltb, Bool, true, false, if◌then◌else◌, Option, Some, None, List, [], ◌∷◌, ◌++◌, length, map, flat_map, slice_index_or, codes}
+use Rattle.std.specs.Prelude.{ℕ, ltb, Bool, true, false, if◌then◌else◌, Option, Some, None, List, [], ◌∷◌, ◌++◌, length, map, flat_map, slice_index_or, codes}
 use Rattle.alg_factor.specs.Forms.{Form, Sum, Split}
 
 -- texts with a sign between them, or a text for no texts

@@ -1,6 +1,6 @@
 -- A sum or a product as it is written, a text after the other.
 -- Source: the project's own order of writing.
-use Rattle.std.specs.Prelude.{ℕ, ◌+◌, Bool, true, false, if◌then◌else◌, List, [], ◌∷◌, ◌++◌, length, flat_map}
+use Rattle.std.specs.Prelude.{ℕ, ◌+◌, Bool, true, false, if◌then◌else◌, List, [], ◌++◌, length, flat_map}
 use Rattle.alg_factor.specs.Forms.{Form, Sum, Split}
 use Rattle.alg_factor.specs.Texts.{joined}
 

@@ -59,11 +59,6 @@ abbrev pub common : List (List (Option Bool)) → List (Option Bool)
 common [] = []
 common (row ∷ rows) = common_from row rows
 
--- the same with a cube found so far
-abbrev pub common_rest : Option (List (Option Bool)) → List (List (Option Bool)) → List (Option Bool)
-common_rest None rows = common rows
-common_rest (Some cube) rows = common_from cube rows
-
 -- two rows or more, and no common literal
 abbrev pub IsFree : List (List (Option Bool)) → Type 0
 IsFree k = (2 ≤ length k) × NoCommon k

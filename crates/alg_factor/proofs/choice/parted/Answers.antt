@@ -1,4 +1,4 @@
-use Rattle.std.proofs.Common.{◌≡◌, true, false, None, sym, ap, ◌∙◌, get_or, refl, map}
+use Rattle.std.proofs.Common.{◌≡◌, true, false, None, sym, ap, ◌∙◌, get_or}
 use Rattle.std.proofs.lemmas.List.{map_push}
 use Rattle.alg_factor.specs.Forms.{is_literal}
 use Rattle.alg_factor.proofs.Parts.{with_keep, with_skip, others_keep, others_skip}

@@ -1,6 +1,5 @@
-use Rattle.std.proofs.Common.{◌≡◌, ◌<◌, List, Bool, Option, map, ◌++◌, append_assoc, sym, ap, ◌∙◌, arith}
-use Rattle.sis_base.specs.Rows.{HasWidth}
-use Rattle.alg_factor.specs.Forms.{Split, IsOver, expanded}
+use Rattle.std.proofs.Common.{◌≡◌, map, ◌++◌, append_assoc, sym, ap, ◌∙◌, arith}
+use Rattle.alg_factor.specs.Forms.{Split, expanded}
 use Rattle.alg_factor.specs.Shapes.{shape}
 use Rattle.alg_factor.proofs.Expansions.{HasWidth-expanded, split-over, split-literals, split-expanded}
 use Rattle.alg_factor.proofs.expansion.+expanded_rows.Goals as goal

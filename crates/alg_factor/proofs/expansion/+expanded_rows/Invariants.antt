@@ -1,5 +1,4 @@
 use Rattle.std.proofs.Common.{◌≡◌, ◌++◌, ◌≤◌, map}
-use Rattle.sis_base.specs.Rows.{HasWidth}
 use Rattle.alg_factor.specs.Forms.{form_literals, expanded, IsOver}
 use Rattle.alg_factor.specs.Shapes.{shape}
 use Rattle.alg_factor.proofs.expansion.+expanded_rows.Given as goal

@@ -1,7 +1,6 @@
-use Rattle.std.proofs.Common.{◌≡◌, map, refl, arith, ◌∙◌, ap}
+use Rattle.std.proofs.Common.{◌≡◌, map, arith}
 use Rattle.std.proofs.lemmas.Result.{IfOk-weaker}
-use Rattle.cube_cover.specs.Places.{cover_literals}
-use Rattle.alg_factor.specs.Forms.{Sum, Split, IsChosen, NoneShared, IsFactored, with_literal, no_literal}
+use Rattle.alg_factor.specs.Forms.{Sum, Split, IsChosen, NoneShared, IsFactored}
 use Rattle.alg_factor.specs.Shapes.{shape}
 use Rattle.alg_factor.specs.Chains.{chained}
 use Rattle.alg_factor.proofs.Laws.{HasWidth-with, HasWidth-no}

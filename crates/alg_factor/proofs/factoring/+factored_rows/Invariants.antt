@@ -1,4 +1,4 @@
-use Rattle.std.proofs.Common.{◌≡◌, ◌≤◌, map}
+use Rattle.std.proofs.Common.{◌≤◌, map}
 use Rattle.cube_cover.specs.Places.{cover_literals}
 use Rattle.sis_base.specs.Rows.{HasWidth}
 use Rattle.alg_factor.specs.Forms.{Form, IsFactored}

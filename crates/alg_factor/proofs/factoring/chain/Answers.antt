@@ -1,7 +1,6 @@
-use Rattle.std.proofs.Common.{◌≡◌, List, [], sym, ap, ◌∙◌, arith}
+use Rattle.std.proofs.Common.{sym, ap, ◌∙◌, arith}
 use Rattle.alg_factor.specs.Shapes.{shape}
 use Rattle.alg_factor.specs.Chains.{chained}
-use Rattle.alg_factor.specs.declared.factoring.Product.{Product}
 use Rattle.alg_factor.proofs.Chains.{chained-push, empty_list}
 use Rattle.alg_factor.proofs.factoring.chain.Goals as goal
 

@@ -1,4 +1,4 @@
-use Rattle.std.proofs.Common.{◌≡◌, map, refl, ◌∙◌, ap}
+use Rattle.std.proofs.Common.{◌≡◌, map, ◌∙◌, ap}
 use Rattle.cube_cover.specs.Covers.{Shape}
 use Rattle.alg_factor.specs.Forms.{IsFactored}
 use Rattle.alg_factor.proofs.Laws.{expanded-rows, literals-most, fewer_where, equal_where, factored-one}

@@ -1,5 +1,5 @@
-use Rattle.std.proofs.Common.{◌≡◌, ◌<◌, List, Bool, map, ◌++◌, length, codes, sym, ap, ◌∙◌, arith, ltb}
-use Rattle.alg_factor.specs.Forms.{Split, IsOver}
+use Rattle.std.proofs.Common.{◌≡◌, map, ◌++◌, codes, sym, ap, ◌∙◌, arith, ltb}
+use Rattle.alg_factor.specs.Forms.{Split}
 use Rattle.alg_factor.specs.Shapes.{shape}
 use Rattle.alg_factor.specs.Texts.{summand_texts, sum_text, row_text, form_text}
 use Rattle.alg_factor.specs.Writing.{left_text, summands}
