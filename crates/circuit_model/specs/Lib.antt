@@ -4,3 +4,4 @@ pub mod Values
 pub mod Runs
 pub mod Soundness
 pub mod Text
+pub mod Levels

@@ -1,0 +1,5 @@
+pub mod Naming
+pub mod Counting
+pub mod Driving
+pub mod Bridges
+pub mod Placing

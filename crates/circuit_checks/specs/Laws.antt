@@ -1,0 +1,35 @@
+-- What the checks say about names and tables where they find nothing, and that they find nothing where it holds.
+use Rattle.std.specs.Prelude.{◌≡◌, ◌↔◌, ℕ, suc, true, None, List, ◌++◌}
+use Rattle.std.specs.List.{AllByRecursion}
+use Rattle.circuit_model.specs.Names.{has, all_different}
+use Rattle.circuit_model.specs.Soundness.{Leads, IsAcyclic}
+use Rattle.circuit_model.specs.declared.circuit.Table.{Table}
+use Rattle.circuit_checks.specs.NameChecks.{first_again, first_missing, first_listed_twice}
+use Rattle.circuit_checks.specs.Cycles.{is_on_cycle, first_on_cycle}
+
+-- where the known names are all different, no name comes again exactly if all are different
+abbrev pub AgainLaw : Type 0
+AgainLaw =
+    (known names : List (List ℕ)) → all_different known ≡ true
+    → (first_again known names ≡ None) ↔ (all_different (known ++ names) ≡ true)
+
+-- no name is missing exactly if each is known
+abbrev pub MissingLaw : Type 0
+MissingLaw =
+    (known names : List (List ℕ)) → (first_missing known names ≡ None) ↔ AllByRecursion (λ name. has known name ≡ true) names
+
+-- names that mention each input and each output: none is listed twice exactly if each list has different names
+abbrev pub ListedTwiceLaw : Type 0
+ListedTwiceLaw =
+    (inputs outputs in_order : List (List ℕ)) → AllByRecursion (λ name. has in_order name ≡ true) (inputs ++ outputs)
+    → (first_listed_twice inputs outputs in_order ≡ None) ↔ ((all_different inputs ≡ true) × (all_different outputs ≡ true))
+
+-- a signal is on a cycle exactly if some number of steps leads from it to itself
+abbrev pub OnCycleLaw : Type 0
+OnCycleLaw =
+    (tables : List Table) (signal : List ℕ)
+    → (is_on_cycle tables signal ≡ true) ↔ ((steps : ℕ) × Leads tables (suc steps) signal signal)
+
+-- no table is on a cycle exactly if no signal leads to itself
+abbrev pub AcyclicLaw : Type 0
+AcyclicLaw = (tables : List Table) → (first_on_cycle tables ≡ None) ↔ IsAcyclic tables

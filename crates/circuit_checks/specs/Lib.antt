@@ -1,0 +1,4 @@
+pub mod NameChecks
+pub mod Cycles
+pub mod Laws
+pub mod Sets

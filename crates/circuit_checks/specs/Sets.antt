@@ -1,0 +1,29 @@
+-- Names as a set: which are in it, the set with one more, the place of a name; and tables as a graph over places.
+-- Source: BLIF appendix of the SIS report (UCB/ERL M92/41): signals are known by their names alone.
+use Rattle.std.specs.Prelude.{◌≡◌, ℕ, suc, Option, Some, None, option_map, List, [], ◌∷◌, ◌++◌, map, slice_get, bytes_eq, if◌then◌else◌}
+use Rattle.std.specs.List.{filter_map}
+use Rattle.circuit_model.specs.Names.{has}
+use Rattle.circuit_model.specs.Soundness.{outputs_of}
+use Rattle.circuit_model.specs.declared.circuit.Table.{Table}
+
+-- two lists have the same names
+abbrev pub Alike : List (List ℕ) → List (List ℕ) → Type 0
+Alike names others = (name : List ℕ) → has names name ≡ has others name
+
+-- the names with one more, if it is new
+unfoldable pub with_name : List (List ℕ) → List ℕ → List (List ℕ)
+with_name names name = if has names name then names else names ++ name ∷ []
+
+-- the place of a name in a list: the first
+unfoldable pub place_in : List (List ℕ) → List ℕ → Option ℕ
+place_in [] name = None
+place_in (first ∷ names) name = if bytes_eq name first then Some 0 else option_map suc (place_in names name)
+
+-- tables as a graph over their places: a table reads the tables that drive its inputs
+unfoldable pub graph_of : List Table → List (List ℕ)
+graph_of tables = map (λ (table : Table). filter_map (place_in (outputs_of tables)) table.inputs) tables
+
+-- the output of the table at a place
+unfoldable pub output_at : List Table → Option ℕ → Option (List ℕ)
+output_at tables None = None
+output_at tables (Some place) = option_map (λ (table : Table). table.output) (slice_get tables place)

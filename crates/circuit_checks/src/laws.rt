@@ -1,0 +1,28 @@
+//! Laws of the checks, each the contract of a call that does nothing.
+
+ghost use Rattle.circuit_checks.specs.Laws.{AgainLaw, MissingLaw, ListedTwiceLaw, OnCycleLaw, AcyclicLaw};
+
+/// No name comes again exactly if all are different.
+pub fn none_again_is_all_different()
+    ensures { AgainLaw }
+{}
+
+/// No name is missing exactly if each is known.
+pub fn none_missing_is_all_known()
+    ensures { MissingLaw }
+{}
+
+/// No name is listed twice exactly if both lists have different names.
+pub fn none_listed_twice_is_different()
+    ensures { ListedTwiceLaw }
+{}
+
+/// A signal is on a cycle exactly if it leads to itself.
+pub fn on_cycle_is_led_to()
+    ensures { OnCycleLaw }
+{}
+
+/// No table is on a cycle exactly if tables are acyclic.
+pub fn none_on_cycle_is_acyclic()
+    ensures { AcyclicLaw }
+{}

@@ -1,0 +1,5 @@
+pub mod Walking
+pub mod Ranking
+pub mod Marking
+pub mod Falling
+pub mod Bounding

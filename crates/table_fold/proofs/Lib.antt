@@ -1,0 +1,5 @@
+pub mod Folded
+pub mod Mentioned
+pub mod Merging
+pub mod Once
+pub mod Steps

@@ -1,0 +1,10 @@
+use Rattle.std.proofs.Common.{◌≡◌, map, take, drop, bytes_eq}
+use Rattle.std.specs.List.{position_or_len}
+use Rattle.table_fold.specs.Folding.{names_with, each_once}
+use Rattle.table_fold.proofs.folding.once_of.Given as goal
+
+abbrev pub invariant-loop-name : goal.invariant-loop-name
+invariant-loop-name l = record {
+  rest : names_with l.names.keys (drop l.name-index l.inputs) ≡ each_once l.inputs;
+  so_far : l.places.items ≡ map (λ name. position_or_len (bytes_eq name) (each_once l.inputs)) (take l.name-index l.inputs);
+}
