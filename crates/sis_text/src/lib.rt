@@ -1,4 +1,4 @@
-//! Lines and words of a text, each word as a span of it, and the pieces of a script.
+//! Lines and words of a text, each word as a span of it, the pieces of a script, and words that are owned.
 //!
 //! `logical_lines` follows the Berkeley Logic Interchange Format (appendix of the SIS report, UCB/ERL
 //! M92/41): a physical line ends with byte 10 or the end of the text; the first `#` and all after it are
@@ -17,12 +17,14 @@ mod laws;
 mod parting;
 mod places;
 mod scripts;
+mod word;
 
 pub use joining::logical_lines;
 pub use laws::{entries_are_proper, written_lines_are_read};
 pub use parting::words;
 pub use places::{Line, Lines, Span, Spans, bytes_at, texts_at};
 pub use scripts::script_pieces;
+pub use word::Word;
 
 #[cfg(test)]
 mod tests {

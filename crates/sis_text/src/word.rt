@@ -3,6 +3,7 @@
 ghost use Rattle.std.specs.Prelude.{◌≡◌, IfOk};
 
 use std::alloc::{AllocError, Global};
+use std::convert::AsStr;
 use std::marker::Model;
 
 /// A word, which contracts see as its text, the list of its bytes.
@@ -41,5 +42,13 @@ impl Word {
         ensures { IfOk result (λ word. word ≡ self.now) }
     {
         Word::new(alloc, self.text())
+    }
+}
+
+impl AsStr for Word {
+    ghost text = { λ word. word };
+
+    fn as_str(&self) -> &str {
+        self.text()
     }
 }

@@ -1,0 +1,4 @@
+pub mod Shell
+pub mod Asked
+pub mod Refusing
+pub mod Usual
