@@ -1,0 +1,10 @@
+pub mod Words
+pub mod Agreement
+pub mod Walk
+pub mod NameLists
+pub mod Passing
+pub mod ProperWords
+pub mod Named
+pub mod Small
+pub mod Told
+pub mod WhatIsRead

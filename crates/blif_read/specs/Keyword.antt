@@ -1,0 +1,40 @@
+-- What a logical line is, by its first word.
+-- Source: BLIF appendix of the SIS report (UCB/ERL M92/41): a line that begins with `.` is a declaration, any
+-- other one a row of a table.
+use Rattle.std.specs.Prelude.{ℕ, Bool, true, false, ◌==◌, List, [], ◌∷◌, bytes_eq, codes, if◌then◌else◌}
+use Rattle.sis_text.specs.Entries.{Entry}
+use Rattle.blif_read.specs.declared.keyword.Keyword.{Keyword}
+use Rattle.blif_read.specs.declared.keyword.Keyword.TheVariants.{Model, Inputs, Outputs, Names, Latch, End, Row, Other}
+
+-- the first of some words, and those behind it
+abbrev pub first_word : List (List ℕ) → List ℕ
+first_word [] = []
+first_word (word ∷ words) = word
+
+abbrev pub other_words : List (List ℕ) → List (List ℕ)
+other_words [] = []
+other_words (word ∷ words) = words
+
+abbrev pub begins_with : ℕ → List ℕ → Bool
+begins_with byte [] = false
+begins_with byte (first ∷ bytes) = first == byte
+
+unfoldable pub keyword_of : List ℕ → Keyword
+keyword_of word =
+    if bytes_eq word (codes ".model") then Model
+    else (if bytes_eq word (codes ".inputs") then Inputs
+    else (if bytes_eq word (codes ".outputs") then Outputs
+    else (if bytes_eq word (codes ".names") then Names
+    else (if bytes_eq word (codes ".latch") then Latch
+    else (if bytes_eq word (codes ".end") then End
+    else (if begins_with 46 word then Other else Row))))))
+
+unfoldable pub kind_of : Entry → Keyword
+kind_of line = keyword_of (first_word line.words)
+
+abbrev pub is_row_kind : Keyword → Bool
+is_row_kind Row = true
+is_row_kind kind = false
+
+abbrev pub is_row : Entry → Bool
+is_row line = is_row_kind (kind_of line)

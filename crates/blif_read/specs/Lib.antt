@@ -1,0 +1,5 @@
+pub mod Keyword
+pub mod Lines
+pub mod Reader
+pub mod Steps
+pub mod Limits

@@ -1,0 +1,157 @@
+-- What is wrong with one logical line of a model, given the lines before it.
+-- Source: BLIF appendix of the SIS report (UCB/ERL M92/41): `.model`, `.inputs`, `.outputs`, `.names` with its rows,
+-- `.latch` and `.end`. The order of the causes and the limits are the project's own.
+-- The lines before a line are given newest first.
+use Rattle.std.specs.Prelude.{ℕ, ◌+◌, ◌-◌, Bool, true, false, not, ◌&&◌, ◌||◌, ◌==◌, nat_le, nat_lt, Option, Some, None, List, [], ◌∷◌, map, reverse, length, take, drop, find, flat_map, take_while, count_by, codes, bytes_eq, slice_index, if◌then◌else◌}
+use Rattle.std.specs.List.{list_all, list_any}
+use Rattle.std.specs.Option.{option_map}
+use Rattle.sis_text.specs.Entries.{Entry}
+use Rattle.blif_read.specs.Keyword.{other_words, kind_of, is_row}
+use Rattle.blif_read.specs.declared.keyword.Keyword.{Keyword}
+use Rattle.blif_read.specs.declared.keyword.Keyword.TheVariants.{Model, Inputs, Outputs, Names, Latch, End, Row, Other}
+use Rattle.blif_read.specs.declared.fault.LimitKind.TheVariants as limit
+use Rattle.blif_read.specs.declared.fault.BlifFault.{BlifFault}
+use Rattle.blif_read.specs.declared.fault.BlifFault.TheVariants.{UnknownWord, BadArity, BadRow, MixedPhase, BadLatch, SecondModel, Limit}
+
+-- a fault where a test holds
+abbrev pub when : Bool → BlifFault → Option BlifFault
+when test fault = if test then Some fault else None
+
+-- the first cause that holds
+unfoldable pub first_of : List (Option BlifFault) → Option BlifFault
+first_of [] = None
+first_of (None ∷ causes) = first_of causes
+first_of (Some fault ∷ causes) = Some fault
+
+-- the words of a `.names` line: all but the last are the table's inputs, the last is its output
+abbrev pub input_words : List (List ℕ) → List (List ℕ)
+input_words words = take (length words - 1) words
+
+unfoldable pub last_word : List (List ℕ) → List ℕ
+last_word [] = []
+last_word (word ∷ []) = word
+last_word (word ∷ next ∷ words) = last_word (next ∷ words)
+
+abbrev pub is_none : {A : Type 0} → List A → Bool
+is_none [] = true
+is_none (first ∷ rest) = false
+
+-- whether a line stands behind the end of the model
+abbrev pub is_end_kind : Keyword → Bool
+is_end_kind End = true
+is_end_kind kind = false
+
+unfoldable pub is_ended : List Entry → Bool
+is_ended back = list_any (λ line. is_end_kind (kind_of line)) back
+
+-- the lines that count towards the limit of tables and latches
+abbrev pub is_node_kind : Keyword → Bool
+is_node_kind Names = true
+is_node_kind Latch = true
+is_node_kind kind = false
+
+unfoldable pub nodes_in : List Entry → ℕ
+nodes_in back = count_by (λ line. is_node_kind (kind_of line)) back
+
+-- the first name of more than 1,023 bytes, by its length
+unfoldable pub long_name : List (List ℕ) → Option BlifFault
+long_name names = option_map (λ (name : List ℕ). Limit limit.Name (length name)) (find (λ name. nat_lt 1023 (length name)) names)
+
+-- one table or latch more than 65,535
+abbrev pub one_too_many : ℕ → Option BlifFault
+one_too_many nodes = when (nat_le 65535 nodes) (Limit limit.Tables 65536)
+
+abbrev pub many_inputs : List (List ℕ) → Option BlifFault
+many_inputs inputs = when (nat_lt 1000 (length inputs)) (Limit limit.Inputs (length inputs))
+
+-- a latch: its input, its output, and its start value where that is written
+abbrev pub is_init : List ℕ → Bool
+is_init word = bytes_eq word (codes "0") || bytes_eq word (codes "1") || bytes_eq word (codes "2") || bytes_eq word (codes "3")
+
+abbrev pub is_latch : List (List ℕ) → Bool
+is_latch [] = false
+is_latch (input ∷ []) = false
+is_latch (input ∷ output ∷ []) = true
+is_latch (input ∷ output ∷ init ∷ []) = is_init init
+is_latch (input ∷ output ∷ init ∷ word ∷ words) = false
+
+-- a character of a row, and of its output
+abbrev pub is_character : ℕ → Bool
+is_character byte = byte == 48 || byte == 49 || byte == 45
+
+abbrev pub is_output_character : ℕ → Bool
+is_output_character byte = byte == 48 || byte == 49
+
+-- the words of a row, joined
+unfoldable pub joined : List (List ℕ) → List ℕ
+joined words = flat_map (λ word. word) words
+
+-- whether bytes are a row of a table of this width: a character for each input, then the output's
+unfoldable pub is_row_of : ℕ → List ℕ → Bool
+is_row_of width bytes =
+    length bytes == width + 1 && list_all is_character (take width bytes) && list_all is_output_character (drop width bytes)
+
+abbrev pub output_character : ℕ → List ℕ → ℕ
+output_character width bytes = slice_index bytes width
+
+-- whether a row has the output character of its table's first row
+abbrev pub has_phase_of : ℕ → List (List ℕ) → List ℕ → Bool
+has_phase_of width [] bytes = true
+has_phase_of width (row ∷ rows) bytes = output_character width bytes == output_character width row
+
+-- what is wrong with bytes as a further row of a table of this width, behind these rows
+unfoldable pub table_row_fault : ℕ → List (List ℕ) → ℕ → List ℕ → Option BlifFault
+table_row_fault width rows number bytes = first_of
+    (when (not (is_row_of width bytes)) (BadRow number)
+    ∷ when (not (has_phase_of width rows bytes)) (MixedPhase number)
+    ∷ when (nat_le 32767 (length rows)) (Limit limit.Rows 32768)
+    ∷ [])
+
+-- the newest line that is no row, and the rows behind it, in file order
+abbrev pub heading : List Entry → Option Entry
+heading back = find (λ line. not (is_row line)) back
+
+abbrev pub rows_behind : List Entry → List (List ℕ)
+rows_behind back = map (λ (line : Entry). joined line.words) (reverse (take_while is_row back))
+
+-- what is wrong with bytes as a row behind a heading: a row belongs to a `.names` line
+abbrev pub row_fault_under : Keyword → List (List ℕ) → List (List ℕ) → ℕ → List ℕ → Option BlifFault
+row_fault_under Names words rows number bytes = table_row_fault (length words - 1) rows number bytes
+row_fault_under kind words rows number bytes = Some (BadRow number)
+
+abbrev pub row_fault : Option Entry → List (List ℕ) → ℕ → List ℕ → Option BlifFault
+row_fault None rows number bytes = Some (BadRow number)
+row_fault (Some line) rows number bytes = row_fault_under (kind_of line) (other_words line.words) rows number bytes
+
+-- what is wrong with the words behind the first: of a `.model` line, of a line of ports, of a `.names` and of a `.latch`
+-- line; where begun, ended and nodes tell whether a line and an end stand before it, and how many tables and latches
+unfoldable pub model_fault : Bool → ℕ → List (List ℕ) → Option BlifFault
+model_fault begun number words = first_of
+    (when (nat_lt 1 (length words)) (BadArity number) ∷ when begun (SecondModel number) ∷ long_name words ∷ [])
+
+unfoldable pub ports_fault : Bool → ℕ → List (List ℕ) → Option BlifFault
+ports_fault ended number words = first_of (when ended (UnknownWord number) ∷ long_name words ∷ [])
+
+unfoldable pub names_fault : Bool → ℕ → ℕ → List (List ℕ) → Option BlifFault
+names_fault ended nodes number words = first_of
+    (when ended (UnknownWord number) ∷ when (is_none words) (BadArity number) ∷ long_name words ∷ one_too_many nodes
+    ∷ many_inputs (input_words words) ∷ [])
+
+unfoldable pub latch_fault : Bool → ℕ → ℕ → List (List ℕ) → Option BlifFault
+latch_fault ended nodes number words = first_of
+    (when ended (UnknownWord number) ∷ when (not (is_latch words)) (BadLatch number) ∷ long_name (take 2 words) ∷ one_too_many nodes ∷ [])
+
+-- what is wrong with a line behind the lines before it, by its kind: its number, its words behind the first, all words
+abbrev pub fault_as : Keyword → List Entry → ℕ → List (List ℕ) → List (List ℕ) → Option BlifFault
+fault_as Model back number words whole = model_fault (not (is_none back)) number words
+fault_as Inputs back number words whole = ports_fault (is_ended back) number words
+fault_as Outputs back number words whole = ports_fault (is_ended back) number words
+fault_as Names back number words whole = names_fault (is_ended back) (nodes_in back) number words
+fault_as Latch back number words whole = latch_fault (is_ended back) (nodes_in back) number words
+fault_as End back number words whole = None
+fault_as Row back number words whole = first_of
+    (when (is_ended back) (UnknownWord number) ∷ row_fault (heading back) (rows_behind back) number (joined whole) ∷ [])
+fault_as Other back number words whole = Some (UnknownWord number)
+
+unfoldable pub line_fault : List Entry → Entry → Option BlifFault
+line_fault back line = fault_as (kind_of line) back line.number (other_words line.words) line.words

@@ -1,0 +1,331 @@
+//! What is kept of the lines that are read, and what each kind of line makes of it.
+
+ghost use Rattle.std.specs.Prelude.{◌≡◌, ℕ, List, ◌-◌, ◌<◌, ◌++◌, [], length, IfOk, OnOk, IfSome, slice_index};
+ghost use Rattle.blif_read.specs.declared.keyword.Keyword.{Keyword};
+ghost use Rattle.blif_read.specs.Reader.{named_by, table_of, latch_of, init_of as init_by};
+ghost use Rattle.blif_read.specs.Lines.{joined as all_bytes};
+ghost use Rattle.blif_read.specs.Steps.{texts, with_row, row_behind as behind, tables_with, closed, take_as, take_entry, no_lines, Takes};
+ghost use Rattle.sis_text.specs.Entries.{Entry};
+
+use crate::fault::{BlifFault, ReadFault};
+use crate::keyword::Keyword;
+use crate::line_fault::{latch_fault, model_fault, names_fault, ports_fault, row_fault};
+use crate::row::{appended, characters, mark_of};
+use crate::word_list::{
+    add_names, first_word, front_words, joined, keyword_of, last_word, latch_input, latch_output,
+    name_of, other_words,
+};
+use circuit_model::{Latch, Latches, Name, Names, Table, Tables};
+use sis_base::Sequence;
+use std::alloc::{AllocError, AllocFailed, Global};
+
+/// The table whose rows are read, and the output character of its rows, once there is one.
+#[derive(Drop)]
+pub struct Reading {
+    pub table: Table,
+    pub mark: u8,
+}
+
+/// What the lines so far say: whether there was one, and an end; the parts of the circuit, without the table whose rows
+/// are read; the ports, the signals that are driven and those that are read, each in the order of the file; and how
+/// many tables and latches there are.
+#[derive(Drop)]
+pub struct Draft {
+    pub begun: bool,
+    pub ended: bool,
+    pub name: Name,
+    pub inputs: Names,
+    pub outputs: Names,
+    pub ports: Names,
+    pub drives: Names,
+    pub reads: Names,
+    pub latches: Latches,
+    pub tables: Tables,
+    pub reading: Option<Reading>,
+    pub nodes: usize,
+}
+
+impl Reading {
+    /// The table with one more row; an error only for want of memory.
+    #[tactic(auto, unfolding(crate::specs::Steps::with_row))]
+    fn with(self, alloc: Global, bytes: &[u8]) -> Result<Self, AllocError>
+        requires { length self.table.inputs < length bytes.now }
+        ensures { IfOk result (λ reading. reading ≡ with_row self bytes.now) }
+    {
+        let Reading { table, mark } = self;
+        let Table {
+            inputs,
+            output,
+            rows,
+            phase: _,
+        } = table;
+        let width = inputs.len();
+        let mark = mark_of(rows.as_slice(), mark, bytes[width]);
+        let row = Sequence::from_vec(characters(alloc, &bytes[..width])?);
+        let rows = appended(rows, row)?;
+        let phase = mark == b'1';
+        Ok(Reading {
+            table: Table {
+                inputs,
+                output,
+                rows,
+                phase,
+            },
+            mark,
+        })
+    }
+}
+
+/// What is read of a table after one more row; an error only for want of memory.
+fn row_behind(
+    alloc: Global,
+    reading: Option<Reading>,
+    bytes: &[u8],
+) -> Result<Option<Reading>, AllocError>
+    requires { IfSome reading (λ one. length one.table.inputs < length bytes.now) }
+    ensures { IfOk result (λ next. next ≡ behind reading bytes.now) }
+{
+    match reading {
+        None => Ok(None),
+        Some(reading) => Ok(Some(reading.with(alloc, bytes)?)),
+    }
+}
+
+/// The table of a `.names` line, without rows; an error only for want of memory.
+#[tactic(auto, unfolding(crate::specs::Reader::table_of))]
+fn new_table(alloc: Global, words: &[&[u8]]) -> Result<Table, AllocError>
+    ensures { IfOk result (λ table. table ≡ table_of (texts words.now) []) }
+{
+    let mut inputs = Sequence::new(alloc);
+    add_names(alloc, &mut inputs, front_words(words))?;
+    let output = name_of(alloc, last_word(words))?;
+    Ok(Table {
+        inputs,
+        output,
+        rows: Sequence::new(alloc),
+        phase: true,
+    })
+}
+
+/// The name of a model, by the words of its line; an error only for want of memory.
+fn model_name(alloc: Global, words: &[&[u8]]) -> Result<Name, AllocError>
+    ensures { IfOk result (λ name. name ≡ named_by Keyword.Model (texts words.now)) }
+{
+    match words {
+        [] => name_of(alloc, b"top".as_slice()),
+        [name, ..] => name_of(alloc, name),
+    }
+}
+
+/// The start value that a word says: the digit that it begins with.
+fn digit_of(word: &[u8]) -> u8
+    ensures { result ≡ slice_index word.now 0 - 48 }
+{
+    match word {
+        [] => 0,
+        [digit, ..] => digit.saturating_sub(b'0'),
+    }
+}
+
+/// The start value of a latch, by the words behind its output: 3 where there is none.
+fn init_of(words: &[&[u8]]) -> u8
+    ensures { result ≡ init_by (texts words.now) }
+{
+    match words {
+        [] => 3,
+        [word, ..] => digit_of(word),
+    }
+}
+
+/// Puts the latch of a line behind some latches; an error only for want of memory.
+fn add_latch(alloc: Global, latches: &mut Latches, words: &[&[u8]]) -> Result<(), AllocError>
+    ensures { OnOk result (latches.new ≡ latches.old ++ latch_of (texts words.now)) }
+{
+    match words {
+        [input, output, rest @ ..] => {
+            let latch = Latch {
+                input: name_of(alloc, input)?,
+                output: name_of(alloc, output)?,
+                init: init_of(rest),
+            };
+            latches.push(latch)?;
+            Ok(())
+        }
+        _ => Ok(()),
+    }
+}
+
+/// Tables with the one that was read behind them; an error only for want of memory.
+#[tactic(auto, unfolding(crate::specs::Steps::tables_with))]
+pub fn with_reading(tables: &mut Tables, reading: Option<Reading>) -> Result<(), AllocFailed<Table>>
+    ensures { OnOk result (tables.new ≡ tables_with tables.old reading) }
+{
+    match reading {
+        None => Ok(()),
+        Some(reading) => {
+            let Reading { table, mark: _ } = reading;
+            tables.push(table)
+        }
+    }
+}
+
+impl Draft {
+    /// The draft before the first line; an error only for want of memory.
+    pub fn new(alloc: Global) -> Result<Self, AllocError>
+        ensures { IfOk result (λ draft. draft ≡ no_lines) }
+    {
+        Ok(Draft {
+            begun: false,
+            ended: false,
+            name: name_of(alloc, b"top".as_slice())?,
+            inputs: Sequence::new(alloc),
+            outputs: Sequence::new(alloc),
+            ports: Sequence::new(alloc),
+            drives: Sequence::new(alloc),
+            reads: Sequence::new(alloc),
+            latches: Sequence::new(alloc),
+            tables: Sequence::new(alloc),
+            reading: None,
+            nodes: 0,
+        })
+    }
+
+    /// Ends the table whose rows were read; an error only for want of memory.
+    #[tactic(auto, unfolding(crate::specs::Steps::closed))]
+    fn close(&mut self) -> Result<(), AllocFailed<Table>>
+        ensures { OnOk result (self.new ≡ closed self.old) }
+    {
+        let reading = self.reading.take();
+        with_reading(&mut self.tables, reading)?;
+        self.begun = true;
+        Ok(())
+    }
+
+    /// Takes a `.model` line.
+    #[tactic(auto, unfolding(crate::specs::Steps::take_as, crate::specs::Steps::closed))]
+    fn take_model(&mut self, alloc: Global, number: usize, words: &[&[u8]]) -> Result<(), ReadFault>
+        ensures { (whole : List (List ℕ)) → Takes result self.new (take_as Keyword.Model self.old number (texts words.now) whole) }
+    {
+        if let Some(fault) = model_fault(self.begun, number, words) {
+            return Err(ReadFault::Fault(fault));
+        }
+        self.close()?;
+        self.name = model_name(alloc, words)?;
+        Ok(())
+    }
+
+    /// Takes an `.inputs` line.
+    #[tactic(auto, unfolding(crate::specs::Steps::take_as, crate::specs::Steps::closed))]
+    fn take_inputs(
+        &mut self,
+        alloc: Global,
+        number: usize,
+        words: &[&[u8]],
+    ) -> Result<(), ReadFault>
+        ensures { (whole : List (List ℕ)) → Takes result self.new (take_as Keyword.Inputs self.old number (texts words.now) whole) }
+    {
+        if let Some(fault) = ports_fault(self.ended, number, words) {
+            return Err(ReadFault::Fault(fault));
+        }
+        self.close()?;
+        add_names(alloc, &mut self.inputs, words)?;
+        add_names(alloc, &mut self.ports, words)?;
+        Ok(())
+    }
+
+    /// Takes an `.outputs` line.
+    #[tactic(auto, unfolding(crate::specs::Steps::take_as, crate::specs::Steps::closed))]
+    fn take_outputs(
+        &mut self,
+        alloc: Global,
+        number: usize,
+        words: &[&[u8]],
+    ) -> Result<(), ReadFault>
+        ensures { (whole : List (List ℕ)) → Takes result self.new (take_as Keyword.Outputs self.old number (texts words.now) whole) }
+    {
+        if let Some(fault) = ports_fault(self.ended, number, words) {
+            return Err(ReadFault::Fault(fault));
+        }
+        self.close()?;
+        add_names(alloc, &mut self.outputs, words)?;
+        add_names(alloc, &mut self.ports, words)?;
+        add_names(alloc, &mut self.reads, words)?;
+        Ok(())
+    }
+
+    /// Takes a `.names` line.
+    #[tactic(auto, unfolding(crate::specs::Steps::take_as, crate::specs::Steps::closed))]
+    fn take_names(&mut self, alloc: Global, number: usize, words: &[&[u8]]) -> Result<(), ReadFault>
+        ensures { (whole : List (List ℕ)) → Takes result self.new (take_as Keyword.Names self.old number (texts words.now) whole) }
+    {
+        if let Some(fault) = names_fault(self.ended, self.nodes, number, words) {
+            return Err(ReadFault::Fault(fault));
+        }
+        self.close()?;
+        self.drives.push(name_of(alloc, last_word(words))?)?;
+        add_names(alloc, &mut self.reads, front_words(words))?;
+        let table = new_table(alloc, words)?;
+        self.reading = Some(Reading { table, mark: 0 });
+        self.nodes += 1;
+        Ok(())
+    }
+
+    /// Takes a `.latch` line.
+    #[tactic(auto, unfolding(crate::specs::Steps::take_as, crate::specs::Steps::closed))]
+    fn take_latch(&mut self, alloc: Global, number: usize, words: &[&[u8]]) -> Result<(), ReadFault>
+        ensures { (whole : List (List ℕ)) → Takes result self.new (take_as Keyword.Latch self.old number (texts words.now) whole) }
+    {
+        if let Some(fault) = latch_fault(self.ended, self.nodes, number, words) {
+            return Err(ReadFault::Fault(fault));
+        }
+        self.close()?;
+        add_names(alloc, &mut self.drives, latch_output(words))?;
+        add_names(alloc, &mut self.reads, latch_input(words))?;
+        add_latch(alloc, &mut self.latches, words)?;
+        self.nodes += 1;
+        Ok(())
+    }
+
+    /// Takes an `.end` line.
+    #[tactic(auto, unfolding(crate::specs::Steps::take_as, crate::specs::Steps::closed))]
+    fn take_end(&mut self) -> Result<(), ReadFault>
+        ensures { (number : ℕ) (words whole : List (List ℕ)) → Takes result self.new (take_as Keyword.End self.old number words whole) }
+    {
+        self.close()?;
+        self.ended = true;
+        Ok(())
+    }
+
+    /// Takes a row.
+    #[tactic(auto, unfolding(crate::specs::Steps::take_as))]
+    fn take_row(&mut self, alloc: Global, number: usize, whole: &[&[u8]]) -> Result<(), ReadFault>
+        ensures { (words : List (List ℕ)) → Takes result self.new (take_as Keyword.Row self.old number words (texts whole.now)) }
+    {
+        let bytes = joined(alloc, whole)?;
+        if let Some(fault) = row_fault(self.ended, &self.reading, number, bytes.as_slice()) {
+            return Err(ReadFault::Fault(fault));
+        }
+        let reading = self.reading.take();
+        self.reading = row_behind(alloc, reading, bytes.as_slice())?;
+        self.begun = true;
+        Ok(())
+    }
+
+    /// Takes one line, by its number and its words. After an error the draft stands for nothing.
+    #[tactic(auto, unfolding(crate::specs::Steps::take_entry))]
+    pub fn take(&mut self, alloc: Global, number: usize, words: &[&[u8]]) -> Result<(), ReadFault>
+        ensures { Takes result self.new (take_entry self.old (record { number = number; words = texts words.now })) }
+    {
+        let others = other_words(words);
+        match keyword_of(first_word(words)) {
+            Keyword::Model => self.take_model(alloc, number, others),
+            Keyword::Inputs => self.take_inputs(alloc, number, others),
+            Keyword::Outputs => self.take_outputs(alloc, number, others),
+            Keyword::Names => self.take_names(alloc, number, others),
+            Keyword::Latch => self.take_latch(alloc, number, others),
+            Keyword::End => self.take_end(),
+            Keyword::Row => self.take_row(alloc, number, words),
+            Keyword::Other => Err(ReadFault::Fault(BlifFault::UnknownWord(number))),
+        }
+    }
+}

@@ -1,0 +1,160 @@
+//! What is wrong with a line: the first of its causes.
+
+ghost use Rattle.std.specs.Prelude.{◌≡◌, ◌<◌, ◌==◌, nat_lt, None, length, find, option_copied, IfSome};
+ghost use Rattle.blif_read.specs.Lines.{long_name as long_among, is_init as is_init_word, is_latch as is_latch_line, model_fault as model_fault_by, ports_fault as ports_fault_by, names_fault as names_fault_by, latch_fault as latch_fault_by};
+ghost use Rattle.blif_read.specs.Steps.{texts, reading_fault as reading_fault_by, next_fault as next_fault_by};
+
+use crate::draft::Reading;
+use crate::fault::{BlifFault, LimitKind};
+use crate::row::{is_row, mark_of};
+use crate::word_list::{first_words, front_words};
+
+/// The first of some words that is longer than a name may be.
+fn first_long<'a, 'w>(words: &'w [&'a [u8]]) -> Option<&'w &'a [u8]>
+    ensures { option_copied result ≡ find (λ word. nat_lt 1023 (length word.now)) words.now }
+{
+    words.iter().find(|word| word.len() > 1023)
+}
+
+/// The fault of the first word that is longer than a name may be.
+#[tactic(auto, unfolding(crate::specs::Lines::long_name))]
+fn long_name(words: &[&[u8]]) -> Option<BlifFault>
+    ensures { result ≡ long_among (texts words.now) }
+{
+    match first_long(words) {
+        None => None,
+        Some(word) => Some(BlifFault::Limit(LimitKind::Name, word.len())),
+    }
+}
+
+/// What is wrong with the words of a `.model` line behind the first; `begun` says whether a line stands before it.
+#[tactic(auto, unfolding(crate::specs::Lines::model_fault, crate::specs::Lines::first_of))]
+pub fn model_fault(begun: bool, number: usize, words: &[&[u8]]) -> Option<BlifFault>
+    ensures { result ≡ model_fault_by begun number (texts words.now) }
+{
+    if words.len() > 1 {
+        return Some(BlifFault::BadArity(number));
+    }
+    if begun {
+        return Some(BlifFault::SecondModel(number));
+    }
+    long_name(words)
+}
+
+/// What is wrong with the words of a line of ports behind the first; `ended` says whether an end stands before it.
+#[tactic(auto, unfolding(crate::specs::Lines::ports_fault, crate::specs::Lines::first_of))]
+pub fn ports_fault(ended: bool, number: usize, words: &[&[u8]]) -> Option<BlifFault>
+    ensures { result ≡ ports_fault_by ended number (texts words.now) }
+{
+    if ended {
+        return Some(BlifFault::UnknownWord(number));
+    }
+    long_name(words)
+}
+
+/// What is wrong with the words of a `.names` line behind the first; `nodes` tables and latches stand before it.
+#[tactic(auto, unfolding(crate::specs::Lines::names_fault, crate::specs::Lines::first_of))]
+pub fn names_fault(ended: bool, nodes: usize, number: usize, words: &[&[u8]]) -> Option<BlifFault>
+    ensures value { result ≡ names_fault_by ended nodes number (texts words.now) }
+    ensures room { result ≡ None → nodes < 65535 }
+{
+    if ended {
+        return Some(BlifFault::UnknownWord(number));
+    }
+    if words.is_empty() {
+        return Some(BlifFault::BadArity(number));
+    }
+    if let Some(fault) = long_name(words) {
+        return Some(fault);
+    }
+    if nodes >= 65535 {
+        return Some(BlifFault::Limit(LimitKind::Tables, 65536));
+    }
+    let count = front_words(words).len();
+    if count > 1000 {
+        return Some(BlifFault::Limit(LimitKind::Inputs, count));
+    }
+    None
+}
+
+/// Whether a word is the start value of a latch.
+fn is_init(word: &[u8]) -> bool
+    ensures { result ≡ is_init_word word.now }
+{
+    word == b"0".as_slice()
+        || word == b"1".as_slice()
+        || word == b"2".as_slice()
+        || word == b"3".as_slice()
+}
+
+/// Whether words are an input, an output, and a start value where there is one more.
+fn is_latch(words: &[&[u8]]) -> bool
+    ensures { result ≡ is_latch_line (texts words.now) }
+{
+    match words {
+        [_, _] => true,
+        [_, _, init] => is_init(init),
+        _ => false,
+    }
+}
+
+/// What is wrong with the words of a `.latch` line behind the first; `nodes` tables and latches stand before it.
+#[tactic(auto, unfolding(crate::specs::Lines::latch_fault, crate::specs::Lines::first_of))]
+pub fn latch_fault(ended: bool, nodes: usize, number: usize, words: &[&[u8]]) -> Option<BlifFault>
+    ensures value { result ≡ latch_fault_by ended nodes number (texts words.now) }
+    ensures room { result ≡ None → nodes < 65535 }
+{
+    if ended {
+        return Some(BlifFault::UnknownWord(number));
+    }
+    if !is_latch(words) {
+        return Some(BlifFault::BadLatch(number));
+    }
+    if let Some(fault) = long_name(first_words(words, 2)) {
+        return Some(fault);
+    }
+    if nodes >= 65535 {
+        return Some(BlifFault::Limit(LimitKind::Tables, 65536));
+    }
+    None
+}
+
+/// What is wrong with bytes as one more row of the table that is being read.
+#[tactic(auto, unfolding(crate::specs::Steps::reading_fault, crate::specs::Lines::first_of))]
+fn reading_fault(reading: &Reading, number: usize, bytes: &[u8]) -> Option<BlifFault>
+    ensures value { result ≡ reading_fault_by reading.now number bytes.now }
+    ensures room { result ≡ None → length reading.now.table.inputs < length bytes.now }
+{
+    let width = reading.table.inputs.len();
+    if !is_row(width, bytes) {
+        return Some(BlifFault::BadRow(number));
+    }
+    let mark = mark_of(reading.table.rows.as_slice(), reading.mark, bytes[width]);
+    if bytes[width] != mark {
+        return Some(BlifFault::MixedPhase(number));
+    }
+    if reading.table.rows.len() >= 32767 {
+        return Some(BlifFault::Limit(LimitKind::Rows, 32768));
+    }
+    None
+}
+
+/// What is wrong with bytes as a row behind the lines before it.
+#[tactic(auto, unfolding(crate::specs::Steps::next_fault, crate::specs::Lines::first_of))]
+pub fn row_fault(
+    ended: bool,
+    reading: &Option<Reading>,
+    number: usize,
+    bytes: &[u8],
+) -> Option<BlifFault>
+    ensures value { result ≡ next_fault_by ended reading.now number bytes.now }
+    ensures room { result ≡ None → IfSome reading.now (λ one. length one.table.inputs < length bytes.now) }
+{
+    if ended {
+        return Some(BlifFault::UnknownWord(number));
+    }
+    match reading {
+        None => Some(BlifFault::BadRow(number)),
+        Some(reading) => reading_fault(reading, number, bytes),
+    }
+}

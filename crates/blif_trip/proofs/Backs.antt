@@ -1,0 +1,54 @@
+-- The lines before a line: how many tables and latches they have, whether the model has ended, and the rows of the
+-- table that is being read.
+use Rattle.std.proofs.Common.{◌≡◌, ℕ, suc, ◌+◌, ◌≤◌, Bool, true, false, cond, not, ◌||◌, Some, List, [], ◌∷◌, ◌++◌, ap, ◌∙◌, arith, map, reverse, take_while}
+use Rattle.std.proofs.lemmas.List.{reverse-append, map-append}
+use Rattle.std.proofs.lemmas.List.Sums.{take_while-cons, sum_by-cons}
+use Rattle.sis_text.specs.Entries.{Entry}
+use Rattle.blif_read.specs.Keyword.{kind_of, is_row, is_row_kind}
+use Rattle.blif_read.specs.Lines.{is_end_kind, is_ended, is_node_kind, nodes_in, joined, heading, rows_behind}
+use Rattle.blif_read.specs.declared.keyword.Keyword.{Keyword}
+use Rattle.blif_read.specs.declared.keyword.Keyword.TheVariants.{Names, Row}
+
+-- the model has not ended, and so many tables and latches may still come
+pub record Goes (room : ℕ) (back : List Entry) : Type 0 where
+  pub going : is_ended back ≡ false
+  pub few : nodes_in back + room ≤ 65535
+
+going_more : (kind : Keyword) (line : Entry) (back : List Entry) → kind_of line ≡ kind → is_end_kind kind ≡ false → is_ended back ≡ false → is_ended (line ∷ back) ≡ false
+unfolding is_ended
+going_more kind line back e not_end h = ap (λ (k : Keyword). is_end_kind k || is_ended back) e ∙ ap (λ b. b || is_ended back) not_end ∙ h
+
+nodes_more : (kind : Keyword) (line : Entry) (back : List Entry) → kind_of line ≡ kind → nodes_in (line ∷ back) ≡ cond (is_node_kind kind) 1 0 + nodes_in back
+unfolding nodes_in
+nodes_more kind line back e =
+    sum_by-cons (λ (line : Entry). cond (is_node_kind (kind_of line)) 1 0) line back ∙ ap (λ (k : Keyword). cond (is_node_kind k) 1 0 + nodes_in back) e
+
+-- a line that is no table, no latch and no end
+pub goes_on : (kind : Keyword) (room : ℕ) (line : Entry) (back : List Entry) → kind_of line ≡ kind → is_end_kind kind ≡ false → is_node_kind kind ≡ false → Goes room back → Goes room (line ∷ back)
+goes_on kind room line back e not_end not_node goes =
+    let n : nodes_in (line ∷ back) ≡ nodes_in back = nodes_more kind line back e ∙ ap (λ (b : Bool). cond b 1 0 + nodes_in back) not_node ∙ omega arith in
+    record { going = going_more kind line back e not_end goes.going; few = omega (arith, n, goes.few) }
+
+-- a table or latch
+pub goes_node : (kind : Keyword) (room : ℕ) (line : Entry) (back : List Entry) → kind_of line ≡ kind → is_end_kind kind ≡ false → is_node_kind kind ≡ true → Goes (suc room) back → Goes room (line ∷ back)
+goes_node kind room line back e not_end node goes =
+    let n : nodes_in (line ∷ back) ≡ 1 + nodes_in back = nodes_more kind line back e ∙ ap (λ (b : Bool). cond b 1 0 + nodes_in back) node in
+    record { going = going_more kind line back e not_end goes.going; few = omega (arith, n, goes.few) }
+
+-- behind a `.names` line, and behind a row more
+pub heading_names : (line : Entry) (back : List Entry) → kind_of line ≡ Names → heading (line ∷ back) ≡ Some line
+heading_names line back e = ap (λ (k : Keyword). cond (not (is_row_kind k)) (Some line) (heading back)) e
+
+pub rows_names : (line : Entry) (back : List Entry) → kind_of line ≡ Names → rows_behind (line ∷ back) ≡ []
+rows_names line back e =
+    ap (λ (lines : List Entry). map (λ (row : Entry). joined row.words) (reverse lines)) (take_while-cons is_row line back ∙ ap (λ (k : Keyword). cond (is_row_kind k) (line ∷ take_while is_row back) []) e)
+
+pub heading_row : (line : Entry) (back : List Entry) → kind_of line ≡ Row → heading (line ∷ back) ≡ heading back
+heading_row line back e = ap (λ (k : Keyword). cond (not (is_row_kind k)) (Some line) (heading back)) e
+
+pub rows_row : (line : Entry) (back : List Entry) → kind_of line ≡ Row → rows_behind (line ∷ back) ≡ rows_behind back ++ joined line.words ∷ []
+rows_row line back e =
+    let t : take_while is_row (line ∷ back) ≡ line ∷ take_while is_row back = take_while-cons is_row line back ∙ ap (λ (k : Keyword). cond (is_row_kind k) (line ∷ take_while is_row back) []) e in
+    ap (λ (lines : List Entry). map (λ (row : Entry). joined row.words) (reverse lines)) t
+    ∙ ap (map (λ (row : Entry). joined row.words)) (reverse-append (line ∷ []) (take_while is_row back))
+    ∙ map-append (λ (row : Entry). joined row.words) (reverse (take_while is_row back)) (line ∷ [])

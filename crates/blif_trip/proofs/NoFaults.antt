@@ -1,0 +1,245 @@
+-- No line of a circuit that is written has a fault.
+use Rattle.std.proofs.Common.{◌≡◌, ℕ, zero, suc, ◌+◌, ◌≤◌, ◌<◌, Bool, true, false, cond, not, Option, Some, None, List, [], ◌∷◌, ◌++◌, length, refl, sym, ap, ◌∙◌, subst, arith, map, flat_map, find, option_map, codes, ltb, leb}
+use Rattle.std.specs.List.{AllByRecursion}
+use Rattle.std.specs.Option.{option_or}
+use Rattle.std.proofs.lemmas.Bool.{le-ltb, lt-leb}
+use Rattle.std.proofs.lemmas.List.{append_assoc, length-append, length-map, map-append}
+use Rattle.sis_base.specs.Written.{Written}
+use Rattle.sis_text.specs.Entries.{Entry}
+use Rattle.sis_text.specs.Written.{numbered}
+use Rattle.circuit_model.specs.declared.circuit.Tri.{Tri}
+use Rattle.circuit_model.specs.declared.circuit.Table.{Table}
+use Rattle.circuit_model.specs.declared.circuit.Latch.{Latch as TheLatch}
+use Rattle.circuit_model.specs.declared.circuit.Circuit.{Circuit}
+use Rattle.circuit_model.specs.Text.{dotted, init_word, row_line, table_lines}
+use Rattle.circuit_model.specs.Soundness.{IsShaped}
+use Rattle.circuit_model.specs.Counts.{IsSmallTable}
+use Rattle.blif_read.specs.Keyword.{keyword_of, kind_of}
+use Rattle.blif_read.specs.Lines.{when, is_none, one_too_many, many_inputs, first_of, input_words, is_ended, nodes_in, long_name, is_init, joined, heading, rows_behind, is_row_of, has_phase_of, model_fault, ports_fault, names_fault, latch_fault, table_row_fault, row_fault, fault_as, line_fault}
+use Rattle.blif_read.specs.Reader.{first_line_fault}
+use Rattle.blif_read.specs.declared.keyword.Keyword.{Keyword}
+use Rattle.blif_read.specs.declared.keyword.Keyword.TheVariants.{Model, Inputs, Outputs, Names, Latch, Row}
+use Rattle.blif_read.specs.declared.fault.LimitKind.TheVariants as limit
+use Rattle.blif_read.specs.declared.fault.BlifFault.{BlifFault}
+use Rattle.blif_read.specs.declared.fault.BlifFault.TheVariants.{UnknownWord, BadArity, BadRow, MixedPhase, BadLatch, SecondModel, Limit}
+use Rattle.blif_read.proofs.NameLists.{all_append}
+use Rattle.blif_trip.proofs.Words.{OfLatch, OfTable, OfNames, plain_latch, end_lines, plain_lines}
+use Rattle.blif_trip.proofs.LineKinds.{entry, row_kind}
+use Rattle.blif_trip.proofs.RowTexts.{row_text, row_joined, row_taken, phase_taken, names_words, names_width, inputs_back}
+use Rattle.blif_trip.proofs.Backs.{Goes, goes_on, goes_node, heading_names, rows_names, heading_row, rows_row}
+
+-- a name that is not too long
+abbrev pub IsShort : List ℕ → Type 0
+IsShort name = length name ≤ 1023
+
+-- no cause, no fault
+pub none_of : (causes : List (Option BlifFault)) → AllByRecursion (λ (cause : Option BlifFault). cause ≡ None) causes → first_of causes ≡ None
+unfolding first_of
+none_of [] h = refl
+none_of (cause ∷ causes) h = ap (λ (c : Option BlifFault). first_of (c ∷ causes)) h.0 ∙ none_of causes h.1
+
+not_when : (test : Bool) (fault : BlifFault) → test ≡ false → when test fault ≡ None
+not_when test fault e = ap (λ b. cond b (Some fault) None) e
+
+not_unless : (test : Bool) (fault : BlifFault) → test ≡ true → when (not test) fault ≡ None
+not_unless test fault e = ap (λ b. cond (not b) (Some fault) None) e
+
+none_long : (names : List (List ℕ)) → AllByRecursion IsShort names → find (λ (name : List ℕ). ltb 1023 (length name)) names ≡ None
+none_long [] h = refl
+none_long (name ∷ names) h =
+    ap (λ b. cond b (Some name) (find (λ (name : List ℕ). ltb 1023 (length name)) names)) (le-ltb 1023 (length name) h.0) ∙ none_long names h.1
+
+not_long : (names : List (List ℕ)) → AllByRecursion IsShort names → long_name names ≡ None
+unfolding long_name
+not_long names h = ap (option_map (λ (name : List ℕ). Limit limit.Name (length name))) (none_long names h)
+
+not_many : (back : List Entry) (room : ℕ) → Goes (suc room) back → when (leb 65535 (nodes_in back)) (Limit limit.Tables 65536) ≡ None
+not_many back room goes = not_when (leb 65535 (nodes_in back)) (Limit limit.Tables 65536) (lt-leb 65535 (nodes_in back) (omega (arith, goes.few)))
+
+-- line by line
+no_fault : (back lines : List Entry) (line : Entry) → line_fault back line ≡ None → first_line_fault (line ∷ back) lines ≡ None → first_line_fault back (line ∷ lines) ≡ None
+unfolding first_line_fault
+no_fault back lines line e h = ap (λ (f : Option BlifFault). option_or f (first_line_fault (line ∷ back) lines)) e ∙ h
+
+model_taken : (number : ℕ) (name : List ℕ) → IsShort name → line_fault [] (entry number (dotted (codes ".model") (name ∷ []))) ≡ None
+unfolding line_fault kind_of keyword_of model_fault
+model_taken number name h =
+    none_of (when (ltb 1 (length (name ∷ []))) (BadArity number) ∷ when false (SecondModel number) ∷ long_name (name ∷ []) ∷ []) (refl, (refl, (not_long (name ∷ []) (h, tt), tt)))
+
+inputs_taken : (number : ℕ) (back : List Entry) (names : List (List ℕ)) → is_ended back ≡ false → AllByRecursion IsShort names → line_fault back (entry number (dotted (codes ".inputs") names)) ≡ None
+unfolding line_fault kind_of keyword_of ports_fault
+inputs_taken number back names e h =
+    none_of (when (is_ended back) (UnknownWord number) ∷ long_name names ∷ []) (not_when (is_ended back) (UnknownWord number) e, (not_long names h, tt))
+
+outputs_taken : (number : ℕ) (back : List Entry) (names : List (List ℕ)) → is_ended back ≡ false → AllByRecursion IsShort names → line_fault back (entry number (dotted (codes ".outputs") names)) ≡ None
+unfolding line_fault kind_of keyword_of ports_fault
+outputs_taken number back names e h =
+    none_of (when (is_ended back) (UnknownWord number) ∷ long_name names ∷ []) (not_when (is_ended back) (UnknownWord number) e, (not_long names h, tt))
+
+init_taken : (init : ℕ) → is_init (init_word init) ≡ true
+init_taken zero = refl
+init_taken (suc zero) = refl
+init_taken (suc (suc zero)) = refl
+init_taken (suc (suc (suc init))) = refl
+
+latch_taken : (number room : ℕ) (back : List Entry) (latch : TheLatch) → Goes (suc room) back → OfLatch IsShort latch → line_fault back (entry number (plain_latch latch)) ≡ None
+unfolding line_fault kind_of keyword_of latch_fault
+latch_taken number room back latch goes h =
+    none_of (when (is_ended back) (UnknownWord number) ∷ when (not (is_init (init_word latch.init))) (BadLatch number) ∷ long_name (latch.input ∷ latch.output ∷ []) ∷ when (leb 65535 (nodes_in back)) (Limit limit.Tables 65536) ∷ []) (
+      not_when (is_ended back) (UnknownWord number) goes.going,
+      (
+        not_unless (is_init (init_word latch.init)) (BadLatch number) (init_taken latch.init),
+        (not_long (latch.input ∷ latch.output ∷ []) (h.0, (h.1, tt)), (not_many back room goes, tt)),
+      ),
+    )
+
+end_taken : (number : ℕ) (back : List Entry) → line_fault back (entry number (dotted (codes ".end") [])) ≡ None
+unfolding line_fault kind_of keyword_of
+end_taken number back = refl
+
+abbrev names_line : Table → Written
+names_line table = dotted (codes ".names") (names_words table)
+
+names_short : (table : Table) → OfTable IsShort table → AllByRecursion IsShort (names_words table)
+names_short table h = all_append IsShort table.inputs (table.output ∷ []) h.1 (h.0, tt)
+
+some_words : (inputs : List (List ℕ)) (output : List ℕ) → is_none (inputs ++ output ∷ []) ≡ false
+some_words [] output = refl
+some_words (input ∷ inputs) output = refl
+
+not_wide : (table : Table) → IsSmallTable table → many_inputs (input_words (names_words table)) ≡ None
+not_wide table small =
+    ap many_inputs (inputs_back table) ∙ not_when (ltb 1000 (length table.inputs)) (Limit limit.Inputs (length table.inputs)) (le-ltb 1000 (length table.inputs) small.inputs)
+
+names_taken : (number room : ℕ) (back : List Entry) (table : Table) → Goes (suc room) back → OfTable IsShort table → IsSmallTable table → line_fault back (entry number (names_line table)) ≡ None
+unfolding line_fault kind_of keyword_of names_fault
+names_taken number room back table goes h small =
+    none_of (when (is_ended back) (UnknownWord number) ∷ when (is_none (names_words table)) (BadArity number) ∷ long_name (names_words table) ∷ one_too_many (nodes_in back) ∷ many_inputs (input_words (names_words table)) ∷ []) (
+      not_when (is_ended back) (UnknownWord number) goes.going,
+      (
+        not_when (is_none (names_words table)) (BadArity number) (some_words table.inputs table.output),
+        (not_long (names_words table) (names_short table h), (not_many back room goes, (not_wide table small, tt))),
+      ),
+    )
+
+-- the rows of a table that have been read
+pub record Reads (table : Table) (number : ℕ) (done : List (List Tri)) (back : List Entry) : Type 0 where
+  pub under : heading back ≡ Some (entry number (names_line table))
+  pub rows : rows_behind back ≡ map (row_text table.phase) done
+
+abbrev HasWidth : ℕ → List Tri → Type 0
+HasWidth width row = length row ≡ width
+
+-- as a row of a table of this width, behind these rows
+row_fits : (width number : ℕ) (phase : Bool) (row : List Tri) (done : List (List Tri)) → length row ≡ width → AllByRecursion (HasWidth width) done → length done < 32767 → table_row_fault width (map (row_text phase) done) number (row_text phase row) ≡ None
+unfolding table_row_fault
+row_fits width number phase row done e h few =
+    let n : length (map (row_text phase) done) ≡ length done = length-map done (row_text phase) in
+    none_of (when (not (is_row_of width (row_text phase row))) (BadRow number) ∷ when (not (has_phase_of width (map (row_text phase) done) (row_text phase row))) (MixedPhase number) ∷ when (leb 32767 (length (map (row_text phase) done))) (Limit limit.Rows 32768) ∷ []) (
+      not_unless (is_row_of width (row_text phase row)) (BadRow number) (row_taken width phase row e),
+      (
+        not_unless (has_phase_of width (map (row_text phase) done) (row_text phase row)) (MixedPhase number) (phase_taken width phase row done e h),
+        (not_when (leb 32767 (length (map (row_text phase) done))) (Limit limit.Rows 32768) (lt-leb 32767 (length (map (row_text phase) done)) (omega (arith, n, few))), tt),
+      ),
+    )
+
+under_names : (table : Table) (place number : ℕ) (rows : List (List ℕ)) (bytes : List ℕ) → row_fault (Some (entry place (names_line table))) rows number bytes ≡ table_row_fault (length table.inputs) rows number bytes
+unfolding kind_of keyword_of
+under_names table place number rows bytes = ap (λ (width : ℕ). table_row_fault width rows number bytes) (names_width table)
+
+row_line_taken : (table : Table) (place number : ℕ) (row : List Tri) (done : List (List Tri)) (back : List Entry) → is_ended back ≡ false → Reads table place done back → length row ≡ length table.inputs → AllByRecursion (HasWidth (length table.inputs)) done → length done < 32767 → line_fault back (entry number (row_line table.phase row)) ≡ None
+unfolding line_fault kind_of
+row_line_taken table place number row done back going reads e h few =
+    let line = row_line table.phase row in
+    let fault : row_fault (heading back) (rows_behind back) number (joined (line.first ∷ line.others)) ≡ None =
+    ap (λ (o : Option Entry). row_fault o (rows_behind back) number (joined (line.first ∷ line.others))) reads.under
+    ∙ ap (λ (rows : List (List ℕ)). row_fault (Some (entry place (names_line table))) rows number (joined (line.first ∷ line.others))) reads.rows
+    ∙ ap (row_fault (Some (entry place (names_line table))) (map (row_text table.phase) done) number) (row_joined table.phase row)
+    ∙ under_names table place number (map (row_text table.phase) done) (row_text table.phase row)
+    ∙ row_fits (length table.inputs) number table.phase row done e h few in
+    ap (λ (kind : Keyword). fault_as kind back number line.others (line.first ∷ line.others)) (row_kind table.phase row)
+    ∙ none_of (when (is_ended back) (UnknownWord number) ∷ row_fault (heading back) (rows_behind back) number (joined (line.first ∷ line.others)) ∷ [])
+    (not_when (is_ended back) (UnknownWord number) going, (fault, tt))
+
+-- behind some lines the others have no fault
+abbrev pub Passes : ℕ → List Written → Type 0
+Passes room rest = (back : List Entry) (number : ℕ) → Goes room back → first_line_fault back (numbered number rest) ≡ None
+
+reads_more : (table : Table) (place number : ℕ) (row : List Tri) (done : List (List Tri)) (back : List Entry) → Reads table place done back → Reads table place (done ++ row ∷ []) (entry number (row_line table.phase row) ∷ back)
+unfolding kind_of
+reads_more table place number row done back reads =
+    let line = entry number (row_line table.phase row) in
+    record {
+      under = heading_row line back (row_kind table.phase row) ∙ reads.under;
+      rows = rows_row line back (row_kind table.phase row) ∙ ap (λ (rows : List (List ℕ)). rows ++ joined line.words ∷ []) reads.rows
+          ∙ ap (λ (text : List ℕ). map (row_text table.phase) done ++ text ∷ []) (row_joined table.phase row) ∙ sym (map-append (row_text table.phase) done (row ∷ []));
+    }
+
+goes_row : (table : Table) (room number : ℕ) (row : List Tri) (back : List Entry) → Goes room back → Goes room (entry number (row_line table.phase row) ∷ back)
+unfolding kind_of
+goes_row table room number row back goes = goes_on Row room (entry number (row_line table.phase row)) back (row_kind table.phase row) refl refl goes
+
+rows_pass : (table : Table) (room place number : ℕ) (rows done : List (List Tri)) (back : List Entry) (rest : List Written) → Goes room back → Reads table place done back → AllByRecursion (HasWidth (length table.inputs)) rows → AllByRecursion (HasWidth (length table.inputs)) done → length done + length rows ≤ 32767 → Passes room rest → first_line_fault back (numbered number (map (row_line table.phase) rows ++ rest)) ≡ None
+unfolding numbered
+rows_pass table room place number [] done back rest goes reads wide h few pass = pass back number goes
+rows_pass table room place number (row ∷ rows) done back rest goes reads wide h few pass =
+    let line = entry number (row_line table.phase row) in
+    no_fault back (numbered (number + 1) (map (row_line table.phase) rows ++ rest)) line
+    (row_line_taken table place number row done back goes.going reads wide.0 h (omega (arith, few)))
+    (rows_pass table room place (number + 1) rows (done ++ row ∷ []) (line ∷ back) rest (goes_row table room number row back goes) (reads_more table place number row done back reads) wide.1
+    (all_append (HasWidth (length table.inputs)) done (row ∷ []) h (wide.0, tt)) (omega (arith, few, length-append done (row ∷ []))) pass)
+
+reads_none : (table : Table) (number : ℕ) (back : List Entry) → Reads table number [] (entry number (names_line table) ∷ back)
+unfolding kind_of keyword_of
+reads_none table number back = record {
+  under = heading_names (entry number (names_line table)) back refl;
+  rows = rows_names (entry number (names_line table)) back refl;
+}
+
+table_passes : (table : Table) (room number : ℕ) (back : List Entry) (rest : List Written) → Goes (suc room) back → OfTable IsShort table → IsSmallTable table → IsShaped table → Passes room rest → first_line_fault back (numbered number (table_lines table ++ rest)) ≡ None
+unfolding table_lines numbered kind_of keyword_of
+table_passes table room number back rest goes h small shaped pass =
+    let line = entry number (names_line table) in
+    no_fault back (numbered (number + 1) (map (row_line table.phase) table.rows ++ rest)) line (names_taken number room back table goes h small)
+    (rows_pass table room number (number + 1) table.rows [] (line ∷ back) rest (goes_node Names room line back refl refl refl goes) (reads_none table number back) shaped.0 tt (omega (arith, small.rows)) pass)
+
+tables_pass : (tables : List Table) (room number : ℕ) (back : List Entry) (rest : List Written) → Goes (length tables + room) back → AllByRecursion (OfTable IsShort) tables → AllByRecursion IsSmallTable tables → AllByRecursion IsShaped tables → Passes room rest → first_line_fault back (numbered number (flat_map table_lines tables ++ rest)) ≡ None
+tables_pass [] room number back rest goes h small shaped pass = pass back number (subst (λ (n : ℕ). Goes n back) (omega arith) goes)
+tables_pass (table ∷ tables) room number back rest goes h small shaped pass =
+    ap (λ (lines : List Written). first_line_fault back (numbered number lines)) (append_assoc (table_lines table) (flat_map table_lines tables) rest)
+    ∙ table_passes table (length tables + room) number back (flat_map table_lines tables ++ rest) (subst (λ (n : ℕ). Goes n back) (omega arith) goes) h.0 small.0 shaped.0
+    (λ behind place goes_behind. tables_pass tables room place behind rest goes_behind h.1 small.1 shaped.1 pass)
+
+latches_pass : (latches : List TheLatch) (room number : ℕ) (back : List Entry) (rest : List Written) → Goes (length latches + room) back → AllByRecursion (OfLatch IsShort) latches → Passes room rest → first_line_fault back (numbered number (map plain_latch latches ++ rest)) ≡ None
+unfolding numbered kind_of keyword_of
+latches_pass [] room number back rest goes h pass = pass back number (subst (λ (n : ℕ). Goes n back) (omega arith) goes)
+latches_pass (latch ∷ latches) room number back rest goes h pass =
+    let line = entry number (plain_latch latch) in
+    let one : Goes (suc (length latches + room)) back = subst (λ (n : ℕ). Goes n back) (omega arith) goes in
+    no_fault back (numbered (number + 1) (map plain_latch latches ++ rest)) line (latch_taken number (length latches + room) back latch one h.0)
+    (latches_pass latches room (number + 1) (line ∷ back) rest (goes_node Latch (length latches + room) line back refl refl refl one) h.1 pass)
+
+end_passes : Passes 0 end_lines
+unfolding numbered first_line_fault
+end_passes back number goes = no_fault back [] (entry number (dotted (codes ".end") [])) (end_taken number back) refl
+
+goes_first : (room : ℕ) → room ≤ 65535 → Goes room []
+unfolding is_ended nodes_in
+goes_first room h = record { going = refl; few = omega (arith, h) }
+
+pub no_line_fault : (circuit : Circuit) → OfNames IsShort circuit → AllByRecursion IsSmallTable circuit.tables → AllByRecursion IsShaped circuit.tables → length circuit.tables + length circuit.latches ≤ 65535 → first_line_fault [] (numbered 1 (plain_lines circuit)) ≡ None
+unfolding plain_lines numbered kind_of keyword_of
+no_line_fault circuit h small shaped few =
+    let room = length circuit.latches + (length circuit.tables + 0) in
+    let model = entry 1 (dotted (codes ".model") (circuit.name ∷ [])) in
+    let inputs = entry 2 (dotted (codes ".inputs") circuit.inputs) in
+    let outputs = entry 3 (dotted (codes ".outputs") circuit.outputs) in
+    let rest = map plain_latch circuit.latches ++ (flat_map table_lines circuit.tables ++ end_lines) in
+    let after_model : Goes room (model ∷ []) = goes_on Model room model [] refl refl refl (goes_first room (omega (arith, few))) in
+    let after_inputs : Goes room (inputs ∷ model ∷ []) = goes_on Inputs room inputs (model ∷ []) refl refl refl after_model in
+    let after_outputs : Goes room (outputs ∷ inputs ∷ model ∷ []) = goes_on Outputs room outputs (inputs ∷ model ∷ []) refl refl refl after_inputs in
+    no_fault [] (inputs ∷ outputs ∷ numbered 4 rest) model (model_taken 1 circuit.name h.name)
+    (no_fault (model ∷ []) (outputs ∷ numbered 4 rest) inputs (inputs_taken 2 (model ∷ []) circuit.inputs after_model.going h.inputs)
+    (no_fault (inputs ∷ model ∷ []) (numbered 4 rest) outputs (outputs_taken 3 (inputs ∷ model ∷ []) circuit.outputs after_inputs.going h.outputs)
+    (latches_pass circuit.latches (length circuit.tables + 0) 4 (outputs ∷ inputs ∷ model ∷ []) (flat_map table_lines circuit.tables ++ end_lines) after_outputs h.latches
+    (λ back number goes. tables_pass circuit.tables 0 number back end_lines goes h.tables small shaped end_passes))))

@@ -1,0 +1,119 @@
+-- The text of a circuit is read as that circuit.
+use Rattle.std.proofs.Common.{◌≡◌, ℕ, true, Option, None, Ok, List, [], ◌∷◌, ◌++◌, refl, sym, ap, ◌∙◌, arith, map, option_map}
+use Rattle.std.specs.List.{AllByRecursion}
+use Rattle.std.specs.Option.{option_or}
+use Rattle.sis_base.specs.Written.{is_word, lines_text}
+use Rattle.sis_text.specs.Entries.{entries_of}
+use Rattle.sis_text.proofs.Readback.{read_back}
+use Rattle.circuit_model.specs.declared.circuit.Table.{Table}
+use Rattle.circuit_model.specs.declared.circuit.Latch.{Latch as TheLatch}
+use Rattle.circuit_model.specs.declared.circuit.Timing.{Timing}
+use Rattle.circuit_model.specs.declared.circuit.Circuit.{Circuit}
+use Rattle.circuit_model.specs.Names.{has, all_different}
+use Rattle.circuit_model.specs.Runs.{latch_outputs}
+use Rattle.circuit_model.specs.Soundness.{IsSound, given, taken, outputs_of, latch_inputs, table_inputs}
+use Rattle.circuit_model.specs.Counts.{IsWithinLimits}
+use Rattle.circuit_model.specs.Text.{text_of}
+use Rattle.circuit_checks.specs.NameChecks.{first_again, first_missing, first_listed_twice}
+use Rattle.circuit_checks.specs.Cycles.{first_on_cycle}
+use Rattle.circuit_checks.proofs.Bridges.{again_from_different, missing_from_known, listed_from_different, none_from_acyclic}
+use Rattle.table_fold.specs.Folding.{folded}
+use Rattle.table_fold.proofs.Folded.{folded_same}
+use Rattle.blif_read.specs.Reader.{first_line_fault, inputs_in, outputs_in, ports_in, drives_in, reads_in, latches_in, tables_in, model_name, circuit_of, whole_fault, unless, read_lines}
+use Rattle.blif_read.specs.declared.fault.BlifFault.{BlifFault}
+use Rattle.blif_read.specs.declared.fault.BlifFault.TheVariants.{NameTwice, TwoDrivers, Undriven, Cycle}
+use Rattle.blif_read.specs.Limits.{HasShortNames}
+use Rattle.blif_trip.specs.Plain.{IsPlain}
+use Rattle.blif_read.proofs.NameLists.{all_front, all_back, all_append}
+use Rattle.blif_trip.proofs.Words.{of_names, plain_lines, lines_plain, lines_written}
+use Rattle.blif_trip.proofs.NoFaults.{IsShort, none_of, no_line_fault}
+use Rattle.blif_trip.proofs.Said.{lines_of, inputs_said, outputs_said, ports_said, drives_said, reads_said, latches_said_back, name_said, tables_said_back}
+
+-- the checks on the whole
+all_read : (circuit : Circuit) → IsSound circuit → AllByRecursion (λ (name : List ℕ). has (given circuit) name ≡ true) (circuit.outputs ++ (latch_inputs circuit ++ table_inputs circuit.tables))
+unfolding taken
+all_read circuit sound =
+    let P = λ (name : List ℕ). has (given circuit) name ≡ true in
+    let tables = all_front P (table_inputs circuit.tables) (latch_inputs circuit ++ circuit.outputs) sound.driven in
+    let others = all_back P (table_inputs circuit.tables) (latch_inputs circuit ++ circuit.outputs) sound.driven in
+    all_append P circuit.outputs (latch_inputs circuit ++ table_inputs circuit.tables) (all_back P (latch_inputs circuit) circuit.outputs others)
+    (all_append P (latch_inputs circuit) (table_inputs circuit.tables) (all_front P (latch_inputs circuit) circuit.outputs others) tables)
+
+twice_of : (circuit : Circuit) → IsSound circuit → first_listed_twice (inputs_in (lines_of circuit)) (outputs_in (lines_of circuit)) (ports_in (lines_of circuit)) ≡ None
+twice_of circuit sound =
+    rw (inputs_said circuit, outputs_said circuit, ports_said circuit) (listed_from_different circuit.inputs circuit.outputs (circuit.inputs ++ circuit.outputs) sound.inputs_once sound.outputs_once)
+
+again_of : (circuit : Circuit) → IsSound circuit → first_again (inputs_in (lines_of circuit)) (drives_in (lines_of circuit)) ≡ None
+unfolding given
+again_of circuit sound =
+    rw (inputs_said circuit, drives_said circuit) (again_from_different circuit.inputs (latch_outputs circuit ++ outputs_of circuit.tables) sound.one_driver)
+
+missing_of : (circuit : Circuit) → IsSound circuit → first_missing (inputs_in (lines_of circuit) ++ drives_in (lines_of circuit)) (reads_in (lines_of circuit)) ≡ None
+unfolding given
+missing_of circuit sound =
+    rw (inputs_said circuit, drives_said circuit, reads_said circuit) (missing_from_known (circuit.inputs ++ (latch_outputs circuit ++ outputs_of circuit.tables)) (circuit.outputs ++ (latch_inputs circuit ++ table_inputs circuit.tables)) (all_read circuit sound))
+
+cycle_of : (circuit : Circuit) → IsSound circuit → first_on_cycle (tables_in (lines_of circuit)) ≡ None
+cycle_of circuit sound = ap first_on_cycle (tables_said_back circuit sound.shaped) ∙ none_from_acyclic circuit.tables sound.acyclic
+
+no_whole_fault : (circuit : Circuit) → IsSound circuit → whole_fault (lines_of circuit) ≡ None
+unfolding whole_fault
+no_whole_fault circuit sound =
+    let lines = lines_of circuit in
+    none_of (option_map (λ (name : List ℕ). NameTwice name) (first_listed_twice (inputs_in lines) (outputs_in lines) (ports_in lines))
+    ∷ option_map (λ (name : List ℕ). TwoDrivers name) (first_again (inputs_in lines) (drives_in lines))
+    ∷ option_map (λ (name : List ℕ). Undriven name) (first_missing (inputs_in lines ++ drives_in lines) (reads_in lines))
+    ∷ option_map (λ (name : List ℕ). Cycle name) (first_on_cycle (tables_in lines)) ∷ []) (
+      ap (option_map (λ (name : List ℕ). NameTwice name)) (twice_of circuit sound),
+      (
+        ap (option_map (λ (name : List ℕ). TwoDrivers name)) (again_of circuit sound),
+        (ap (option_map (λ (name : List ℕ). Undriven name)) (missing_of circuit sound), (ap (option_map (λ (name : List ℕ). Cycle name)) (cycle_of circuit sound), tt)),
+      ),
+    )
+
+-- the circuit that the lines say
+all_folded_same : (tables : List Table) → AllByRecursion (λ (table : Table). all_different table.inputs ≡ true) tables → map folded tables ≡ tables
+all_folded_same [] e = refl
+all_folded_same (table ∷ tables) e =
+    ap (λ (first : Table). first ∷ map folded tables) (folded_same table e.0) ∙ ap (λ (more : List Table). table ∷ more) (all_folded_same tables e.1)
+
+tables_of : (circuit : Circuit) → IsSound circuit → map folded (tables_in (lines_of circuit)) ≡ circuit.tables
+tables_of circuit sound = ap (map folded) (tables_said_back circuit sound.shaped) ∙ all_folded_same circuit.tables sound.table_inputs_once
+
+abbrev circuit_with : List ℕ → List (List ℕ) → List (List ℕ) → List (List ℕ) → Option Timing → List TheLatch → List Table → List Table → Circuit
+circuit_with name inputs outputs clocks timing latches tables dont_care =
+    record { name = name; inputs = inputs; outputs = outputs; clocks = clocks; timing = timing; latches = latches; tables = tables; dont_care = dont_care }
+
+circuit_same : (name : List ℕ) (inputs outputs clocks : List (List ℕ)) (timing : Option Timing) (latches : List TheLatch) (tables dont_care : List Table) (circuit : Circuit)
+    → name ≡ circuit.name → inputs ≡ circuit.inputs → outputs ≡ circuit.outputs → clocks ≡ circuit.clocks → timing ≡ circuit.timing → latches ≡ circuit.latches → tables ≡ circuit.tables → dont_care ≡ circuit.dont_care
+    → circuit_with name inputs outputs clocks timing latches tables dont_care ≡ circuit
+circuit_same name inputs outputs clocks timing latches tables dont_care circuit a b c d e f g h = rw (a, b, c, d, e, f, g, h) refl
+
+circuit_back : (circuit : Circuit) → IsSound circuit → IsPlain circuit → circuit_of (lines_of circuit) ≡ circuit
+unfolding circuit_of
+circuit_back circuit sound plain =
+    let lines = lines_of circuit in
+    circuit_same (model_name lines) (inputs_in lines) (outputs_in lines) [] None (latches_in lines) (map folded (tables_in lines)) [] circuit
+    (name_said circuit) (inputs_said circuit) (outputs_said circuit) (sym plain.clocks) (sym plain.timing) (latches_said_back circuit sound.inits) (tables_of circuit sound) (sym plain.dont_care)
+
+-- both
+no_line_fault_of : (circuit : Circuit) → IsSound circuit → IsWithinLimits circuit → HasShortNames circuit → first_line_fault [] (lines_of circuit) ≡ None
+no_line_fault_of circuit sound limits short =
+    no_line_fault circuit (of_names IsShort circuit short.names) limits.tables sound.shaped (omega (arith, limits.nodes))
+
+lines_read : (circuit : Circuit) → IsSound circuit → IsPlain circuit → IsWithinLimits circuit → HasShortNames circuit → read_lines (lines_of circuit) ≡ Ok circuit
+unfolding read_lines
+lines_read circuit sound plain limits short =
+    let lines = lines_of circuit in
+    ap (λ (fault : Option BlifFault). unless (option_or fault (whole_fault lines)) (circuit_of lines)) (no_line_fault_of circuit sound limits short)
+    ∙ ap (λ (fault : Option BlifFault). unless fault (circuit_of lines)) (no_whole_fault circuit sound)
+    ∙ ap (λ (read : Circuit). unless None read) (circuit_back circuit sound plain)
+
+text_plain : (circuit : Circuit) → IsSound circuit → IsPlain circuit → entries_of (text_of circuit) ≡ lines_of circuit
+unfolding text_of
+text_plain circuit sound plain =
+    ap (λ lines. entries_of (lines_text lines)) (lines_plain circuit plain)
+    ∙ read_back (plain_lines circuit) (lines_written circuit (of_names (λ (name : List ℕ). is_word name ≡ true) circuit sound.words))
+
+pub text_read : (circuit : Circuit) → IsSound circuit → IsPlain circuit → IsWithinLimits circuit → HasShortNames circuit → read_lines (entries_of (text_of circuit)) ≡ Ok circuit
+text_read circuit sound plain limits short = ap read_lines (text_plain circuit sound plain) ∙ lines_read circuit sound plain limits short
