@@ -1,0 +1,223 @@
+-- Sums and counts over rows and tables, as far as a loop has come, and how large they can be.
+use Rattle.std.proofs.Common.{◌≡◌, ℕ, ◌+◌, ◌*◌, ◌^◌, ◌<◌, ◌≤◌, zero, suc, Bool, true, false, not, ◌&&◌, ◌||◌, cond, if◌then◌else◌, Option, Some, None, List, [], ◌∷◌, ◌++◌, length, get_or, take, map, bytes_eq, refl, sym, ap, ◌∙◌, subst, arith}
+use Rattle.std.specs.List.{sum_by, find, filter, AllByRecursion, IsDistinct}
+use Rattle.std.proofs.lemmas.List.{map_more, length-append, length-map, map-append}
+use Rattle.std.proofs.lemmas.List.Sums.{sum_by_push, sum_by-append, sum_by-cons, count_by-le-length}
+use Rattle.std.proofs.lemmas.List.Elements.{filter-append}
+use Rattle.std.proofs.lemmas.Map.Keys.{IsDistinct-cons}
+use Rattle.std.proofs.lemmas.Map.Made.{length-le_from_is_member}
+use Rattle.std.proofs.lemmas.Cmp.{nat_list_eq_equiv}
+use Rattle.std.proofs.lemmas.Nat.{mul-le}
+use Rattle.std.proofs.lemmas.Option.{same_Some}
+use Rattle.circuit_model.specs.Names.{has, all_different}
+use Rattle.circuit_model.specs.Values.{driver}
+use Rattle.circuit_model.specs.Runs.{latch_outputs}
+use Rattle.circuit_model.specs.Counts.{is_literal, literals_of_row, literals_of_table}
+use Rattle.circuit_model.specs.Soundness.{given, control_of, names_of, taken, table_inputs, latch_inputs, outputs_of, IsSound, IsShaped}
+use Rattle.circuit_model.specs.declared.circuit.Tri.{Tri}
+use Rattle.circuit_model.specs.declared.circuit.Latch.{Latch}
+use Rattle.circuit_model.specs.declared.circuit.Table.{Table as Written}
+use Rattle.circuit_model.specs.declared.circuit.Circuit.{Circuit}
+use Rattle.net_core.specs.declared.places.Entry.{Entry}
+use Rattle.net_core.specs.declared.table.Table.{Table}
+use Rattle.net_core.specs.Tables.{character_of, characters_of, named}
+use Rattle.net_core.specs.Places.{present}
+use Rattle.net_core.specs.Reads.{readers_of, HasFewRows, HasBounds}
+use Rattle.net_core.specs.Fresh.{used_names, IsNewName}
+use Rattle.net_core.proofs.Lookups.{same_name, has-append}
+use Rattle.net_core.proofs.Indexing.{present_more}
+
+pub sum_more : {X Y : Type 0} (f : Y → ℕ) (h : X → Y) (xs : List X) (i : ℕ) (d : X) → i < length xs → sum_by f (map h (take (i + 1) xs)) ≡ sum_by f (map h (take i xs)) + f (h (get_or xs i d))
+sum_more f h xs i d lt = ap (sum_by f) (map_more h xs i d lt) ∙ sum_by_push f (map h (take i xs)) (h (get_or xs i d))
+
+pub literals_more : (row : List (Option Bool)) (i : ℕ) → i < length row → literals_of_row (characters_of (take (i + 1) row)) ≡ literals_of_row (characters_of (take i row)) + (if is_literal (character_of (get_or row i None)) then 1 else 0)
+unfolding literals_of_row
+literals_more row i lt = sum_more (λ (c : Tri). if is_literal c then 1 else 0) character_of row i None lt
+
+module _ {R : Type 0} where
+  -- a sum over the tables at places, and a bound on it
+  pub sum_slots : (f : Written → ℕ) (bound : ℕ) (slots : List (Option (Entry R))) (i : ℕ) (x : Option (Entry R)) (total here : ℕ) → i < length slots → x ≡ get_or slots i x
+      → (total ≡ sum_by f (present (take i slots))) × (total ≤ length (present (take i slots)) * bound) → here ≡ sum_by f (present (x ∷ [])) → here ≤ length (present (x ∷ [])) * bound
+      → (total + here ≡ sum_by f (present (take (i + 1) slots))) × (total + here ≤ length (present (take (i + 1) slots)) * bound)
+  sum_slots f bound slots i x total here lt e h a b =
+      let parts : present (take (i + 1) slots) ≡ present (take i slots) ++ present (x ∷ []) = present_more slots i x lt e in
+      let sums : sum_by f (present (take (i + 1) slots)) ≡ sum_by f (present (take i slots)) + sum_by f (present (x ∷ [])) = ap (sum_by f) parts ∙ sum_by-append f (present (take i slots)) (present (x ∷ [])) in
+      let lengths : length (present (take (i + 1) slots)) ≡ length (present (take i slots)) + length (present (x ∷ [])) = ap length parts ∙ length-append (present (take i slots)) (present (x ∷ [])) in
+      let product : length (present (take (i + 1) slots)) * bound ≡ (length (present (take i slots)) + length (present (x ∷ []))) * bound = ap (λ n. n * bound) lengths in
+      (omega (arith, h.0, a, sums), omega (arith, h.1, b, product))
+
+  present_front : (slots : List (Option (Entry R))) (n : ℕ) → length (present (take n slots)) ≤ length (present slots)
+  unfolding present
+  present_front [] zero = omega arith
+  present_front [] (suc n) = omega arith
+  present_front (x ∷ slots) zero = omega arith
+  present_front (None ∷ slots) (suc n) = present_front slots n
+  present_front (Some e ∷ slots) (suc n) = omega (arith, present_front slots n)
+
+  pub fewer_present : (slots : List (Option (Entry R))) → length (present slots) ≤ length slots
+  unfolding present
+  fewer_present [] = omega arith
+  fewer_present (None ∷ slots) = omega (arith, fewer_present slots)
+  fewer_present (Some e ∷ slots) = omega (arith, fewer_present slots)
+
+  -- a sum that is bounded at each table fits
+  pub sum_small : (slots : List (Option (Entry R))) (n bound total : ℕ) → total ≤ length (present (take n slots)) * bound → length (present slots) < 2 ^ 29 → total ≤ 2 ^ 29 * bound
+  sum_small slots n bound total h k =
+      let few : length (present (take n slots)) ≤ 2 ^ 29 = omega (arith, present_front slots n, k) in
+      omega (arith, h, mul-le (length (present (take n slots))) bound (2 ^ 29) bound few (omega arith))
+
+  pub all_present_at : (P : Written → Type 0) (slots : List (Option (Entry R))) (i : ℕ) (x : Option (Entry R)) → AllByRecursion P (present slots) → i < length slots → x ≡ get_or slots i x → AllByRecursion P (present (x ∷ []))
+  unfolding present
+  all_present_at P [] i x h lt e = absurd (omega arith)
+  all_present_at P (y ∷ slots) zero x h lt e = subst (λ (z : Option (Entry R)). AllByRecursion P (present (z ∷ []))) (sym e) (first y h)
+    where
+      first : (y : Option (Entry R)) → AllByRecursion P (present (y ∷ slots)) → AllByRecursion P (present (y ∷ []))
+      first None k = tt
+      first (Some t) k = (k.0, tt)
+  all_present_at P (None ∷ slots) (suc i) x h lt e = all_present_at P slots i x h (omega arith) e
+  all_present_at P (Some t ∷ slots) (suc i) x h lt e = all_present_at P slots i x h.1 (omega arith) e
+
+  pub few_rows_of : (e : Entry R) → AllByRecursion HasFewRows (present (Some e ∷ [])) → length e.table.cover.rows < 2 ^ 29
+  unfolding present named
+  few_rows_of e h = omega (arith, h.0, length-map e.table.cover.rows characters_of)
+
+  pub few_rows_named : (q : List ℕ) (t : Table R) → HasFewRows (named q t) → length t.cover.rows < 2 ^ 29
+  unfolding named
+  few_rows_named q t h = omega (arith, h, length-map t.cover.rows characters_of)
+
+  pub one_present : (e : Entry R) (n bound : ℕ) → n ≤ bound → n ≤ length (present (Some e ∷ [])) * bound
+  unfolding present
+  one_present e n bound h = omega (arith, h)
+
+-- what holds of each table holds of the driver of a signal
+pub driver_has : (P : Written → Type 0) (tables : List Written) (q : List ℕ) (t : Written) → AllByRecursion P tables → driver tables q ≡ Some t → P t
+unfolding driver
+driver_has P [] q t h e = absurd cc
+driver_has P (first ∷ tables) q t h e = cases (bytes_eq q first.output) e (λ k. driver_has P tables q t h.1 k)
+  where
+    cases : (b : Bool) → cond b (Some first) (find (λ (table : Written). bytes_eq q table.output) tables) ≡ Some t → (find (λ (table : Written). bytes_eq q table.output) tables ≡ Some t → P t) → P t
+    cases true k rest = subst (λ (x : Written). P x) (same_Some first t k) h.0
+    cases false k rest = rest k
+
+-- names that are different and all among others are at most as many
+no_member : (x : List ℕ) (xs : List (List ℕ)) → has xs x ≡ false → AllByRecursion (λ y. bytes_eq x y ≡ false) xs
+no_member x [] h = tt
+no_member x (y ∷ xs) h = (left (bytes_eq x y) (has xs x) h, no_member x xs (right (bytes_eq x y) (has xs x) h))
+  where
+    left : (a b : Bool) → (a || b) ≡ false → a ≡ false
+    left true b k = cc
+    left false b k = refl
+
+    right : (a b : Bool) → (a || b) ≡ false → b ≡ false
+    right true b k = cc
+    right false b k = k
+
+distinct_names : (xs : List (List ℕ)) → all_different xs ≡ true → IsDistinct bytes_eq xs
+unfolding all_different IsDistinct
+distinct_names [] h = tt
+distinct_names (x ∷ xs) h = IsDistinct-cons bytes_eq x xs (no_member x xs (left (has xs x) (all_different xs) h)) (distinct_names xs (right (has xs x) (all_different xs) h))
+  where
+    left : (a b : Bool) → (not a && b) ≡ true → a ≡ false
+    left true b k = cc
+    left false b k = refl
+
+    right : (a b : Bool) → (not a && b) ≡ true → b ≡ true
+    right true b k = cc
+    right false b k = k
+
+pub fewer_names : (xs ys : List (List ℕ)) → all_different xs ≡ true → ((q : List ℕ) → has xs q ≡ true → has ys q ≡ true) → length xs ≤ length ys
+fewer_names xs ys d h = length-le_from_is_member nat_list_eq_equiv xs ys (distinct_names xs d) h
+
+-- the inputs of a table of a sound circuit are given signals
+all_left : {X : Type 0} (P : X → Type 0) (xs ys : List X) → AllByRecursion P (xs ++ ys) → AllByRecursion P xs
+all_left P [] ys h = tt
+all_left P (x ∷ xs) ys h = (h.0, all_left P xs ys h.1)
+
+all_right : {X : Type 0} (P : X → Type 0) (xs ys : List X) → AllByRecursion P (xs ++ ys) → AllByRecursion P ys
+all_right P [] ys h = h
+all_right P (x ∷ xs) ys h = all_right P xs ys h.1
+
+each_table : (P : List ℕ → Type 0) (tables : List Written) → AllByRecursion P (table_inputs tables) → AllByRecursion (λ (t : Written). AllByRecursion P t.inputs) tables
+each_table P [] h = tt
+each_table P (t ∷ tables) h = (all_left P t.inputs (table_inputs tables) h, each_table P tables (all_right P t.inputs (table_inputs tables) h))
+
+all_has : (xs ys : List (List ℕ)) → AllByRecursion (λ n. has ys n ≡ true) xs → (q : List ℕ) → has xs q ≡ true → has ys q ≡ true
+all_has [] ys h q k = cc
+all_has (x ∷ xs) ys h q k = cases (bytes_eq q x) refl k (λ m. all_has xs ys h.1 q m)
+  where
+    cases : (b : Bool) → bytes_eq q x ≡ b → (b || has xs q) ≡ true → (has xs q ≡ true → has ys q ≡ true) → has ys q ≡ true
+    cases true e m rest = ap (has ys) (same_name q x e) ∙ h.0
+    cases false e m rest = rest m
+
+inputs_bound : (c : Circuit) (q : List ℕ) (t : Written) → IsSound c → HasBounds c → driver c.tables q ≡ Some t → length t.inputs ≤ 2 ^ 30
+unfolding given taken
+inputs_bound c q t h b e =
+    let once : all_different t.inputs ≡ true = driver_has (λ (u : Written). all_different u.inputs ≡ true) c.tables q t h.table_inputs_once e in
+    let known : AllByRecursion (λ n. has (given c) n ≡ true) t.inputs =
+    driver_has (λ (u : Written). AllByRecursion (λ n. has (given c) n ≡ true) u.inputs) c.tables q t (each_table (λ n. has (given c) n ≡ true) c.tables (all_left (λ n. has (given c) n ≡ true) (table_inputs c.tables) (latch_inputs c ++ c.outputs) h.driven)) e in
+    let few : length t.inputs ≤ length (given c) = fewer_names t.inputs (given c) once (all_has t.inputs (given c) known) in
+    omega (arith, few, b.inputs, b.nodes, length-append c.inputs (latch_outputs c ++ outputs_of c.tables), length-append (latch_outputs c) (outputs_of c.tables), length-map c.latches (λ (latch : Latch). latch.output), length-map c.tables (λ (u : Written). u.output))
+
+rows_bound : (w : ℕ) (rows : List (List Tri)) → AllByRecursion (λ (row : List Tri). length row ≡ w) rows → sum_by literals_of_row rows ≤ length rows * w
+unfolding literals_of_row
+rows_bound w [] h = omega arith
+rows_bound w (row ∷ rows) h =
+    let tail : sum_by literals_of_row rows ≤ length rows * w = rows_bound w rows h.1 in
+    omega (arith, sum_by-cons literals_of_row row rows, count_by-le-length is_literal row, h.0, tail)
+
+pub literals_bound : (c : Circuit) (q : List ℕ) (t : Written) → IsSound c → HasBounds c → driver c.tables q ≡ Some t → literals_of_table t ≤ 2 ^ 59
+unfolding literals_of_table
+literals_bound c q t h b e =
+    let shaped : IsShaped t = driver_has IsShaped c.tables q t h.shaped e in
+    let few : length t.rows < 2 ^ 29 = driver_has HasFewRows c.tables q t b.rows e in
+    omega (arith, rows_bound (length t.inputs) t.rows shaped.0, mul-le (length t.rows) (length t.inputs) (2 ^ 29) (2 ^ 30) (omega (arith, few)) (inputs_bound c q t h b e))
+
+-- the readers among tables before and behind
+pub readers-append : (xs ys : List Written) (q : List ℕ) → readers_of (xs ++ ys) q ≡ readers_of xs q ++ readers_of ys q
+unfolding readers_of
+readers-append xs ys q =
+    ap (map (λ (t : Written). t.output)) (filter-append (λ (t : Written). has t.inputs q) xs ys)
+    ∙ map-append (λ (t : Written). t.output) (filter (λ (t : Written). has t.inputs q) xs) (filter (λ (t : Written). has t.inputs q) ys)
+
+-- where a name is used
+used_is : (c : Circuit) (q : List ℕ) → has (used_names c) q
+    ≡ ((has c.inputs q || (has (latch_outputs c) q || has (outputs_of c.tables) q)) || (has c.outputs q || (has c.clocks q || (has (control_of c.timing) q || has (names_of c.dont_care) q))))
+unfolding used_names given
+used_is c q =
+    let rest : List (List ℕ) = c.outputs ++ (c.clocks ++ (control_of c.timing ++ names_of c.dont_care)) in
+    rw (
+      has-append (c.inputs ++ (latch_outputs c ++ outputs_of c.tables)) rest q,
+      has-append c.inputs (latch_outputs c ++ outputs_of c.tables) q,
+      has-append (latch_outputs c) (outputs_of c.tables) q,
+      has-append c.outputs (c.clocks ++ (control_of c.timing ++ names_of c.dont_care)) q,
+      has-append c.clocks (control_of c.timing ++ names_of c.dont_care) q,
+      has-append (control_of c.timing) (names_of c.dont_care) q,
+    ) refl
+
+any_third : (a b t d : Bool) → t ≡ true → ((a || (b || t)) || d) ≡ true
+any_third true b t d h = refl
+any_third false true t d h = refl
+any_third false false t d h = rw h refl
+
+any_six : (a b t d e f g : Bool) → t ≡ false → ((a || (b || t)) || (d || (e || (f || g)))) ≡ (((((a || b) || d) || e) || f) || g)
+any_six true b t d e f g h = refl
+any_six false true t d e f g h = refl
+any_six false false t true e f g h = rw h refl
+any_six false false t false true f g h = rw h refl
+any_six false false t false false true g h = rw h refl
+any_six false false t false false false g h = rw h refl
+
+pub used_by_table : (c : Circuit) (q : List ℕ) → has (outputs_of c.tables) q ≡ true → has (used_names c) q ≡ true
+used_by_table c q h = used_is c q ∙ any_third (has c.inputs q) (has (latch_outputs c) q) (has (outputs_of c.tables) q) (has c.outputs q || (has c.clocks q || (has (control_of c.timing) q || has (names_of c.dont_care) q))) h
+
+pub used_else : (c : Circuit) (q : List ℕ) → has (outputs_of c.tables) q ≡ false
+    → has (used_names c) q ≡ (((((has c.inputs q || has (latch_outputs c) q) || has c.outputs q) || has c.clocks q) || has (control_of c.timing) q) || has (names_of c.dont_care) q)
+used_else c q h = used_is c q ∙ any_six (has c.inputs q) (has (latch_outputs c) q) (has (outputs_of c.tables) q) (has c.outputs q) (has c.clocks q) (has (control_of c.timing) q) (has (names_of c.dont_care) q) h
+
+-- a new name is no table's
+pub new_is_no_table : (c : Circuit) (q : List ℕ) → IsNewName c q → has (outputs_of c.tables) q ≡ false
+new_is_no_table c q h = cases (has (outputs_of c.tables) q) refl
+  where
+    cases : (b : Bool) → has (outputs_of c.tables) q ≡ b → has (outputs_of c.tables) q ≡ false
+    cases true e = let x : true ≡ false = sym (used_by_table c q e) ∙ (ap (has (used_names c)) h.is ∙ h.free) in absurd cc
+    cases false e = e

@@ -1,0 +1,7 @@
+pub mod Rows
+pub mod Lookups
+pub mod Indexing
+pub mod Removals
+pub mod Counting
+pub mod NewNames
+pub mod TidyTables

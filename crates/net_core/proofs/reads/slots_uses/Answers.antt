@@ -1,0 +1,22 @@
+use Rattle.std.proofs.Common.{◌^◌, refl, arith}
+use Rattle.net_core.specs.Reads.{uses_in}
+use Rattle.net_core.specs.Places.{present}
+use Rattle.net_core.specs.Reads.{HasFewRows}
+use Rattle.net_core.proofs.Counting.{sum_slots, sum_small, all_present_at}
+use Rattle.net_core.proofs.reads.slots_uses.Goals as goal
+
+pub loop-slot-init : goal.loop-slot-init
+unfolding present
+loop-slot-init g c = (refl, omega arith)
+
+pub slot_uses-total-requires : goal.slot_uses-total-requires
+slot_uses-total-requires g c = all_present_at HasFewRows c.args.slots.now c.loop-slot.slot-index c.slot-item.result c.requires.rows c.loop-slot-test.true c.slot-item.is
+
+pub overflow_add-total : goal.overflow_add-total
+overflow_add-total g c =
+    let sums = sum_slots (uses_in c.args.name.now) (2 ^ 29) c.args.slots.now c.loop-slot.slot-index c.slot-item.result c.loop-slot.total c.slot_uses-total.result c.loop-slot-test.true c.slot-item.is c.loop-slot.invariant c.slot_uses-total.ensures.uses c.slot_uses-total.ensures.bound in
+    omega (arith, sum_small c.args.slots.now _ (2 ^ 29) _ sums.1 c.requires.few)
+
+pub loop-slot-preserved : goal.loop-slot-preserved
+loop-slot-preserved g c =
+    sum_slots (uses_in c.args.name.now) (2 ^ 29) c.args.slots.now c.loop-slot.slot-index c.slot-item.result c.loop-slot.total c.slot_uses-total.result c.loop-slot-test.true c.slot-item.is c.loop-slot.invariant c.slot_uses-total.ensures.uses c.slot_uses-total.ensures.bound

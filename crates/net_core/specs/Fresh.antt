@@ -1,0 +1,39 @@
+-- The names of new tables, and when one more table may stand.
+-- Source: the names `[n]` are those of SIS's own new nodes (UCB/ERL M92/41); that the least free number is taken, and the
+-- limit of 65,535, are the project's own.
+use Rattle.std.specs.Prelude.{◌≡◌, ℕ, ◌+◌, ◌^◌, ◌<◌, ◌≤◌, true, false, Result, Ok, Err, List, ◌++◌, length, decimal, codes}
+use Rattle.circuit_model.specs.Names.{has}
+use Rattle.circuit_model.specs.Soundness.{given, control_of, names_of}
+use Rattle.circuit_model.specs.declared.circuit.Circuit.{Circuit}
+use Rattle.circuit_laws.specs.Edits.{with_added}
+use Rattle.net_core.specs.Tables.{named}
+use Rattle.net_core.specs.declared.table.Table.{Table}
+use Rattle.net_core.specs.declared.adding.AddFault.{AddFault}
+use Rattle.net_core.specs.declared.adding.AddFault.TheVariants.{NodeLimit, Memory}
+
+-- a number in brackets
+unfoldable pub bracketed : ℕ → List ℕ
+bracketed number = codes "[" ++ (decimal number ++ codes "]")
+
+-- the names that no new table may take: signals, ports, clocks, the control, and what the don't-care part mentions
+unfoldable pub used_names : Circuit → List (List ℕ)
+used_names circuit =
+    given circuit ++ (circuit.outputs ++ (circuit.clocks ++ (control_of circuit.timing ++ names_of circuit.dont_care)))
+
+-- the least number in brackets that is not used, one that a machine word holds
+pub record IsNewName (circuit : Circuit) (name : List ℕ) : Type 0 where
+  pub number : ℕ
+  pub fits : number < 2 ^ 64
+  pub is : name ≡ bracketed number
+  pub free : has (used_names circuit) (bracketed number) ≡ false
+  pub least : (other : ℕ) → other < number → has (used_names circuit) (bracketed other) ≡ true
+
+-- tables and latches, the tables of the don't-care part with them
+abbrev pub node_count : Circuit → ℕ
+node_count circuit = length circuit.tables + length circuit.latches + length circuit.dont_care
+
+-- what adding a table to a circuit may answer, and what it leaves
+abbrev pub Adds : {R : Type 0} → Circuit → Table R → Circuit → Result (List ℕ) AddFault → Type 0
+Adds old table new (Ok name) = (node_count old < 65535) × IsNewName old name × (new ≡ with_added old (named name table))
+Adds old table new (Err NodeLimit) = (65535 ≤ node_count old) × (new ≡ old)
+Adds old table new (Err Memory) = (node_count old < 65535) × (new ≡ old)

@@ -1,0 +1,5 @@
+pub mod Tables
+pub mod Places
+pub mod Reads
+pub mod Fresh
+pub mod Tidy

@@ -1,0 +1,55 @@
+-- What a network tells of its tables: who reads a signal, and what a table is worth.
+-- Source: Brayton, Rudell, Sangiovanni-Vincentelli and Wang, "MIS: A Multiple-Level Logic Optimization System" (1987),
+-- and De Micheli, "Synthesis and Optimization of Digital Circuits", chapter 8: eliminating a node of l literals that is
+-- used n times adds n * l - n - l literals.
+use Rattle.std.specs.Prelude.{ℕ, ◌+◌, ◌*◌, ◌<◌, ◌^◌, ℤ, pos, ◌-ℤ◌, Option, Some, None, List, map, filter, length, position, count_by, sum_by, slice_index_or, bytes_eq}
+use Rattle.std.specs.List.{AllByRecursion}
+use Rattle.circuit_model.specs.Names.{has}
+use Rattle.circuit_model.specs.Values.{driver}
+use Rattle.circuit_model.specs.Counts.{is_literal, literals_of_table}
+use Rattle.circuit_model.specs.declared.circuit.Tri.{Tri}
+use Rattle.circuit_model.specs.declared.circuit.Tri.TheVariants.{Free}
+use Rattle.circuit_model.specs.declared.circuit.Table.{Table}
+use Rattle.circuit_model.specs.declared.circuit.Circuit.{Circuit}
+
+-- the names of the tables that read a signal, in table order
+unfoldable pub readers_of : List Table → List ℕ → List (List ℕ)
+readers_of tables name = map (λ (table : Table). table.output) (filter (λ (table : Table). has table.inputs name) tables)
+
+-- the rows with a literal at a place
+unfoldable pub rows_with : ℕ → List (List Tri) → ℕ
+rows_with place rows = count_by (λ (row : List Tri). is_literal (slice_index_or row place Free)) rows
+
+-- the rows of a table with a literal of a signal, which is one of its inputs or none
+abbrev pub rows_at : Option ℕ → List (List Tri) → ℕ
+rows_at None rows = 0
+rows_at (Some place) rows = rows_with place rows
+
+unfoldable pub uses_in : List ℕ → Table → ℕ
+uses_in name table = rows_at (position (bytes_eq name) table.inputs) table.rows
+
+-- the uses of a signal: the rows of all tables with a literal of it
+unfoldable pub uses_of : List Table → List ℕ → ℕ
+uses_of tables name = sum_by (uses_in name) tables
+
+abbrev pub literals_in : Option Table → ℕ
+literals_in None = 0
+literals_in (Some table) = literals_of_table table
+
+-- the literals of the table of a signal
+unfoldable pub own_literals : List Table → List ℕ → ℕ
+own_literals tables name = literals_in (driver tables name)
+
+-- n * l - n - l for n uses and l literals
+unfoldable pub value_of : List Table → List ℕ → ℤ
+value_of tables name =
+    pos (uses_of tables name * own_literals tables name) -ℤ pos (uses_of tables name) -ℤ pos (own_literals tables name)
+
+abbrev pub HasFewRows : Table → Type 0
+HasFewRows table = length table.rows < 2 ^ 29
+
+-- inputs, tables with latches, and each table's rows number below 2^29
+pub record HasBounds (circuit : Circuit) : Type 0 where
+  pub inputs : length circuit.inputs < 2 ^ 29
+  pub nodes : length circuit.tables + length circuit.latches < 2 ^ 29
+  pub rows : AllByRecursion HasFewRows circuit.tables

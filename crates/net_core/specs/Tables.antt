@@ -1,0 +1,48 @@
+-- Tables whose rows are a cover, and the tables of circuits that they are.
+-- Source: BLIF appendix of the SIS report (UCB/ERL M92/41), `.names`; De Micheli, "Synthesis and Optimization of
+-- Digital Circuits", chapter 8 (the local function of a node). The characters of a row are those of circuit_model, the
+-- places of a row those of sis_base.
+use Rattle.std.specs.Prelude.{◌≡◌, ℕ, Bool, true, false, Option, Some, None, List, map, length}
+use Rattle.std.specs.List.{AllByRecursion}
+use Rattle.circuit_model.specs.Values.{literal_of}
+use Rattle.circuit_model.specs.declared.circuit.Tri.{Tri}
+use Rattle.circuit_model.specs.declared.circuit.Tri.TheVariants.{Zero, One, Free}
+use Rattle.circuit_model.specs.declared.circuit.Table.{Table as Written}
+use Rattle.net_core.specs.declared.table.Table.{Table}
+
+-- the place that a character stands for
+abbrev pub place_of : Tri → Option Bool
+place_of character = literal_of character
+
+-- the character of a place
+abbrev pub character_of : Option Bool → Tri
+character_of None = Free
+character_of (Some true) = One
+character_of (Some false) = Zero
+
+abbrev pub places_of : List Tri → List (Option Bool)
+places_of row = map place_of row
+
+abbrev pub characters_of : List (Option Bool) → List Tri
+characters_of row = map character_of row
+
+-- the table of a circuit that drives a name
+unfoldable pub named : {R : Type 0} → List ℕ → Table R → Written
+named name table = record {
+  inputs = table.inputs;
+  output = name;
+  rows = map characters_of table.cover.rows;
+  phase = table.phase;
+}
+
+-- the table with the inputs, rows and phase of a circuit's table
+unfoldable pub covered : {R : Type 0} → Written → Table R
+covered written = record {
+  inputs = written.inputs;
+  cover = record { width = length written.inputs; rows = map places_of written.rows };
+  phase = written.phase;
+}
+
+-- each row has so many characters
+abbrev pub HasCharacters : ℕ → List (List Tri) → Type 0
+HasCharacters width rows = AllByRecursion (λ (row : List Tri). length row ≡ width) rows

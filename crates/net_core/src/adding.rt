@@ -1,0 +1,132 @@
+//! A table is added to a network under a new name.
+
+ghost use Rattle.std.specs.Prelude.{◌≡◌, ℕ, ◌+◌, ◌<◌, ◌≤◌, Bool, true, false, ◌||◌, ◌↔◌, Option, Some, None, List, [], ◌∷◌, ◌++◌, length, map, decimal, codes, IfOk, OnOk, OnErr, IsTrue};
+ghost use Rattle.circuit_model.specs.Names.{has};
+ghost use Rattle.circuit_model.specs.Soundness.{outputs_of, control_of, names_of, given};
+ghost use Rattle.circuit_model.specs.declared.circuit.Latch.{Latch as TheLatch};
+ghost use Rattle.net_core.specs.Places.{present};
+ghost use Rattle.net_core.specs.declared.adding.AddFault.TheVariants.{Memory};
+ghost use Rattle.net_core.specs.Fresh.{bracketed};
+
+use crate::places::Entry;
+use crate::reads::is_among;
+use circuit_model::{Latch, Name, Table as Written, Timing};
+use cube_cover::Row;
+use sis_base::Sequence;
+use std::alloc::{AllocError, Global};
+
+/// How many tables and latches may stand, the tables of the don't-care part with them.
+const NODE_LIMIT: u128 = 65_535;
+
+/// Why no table was added: so many tables and latches stand already, or memory is wanting.
+#[derive(Clone, Copy, Debug, PartialEq, Eq, Drop)]
+pub enum AddFault {
+    NodeLimit,
+    Memory,
+}
+
+impl From<AllocError> for AddFault {
+    ghost from_gives = { λ _ fault. fault ≡ Memory };
+
+    fn from(_error: AllocError) -> AddFault {
+        AddFault::Memory
+    }
+}
+
+// A number in brackets.
+#[tactic(auto, using(std::proofs::lemmas::Grind::common_steps), unfolding(crate::specs::Fresh::bracketed))]
+pub(crate) fn bracketed_name(alloc: Global, number: u64) -> Result<Name, AllocError>
+    ensures { IfOk result (λ name. name ≡ bracketed number) }
+{
+    let text = format!(in alloc; "{number}")?;
+    let mut bytes = Vec::new(alloc);
+    bytes.extend_from_slice(b"[".as_slice())?;
+    bytes.extend_from_slice(text.as_bytes())?;
+    bytes.extend_from_slice(b"]".as_slice())?;
+    Ok(Sequence::from_vec(bytes))
+}
+
+// Whether a latch drives a name.
+pub(crate) fn drives_latch(latches: &[Latch], name: &Name) -> bool
+    ensures { result ≡ has (map (λ (latch : TheLatch). latch.output) latches.now) name.now }
+{
+    for latch in latches {
+        if *name == latch.output {
+            return true;
+        }
+    }
+    false
+}
+
+// Whether a name is the control.
+pub(crate) fn is_control(timing: &Option<Timing>, name: &Name) -> bool
+    ensures { result ≡ has (control_of timing.now) name.now }
+{
+    match timing {
+        None => false,
+        Some(timing) => match &timing.control {
+            None => false,
+            Some(control) => *name == *control,
+        },
+    }
+}
+
+// Whether a table has the name or reads it.
+fn mentions(table: &Written, name: &Name) -> bool
+    ensures { result ≡ has (table.now.output ∷ table.now.inputs) name.now }
+{
+    *name == table.output || is_among(&table.inputs, name)
+}
+
+// Whether some of the tables has the name or reads it.
+pub(crate) fn is_mentioned(tables: &[Written], name: &Name) -> bool
+    ensures { result ≡ has (names_of tables.now) name.now }
+{
+    for table in tables {
+        if mentions(table, name) {
+            return true;
+        }
+    }
+    false
+}
+
+// Whether no more table may stand.
+fn is_over(tables: usize, latches: usize, dont_care: usize) -> bool
+    ensures { IsTrue result ↔ (65535 ≤ tables + latches + dont_care) }
+{
+    NODE_LIMIT <= tables as u128 + latches as u128 + dont_care as u128
+}
+
+// One for a table, none where it is gone.
+#[tactic(auto, unfolding(crate::specs::Places::present))]
+fn slot_count<R: Row>(slot: &Option<Entry<R>>) -> usize
+    ensures count { result ≡ length (present (slot.now ∷ [])) }
+    ensures bound { result ≤ 1 }
+{
+    match slot {
+        None => 0,
+        Some(_) => 1,
+    }
+}
+
+// How many tables are left.
+fn table_count<R: Row>(slots: &[Option<Entry<R>>]) -> usize
+    ensures { result ≡ length (present slots.now) }
+{
+    let mut count = 0;
+    for slot in slots {
+        count += slot_count(slot);
+    }
+    count
+}
+
+// Whether no more table may stand beside those that are left; few places hold few tables.
+#[tactic(auto, using(crate::proofs::Counting::fewer_present))]
+pub(crate) fn is_full<R: Row>(slots: &[Option<Entry<R>>], latches: usize, dont_care: usize) -> bool
+    ensures { IsTrue result ↔ (65535 ≤ length (present slots.now) + latches + dont_care) }
+{
+    if !is_over(slots.len(), latches, dont_care) {
+        return false;
+    }
+    is_over(table_count(slots), latches, dont_care)
+}

@@ -1,0 +1,19 @@
+//! Networks: sound circuits whose tables have their rows as covers, changed one table at a time.
+//!
+//! Source: De Micheli, "Synthesis and Optimization of Digital Circuits", chapter 8 (logic networks and their
+//! transformations), and the BLIF appendix of the SIS report (UCB/ERL M92/41) for what stands beside the tables.
+//! A `Table<R>` has inputs, a cover over them and a phase. A `Network<R>` is seen by contracts as its circuit;
+//! inside it keeps each table at a place of its own and finds it by its name.
+#![tactic(auto)]
+
+mod adding;
+mod network;
+mod places;
+mod reads;
+mod table;
+mod tidying;
+
+pub use adding::AddFault;
+pub use network::Network;
+pub use table::Table;
+pub use tidying::{tidied_keeps_its_value, tidy};

@@ -1,0 +1,324 @@
+//! Networks: a circuit whose tables are found by their names.
+
+ghost use Rattle.std.specs.Prelude.{◌≡◌, ℕ, ◌<◌, Bool, true, false, not, Option, Some, None, List, [], ◌∷◌, ◌++◌, length, filter, bytes_eq, ◌≤◌, ◌↔◌, IsTrue, IfOk, OnOk, OnErr};
+ghost use Rattle.std.specs.List.{AllByRecursion};
+ghost use Rattle.circuit_model.specs.Names.{has, all_different};
+ghost use Rattle.circuit_model.specs.Soundness.{outputs_of, IsSound, IsShaped, IsAcyclic};
+ghost use Rattle.circuit_model.specs.declared.circuit.Table.{Table as TheWritten};
+ghost use Rattle.circuit_model.specs.Values.{driver};
+ghost use Rattle.circuit_laws.specs.Fitting.{IsFitting};
+ghost use Rattle.circuit_laws.specs.Kept.{IsClosed};
+ghost use Rattle.circuit_laws.specs.Edits.{replaced, with_replaced, with_added, with_removed, is_other, latches_kept, timing_with};
+ghost use Rattle.net_core.specs.Tables.{named};
+ghost use Rattle.net_core.specs.Fresh.{used_names, IsNewName, node_count, Adds};
+ghost use Rattle.net_core.specs.Places.{present, written_of};
+
+use crate::adding::{AddFault, bracketed_name, drives_latch, is_control, is_full, is_mentioned};
+use crate::places::{Entry, NamedTables};
+use crate::reads::is_among;
+use crate::table::Table;
+use circuit_model::{
+    Circuit, Latch, Latches, Name, Names, Table as Written, Tables, Timing, timing_copied,
+};
+use cube_cover::Row;
+use sis_base::{Copied, Sequence};
+use std::alloc::{AllocError, Global};
+use std::marker::Model;
+
+/// A sound circuit whose tables are found by their names, and changed one at a time.
+#[derive(Drop)]
+pub struct Network<R: Row> {
+    name: Name,
+    inputs: Names,
+    outputs: Names,
+    clocks: Names,
+    timing: Option<Timing>,
+    latches: Vec<Latch>,
+    tables: NamedTables<R>,
+    dont_care: Tables,
+}
+
+impl<R: Row> Model for Network<R> {
+    ghost use Rattle.circuit_model.specs.declared.circuit.Circuit.{Circuit as TheCircuit};
+
+    ghost Value = { TheCircuit };
+
+    ghost view = { λ n. record { name = n.name; inputs = n.inputs; outputs = n.outputs; clocks = n.clocks; timing = n.timing; latches = n.latches.items; tables = n.tables; dont_care = n.dont_care } };
+}
+
+// The tables of a circuit, found by their names.
+fn tables_from<R: Row>(alloc: Global, tables: &[Written]) -> Result<NamedTables<R>, AllocError>
+    requires distinct { all_different (outputs_of tables.now) ≡ true }
+    requires shaped { AllByRecursion IsShaped tables.now }
+    ensures { IfOk result (λ made. made ≡ tables.now) }
+{
+    let mut made = NamedTables::new(alloc);
+    for written in tables {
+        let table = Table::from_written(alloc, written)?;
+        made.push(alloc, &written.output, table)?;
+    }
+    Ok(made)
+}
+
+// Puts the table of a circuit that an entry is behind the last.
+#[tactic(auto, unfolding(crate::specs::Places::present))]
+fn push_written<R: Row>(
+    alloc: Global,
+    made: &mut Vec<Written>,
+    entry: &Option<Entry<R>>,
+) -> Result<(), AllocError>
+    ensures { OnOk result (made.new.items ≡ made.old.items ++ present (entry.now ∷ [])) }
+{
+    if let Some(entry) = entry {
+        made.push(entry.table.to_written(alloc, &entry.output)?)?;
+    }
+    Ok(())
+}
+
+// The tables of a circuit that some entries are.
+fn tables_to<R: Row>(alloc: Global, slots: &[Option<Entry<R>>]) -> Result<Tables, AllocError>
+    ensures { IfOk result (λ made. made ≡ present slots.now) }
+{
+    let mut made = Vec::with_capacity(alloc, slots.len())?;
+    for slot in slots {
+        push_written(alloc, &mut made, slot)?;
+    }
+    Ok(Sequence::from_vec(made))
+}
+
+// Puts a copy of an entry's table behind the last.
+#[tactic(auto, using(crate::proofs::Indexing::entry_named), unfolding(crate::specs::Places::present))]
+fn push_copy<R: Row>(
+    alloc: Global,
+    made: &mut NamedTables<R>,
+    entry: &Option<Entry<R>>,
+) -> Result<(), AllocError>
+    requires { (name : List ℕ) → has (outputs_of (present (entry.now ∷ []))) name ≡ true → has (outputs_of made.old) name ≡ false }
+    ensures { OnOk result (made.new ≡ made.old ++ present (entry.now ∷ [])) }
+{
+    if let Some(entry) = entry {
+        made.push(alloc, &entry.output, entry.table.copy(alloc)?)?;
+    }
+    Ok(())
+}
+
+// A copy of tables.
+fn tables_copied<R: Row>(
+    alloc: Global,
+    slots: &[Option<Entry<R>>],
+) -> Result<NamedTables<R>, AllocError>
+    requires { all_different (outputs_of (present slots.now)) ≡ true }
+    ensures { IfOk result (λ made. made ≡ present slots.now) }
+{
+    let mut made = NamedTables::new(alloc);
+    for slot in slots {
+        push_copy(alloc, &mut made, slot)?;
+    }
+    Ok(made)
+}
+
+// Copies of latches, in order.
+fn latches_copied(alloc: Global, latches: &[Latch]) -> Result<Latches, AllocError>
+    ensures { IfOk result (λ made. made ≡ latches.now) }
+{
+    let mut made = Vec::with_capacity(alloc, latches.len())?;
+    for latch in latches {
+        made.push(latch.copy(alloc)?)?;
+    }
+    Ok(Sequence::from_vec(made))
+}
+
+// Takes the latch of a name away.
+#[tactic(auto, unfolding(circuit_laws::specs::Edits::latches_kept))]
+fn remove_latch(latches: &mut Vec<Latch>, name: &Name)
+    ensures { latches.new.items ≡ latches_kept (is_other name.now) latches.old.items }
+{
+    latches.retain(|latch| *name != latch.output);
+}
+
+// There is timing only where a latch stands.
+fn drop_timing(latches: &[Latch], timing: &mut Option<Timing>)
+    ensures { timing.new ≡ timing_with latches.now timing.old }
+{
+    if latches.is_empty() {
+        *timing = None;
+    }
+}
+
+impl<R: Row> Network<R> {
+    /// The network of a sound circuit; an error only for want of memory.
+    pub fn from_circuit(alloc: Global, circuit: &Circuit) -> Result<Network<R>, AllocError>
+        requires { IsSound circuit.now }
+        ensures { IfOk result (λ network. network ≡ circuit.now) }
+    {
+        Ok(Network {
+            name: circuit.name.copy(alloc)?,
+            inputs: circuit.inputs.copy(alloc)?,
+            outputs: circuit.outputs.copy(alloc)?,
+            clocks: circuit.clocks.copy(alloc)?,
+            timing: timing_copied(alloc, &circuit.timing)?,
+            latches: circuit.latches.copy(alloc)?.into_vec(),
+            tables: tables_from(alloc, circuit.tables.as_slice())?,
+            dont_care: circuit.dont_care.copy(alloc)?,
+        })
+    }
+
+    /// The circuit; an error only for want of memory.
+    pub fn to_circuit(&self, alloc: Global) -> Result<Circuit, AllocError>
+        ensures { IfOk result (λ circuit. circuit ≡ self.now) }
+    {
+        Ok(Circuit {
+            name: self.name.copy(alloc)?,
+            inputs: self.inputs.copy(alloc)?,
+            outputs: self.outputs.copy(alloc)?,
+            clocks: self.clocks.copy(alloc)?,
+            timing: timing_copied(alloc, &self.timing)?,
+            latches: latches_copied(alloc, self.latches.as_slice())?,
+            tables: tables_to(alloc, self.tables.slots())?,
+            dont_care: self.dont_care.copy(alloc)?,
+        })
+    }
+
+    /// The same network; an error only for want of memory.
+    pub fn copy(&self, alloc: Global) -> Result<Network<R>, AllocError>
+        ensures { IfOk result (λ network. network ≡ self.now) }
+    {
+        Ok(Network {
+            name: self.name.copy(alloc)?,
+            inputs: self.inputs.copy(alloc)?,
+            outputs: self.outputs.copy(alloc)?,
+            clocks: self.clocks.copy(alloc)?,
+            timing: timing_copied(alloc, &self.timing)?,
+            latches: latches_copied(alloc, self.latches.as_slice())?.into_vec(),
+            tables: tables_copied(alloc, self.tables.slots())?,
+            dont_care: self.dont_care.copy(alloc)?,
+        })
+    }
+
+    /// Puts another table in the place of the table of a name.
+    #[tactic(auto, using(circuit_laws::proofs::Sound::sound_replaced))]
+    pub fn replace(&mut self, name: &Name, table: Table<R>)
+        requires sound { IsSound self.old }
+        requires known { has (outputs_of self.old.tables) name.now ≡ true }
+        requires fitting { IsFitting self.old (named name.now table) }
+        requires acyclic { IsAcyclic (replaced self.old.tables (named name.now table)) }
+        ensures edit { self.new ≡ with_replaced self.old (named name.now table) }
+        ensures sound { IsSound self.new }
+    {
+        self.replace_table(name, table);
+    }
+
+    /// Takes the table or the latch of a name away that nothing else needs; the timing goes with the last latch.
+    #[tactic(auto, using(circuit_laws::proofs::Sound::sound_kept))]
+    pub fn remove(&mut self, name: &Name)
+        requires sound { IsSound self.old }
+        requires unread { IsClosed self.old (is_other name.now) }
+        ensures edit { self.new ≡ with_removed self.old name.now }
+        ensures sound { IsSound self.new }
+    {
+        self.remove_named(name);
+    }
+
+    /// Adds a table under the least number in brackets that names nothing, behind the last table; refused where as many
+    /// tables and latches stand as may. An error changes nothing.
+    pub fn add(&mut self, alloc: Global, table: Table<R>) -> Result<Name, AddFault>
+        requires sound { IsSound self.old }
+        requires fitting { (name : List ℕ) → IsFitting self.old (named name table) }
+        ensures answer { Adds self.old table self.new result }
+        ensures sound { IsSound self.new }
+    {
+        if self.is_at_limit() {
+            return Err(AddFault::NodeLimit);
+        }
+        match self.add_new(alloc, table) {
+            Ok(name) => Ok(name),
+            Err(_) => Err(AddFault::Memory),
+        }
+    }
+
+    // Puts another table in the place of the table of a name.
+    #[tactic(auto, unfolding(circuit_laws::specs::Edits::with_replaced))]
+    fn replace_table(&mut self, name: &Name, table: Table<R>)
+        requires { has (outputs_of self.old.tables) name.now ≡ true }
+        ensures { self.new ≡ with_replaced self.old (named name.now table) }
+    {
+        self.tables.replace(name, table);
+    }
+
+    // Takes the table or the latch of a name away.
+    #[tactic(auto, using(crate::proofs::Removals::removed_table, crate::proofs::Removals::removed_latch))]
+    fn remove_named(&mut self, name: &Name)
+        requires { IsSound self.old }
+        ensures { self.new ≡ with_removed self.old name.now }
+    {
+        if self.tables.remove(name) {
+            return;
+        }
+        remove_latch(&mut self.latches, name);
+        drop_timing(self.latches.as_slice(), &mut self.timing);
+    }
+
+    // Whether a new table may not take the name.
+    #[tactic(auto, using(crate::proofs::Counting::used_by_table, crate::proofs::Counting::used_else))]
+    fn is_used(&self, name: &Name) -> bool
+        ensures { result ≡ has (used_names self.now) name.now }
+    {
+        if self.tables.contains(name) {
+            return true;
+        }
+        let input = is_among(&self.inputs, name);
+        let latch = drives_latch(self.latches.as_slice(), name);
+        let output = is_among(&self.outputs, name);
+        let clock = is_among(&self.clocks, name);
+        let control = is_control(&self.timing, name);
+        let part = is_mentioned(self.dont_care.as_slice(), name);
+        input || latch || output || clock || control || part
+    }
+
+    // The least number in brackets that is not used; no machine has memory for so many names that there is none.
+    fn new_name(&self, alloc: Global) -> Result<Name, AllocError>
+        ensures { IfOk result (λ name. IsNewName self.now name) }
+    {
+        for number in 0..u64::MAX {
+            let name = bracketed_name(alloc, number)?;
+            if !self.is_used(&name) {
+                return Ok(name);
+            }
+        }
+        Err(AllocError)
+    }
+
+    // Whether no more table may stand.
+    fn is_at_limit(&self) -> bool
+        ensures { IsTrue result ↔ (65535 ≤ node_count self.now) }
+    {
+        is_full(self.slots(), self.latches.len(), self.dont_care.len())
+    }
+
+    // Adds a table under a new name.
+    #[tactic(auto, using(crate::proofs::Counting::new_is_no_table), unfolding(circuit_laws::specs::Edits::with_added))]
+    fn add_new(&mut self, alloc: Global, table: Table<R>) -> Result<Name, AllocError>
+        ensures new { IfOk result (λ name. IsNewName self.old name) }
+        ensures ok { IfOk result (λ name. self.new ≡ with_added self.old (named name table)) }
+        ensures err { OnErr result (self.new ≡ self.old) }
+    {
+        let name = self.new_name(alloc)?;
+        self.tables.push(alloc, &name, table)?;
+        Ok(name)
+    }
+
+    /// The table of a name that one has.
+    pub fn table(&self, name: &Name) -> &Table<R>
+        requires { has (outputs_of self.now.tables) name.now ≡ true }
+        ensures { driver self.now.tables name.now ≡ Some (named name.now result.now) }
+    {
+        self.tables.get(name)
+    }
+
+    // The places of the tables in order: at each a table, or none where it is gone.
+    pub(crate) fn slots(&self) -> &[Option<Entry<R>>]
+        ensures { present result.now ≡ self.now.tables }
+    {
+        self.tables.slots()
+    }
+}

@@ -1,0 +1,208 @@
+//! Tables in order, each at a place of its own, found by their names.
+//!
+//! A table that goes leaves its place empty, so that the others keep theirs; an index leads from a name to its place.
+
+ghost use Rattle.std.specs.Prelude.{◌≡◌, ℕ, ◌<◌, Bool, true, false, Option, Some, None, List, [], ◌∷◌, ◌++◌, length, slice_get, slice_set, bytes_eq, is_some, if◌then◌else◌, IsSome, IfOk, OnOk, OnErr};
+ghost use Rattle.indexmap.specs.IndexMap.{get};
+ghost use Rattle.circuit_model.specs.Names.{has, all_different};
+ghost use Rattle.circuit_model.specs.Soundness.{outputs_of};
+ghost use Rattle.circuit_model.specs.declared.circuit.Table.{Table as TheWritten};
+ghost use Rattle.circuit_model.specs.Values.{driver};
+ghost use Rattle.circuit_laws.specs.Edits.{replaced, without};
+ghost use Rattle.net_core.specs.Tables.{named};
+ghost use Rattle.net_core.specs.Places.{present, written_of, IsIndexed};
+ghost use Rattle.net_core.specs.declared.places.Entry.{Entry as TheEntry};
+
+use crate::table::Table;
+use circuit_model::{Name, Table as Written};
+use cube_cover::Row;
+use indexmap::IndexMap;
+use sis_base::{Copied, Sequence};
+use std::alloc::{AllocError, Global};
+use std::marker::Model;
+
+/// A table and its name.
+#[derive(Drop)]
+pub struct Entry<R: Row> {
+    pub output: Name,
+    pub table: Table<R>,
+}
+
+/// Tables in order, found by their names; contracts see them as the tables of a circuit.
+#[derive(Drop)]
+pub struct NamedTables<R: Row> {
+    slots: Vec<Option<Entry<R>>>,
+    places: IndexMap<Name, usize>,
+}
+
+impl<R: Row> Model for NamedTables<R> {
+    ghost use Rattle.std.specs.Prelude.{List, bytes_eq};
+    ghost use Rattle.indexmap.specs.IndexMap.{get};
+    ghost use Rattle.circuit_model.specs.declared.circuit.Table.{Table as TheWritten};
+
+    ghost Value = { List TheWritten };
+
+    ghost use Rattle.net_core.specs.Places.{present, IsIndexed};
+
+    ghost view = { λ t. present t.slots.items };
+
+    ghost invariant = { λ t. IsIndexed t.slots.items (get bytes_eq t.places) };
+}
+
+// Where the table of a name stands.
+fn found_place(places: &IndexMap<Name, usize>, name: &Name) -> Option<usize>
+    ensures { result ≡ get bytes_eq places.now name.now }
+{
+    places.get(name).copied()
+}
+
+// Where the table of a name that has one stands.
+fn known_place(places: &IndexMap<Name, usize>, name: &Name) -> usize
+    requires { IsSome (get bytes_eq places.now name.now) }
+    ensures { get bytes_eq places.now name.now ≡ Some result }
+{
+    match found_place(places, name) {
+        Some(place) => place,
+        None => unreachable!(),
+    }
+}
+
+// Forgets the place of a name.
+fn unplace(places: &mut IndexMap<Name, usize>, name: &Name)
+    ensures { (other : List ℕ) → get bytes_eq places.new other ≡ (if bytes_eq name.now other then None else get bytes_eq places.old other) }
+{
+    let _place = places.swap_remove(name);
+}
+
+// Notes the place of a name; on an error nothing changed.
+fn place_at(places: &mut IndexMap<Name, usize>, name: Name, place: usize) -> Result<(), AllocError>
+    ensures ok { OnOk result ((other : List ℕ) → get bytes_eq places.new other ≡ (if bytes_eq name other then Some place else get bytes_eq places.old other)) }
+    ensures err { OnErr result ((other : List ℕ) → get bytes_eq places.new other ≡ get bytes_eq places.old other) }
+{
+    let _place = places.insert(name, place)?;
+    Ok(())
+}
+
+// The entry at a place that has one.
+fn entry_at<R: Row>(slots: &[Option<Entry<R>>], place: usize) -> &Entry<R>
+    requires { (entry : TheEntry R) × (slice_get slots.now place ≡ Some (Some entry)) }
+    ensures { slice_get slots.now place ≡ Some (Some result.now) }
+{
+    match &slots[place] {
+        Some(entry) => entry,
+        None => unreachable!(),
+    }
+}
+
+// Puts another table at the place of an entry, which keeps its name.
+fn set_table<R: Row>(slots: &mut Vec<Option<Entry<R>>>, place: usize, table: Table<R>)
+    requires { (entry : TheEntry R) × (slice_get slots.old.items place ≡ Some (Some entry)) }
+    ensures { (entry : TheEntry R) → slice_get slots.old.items place ≡ Some (Some entry) → slots.new.items ≡ slice_set slots.old.items place (Some (record { output = entry.output; table = table })) }
+{
+    match &mut slots[place] {
+        Some(entry) => entry.table = table,
+        None => unreachable!(),
+    }
+}
+
+// Puts an entry behind the last and notes its place; on an error nothing changed.
+fn put_last<R: Row>(
+    slots: &mut Vec<Option<Entry<R>>>,
+    places: &mut IndexMap<Name, usize>,
+    entry: Entry<R>,
+    key: Name,
+) -> Result<(), AllocError>
+    requires { key ≡ entry.output }
+    ensures slots_ok { OnOk result (slots.new.items ≡ slots.old.items ++ Some entry ∷ []) }
+    ensures places_ok { OnOk result ((other : List ℕ) → get bytes_eq places.new other ≡ (if bytes_eq key other then Some (length slots.old.items) else get bytes_eq places.old other)) }
+    ensures slots_err { OnErr result (slots.new.items ≡ slots.old.items) }
+    ensures places_err { OnErr result ((other : List ℕ) → get bytes_eq places.new other ≡ get bytes_eq places.old other) }
+{
+    let place = slots.len();
+    slots.push(Some(entry))?;
+    match place_at(places, key, place) {
+        Ok(()) => Ok(()),
+        Err(fault) => {
+            slots.truncate(place);
+            Err(fault)
+        }
+    }
+}
+
+impl<R: Row> NamedTables<R> {
+    /// No table; takes no memory.
+    pub fn new(alloc: Global) -> NamedTables<R>
+        ensures { result ≡ [] }
+    {
+        NamedTables {
+            slots: Vec::new(alloc),
+            places: IndexMap::new(alloc),
+        }
+    }
+
+    /// The places in order: at each a table, or none where it is gone. No two tables have one name.
+    pub fn slots(&self) -> &[Option<Entry<R>>]
+        ensures items { present result.now ≡ self.now }
+        ensures distinct { all_different (outputs_of (present result.now)) ≡ true }
+    {
+        self.slots.as_slice()
+    }
+
+    /// Whether a table has the name.
+    pub fn contains(&self, name: &Name) -> bool
+        ensures { result ≡ has (outputs_of self.now) name.now }
+    {
+        found_place(&self.places, name).is_some()
+    }
+
+    /// The table of a name that one has.
+    pub fn get(&self, name: &Name) -> &Table<R>
+        requires { has (outputs_of self.now) name.now ≡ true }
+        ensures { driver self.now name.now ≡ Some (named name.now result.now) }
+    {
+        let place = known_place(&self.places, name);
+        &entry_at(self.slots.as_slice(), place).table
+    }
+
+    /// Puts a table behind the last under a name that no table has; an error only for want of memory, and then nothing
+    /// changed.
+    pub fn push(&mut self, alloc: Global, name: &Name, table: Table<R>) -> Result<(), AllocError>
+        requires { has (outputs_of self.old) name.now ≡ false }
+        ensures ok { OnOk result (self.new ≡ self.old ++ named name.now table ∷ []) }
+        ensures err { OnErr result (self.new ≡ self.old) }
+    {
+        let output = name.copy(alloc)?;
+        let key = name.copy(alloc)?;
+        put_last(
+            &mut self.slots,
+            &mut self.places,
+            Entry { output, table },
+            key,
+        )?;
+        Ok(())
+    }
+
+    /// Puts another table in the place of the table of a name.
+    pub fn replace(&mut self, name: &Name, table: Table<R>)
+        requires { has (outputs_of self.old) name.now ≡ true }
+        ensures { self.new ≡ replaced self.old (named name.now table) }
+    {
+        let place = known_place(&self.places, name);
+        set_table(&mut self.slots, place, table);
+    }
+
+    /// Takes the table of a name away, if there is one; answers whether there was.
+    pub fn remove(&mut self, name: &Name) -> bool
+        ensures tables { self.new ≡ without self.old name.now }
+        ensures found { result ≡ has (outputs_of self.old) name.now }
+    {
+        match found_place(&self.places, name) {
+            None => false,
+            Some(place) => {
+                self.slots[place] = None;
+                unplace(&mut self.places, name);
+                true
+            }
+        }
+    }
+}

@@ -1,0 +1,126 @@
+//! Tables whose rows are a cover, and the ways between them and the tables of circuits.
+
+ghost use Rattle.std.specs.Prelude.{◌≡◌, ℕ, List, length, map, IfOk};
+ghost use Rattle.std.specs.List.{AllByRecursion};
+ghost use Rattle.net_core.specs.Tables.{place_of, character_of, places_of, characters_of, covered, named, HasCharacters};
+
+use circuit_model::{Name, Names, Row as Characters, Rows, Table as Written, Tri};
+use cube_cover::{Cover, Row};
+use sis_base::{Copied, Sequence};
+use std::alloc::{AllocError, Global};
+
+/// A table: where some row of the cover matches the inputs' bits the value is `phase`, else the other bit.
+#[derive(Drop)]
+pub struct Table<R: Row> {
+    pub inputs: Names,
+    pub cover: Cover<R>,
+    pub phase: bool,
+}
+
+// The place of a row that a character stands for.
+fn place_from(character: Tri) -> Option<bool>
+    ensures { result ≡ place_of character }
+{
+    match character {
+        Tri::Zero => Some(false),
+        Tri::One => Some(true),
+        Tri::Free => None,
+    }
+}
+
+// The character of a place of a row.
+fn character_from(place: Option<bool>) -> Tri
+    ensures { result ≡ character_of place }
+{
+    match place {
+        Some(false) => Tri::Zero,
+        Some(true) => Tri::One,
+        None => Tri::Free,
+    }
+}
+
+// The row with the places of some characters.
+fn row_from<R: Row>(alloc: Global, characters: &[Tri]) -> Result<R, AllocError>
+    ensures { IfOk result (λ row. R.places row ≡ places_of characters.now) }
+{
+    let mut row = R::dashes(alloc, characters.len())?;
+    for (place, character) in characters.iter().enumerate() {
+        row.set(place, place_from(*character));
+    }
+    Ok(row)
+}
+
+// The rows of rows of characters, in order.
+fn rows_from<R: Row>(alloc: Global, rows: &[Characters]) -> Result<Vec<R>, AllocError>
+    ensures { IfOk result (λ made. map R.places made.items ≡ map places_of rows.now) }
+{
+    let mut made = Vec::with_capacity(alloc, rows.len())?;
+    for characters in rows {
+        made.push(row_from(alloc, characters.as_slice())?)?;
+    }
+    Ok(made)
+}
+
+// The characters of a row.
+fn characters_from<R: Row>(alloc: Global, row: &R) -> Result<Characters, AllocError>
+    ensures { IfOk result (λ made. made ≡ characters_of (R.places row.now)) }
+{
+    let width = row.width();
+    let mut made = Vec::with_capacity(alloc, width)?;
+    for place in 0..width {
+        made.push(character_from(row.at(place)))?;
+    }
+    Ok(Sequence::from_vec(made))
+}
+
+// The characters of rows, in order.
+fn all_characters<R: Row>(alloc: Global, rows: &[R]) -> Result<Rows, AllocError>
+    ensures { IfOk result (λ made. made ≡ map characters_of (map R.places rows.now)) }
+{
+    let mut made = Vec::with_capacity(alloc, rows.len())?;
+    for row in rows {
+        made.push(characters_from(alloc, row)?)?;
+    }
+    Ok(Sequence::from_vec(made))
+}
+
+impl<R: Row> Table<R> {
+    /// The same table; an error only for want of memory.
+    pub fn copy(&self, alloc: Global) -> Result<Table<R>, AllocError>
+        ensures { IfOk result (λ made. made ≡ self.now) }
+    {
+        Ok(Table {
+            inputs: self.inputs.copy(alloc)?,
+            cover: self.cover.copy(alloc)?,
+            phase: self.phase,
+        })
+    }
+
+    /// The table with the inputs, rows and phase of a circuit's table, each of whose rows has a character for each
+    /// input; an error only for want of memory.
+    #[tactic(auto, using(crate::proofs::Rows::width_of_characters), unfolding(crate::specs::Tables::covered))]
+    pub fn from_written(alloc: Global, written: &Written) -> Result<Table<R>, AllocError>
+        requires { HasCharacters (length written.now.inputs) written.now.rows }
+        ensures { IfOk result (λ table. table ≡ covered written.now) }
+    {
+        let rows = rows_from(alloc, written.rows.as_slice())?;
+        Ok(Table {
+            inputs: written.inputs.copy(alloc)?,
+            cover: Cover::of(written.inputs.len(), rows),
+            phase: written.phase,
+        })
+    }
+
+    /// The table of a circuit that drives the name by this table; an error only for want of memory.
+    #[tactic(auto, unfolding(crate::specs::Tables::named))]
+    pub fn to_written(&self, alloc: Global, name: &Name) -> Result<Written, AllocError>
+        ensures { IfOk result (λ written. written ≡ named name.now self.now) }
+    {
+        Ok(Written {
+            inputs: self.inputs.copy(alloc)?,
+            output: name.copy(alloc)?,
+            rows: all_characters(alloc, self.cover.rows())?,
+            phase: self.phase,
+        })
+    }
+}

@@ -1,0 +1,12 @@
+pub mod Worked
+pub mod Tidied
+pub mod Points
+pub mod Turned
+pub mod Mapped
+pub mod Closing
+pub mod Steps
+pub mod Swept
+pub mod Chaining
+pub mod Sizes
+pub mod Weight
+pub mod Falling

@@ -1,0 +1,128 @@
+-- What stands where no rule of sweep applies.
+use Rattle.std.proofs.Common.{◌≡◌, ℕ, Bool, true, false, not, ◌&&◌, if◌then◌else◌, Option, Some, None, is_some, List, [], ◌∷◌, length, refl, sym, ◌∙◌, arith}
+use Rattle.std.specs.List.{AllByRecursion, list_all}
+use Rattle.std.specs.Option.{option_or}
+use Rattle.std.proofs.lemmas.Bool.{false≢true, and_parts, not-false}
+use Rattle.std.proofs.lemmas.Option.{none-some}
+use Rattle.circuit_model.specs.declared.circuit.Table.{Table}
+use Rattle.circuit_model.specs.declared.circuit.Latch.{Latch}
+use Rattle.circuit_model.specs.declared.circuit.Circuit.{Circuit}
+use Rattle.circuit_laws.specs.Edits.{with_replaced}
+use Rattle.sweep_rules.specs.Tidy.{is_tidy, tidied}
+use Rattle.sweep_rules.specs.Points.{constant_bit, written_bit}
+use Rattle.sweep_rules.specs.Needed.{is_needed, all_needed, only_needed}
+use Rattle.sweep_rules.specs.Rules.{tidy_rule, unwritten_bit, with_constant, constant_rule, tables_read, with_bit_put, put_rule, only_input, with_bypass, bypass_rule, fixed_bit, with_latch_fixed, latch_rule, need_rule, sweep_step}
+use Rattle.sweep_rules.specs.Sweeping.{IsSweptTable, IsSweptLatch, IsSwept}
+use Rattle.sweep_rules.proofs.Points.{written_bit_constant}
+use Rattle.sweep_rules.proofs.Steps.{nothing_found}
+
+pub none_some_of : {X : Type 0} (o : Option X) → is_some o ≡ false → o ≡ None
+none_some_of None h = refl
+none_some_of (Some x) h = absurd (false≢true (sym h))
+
+-- no rule applies, in the order of the rules
+pub record AppliesNone (circuit : Circuit) : Type 0 where
+  pub tidy : tidy_rule circuit ≡ None
+  pub constant : constant_rule circuit ≡ None
+  pub put : put_rule circuit ≡ None
+  pub bypass : bypass_rule circuit ≡ None
+  pub latch : latch_rule circuit ≡ None
+  pub need : need_rule circuit ≡ None
+
+pub none_applies : (circuit : Circuit) → sweep_step circuit ≡ None → AppliesNone circuit
+unfolding sweep_step
+none_applies circuit h =
+    let a = parts (tidy_rule circuit) (option_or (constant_rule circuit) (option_or (put_rule circuit) (option_or (bypass_rule circuit) (option_or (latch_rule circuit) (need_rule circuit))))) h in
+    let b = parts (constant_rule circuit) (option_or (put_rule circuit) (option_or (bypass_rule circuit) (option_or (latch_rule circuit) (need_rule circuit)))) a.1 in
+    let c = parts (put_rule circuit) (option_or (bypass_rule circuit) (option_or (latch_rule circuit) (need_rule circuit))) b.1 in
+    let d = parts (bypass_rule circuit) (option_or (latch_rule circuit) (need_rule circuit)) c.1 in
+    let e = parts (latch_rule circuit) (need_rule circuit) d.1 in
+    record { tidy = a.0; constant = b.0; put = c.0; bypass = d.0; latch = e.0; need = e.1 }
+  where
+    parts : (first others : Option Circuit) → option_or first others ≡ None → (first ≡ None) × (others ≡ None)
+    parts None others e = (refl, e)
+    parts (Some new) others e = absurd (none-some new (sym e))
+
+pub all_tidy : (circuit : Circuit) → tidy_rule circuit ≡ None → AllByRecursion (λ (table : Table). not (is_tidy table) ≡ false) circuit.tables
+unfolding tidy_rule
+all_tidy circuit h = nothing_found (λ table. with_replaced circuit (tidied table)) (λ table. not (is_tidy table)) circuit.tables h
+
+pub all_written : (circuit : Circuit) → constant_rule circuit ≡ None → AllByRecursion (λ (table : Table). is_some (unwritten_bit table) ≡ false) circuit.tables
+unfolding constant_rule
+all_written circuit h = nothing_found (with_constant circuit) (λ table. is_some (unwritten_bit table)) circuit.tables h
+
+pub all_put : (circuit : Circuit) → put_rule circuit ≡ None → AllByRecursion (λ (table : Table). (is_some (written_bit table) && tables_read circuit table.output) ≡ false) circuit.tables
+unfolding put_rule
+all_put circuit h = nothing_found (with_bit_put circuit) (λ (table : Table). is_some (written_bit table) && tables_read circuit table.output) circuit.tables h
+
+all_bypassed : (circuit : Circuit) → bypass_rule circuit ≡ None → AllByRecursion (λ (table : Table). (is_some (only_input table.inputs) && tables_read circuit table.output) ≡ false) circuit.tables
+unfolding bypass_rule
+all_bypassed circuit h = nothing_found (with_bypass circuit) (λ (table : Table). is_some (only_input table.inputs) && tables_read circuit table.output) circuit.tables h
+
+all_unfixed : (circuit : Circuit) → latch_rule circuit ≡ None → AllByRecursion (λ (latch : Latch). is_some (fixed_bit circuit latch) ≡ false) circuit.latches
+unfolding latch_rule
+all_unfixed circuit h = nothing_found (with_latch_fixed circuit) (λ (latch : Latch). is_some (fixed_bit circuit latch)) circuit.latches h
+
+each_needed : (circuit : Circuit) → need_rule circuit ≡ None → all_needed circuit ≡ true
+unfolding need_rule
+each_needed circuit h = cases (all_needed circuit) h
+  where
+    cases : (t : Bool) → (if t then None else Some (only_needed circuit)) ≡ None → t ≡ true
+    cases true e = refl
+    cases false e = absurd (none-some (only_needed circuit) (sym e))
+
+all_true : {X : Type 0} (p : X → Bool) (xs : List X) → list_all p xs ≡ true → AllByRecursion (λ x. p x ≡ true) xs
+all_true p [] h = tt
+all_true p (x ∷ xs) h = let q = and_parts (p x) (list_all p xs) h in (q.0, all_true p xs q.1)
+
+-- a table is written as a constant just where it is one
+pub written_same : (table : Table) → is_some (unwritten_bit table) ≡ false → constant_bit table ≡ written_bit table
+unfolding unwritten_bit
+written_same table h = cases (written_bit table) refl h
+  where
+    cases : (o : Option Bool) → written_bit table ≡ o → is_some (if is_some o then None else constant_bit table) ≡ false → constant_bit table ≡ o
+    cases None e k = none_some_of (constant_bit table) k
+    cases (Some bit) e k = written_bit_constant table bit e
+
+-- of two tests of which one fails, the first fails where the second holds
+pub fails_where : {X : Type 0} (o : Option X) (b : Bool) → (is_some o && b) ≡ false → b ≡ true → o ≡ None
+fails_where None b h e = refl
+fails_where (Some x) b h e = absurd (false≢true (sym h ∙ e))
+
+swept_tables : (circuit : Circuit) (tables : List Table) → AllByRecursion (λ (table : Table). not (is_tidy table) ≡ false) tables
+    → AllByRecursion (λ (table : Table). is_some (unwritten_bit table) ≡ false) tables
+    → AllByRecursion (λ (table : Table). (is_some (written_bit table) && tables_read circuit table.output) ≡ false) tables
+    → AllByRecursion (λ (table : Table). (is_some (only_input table.inputs) && tables_read circuit table.output) ≡ false) tables
+    → AllByRecursion (λ (table : Table). is_needed circuit table.output ≡ true) tables → AllByRecursion (IsSweptTable circuit) tables
+swept_tables circuit [] a b c d e = tt
+swept_tables circuit (table ∷ tables) a b c d e = (
+  record {
+    tidy = not-false (is_tidy table) a.0;
+    written = written_same table b.0;
+    not_constant = λ reads. fails_where (written_bit table) (tables_read circuit table.output) c.0 reads;
+    not_single = λ reads one. several table.inputs one (fails_where (only_input table.inputs) (tables_read circuit table.output) d.0 reads);
+    needed = e.0;
+  },
+  swept_tables circuit tables a.1 b.1 c.1 d.1 e.1,
+)
+  where
+    several : (names : List (List ℕ)) → length names ≡ 1 → only_input names ≡ None → ⊥
+    several [] one h = omega arith
+    several (name ∷ []) one h = none-some name (sym h)
+    several (name ∷ (other ∷ names)) one h = omega arith
+
+swept_latches : (circuit : Circuit) (latches : List Latch) → AllByRecursion (λ (latch : Latch). is_some (fixed_bit circuit latch) ≡ false) latches
+    → AllByRecursion (λ (latch : Latch). is_needed circuit latch.output ≡ true) latches → AllByRecursion (IsSweptLatch circuit) latches
+swept_latches circuit [] a b = tt
+swept_latches circuit (latch ∷ latches) a b =
+    (record { not_fixed = none_some_of (fixed_bit circuit latch) a.0; needed = b.0 }, swept_latches circuit latches a.1 b.1)
+
+-- the end of the chain
+pub swept : (circuit : Circuit) → sweep_step circuit ≡ None → IsSwept circuit
+swept circuit h =
+    let none = none_applies circuit h in
+    let needed = and_parts (list_all (λ (table : Table). is_needed circuit table.output) circuit.tables) (list_all (λ (latch : Latch). is_needed circuit latch.output) circuit.latches) (each_needed circuit none.need) in record {
+      tables = swept_tables circuit circuit.tables (all_tidy circuit none.tidy) (all_written circuit none.constant) (all_put circuit none.put) (all_bypassed circuit none.bypass)
+          (all_true (λ (table : Table). is_needed circuit table.output) circuit.tables needed.0);
+      latches = swept_latches circuit circuit.latches (all_unfixed circuit none.latch) (all_true (λ (latch : Latch). is_needed circuit latch.output) circuit.latches needed.1);
+    }

@@ -1,0 +1,39 @@
+-- What sweep makes of a circuit: the end of its chain of steps, said without steps.
+-- Source: the SIS manual (UCB/ERL M92/41), `sweep`.
+use Rattle.std.specs.Prelude.{◌≡◌, ℕ, ◌-◌, true, not, None, length, count_by}
+use Rattle.std.specs.List.{AllByRecursion}
+use Rattle.circuit_model.specs.Names.{has}
+use Rattle.circuit_model.specs.Soundness.{outputs_of}
+use Rattle.circuit_model.specs.declared.circuit.Table.{Table}
+use Rattle.circuit_model.specs.declared.circuit.Latch.{Latch}
+use Rattle.circuit_model.specs.declared.circuit.Circuit.{Circuit}
+use Rattle.sweep_rules.specs.Tidy.{is_tidy}
+use Rattle.sweep_rules.specs.Points.{constant_bit, written_bit}
+use Rattle.sweep_rules.specs.Rules.{tables_read, fixed_bit}
+use Rattle.sweep_rules.specs.Needed.{is_needed}
+
+-- a table that sweep leaves: tidy; written as a constant where it is one; and neither constant nor of one input where
+-- tables read it
+pub record IsSweptTable (circuit : Circuit) (table : Table) : Type 0 where
+  pub tidy : is_tidy table ≡ true
+  pub written : constant_bit table ≡ written_bit table
+  pub not_constant : tables_read circuit table.output ≡ true → written_bit table ≡ None
+  pub not_single : tables_read circuit table.output ≡ true → length table.inputs ≡ 1 → ⊥
+  pub needed : is_needed circuit table.output ≡ true
+
+-- a latch that sweep leaves: it has no one bit, or the don't-care part reads it; and it is needed
+pub record IsSweptLatch (circuit : Circuit) (latch : Latch) : Type 0 where
+  pub not_fixed : fixed_bit circuit latch ≡ None
+  pub needed : is_needed circuit latch.output ≡ true
+
+-- the finished form
+pub record IsSwept (circuit : Circuit) : Type 0 where
+  pub tables : AllByRecursion (IsSweptTable circuit) circuit.tables
+  pub latches : AllByRecursion (IsSweptLatch circuit) circuit.latches
+
+-- how many tables and latches went: a latch that became a table counts as a latch alone
+abbrev pub tables_gone : Circuit → Circuit → ℕ
+tables_gone old new = count_by (λ name. not (has (outputs_of new.tables) name)) (outputs_of old.tables)
+
+abbrev pub latches_gone : Circuit → Circuit → ℕ
+latches_gone old new = length old.latches - length new.latches
