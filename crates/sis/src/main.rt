@@ -7,18 +7,20 @@ mod files;
 mod streams;
 
 use files::RealStore;
-use sis_top::{Status, Word, run_sis};
+use sis_text::Word;
+use sis_top::{Status, run_sis};
 use std::alloc::AllocError;
 use std::env;
 use std::env::Env;
 use std::process::ExitCode;
 use streams::{StdSink, StdSource};
 
-/// The words behind the program's name; none where the arguments are not text.
+/// The words behind the program's name; where the arguments are not text, one word that is not taken.
 fn words<R: Env + AllocGlobal>(rt: &R) -> Result<Vec<Word>, AllocError> {
     let alloc = rt.alloc();
     let mut words = Vec::new(alloc);
     let Ok(arguments) = env::args(rt) else {
+        words.push(Word::new(alloc, "?")?)?;
         return Ok(words);
     };
     for argument in arguments.skip(1) {

@@ -3,18 +3,23 @@ use Rattle.std.proofs.Common.{◌≡◌, ℕ, ◌++◌, Bool, true, false, List,
 use Rattle.std.specs.Prelude.{◌⊎◌, ◌||◌, IsTrue, Ok, Err}
 use Rattle.sis_outside.specs.Counts.{Rose}
 use Rattle.sis_outside.specs.Files.{Files}
-use Rattle.sis_top.specs.Answers.{Answers, SavesPart, PutsPart, StoreMisses, files_after, out_after}
-use Rattle.sis_top.specs.State.{Held}
-use Rattle.sis_top.specs.Step.{Step, loads}
-use Rattle.sis_top.specs.Outcome.{Effect, Outcome, Does, Refuses}
-use Rattle.sis_top.specs.Run.{Place, Stands, place_after, place_refused, is_missing}
-use Rattle.sis_top.specs.Running.{Advanced, Tells}
-use Rattle.sis_top.specs.Replies.{refusal_line}
-use Rattle.sis_top.specs.declared.command.Op.{Op}
-use Rattle.sis_top.specs.declared.command.Command.{Command}
-use Rattle.sis_top.specs.declared.refusal.StepFault.TheVariants as fault
-use Rattle.sis_top.specs.declared.refusal.Refusal.{Refusal}
-use Rattle.sis_top.specs.declared.refusal.Refusal.TheVariants as refusal
+use Rattle.sis_session.specs.Answers.{Answers, SavesPart, PutsPart, StoreMisses, files_after, out_after}
+use Rattle.sis_session.specs.State.{Held}
+use Rattle.sis_session.specs.Step.{Step, loads}
+use Rattle.sis_session.specs.Outcome.{Effect, Outcome, Does, Refuses}
+use Rattle.sis_top.specs.Run.{Place, Machine, Stands, place_after, place_refused, todo_after, is_missing}
+use Rattle.sis_top.specs.Running.{Advanced, Tells, is_refusal, turn_by, left_after}
+use Rattle.sis_top.specs.Headline.{IsMissed}
+use Rattle.sis_session.specs.Replies.{refusal_line}
+use Rattle.sis_script.specs.declared.command.Op.{Op}
+use Rattle.sis_session.specs.declared.refusal.Next.{Next}
+use Rattle.sis_session.specs.declared.refusal.Next.TheVariants as next
+use Rattle.sis_top.specs.declared.running.Turn.{Turn}
+use Rattle.sis_top.specs.declared.running.Turn.TheVariants as turn
+use Rattle.sis_script.specs.declared.command.Command.{Command}
+use Rattle.sis_session.specs.declared.refusal.StepFault.TheVariants as fault
+use Rattle.sis_session.specs.declared.refusal.Refusal.{Refusal}
+use Rattle.sis_session.specs.declared.refusal.Refusal.TheVariants as refusal
 use Rattle.sis_top.specs.declared.running.Failed.{Failed}
 use Rattle.sis_top.specs.declared.running.Failed.TheVariants as failed
 
@@ -35,35 +40,56 @@ step_at : (place : Place) (held : Held) (files : Files) (op : Op) (o : Outcome)
     → place.held ≡ held → place.files ≡ files → Step files held op o → Step place.files place.held op o
 step_at place held files op o p q s = subst (λ f. Step f place.held op o) (sym q) (subst (λ h. Step files h op o) (sym p) s)
 
-pub advanced_done : (goes_on : Bool) (place : Place) (command : Command) (held : Held) (files : Files) (out err : List ℕ)
+-- the commands that are left behind one that is done
+todo_same : (goes_on : Bool) (onward : Next) (rest : List Command) → left_after goes_on (turn_by onward) rest ≡ todo_after onward rest
+todo_same goes_on next.Go rest = refl
+todo_same goes_on next.Quit rest = refl
+
+turn_unrefused : (b : Bool) (onward : Next) → b ≡ (b || is_refusal (turn_by onward))
+turn_unrefused b next.Go = or-false b
+turn_unrefused b next.Quit = or-false b
+
+pub advanced_done : (goes_on : Bool) (place : Place) (command : Command) (onward : Next) (turned : Turn) (held : Held) (files : Files) (out err : List ℕ)
     (held' : Held) (files' : Files) (out' : List ℕ) (misses misses' : ℕ)
     → Stands place held files out err
-    → Answers (loads command.op) (Step files held command.op) held files out (Ok tt) held' files' out'
-    → Advanced goes_on command place (Ok false) held' files' out' err misses misses'
-advanced_done goes_on place command held files out err held' files' out' misses misses' s h =
-    let (e, step, left) = h in (
+    → Answers (loads command.op) (Step files held command.op) held files out (Ok onward) held' files' out'
+    → turned ≡ turn_by onward
+    → Advanced goes_on command place (Ok turned) held' files' out' err misses misses'
+advanced_done goes_on place command onward turned held files out err held' files' out' misses misses' s h t =
+    subst (λ (b : Turn). Advanced goes_on command place (Ok b) held' files' out' err misses misses') (sym t) done
+  where
+    done : Advanced goes_on command place (Ok (turn_by onward)) held' files' out' err misses misses'
+    done = let (e, step, left) = h in (
       place_after e place,
-      (sym left.0, ap (files_after e.call) s.1 ∙ sym left.1, ap (out_after e.call) s.2 ∙ sym left.2, s.3),
-      or-false place.refused,
+      (sym left.1, ap (files_after e.call) s.1 ∙ sym left.2, ap (out_after e.call) s.2 ∙ sym left.3, s.3),
+      turn_unrefused place.refused onward,
       (λ t. inl t),
-      λ rest. (Does e, step_at place held files command.op (Does e) s.0 s.1 step, refl),
+      λ rest. (
+        Does e,
+        step_at place held files command.op (Does e) s.0 s.1 step,
+        ap (λ (todo : List Command). let m : Machine = record { place = place_after e place; todo = todo } in m)
+            (todo_same goes_on onward rest ∙ ap (λ (n : Next). todo_after n rest) left.0),
+      ),
     )
 
-missed_rose : (reason : Refusal) (misses misses' : ℕ) → StoreMisses {T = Unit {0}} (Err (fault.Refused reason)) misses misses'
+pub missed_rose : (T : Type 0) (reason : Refusal) (misses misses' : ℕ) → StoreMisses {T = T} (Err (fault.Refused reason)) misses misses'
     → IsTrue (is_missing reason) → Rose misses misses'
-missed_rose (refusal.Missing name) misses misses' h t = h
-missed_rose (refusal.Script why) misses misses' h t = cc
-missed_rose refusal.NoNetwork misses misses' h t = cc
-missed_rose (refusal.TooLong name) misses misses' h t = cc
-missed_rose (refusal.Blif name why) misses misses' h t = cc
+missed_rose T (refusal.Missing name) misses misses' h t = h
+missed_rose T (refusal.Script why) misses misses' h t = cc
+missed_rose T refusal.NoNetwork misses misses' h t = cc
+missed_rose T refusal.NothingToUndo misses misses' h t = cc
+missed_rose T (refusal.NoSignal name) misses misses' h t = cc
+missed_rose T refusal.LongScript misses misses' h t = cc
+missed_rose T (refusal.TooLong name) misses misses' h t = cc
+missed_rose T (refusal.Blif name why) misses misses' h t = cc
 
 pub advanced_refused : (goes_on : Bool) (place : Place) (command : Command) (reason : Refusal) (held : Held) (files : Files) (out err err' : List ℕ)
     (held' : Held) (files' : Files) (out' : List ℕ) (misses misses' : ℕ)
     → Stands place held files out err
     → Answers (loads command.op) (Step files held command.op) held files out (Err (fault.Refused reason)) held' files' out'
-    → StoreMisses {T = Unit {0}} (Err (fault.Refused reason)) misses misses'
+    → StoreMisses {T = Next} (Err (fault.Refused reason)) misses misses'
     → err' ≡ err ++ refusal_line command.line reason
-    → Advanced goes_on command place (Ok true) held' files' out' err' misses misses'
+    → Advanced goes_on command place (Ok turn.Refused) held' files' out' err' misses misses'
 advanced_refused goes_on place command reason held files out err err' held' files' out' misses misses' s h m told = (
   place_refused command.line reason place,
   (s.0 ∙ sym h.1.0, s.1 ∙ sym h.1.1, s.2 ∙ sym h.1.2, ap (λ e. e ++ refusal_line command.line reason) s.3 ∙ sym told),
@@ -74,7 +100,7 @@ advanced_refused goes_on place command reason held files out err err' held' file
   where
     pick : IsTrue place.missed ⊎ IsTrue (is_missing reason) → IsTrue place.missed ⊎ Rose misses misses'
     pick (inl p) = inl p
-    pick (inr p) = inr (missed_rose reason misses misses' m p)
+    pick (inr p) = inr (missed_rose Next reason misses misses' m p)
 
 pub advanced_untold : (goes_on : Bool) (place : Place) (command : Command) (reason : Refusal) (what : Failed) (held : Held) (files : Files) (out err err' : List ℕ)
     (held' : Held) (files' : Files) (out' : List ℕ) (misses misses' : ℕ)
@@ -91,6 +117,7 @@ advanced_untold goes_on place command reason failed.Err held files out err err' 
 advanced_untold goes_on place command reason failed.Memory held files out err err' held' files' out' misses misses' s h told =
     (place, (s.0 ∙ sym h.1.0, s.1 ∙ sym h.1.1, s.2 ∙ sym h.1.2, s.3 ∙ sym told), λ rest. refl)
 advanced_untold goes_on place command reason failed.Store held files out err err' held' files' out' misses misses' s h told = absurd told
+advanced_untold goes_on place command reason failed.Input held files out err err' held' files' out' misses misses' s h told = absurd told
 advanced_untold goes_on place command reason failed.Out held files out err err' held' files' out' misses misses' s h told = absurd told
 
 pub advanced_unstored : (goes_on : Bool) (place : Place) (command : Command) (held : Held) (files : Files) (out err : List ℕ)
@@ -128,3 +155,15 @@ pub advanced_unheld : (goes_on : Bool) (place : Place) (command : Command) (held
     → Advanced goes_on command place (Err failed.Memory) held' files' out' err misses misses'
 advanced_unheld goes_on place command held files out err held' files' out' misses misses' s h =
     (place, (s.0 ∙ sym h.0, s.1 ∙ sym h.1, s.2 ∙ sym h.2, s.3), λ rest. refl)
+
+-- the cause of a refusal, with what the count of misses tells
+pub refusal_cause : (reason : Refusal) (misses misses' : ℕ) → StoreMisses {T = Next} (Err (fault.Refused reason)) misses misses'
+    → IsMissed misses misses' reason
+refusal_cause (refusal.Missing name) misses misses' h = h
+refusal_cause (refusal.Script why) misses misses' h = tt
+refusal_cause refusal.NoNetwork misses misses' h = tt
+refusal_cause refusal.NothingToUndo misses misses' h = tt
+refusal_cause (refusal.NoSignal name) misses misses' h = tt
+refusal_cause (refusal.TooLong name) misses misses' h = tt
+refusal_cause (refusal.Blif name why) misses misses' h = tt
+refusal_cause refusal.LongScript misses misses' h = tt

@@ -5,21 +5,22 @@ use Rattle.std.specs.Prelude.{◌⊎◌, Option, Some, None, Ok, if◌then◌els
 use Rattle.sis_text.specs.Entries.{entries_of}
 use Rattle.sis_outside.specs.Files.{Files, file_at}
 use Rattle.circuit_model.specs.declared.circuit.Circuit.{Circuit}
-use Rattle.sis_top.specs.OrderedForm.{read_lines}
-use Rattle.sis_top.specs.Script.{MAX_BYTES}
-use Rattle.sis_top.specs.State.{Held}
-use Rattle.sis_top.specs.Outcome.{Outcome, Does, Refuses, takes, read_by, read_outcome, stats_outcome, write_outcome}
-use Rattle.sis_top.specs.Step.{Step}
+use Rattle.circuit_model.specs.declared.circuit.Table.{Table}
+use Rattle.blif_read.specs.Reader.{read_lines}
+use Rattle.sis_words.specs.Asked.{TheOptions}
+use Rattle.sis_script.specs.declared.command.Op.{Op}
+use Rattle.sis_script.specs.declared.command.Op.TheVariants.{Echo, Quit, ReadBlif, WriteBlif, PrintStats, Print, PrintLatch, Undo, Bad}
+use Rattle.sis_script.specs.declared.command.Command.{Command}
+use Rattle.sis_session.specs.State.{Held}
+use Rattle.sis_session.specs.Outcome.{MAX_BYTES, Outcome, Does, Refuses, takes, read_by, read_outcome, stats_outcome, print_outcome, named_outcome, latch_outcome, undo_outcome, write_outcome, table_named}
+use Rattle.sis_session.specs.Step.{Step}
+use Rattle.sis_session.specs.declared.refusal.Refusal.{Refusal}
+use Rattle.sis_session.specs.declared.refusal.Refusal.TheVariants as refusal
 use Rattle.sis_top.specs.Run.{Place, Machine, AdvancesBy, Reaches, Runs, after, start}
-use Rattle.sis_top.specs.Headline.{Seen, Counts, HasFailed, NoneRose, Ends, Completes, IsRefused, MayBeRefused, MeetsRefusal, IsServed, NextIsServed, HasNetwork, script_commands}
+use Rattle.sis_top.specs.Source.{Seen, Given, Gives, Denies, given, behind, script_commands}
+use Rattle.sis_top.specs.Headline.{Counts, HasFailed, NoneRose, EndsCut, EndsAt, EndsBy, was_unread, was_denied, was_run, Ends, Completes, IsRefused, HasRefusal, as_whole, at_command, MayBeRefused, MeetsRefusal, AreServed, IsServed, NextIsServed, HasNetwork, HasTable, begun}
 use Rattle.sis_top.proofs.Goings.{reaches_more, reaches_itself}
-use Rattle.sis_top.specs.declared.command.Op.{Op}
-use Rattle.sis_top.specs.declared.command.Op.TheVariants.{ReadBlif, PrintStats, WriteBlif, Bad}
-use Rattle.sis_top.specs.declared.command.Command.{Command}
-use Rattle.sis_top.specs.declared.refusal.Refusal.{Refusal}
-use Rattle.sis_top.specs.declared.refusal.Refusal.TheVariants as refusal
 use Rattle.sis_top.specs.declared.running.Failed.{Failed}
-use Rattle.sis_top.specs.declared.running.Failed.TheVariants as failed
 use Rattle.sis_top.specs.declared.status.Status.{Status}
 use Rattle.sis_top.specs.declared.status.Status.TheVariants.{Done, Refused, Usage, Fault, Memory}
 
@@ -69,48 +70,95 @@ stats_served : (held : Held) (network : Option Circuit) (why : Refusal) → HasN
 stats_served held None why s h = let e = s.1 in cc
 stats_served held (Some circuit) why s h = cc
 
+all_served : (held : Held) (network : Option Circuit) (why : Refusal) → HasNetwork network → Refuses why ≡ print_outcome held None network → ⊥
+all_served held None why s h = let e = s.1 in cc
+all_served held (Some circuit) why s h = cc
+
+named_served : (held : Held) (name : List ℕ) (network : Option Circuit) (why : Refusal) → HasTable network name → Refuses why ≡ print_outcome held (Some name) network → ⊥
+named_served held name network why s h =
+    let (circuit, there, table, found) = s in
+    let opened : Refuses why ≡ named_outcome held name (table_named name circuit.tables) = subst (λ n. Refuses why ≡ print_outcome held (Some name) n) there h in
+    let shown : Refuses why ≡ named_outcome held name (Some table) = subst (λ t. Refuses why ≡ named_outcome held name t) found opened in
+    cc
+
+latch_served : (held : Held) (network : Option Circuit) (why : Refusal) → HasNetwork network → Refuses why ≡ latch_outcome held network → ⊥
+latch_served held None why s h = let e = s.1 in cc
+latch_served held (Some circuit) why s h = cc
+
+undo_served : (held : Held) (kept : Option Circuit) (why : Refusal) → HasNetwork kept → Refuses why ≡ undo_outcome held kept → ⊥
+undo_served held None why s h = let e = s.1 in cc
+undo_served held (Some circuit) why s h = cc
+
 write_served : (held : Held) (file : Option (List ℕ)) (network : Option Circuit) (why : Refusal) → HasNetwork network → Refuses why ≡ write_outcome held file network → ⊥
 write_served held file None why s h = let e = s.1 in cc
 write_served held file (Some circuit) why s h = cc
 
 served : (place : Place) (op : Op) (why : Refusal) → IsServed place op → Step place.files place.held op (Refuses why) → ⊥
+served place (Echo words) why s h = cc
+served place Quit why s h = cc
 served place (ReadBlif name) why s h =
     let (bytes, circuit, at, short, reads) = s in read_served name (file_at place.files name) bytes circuit why at short reads h
-served place PrintStats why s h = stats_served place.held place.held.network why s h
 served place (WriteBlif file) why s h = write_served place.held file place.held.network why s h
+served place PrintStats why s h = stats_served place.held place.held.network why s h
+served place (Print None) why s h = all_served place.held place.held.network why s h
+served place (Print (Some name)) why s h = named_served place.held name place.held.network why s h
+served place PrintLatch why s h = latch_served place.held place.held.network why s h
+served place Undo why s h = undo_served place.held place.held.kept why s h
 served place (Bad fault) why s h = absurd s
 
 next_served : (place : Place) (todo : List Command) → NextIsServed place todo → MayBeRefused place todo → ⊥
 next_served place [] s m = absurd m
 next_served place (command ∷ rest) s m = served place command.op m.0 s m.1
 
-not_failed : (counts : Counts) (what : Failed) → NoneRose counts → HasFailed counts what → ⊥
-not_failed counts failed.Store n h = n.0 h
-not_failed counts failed.Out n h = n.1 h
-not_failed counts failed.Err n h = n.2 h
-not_failed counts failed.Memory n h = absurd h
+-- a call that is cut short where no count rose is cut short for want of memory
+cut_memory : (counts : Counts) (status : Status) (what : Failed) (line : ℕ) (stands end : Seen) → NoneRose counts
+    → EndsCut counts status what line stands end → status ≡ Memory
+cut_memory counts Done what line stands end n h = absurd h
+cut_memory counts Refused what line stands end n h = absurd h
+cut_memory counts Usage what line stands end n h = absurd h
+cut_memory counts Fault what line stands end n h = absurd (n what h.0)
+cut_memory counts Memory what line stands end n h = refl
 
-pub completes : (counts : Counts) (script : Option (List ℕ)) (before end : Seen) (status : Status) → Ends counts script before status end → Completes counts script before status
-completes counts None before end status h = tt
-completes counts (Some text) before end Done h = λ s n. inl refl
-completes counts (Some text) before end Memory h = λ s n. inr refl
-completes counts (Some text) before end Usage h = λ s n. absurd h.1
-completes counts (Some text) before end Fault h = λ s n.
-    absurd (not_failed counts h.1.1 n h.1.2)
-completes counts (Some text) before end Refused h = λ s n.
-    let m = meets_refusal false (script_commands text) before.files before.out before.err h.0 h.1.0 h.1.2 in
+run_completes : (counts : Counts) (options : TheOptions) (text : List ℕ) (left : List ℕ) (before end : Seen) (status : Status) (machine : Machine)
+    → EndsAt counts options.keep (begun text before) left status end machine
+    → ((m : Machine) → Reaches options.keep (begun text before) m → NextIsServed m.place m.todo) → NoneRose counts
+    → (status ≡ Done) ⊎ (status ≡ Memory)
+run_completes counts options text left before end Done machine h s n = inl refl
+run_completes counts options text left before end Memory machine h s n = inr refl
+run_completes counts options text left before end Usage machine h s n =
+    let (reaches, what, cut, cuts, line, is, ends) = h in absurd ends
+run_completes counts options text left before end Fault machine h s n =
+    let (reaches, what, cut, cuts, line, is, ends) = h in absurd (n what ends.0)
+run_completes counts options text left before end Refused machine h s n =
+    let m = meets_refusal options.keep (script_commands text) before.files before.out before.err machine h.0 h.2 in
     absurd (next_served m.machine.place m.machine.todo (s m.machine m.reached) m.refused)
 
-pub is_refused : (counts : Counts) (script : Option (List ℕ)) (before end : Seen) (status : Status) → Ends counts script before status end → IsRefused script before status
-is_refused counts None before end status h = tt
-is_refused counts (Some text) before end Done h = tt
-is_refused counts (Some text) before end Memory h = tt
-is_refused counts (Some text) before end Usage h = tt
-is_refused counts (Some text) before end Fault h = tt
-is_refused counts (Some text) before end Refused h =
-    meets_refusal false (script_commands text) before.files before.out before.err h.0 h.1.0 h.1.2
+completes_by : (counts : Counts) (options : TheOptions) (before end : Seen) (status : Status) → EndsBy counts options before status end
+    → AreServed options before → NoneRose counts → (status ≡ Done) ⊎ (status ≡ Memory)
+completes_by counts options before end status (was_unread what fails stands is ends) s n = inr (cut_memory counts status what 0 stands end n ends)
+completes_by counts options before end status (was_denied why is ends) s n =
+    let (text, gives, served) = s in let e : Gives text ≡ Denies why = sym gives ∙ is in cc
+completes_by counts options before end status (was_run text is machine ends) s n =
+    let (text', gives, served) = s in
+    let e : Gives text' ≡ Gives text = sym gives ∙ is in
+    let same : text' ≡ text = cc in
+    run_completes counts options text _ before end status machine ends
+    (subst (λ (t : List ℕ). (m : Machine) → Reaches options.keep (begun t before) m → NextIsServed m.place m.todo) same served) n
 
--- the end of a call, by an equal script
-pub ends_by : (counts : Counts) (script script' : Option (List ℕ)) (before end : Seen) (status : Status) → script ≡ script'
-    → Ends counts script before status end → Ends counts script' before status end
-ends_by counts script script' before end status e h = subst (λ s. Ends counts s before status end) e h
+pub completes : (counts : Counts) (asked : Option TheOptions) (before end : Seen) (status : Status) → Ends counts asked before status end → Completes counts asked before status
+completes counts None before end status h = tt
+completes counts (Some options) before end status h = λ s n. completes_by counts options before end status h s n
+
+refused_by : (counts : Counts) (options : TheOptions) (before end : Seen) → EndsBy counts options before Refused end → HasRefusal options before
+refused_by counts options before end (was_unread what fails stands is ends) = absurd ends
+refused_by counts options before end (was_denied why is ends) = as_whole why is
+refused_by counts options before end (was_run text is machine ends) =
+    at_command text is (meets_refusal options.keep (script_commands text) before.files before.out before.err machine ends.0 ends.2)
+
+pub is_refused : (counts : Counts) (asked : Option TheOptions) (before end : Seen) (status : Status) → Ends counts asked before status end → IsRefused asked before status
+is_refused counts None before end status h = tt
+is_refused counts (Some options) before end Done h = tt
+is_refused counts (Some options) before end Memory h = tt
+is_refused counts (Some options) before end Usage h = tt
+is_refused counts (Some options) before end Fault h = tt
+is_refused counts (Some options) before end Refused h = refused_by counts options before end h

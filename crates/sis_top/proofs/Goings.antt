@@ -4,15 +4,16 @@ use Rattle.std.proofs.lemmas.List.{drop_more, drop_all}
 use Rattle.std.specs.Prelude.{◌⊎◌, ◌||◌, ◌&&◌, not, IsTrue, Ok, Err}
 use Rattle.sis_outside.specs.Counts.{Rose}
 use Rattle.sis_outside.specs.Files.{Files}
-use Rattle.sis_top.specs.State.{Held, nothing_held}
-use Rattle.sis_top.specs.Causes.{MayRefuse, CanRefuse}
+use Rattle.sis_session.specs.State.{Held, nothing_held}
+use Rattle.sis_session.specs.Causes.{MayRefuse}
+use Rattle.sis_top.specs.Headline.{CanRefuse, IsMissed}
 use Rattle.sis_top.specs.Run.{Place, Machine, Stands, Advances, Reaches, Runs, Cuts, IsNextLine, start}
-use Rattle.sis_top.specs.Running.{Advanced, Ran, left_after}
-use Rattle.sis_top.specs.declared.command.Op.{Op}
-use Rattle.sis_top.specs.declared.command.Op.TheVariants.{ReadBlif, PrintStats, WriteBlif, Bad}
-use Rattle.sis_top.specs.declared.command.Command.{Command}
-use Rattle.sis_top.specs.declared.refusal.Refusal.{Refusal}
-use Rattle.sis_top.specs.declared.refusal.Refusal.TheVariants as reason
+use Rattle.sis_top.specs.Running.{Advanced, Ran, left_after, ends_at, is_refusal}
+use Rattle.sis_top.specs.declared.running.Turn.{Turn}
+use Rattle.sis_top.specs.declared.running.Turn.TheVariants as turn
+use Rattle.sis_script.specs.declared.command.Command.{Command}
+use Rattle.sis_session.specs.declared.refusal.Refusal.{Refusal}
+use Rattle.sis_session.specs.declared.refusal.Refusal.TheVariants as reason
 use Rattle.sis_top.specs.declared.running.Failed.{Failed}
 
 -- the machine at a turn: these commands are left, and this stands
@@ -66,12 +67,12 @@ goes_begun goes_on commands files out err misses held e =
 opened : (machine : Machine) (left : List Command) → machine.todo ≡ left → record { place = machine.place; todo = left } ≡ machine
 opened machine left e = ap (λ t. let m : Machine = record { place = machine.place; todo = t } in m) (sym e)
 
-pub goes_more : (goes_on : Bool) (from : Machine) (command : Command) (rest : List Command) (refused turned : Bool)
+pub goes_more : (goes_on : Bool) (from : Machine) (command : Command) (rest : List Command) (refused : Bool) (turned : Turn)
     (held : Held) (files : Files) (out err : List ℕ) (held' : Held) (files' : Files) (out' err' : List ℕ) (first misses misses' : ℕ)
     → first ≤ misses → misses ≤ misses'
     → (h : Goes goes_on from (command ∷ rest) refused held files out err first misses)
     → Advanced goes_on command h.machine.place (Ok turned) held' files' out' err' misses misses'
-    → Goes goes_on from (left_after goes_on turned rest) (refused || turned) held' files' out' err' first misses'
+    → Goes goes_on from (left_after goes_on turned rest) (refused || is_refusal turned) held' files' out' err' first misses'
 goes_more goes_on from command rest refused turned held files out err held' files' out' err' first misses misses' low up h a =
     let (next, stands, refusal, missed, advances) = a in
     record {
@@ -79,7 +80,7 @@ goes_more goes_on from command rest refused turned held files out err held' file
       reaches = reaches_more goes_on from h.machine _ h.reaches
           (subst (λ m. Advances goes_on m (record { place = next; todo = left_after goes_on turned rest })) (opened h.machine (command ∷ rest) h.todo) (advances rest));
       todo = refl;
-      refusal = refusal ∙ ap (λ b. b || turned) h.refusal;
+      refusal = refusal ∙ ap (λ b. b || is_refusal turned) h.refusal;
       stands = stands;
       missed = λ t. pick (missed t);
     }
@@ -114,64 +115,40 @@ ran_cut goes_on from command rest refused what held files out err held' files' o
     )
 
 -- causes stay as the count of misses grows
-may_later : (op : Op) (why : Refusal) (a b c : ℕ) → b ≤ c → MayRefuse a b op why → MayRefuse a c op why
-may_later (Bad fault) (reason.Script said) a b c h m = m
-may_later (Bad fault) reason.NoNetwork a b c h m = m
-may_later (Bad fault) (reason.Missing file) a b c h m = m
-may_later (Bad fault) (reason.TooLong file) a b c h m = m
-may_later (Bad fault) (reason.Blif file said) a b c h m = m
-may_later PrintStats (reason.Script said) a b c h m = m
-may_later PrintStats reason.NoNetwork a b c h m = m
-may_later PrintStats (reason.Missing file) a b c h m = m
-may_later PrintStats (reason.TooLong file) a b c h m = m
-may_later PrintStats (reason.Blif file said) a b c h m = m
-may_later (WriteBlif name) (reason.Script said) a b c h m = m
-may_later (WriteBlif name) reason.NoNetwork a b c h m = m
-may_later (WriteBlif name) (reason.Missing file) a b c h m = m
-may_later (WriteBlif name) (reason.TooLong file) a b c h m = m
-may_later (WriteBlif name) (reason.Blif file said) a b c h m = m
-may_later (ReadBlif name) (reason.Script said) a b c h m = m
-may_later (ReadBlif name) reason.NoNetwork a b c h m = m
-may_later (ReadBlif name) (reason.Missing file) a b c h m = (m.0, rose_then a b c m.1 h)
-may_later (ReadBlif name) (reason.TooLong file) a b c h m = m
-may_later (ReadBlif name) (reason.Blif file said) a b c h m = m
+missed_later : (why : Refusal) (a b c : ℕ) → b ≤ c → IsMissed a b why → IsMissed a c why
+missed_later (reason.Missing file) a b c h m = rose_then a b c m h
+missed_later (reason.Script said) a b c h m = m
+missed_later reason.NoNetwork a b c h m = m
+missed_later reason.NothingToUndo a b c h m = m
+missed_later (reason.NoSignal name) a b c h m = m
+missed_later (reason.TooLong file) a b c h m = m
+missed_later (reason.Blif file said) a b c h m = m
+missed_later reason.LongScript a b c h m = m
 
-may_sooner : (op : Op) (why : Refusal) (a b c : ℕ) → a ≤ b → MayRefuse b c op why → MayRefuse a c op why
-may_sooner (Bad fault) (reason.Script said) a b c h m = m
-may_sooner (Bad fault) reason.NoNetwork a b c h m = m
-may_sooner (Bad fault) (reason.Missing file) a b c h m = m
-may_sooner (Bad fault) (reason.TooLong file) a b c h m = m
-may_sooner (Bad fault) (reason.Blif file said) a b c h m = m
-may_sooner PrintStats (reason.Script said) a b c h m = m
-may_sooner PrintStats reason.NoNetwork a b c h m = m
-may_sooner PrintStats (reason.Missing file) a b c h m = m
-may_sooner PrintStats (reason.TooLong file) a b c h m = m
-may_sooner PrintStats (reason.Blif file said) a b c h m = m
-may_sooner (WriteBlif name) (reason.Script said) a b c h m = m
-may_sooner (WriteBlif name) reason.NoNetwork a b c h m = m
-may_sooner (WriteBlif name) (reason.Missing file) a b c h m = m
-may_sooner (WriteBlif name) (reason.TooLong file) a b c h m = m
-may_sooner (WriteBlif name) (reason.Blif file said) a b c h m = m
-may_sooner (ReadBlif name) (reason.Script said) a b c h m = m
-may_sooner (ReadBlif name) reason.NoNetwork a b c h m = m
-may_sooner (ReadBlif name) (reason.Missing file) a b c h m = (m.0, then_rose a b c h m.1)
-may_sooner (ReadBlif name) (reason.TooLong file) a b c h m = m
-may_sooner (ReadBlif name) (reason.Blif file said) a b c h m = m
+missed_sooner : (why : Refusal) (a b c : ℕ) → a ≤ b → IsMissed b c why → IsMissed a c why
+missed_sooner (reason.Missing file) a b c h m = then_rose a b c h m
+missed_sooner (reason.Script said) a b c h m = m
+missed_sooner reason.NoNetwork a b c h m = m
+missed_sooner reason.NothingToUndo a b c h m = m
+missed_sooner (reason.NoSignal name) a b c h m = m
+missed_sooner (reason.TooLong file) a b c h m = m
+missed_sooner (reason.Blif file said) a b c h m = m
+missed_sooner reason.LongScript a b c h m = m
 
 pub can_later : (commands : List Command) (a b c : ℕ) → b ≤ c → CanRefuse a b commands → CanRefuse a c commands
 unfolding CanRefuse
 can_later [] a b c h m = m
-can_later (command ∷ rest) a b c h m = elim m [ inl p ↦ inl (p.0, may_later command.op p.0 a b c h p.1) | inr p ↦ inr (can_later rest a b c h p) ]
+can_later (command ∷ rest) a b c h m = elim m [ inl p ↦ inl (p.0, p.1, missed_later p.0 a b c h p.2) | inr p ↦ inr (can_later rest a b c h p) ]
 
 -- a command that stands in the list and may be refused
 pub can_refuse : (commands : List Command) (k : ℕ) (command : Command) (why : Refusal) (a b c : ℕ) → a ≤ b
-    → k < length commands → command ≡ get_or commands k command → MayRefuse b c command.op why → CanRefuse a c commands
+    → k < length commands → command ≡ get_or commands k command → MayRefuse command.op why → IsMissed b c why → CanRefuse a c commands
 unfolding CanRefuse
-can_refuse [] k command why a b c h lt e m = absurd (omega arith)
-can_refuse (first ∷ rest) zero command why a b c h lt e m =
-    inl (why, may_sooner first.op why a b c h (subst (λ (x : Command). MayRefuse b c x.op why) e m))
-can_refuse (first ∷ rest) (suc k) command why a b c h lt e m =
-    inr (can_refuse rest k command why a b c h (omega arith) e m)
+can_refuse [] k command why a b c h lt e m i = absurd (omega arith)
+can_refuse (first ∷ rest) zero command why a b c h lt e m i =
+    inl (why, subst (λ (x : Command). MayRefuse x.op why) e m, missed_sooner why a b c h i)
+can_refuse (first ∷ rest) (suc k) command why a b c h lt e m i =
+    inr (can_refuse rest k command why a b c h (omega arith) e m i)
 
 -- the commands from a place on
 from_here : (commands : List Command) (k : ℕ) (command : Command) → k < length commands → command ≡ get_or commands k command
@@ -179,12 +156,12 @@ from_here : (commands : List Command) (k : ℕ) (command : Command) → k < leng
 from_here commands k command lt e = rw (drop_more commands k command lt, ← e) refl
 
 -- a turn of the loop
-pub goes_turn : (goes_on : Bool) (from : Machine) (commands : List Command) (k : ℕ) (command : Command) (refused turned : Bool)
+pub goes_turn : (goes_on : Bool) (from : Machine) (commands : List Command) (k : ℕ) (command : Command) (refused : Bool) (turned : Turn)
     (held : Held) (files : Files) (out err : List ℕ) (held' : Held) (files' : Files) (out' err' : List ℕ) (first misses misses' : ℕ)
     → k < length commands → command ≡ get_or commands k command → first ≤ misses → misses ≤ misses'
     → Goes goes_on from (drop k commands) refused held files out err first misses
     → ((place : Place) → Stands place held files out err → Advanced goes_on command place (Ok turned) held' files' out' err' misses misses')
-    → Goes goes_on from (left_after goes_on turned (drop (k + 1) commands)) (refused || turned) held' files' out' err' first misses'
+    → Goes goes_on from (left_after goes_on turned (drop (k + 1) commands)) (refused || is_refusal turned) held' files' out' err' first misses'
 goes_turn goes_on from commands k command refused turned held files out err held' files' out' err' first misses misses' lt e low up h a =
     let g : Goes goes_on from (command ∷ drop (k + 1) commands) refused held files out err first misses =
     subst (λ left. Goes goes_on from left refused held files out err first misses) (from_here commands k command lt e) h in
@@ -203,28 +180,28 @@ cut_turn goes_on from commands k command refused what held files out err held' f
     ran_cut goes_on from command (drop (k + 1) commands) refused what held files out err held' files' out' err' first misses misses' g
     (a g.machine.place g.stands)
 
-left_ended : (turned goes_on : Bool) (rest : List Command) → (turned && not goes_on) ≡ true → left_after goes_on turned rest ≡ []
-left_ended true true rest e = cc
-left_ended true false rest e = refl
-left_ended false true rest e = cc
-left_ended false false rest e = cc
+left_ended : (turned : Turn) (goes_on : Bool) (rest : List Command) → ends_at goes_on turned ≡ true → left_after goes_on turned rest ≡ []
+left_ended turn.Went goes_on rest e = cc
+left_ended turn.Ended goes_on rest e = refl
+left_ended turn.Refused true rest e = cc
+left_ended turn.Refused false rest e = refl
 
-left_goes : (turned goes_on : Bool) (rest : List Command) → (turned && not goes_on) ≡ false → left_after goes_on turned rest ≡ rest
-left_goes true true rest e = refl
-left_goes true false rest e = cc
-left_goes false true rest e = refl
-left_goes false false rest e = refl
+left_goes : (turned : Turn) (goes_on : Bool) (rest : List Command) → ends_at goes_on turned ≡ false → left_after goes_on turned rest ≡ rest
+left_goes turn.Went goes_on rest e = refl
+left_goes turn.Ended goes_on rest e = cc
+left_goes turn.Refused true rest e = refl
+left_goes turn.Refused false rest e = cc
 
-pub goes_ended : (goes_on turned : Bool) (from : Machine) (rest : List Command) (refused : Bool)
-    (held : Held) (files : Files) (out err : List ℕ) (misses misses' : ℕ) → (turned && not goes_on) ≡ true
+pub goes_ended : (goes_on : Bool) (turned : Turn) (from : Machine) (rest : List Command) (refused : Bool)
+    (held : Held) (files : Files) (out err : List ℕ) (misses misses' : ℕ) → ends_at goes_on turned ≡ true
     → Goes goes_on from (left_after goes_on turned rest) refused held files out err misses misses'
     → Ran goes_on from (Ok refused) files out err misses misses'
 goes_ended goes_on turned from rest refused held files out err misses misses' e h =
     ran_end goes_on from refused held files out err misses misses'
     (subst (λ left. Goes goes_on from left refused held files out err misses misses') (left_ended turned goes_on rest e) h)
 
-pub goes_onward : (goes_on turned : Bool) (from : Machine) (rest : List Command) (refused : Bool)
-    (held : Held) (files : Files) (out err : List ℕ) (misses misses' : ℕ) → (turned && not goes_on) ≡ false
+pub goes_onward : (goes_on : Bool) (turned : Turn) (from : Machine) (rest : List Command) (refused : Bool)
+    (held : Held) (files : Files) (out err : List ℕ) (misses misses' : ℕ) → ends_at goes_on turned ≡ false
     → Goes goes_on from (left_after goes_on turned rest) refused held files out err misses misses'
     → Goes goes_on from rest refused held files out err misses misses'
 goes_onward goes_on turned from rest refused held files out err misses misses' e h =
@@ -238,36 +215,36 @@ goes_done goes_on from commands k refused held files out err misses misses' le h
     ran_end goes_on from refused held files out err misses misses'
     (subst (λ left. Goes goes_on from left refused held files out err misses misses') (drop_all k commands le) h)
 
-pub cause_turn : (commands : List Command) (k : ℕ) (command : Command) (refused turned : Bool) (first misses misses' : ℕ)
+pub cause_turn : (commands : List Command) (k : ℕ) (command : Command) (refused : Bool) (turned : Turn) (first misses misses' : ℕ)
     → k < length commands → command ≡ get_or commands k command → first ≤ misses → misses ≤ misses'
     → (IsTrue refused → CanRefuse first misses commands)
-    → (IsTrue turned → (why : Refusal) × MayRefuse misses misses' command.op why)
-    → IsTrue (refused || turned) → CanRefuse first misses' commands
+    → (IsTrue (is_refusal turned) → (why : Refusal) × MayRefuse command.op why × IsMissed misses misses' why)
+    → IsTrue (refused || is_refusal turned) → CanRefuse first misses' commands
 cause_turn commands k command true turned first misses misses' lt e low up before now h = can_later commands first misses misses' up (before refl)
 cause_turn commands k command false turned first misses misses' lt e low up before now h =
-    let (why, may) = now h in can_refuse commands k command why first misses misses' low lt e may
+    let (why, may, missed) = now h in can_refuse commands k command why first misses misses' low lt e may missed
 
 -- a turn of the loop behind which the run ends, or goes on
-pub turn_ended : (goes_on : Bool) (from : Machine) (commands : List Command) (k : ℕ) (command : Command) (refused turned was ends : Bool)
+pub turn_ended : (goes_on : Bool) (from : Machine) (commands : List Command) (k : ℕ) (command : Command) (refused : Bool) (turned : Turn) (was ends : Bool)
     (held : Held) (files : Files) (out err : List ℕ) (held' : Held) (files' : Files) (out' err' : List ℕ) (first misses misses' : ℕ)
     → k < length commands → command ≡ get_or commands k command → first ≤ misses → misses ≤ misses'
-    → was ≡ (refused || turned) → ends ≡ (turned && not goes_on) → ends ≡ true
+    → was ≡ (refused || is_refusal turned) → ends ≡ ends_at goes_on turned → ends ≡ true
     → Goes goes_on from (drop k commands) refused held files out err first misses
     → ((place : Place) → Stands place held files out err → Advanced goes_on command place (Ok turned) held' files' out' err' misses misses')
     → Ran goes_on from (Ok was) files' out' err' first misses'
 turn_ended goes_on from commands k command refused turned was ends held files out err held' files' out' err' first misses misses' lt e low up w n t h a =
     subst (λ b. Ran goes_on from (Ok b) files' out' err' first misses') (sym w)
-    (goes_ended goes_on turned from (drop (k + 1) commands) (refused || turned) held' files' out' err' first misses' (sym n ∙ t)
+    (goes_ended goes_on turned from (drop (k + 1) commands) (refused || is_refusal turned) held' files' out' err' first misses' (sym n ∙ t)
     (goes_turn goes_on from commands k command refused turned held files out err held' files' out' err' first misses misses' lt e low up h a))
 
-pub turn_onward : (goes_on : Bool) (from : Machine) (commands : List Command) (k : ℕ) (command : Command) (refused turned was ends : Bool)
+pub turn_onward : (goes_on : Bool) (from : Machine) (commands : List Command) (k : ℕ) (command : Command) (refused : Bool) (turned : Turn) (was ends : Bool)
     (held : Held) (files : Files) (out err : List ℕ) (held' : Held) (files' : Files) (out' err' : List ℕ) (first misses misses' : ℕ)
     → k < length commands → command ≡ get_or commands k command → first ≤ misses → misses ≤ misses'
-    → was ≡ (refused || turned) → ends ≡ (turned && not goes_on) → ends ≡ false
+    → was ≡ (refused || is_refusal turned) → ends ≡ ends_at goes_on turned → ends ≡ false
     → Goes goes_on from (drop k commands) refused held files out err first misses
     → ((place : Place) → Stands place held files out err → Advanced goes_on command place (Ok turned) held' files' out' err' misses misses')
     → Goes goes_on from (drop (k + 1) commands) was held' files' out' err' first misses'
 turn_onward goes_on from commands k command refused turned was ends held files out err held' files' out' err' first misses misses' lt e low up w n t h a =
     subst (λ b. Goes goes_on from (drop (k + 1) commands) b held' files' out' err' first misses') (sym w)
-    (goes_onward goes_on turned from (drop (k + 1) commands) (refused || turned) held' files' out' err' first misses' (sym n ∙ t)
+    (goes_onward goes_on turned from (drop (k + 1) commands) (refused || is_refusal turned) held' files' out' err' first misses' (sym n ∙ t)
     (goes_turn goes_on from commands k command refused turned held files out err held' files' out' err' first misses misses' lt e low up h a))

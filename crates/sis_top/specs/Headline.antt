@@ -1,42 +1,40 @@
 -- What a call of the program promises.
 -- Source: the SIS manual (UCB/ERL M92/41) for the commands; that what is written refines what was read is the
 -- project's own promise.
-use Rattle.std.specs.Prelude.{◌≡◌, ℕ, ◌≤◌, Bool, true, false, ◌⊎◌, IsTrue, Option, Some, None, Ok, List, [], ◌∷◌, ◌++◌, map, take, length, nat_le, codes, if◌then◌else◌}
+use Rattle.std.specs.Prelude.{◌≡◌, ℕ, ◌≤◌, ◌<◌, Bool, true, false, ◌⊎◌, IsTrue, Option, Some, None, Ok, List, [], ◌∷◌, ◌++◌, take, length, codes}
 use Rattle.std.specs.List.{AllByRecursion}
-use Rattle.sis_text.specs.Entries.{entries_of, script_entries_of}
+use Rattle.sis_text.specs.Entries.{entries_of}
 use Rattle.sis_outside.specs.Counts.{Rose}
-use Rattle.sis_outside.specs.Files.{Files, file_at}
+use Rattle.sis_outside.specs.Files.{file_at}
 use Rattle.circuit_model.specs.Runs.{Refines}
 use Rattle.circuit_model.specs.Text.{text_of}
 use Rattle.circuit_model.specs.declared.circuit.Circuit.{Circuit}
-use Rattle.sis_top.specs.OrderedForm.{read_lines}
-use Rattle.sis_top.specs.Script.{MAX_BYTES, command_of, too_long}
-use Rattle.sis_top.specs.Replies.{error_line, usage_line}
-use Rattle.sis_top.specs.Causes.{CanRefuse}
-use Rattle.sis_top.specs.Outcome.{Refuses, sent_to}
-use Rattle.sis_top.specs.Step.{Step}
-use Rattle.sis_top.specs.Run.{Writing, Place, Machine, Reaches, Cuts, IsNextLine, start}
-use Rattle.sis_top.specs.declared.refusal.Refusal.{Refusal}
-use Rattle.sis_top.specs.declared.command.Op.{Op}
-use Rattle.sis_top.specs.declared.command.Op.TheVariants.{ReadBlif, PrintStats, WriteBlif, Bad}
-use Rattle.sis_top.specs.declared.command.Command.{Command}
+use Rattle.circuit_model.specs.declared.circuit.Table.{Table}
+use Rattle.blif_read.specs.Reader.{read_lines}
+use Rattle.sis_words.specs.Asked.{TheOptions, TheScript, InFile, AsText, OnInput}
+use Rattle.sis_script.specs.declared.command.Op.{Op}
+use Rattle.sis_script.specs.declared.command.Op.TheVariants.{Echo, Quit, ReadBlif, WriteBlif, PrintStats, Print, PrintLatch, Undo, Bad}
+use Rattle.sis_script.specs.declared.command.Command.{Command}
+use Rattle.sis_session.specs.Causes.{MayRefuse}
+use Rattle.sis_session.specs.Replies.{error_line, refusal_line}
+use Rattle.sis_session.specs.Outcome.{MAX_BYTES, Refuses, sent_to, table_named}
+use Rattle.sis_session.specs.Step.{Step}
+use Rattle.sis_session.specs.declared.refusal.Refusal.{Refusal}
+use Rattle.sis_session.specs.declared.refusal.Refusal.TheVariants as refusal
+use Rattle.sis_top.specs.Run.{Writing, Place, Machine, Reaches, Cuts, IsNextLine, is_missing, start}
+use Rattle.sis_top.specs.Source.{Seen, Given, Gives, Denies, given, behind, IsUnread, script_commands}
 use Rattle.sis_top.specs.declared.running.Failed.{Failed}
 use Rattle.sis_top.specs.declared.running.Failed.TheVariants as failed
 use Rattle.sis_top.specs.declared.status.Status.{Status}
 use Rattle.sis_top.specs.declared.status.Status.TheVariants.{Done, Refused, Usage, Fault, Memory}
 
--- the commands of a script; a script that is too long is one command that is refused, on line 0
-unfoldable pub script_commands : List ℕ → List Command
-script_commands text = if nat_le (length text) MAX_BYTES then map command_of (script_entries_of text) else too_long ∷ []
+-- what is seen at a place, with this left of the input
+abbrev pub seen : List ℕ → Place → Seen
+seen left place = record { files = place.files; left = left; out = place.out; err = place.err }
 
--- what can be seen of the outside: files, output, error output
-pub record Seen : Type 0 where
-  pub files : Files
-  pub out : List ℕ
-  pub err : List ℕ
-
-abbrev pub seen : Place → Seen
-seen place = record { files = place.files; out = place.out; err = place.err }
+-- the machine at the start of a script
+abbrev pub begun : List ℕ → Seen → Machine
+begun text before = start (script_commands text) before.files before.out before.err
 
 -- the counts of faults and misses before and after the call
 pub record Counts : Type 0 where
@@ -44,6 +42,8 @@ pub record Counts : Type 0 where
   pub store_after : ℕ
   pub misses : ℕ
   pub misses_after : ℕ
+  pub input : ℕ
+  pub input_after : ℕ
   pub out : ℕ
   pub out_after : ℕ
   pub err : ℕ
@@ -52,19 +52,24 @@ pub record Counts : Type 0 where
 -- the count of the object that failed rose
 abbrev pub HasFailed : Counts → Failed → Type 0
 HasFailed counts failed.Store = Rose counts.store counts.store_after
+HasFailed counts failed.Input = Rose counts.input counts.input_after
 HasFailed counts failed.Out = Rose counts.out counts.out_after
 HasFailed counts failed.Err = Rose counts.err counts.err_after
 HasFailed counts failed.Memory = ⊥
 
--- the last line of a run that was cut short
+-- the last line of a call that was cut short
 abbrev pub failure_text : Failed → List ℕ
 failure_text failed.Store = codes "store failed"
+failure_text failed.Input = codes "input failed"
 failure_text failed.Out = codes "output failed"
 failure_text failed.Err = codes "output failed"
 failure_text failed.Memory = codes "no memory"
 
 abbrev pub failure_line : ℕ → Failed → List ℕ
 failure_line line what = error_line line (failure_text what)
+
+abbrev pub usage_line : List ℕ
+usage_line = codes "sis: usage: sis [-k] [-f FILE | -c TEXT]\n"
 
 -- some bytes more on the error output
 abbrev pub said : Seen → List ℕ → Seen
@@ -75,35 +80,77 @@ abbrev pub Says : Counts → Seen → List ℕ → Seen → Type 0
 Says counts before line end =
     (end ≡ said before line) ⊎ ((count : ℕ) × (end ≡ said before (take count line)) × Rose counts.err counts.err_after)
 
--- where memory was wanting: at the next command, or on line 0 before one had begun; or for the line of a fault, whose
--- count rose
-abbrev pub Wants : Counts → Machine → Machine → Failed → ℕ → Type 0
-Wants counts from machine failed.Memory line = IsNextLine machine.todo line ⊎ ((machine ≡ from) × (line ≡ 0))
-Wants counts from machine what line = HasFailed counts what × IsNextLine machine.todo line
+-- How a call ends that is cut short where this stands, on this line, by what failed. A fault: the count of what failed
+-- rose, and the last line names it. Memory: it was wanting, and the last line may be missing; or it was wanting for
+-- the last line of a fault.
+abbrev pub EndsCut : Counts → Status → Failed → ℕ → Seen → Seen → Type 0
+EndsCut counts Fault what line stands end = HasFailed counts what × Says counts stands (failure_line line what) end
+EndsCut counts Memory failed.Memory line stands end = (end ≡ stands) ⊎ Says counts stands (failure_line line failed.Memory) end
+EndsCut counts Memory what line stands end = HasFailed counts what × (end ≡ stands)
+EndsCut counts status what line stands end = ⊥
 
 -- How a run from a machine ends, by the status: the machine that it came to, and what is seen in the end.
--- Done and refused: all commands were run. A fault: the count of what failed rose, and the next command is cut short.
--- Memory: memory was wanting at the next command, before the first one, or for the line of a fault; the last line may
--- be missing.
-abbrev pub EndsAt : Counts → Bool → Machine → Status → Seen → Machine → Type 0
-EndsAt counts goes_on from Done end machine =
-    Reaches goes_on from machine × (machine.todo ≡ []) × (machine.place.refused ≡ false) × (end ≡ seen machine.place)
-EndsAt counts goes_on from Refused end machine =
-    Reaches goes_on from machine × (machine.todo ≡ []) × (machine.place.refused ≡ true) × (end ≡ seen machine.place)
+-- Done and refused: all commands were run, up to `quit` or the last. A fault, or want of memory: the next command is
+-- cut short.
+abbrev pub EndsAt : Counts → Bool → Machine → List ℕ → Status → Seen → Machine → Type 0
+EndsAt counts goes_on from left Done end machine =
+    Reaches goes_on from machine × (machine.todo ≡ []) × (machine.place.refused ≡ false) × (end ≡ seen left machine.place)
+EndsAt counts goes_on from left Refused end machine =
+    Reaches goes_on from machine × (machine.todo ≡ []) × (machine.place.refused ≡ true) × (end ≡ seen left machine.place)
     × (IsTrue machine.place.missed → Rose counts.misses counts.misses_after)
-EndsAt counts goes_on from Fault end machine =
-    Reaches goes_on from machine × (what : Failed) × HasFailed counts what × (cut : Place) × Cuts what machine cut
-    × (line : ℕ) × IsNextLine machine.todo line × Says counts (seen cut) (failure_line line what) end
-EndsAt counts goes_on from Memory end machine =
-    Reaches goes_on from machine × (what : Failed) × (cut : Place) × Cuts what machine cut × (line : ℕ) × Wants counts from machine what line
-    × ((end ≡ seen cut) ⊎ Says counts (seen cut) (failure_line line failed.Memory) end)
-EndsAt counts goes_on from Usage end machine = ⊥
+EndsAt counts goes_on from left status end machine =
+    Reaches goes_on from machine × (what : Failed) × (cut : Place) × Cuts what machine cut × (line : ℕ) × IsNextLine machine.todo line
+    × EndsCut counts status what line (seen left cut) end
 
--- how a call ends whose words are not taken: the usage line is told, unless memory is wanting
+-- what may fail where a script is read
+abbrev pub MayFail : TheScript → Failed → Type 0
+MayFail (InFile name) failed.Store = Unit {0}
+MayFail OnInput failed.Input = Unit {0}
+MayFail script failed.Memory = Unit {0}
+MayFail script what = ⊥
+
+-- what stands where the line of a script that is refused as a whole could not be put
+abbrev pub LineCut : Failed → List ℕ → Seen → Seen → Type 0
+LineCut failed.Err line before stands = (count : ℕ) × (stands ≡ said before (take count line))
+LineCut failed.Memory line before stands = stands ≡ before
+LineCut what line before stands = ⊥
+
+-- how a call ends whose script is refused as a whole: that is told with line 0
+abbrev pub EndsDenied : Counts → Refusal → Status → Seen → Seen → Type 0
+EndsDenied counts why Refused before end =
+    (end ≡ said before (refusal_line 0 why)) × (IsTrue (is_missing why) → Rose counts.misses counts.misses_after)
+EndsDenied counts why status before end =
+    (what : Failed) × (stands : Seen) × LineCut what (refusal_line 0 why) before stands × EndsCut counts status what 0 stands end
+
+-- how a call ends whose words are taken: the script could not be read, it is refused as a whole, or it was run
+pub data EndsBy (counts : Counts) (options : TheOptions) (before : Seen) (status : Status) (end : Seen) : Type 0 where
+  was_unread : (what : Failed) → MayFail options.script what → (stands : Seen) → IsUnread options.script before stands
+      → EndsCut counts status what 0 stands end → EndsBy counts options before status end
+  was_denied : (why : Refusal) → given options.script before ≡ Denies why
+      → EndsDenied counts why status (behind options.script before) end → EndsBy counts options before status end
+  was_run : (text : List ℕ) → given options.script before ≡ Gives text → (machine : Machine)
+      → EndsAt counts options.keep (begun text before) (behind options.script before).left status end machine
+      → EndsBy counts options before status end
+
+-- how a call ends whose words are not taken: the usage line stands, or memory was wanting
 abbrev pub EndsUnused : Counts → Seen → Status → Seen → Type 0
 EndsUnused counts before Usage end = Says counts before usage_line end
 EndsUnused counts before Memory end = (end ≡ before) ⊎ Says counts before (failure_line 0 failed.Memory) end
 EndsUnused counts before status end = ⊥
+
+-- how a call ends, by what its words ask for
+abbrev pub Ends : Counts → Option TheOptions → Seen → Status → Seen → Type 0
+Ends counts None before status end = EndsUnused counts before status end
+Ends counts (Some options) before status end = EndsBy counts options before status end
+
+-- each circuit that is held refines the circuit last read
+abbrev pub RefinesSpec : Option Circuit → Option Circuit → Type 0
+RefinesSpec spec held = (circuit : Circuit) → held ≡ Some circuit → (read : Circuit) × (spec ≡ Some read) × Refines read circuit
+
+-- what every run keeps: the network and the one that is kept for an undo refine the circuit last read
+pub record IsRefined (place : Place) : Type 0 where
+  pub network : RefinesSpec place.spec place.held.network
+  pub kept : RefinesSpec place.spec place.held.kept
 
 -- A circuit that a run wrote is faithful: at a machine of this run the next command was to write it; it was that
 -- machine's network; what was sent is its text, to the file that the command names; and it refines the circuit that
@@ -122,6 +169,14 @@ pub record IsFaithful (goes_on : Bool) (from : Machine) (writing : Writing) : Ty
   pub spec : writing.spec ≡ Some read
   pub refines : Refines read writing.circuit
 
+-- each circuit that a call wrote is faithful, at whatever machine the run came to its end
+abbrev pub Writes : Counts → Option TheOptions → Seen → Status → Seen → Type 0
+Writes counts None before status end = Unit {0}
+Writes counts (Some options) before status end =
+    (text : List ℕ) (machine : Machine) → given options.script before ≡ Gives text
+    → EndsAt counts options.keep (begun text before) (behind options.script before).left status end machine
+    → AllByRecursion (IsFaithful options.keep (begun text before)) machine.place.written
+
 -- a run comes to a machine whose next command may be refused
 abbrev pub MayBeRefused : Place → List Command → Type 0
 MayBeRefused place [] = ⊥
@@ -132,66 +187,96 @@ pub record MeetsRefusal (goes_on : Bool) (from : Machine) : Type 0 where
   pub reached : Reaches goes_on from machine
   pub refused : MayBeRefused machine.place machine.todo
 
--- what a command needs so that it is done: it is one of the three; the network that it needs is there; the file that
--- it reads is there, no longer than is read, and of the form that is read, with each output driven
+-- a call is refused only where its script is refused as a whole, or its run comes to a command that may be refused
+pub data HasRefusal (options : TheOptions) (before : Seen) : Type 0 where
+  as_whole : (why : Refusal) → given options.script before ≡ Denies why → HasRefusal options before
+  at_command : (text : List ℕ) → given options.script before ≡ Gives text → MeetsRefusal options.keep (begun text before)
+      → HasRefusal options before
+
+abbrev pub IsRefused : Option TheOptions → Seen → Status → Type 0
+IsRefused (Some options) before Refused = HasRefusal options before
+IsRefused asked before status = Unit {0}
+
+-- what a command needs so that it is done: its words fit; the network that it needs is there, or the one that is kept,
+-- and the table that it names; the file that it reads is there, no longer than is read, and has no fault
 abbrev pub HasNetwork : Option Circuit → Type 0
 HasNetwork network = (circuit : Circuit) × (network ≡ Some circuit)
 
+abbrev pub HasTable : Option Circuit → List ℕ → Type 0
+HasTable network name = (circuit : Circuit) × (network ≡ Some circuit) × (table : Table) × (table_named name circuit.tables ≡ Some table)
+
 abbrev pub IsServed : Place → Op → Type 0
+IsServed place (Echo words) = Unit {0}
+IsServed place Quit = Unit {0}
 IsServed place (ReadBlif name) =
     (bytes : List ℕ) × (circuit : Circuit) × (file_at place.files name ≡ Some bytes) × (length bytes ≤ MAX_BYTES) × (read_lines (entries_of bytes) ≡ Ok circuit)
-IsServed place PrintStats = HasNetwork place.held.network
 IsServed place (WriteBlif file) = HasNetwork place.held.network
+IsServed place PrintStats = HasNetwork place.held.network
+IsServed place (Print None) = HasNetwork place.held.network
+IsServed place (Print (Some name)) = HasTable place.held.network name
+IsServed place PrintLatch = HasNetwork place.held.network
+IsServed place Undo = HasNetwork place.held.kept
 IsServed place (Bad fault) = ⊥
 
 abbrev pub NextIsServed : Place → List Command → Type 0
 NextIsServed place [] = Unit {0}
 NextIsServed place (command ∷ rest) = IsServed place command.op
 
--- each command of a run is served when it is reached
-abbrev pub AreServed : Bool → Machine → Type 0
-AreServed goes_on from = (machine : Machine) → Reaches goes_on from machine → NextIsServed machine.place machine.todo
+-- the script is there and no longer than is run, and each command of its run is served when it is reached
+abbrev pub AreServed : TheOptions → Seen → Type 0
+AreServed options before =
+    (text : List ℕ) × (given options.script before ≡ Gives text)
+    × ((machine : Machine) → Reaches options.keep (begun text before) machine → NextIsServed machine.place machine.todo)
 
 -- no count of faults grew
 abbrev pub NoneGrew : Counts → Type 0
-NoneGrew counts = (counts.store_after ≡ counts.store) × (counts.out_after ≡ counts.out) × (counts.err_after ≡ counts.err)
+NoneGrew counts =
+    (counts.store_after ≡ counts.store) × (counts.input_after ≡ counts.input) × (counts.out_after ≡ counts.out) × (counts.err_after ≡ counts.err)
 
 -- no count of faults rose; a count that stands at its greatest number may have, and is not taken for sure
 abbrev pub NoneRose : Counts → Type 0
-NoneRose counts = (Rose counts.store counts.store_after → ⊥) × (Rose counts.out counts.out_after → ⊥) × (Rose counts.err counts.err_after → ⊥)
-
--- the cause of a status, whether the outside tells its contents or not, by the script that the words give
-abbrev pub IsCaused : Counts → Option (List ℕ) → Status → Type 0
-IsCaused counts (Some text) Done = NoneGrew counts
-IsCaused counts (Some text) Refused = NoneGrew counts × CanRefuse counts.misses counts.misses_after (script_commands text)
-IsCaused counts (Some text) Fault = (what : Failed) × HasFailed counts what
-IsCaused counts None Usage = Unit {0}
-IsCaused counts text Memory = Unit {0}
-IsCaused counts text status = ⊥
-
--- how a call ends, by the script that its words give
-abbrev pub Ends : Counts → Option (List ℕ) → Seen → Status → Seen → Type 0
-Ends counts None before status end = EndsUnused counts before status end
-Ends counts (Some text) before status end =
-    (machine : Machine) × EndsAt counts false (start (script_commands text) before.files before.out before.err) status end machine
-
--- each circuit that a call wrote is faithful, at whatever machine the run came to its end
-abbrev pub Writes : Counts → Option (List ℕ) → Seen → Status → Seen → Type 0
-Writes counts None before status end = Unit {0}
-Writes counts (Some text) before status end =
-    (machine : Machine) → EndsAt counts false (start (script_commands text) before.files before.out before.err) status end machine
-    → AllByRecursion (IsFaithful false (start (script_commands text) before.files before.out before.err)) machine.place.written
-
--- a call is refused only where its run comes to a command that may be refused
-abbrev pub IsRefused : Option (List ℕ) → Seen → Status → Type 0
-IsRefused (Some text) before Refused = MeetsRefusal false (start (script_commands text) before.files before.out before.err)
-IsRefused script before status = Unit {0}
+NoneRose counts = (what : Failed) → HasFailed counts what → ⊥
 
 -- where each command is served when it is reached and no count rose, all is done, but for want of memory
-abbrev pub Completes : Counts → Option (List ℕ) → Seen → Status → Type 0
+abbrev pub Completes : Counts → Option TheOptions → Seen → Status → Type 0
 Completes counts None before status = Unit {0}
-Completes counts (Some text) before status =
-    AreServed false (start (script_commands text) before.files before.out before.err) → NoneRose counts → (status ≡ Done) ⊎ (status ≡ Memory)
+Completes counts (Some options) before status =
+    AreServed options before → NoneRose counts → (status ≡ Done) ⊎ (status ≡ Memory)
+
+-- a file that a refusal tells to be missing was missed, and the count of misses rose
+abbrev pub IsMissed : ℕ → ℕ → Refusal → Type 0
+IsMissed misses misses' (refusal.Missing name) = Rose misses misses'
+IsMissed misses misses' why = Unit {0}
+
+-- some command of a list may be refused
+unfoldable pub CanRefuse : ℕ → ℕ → List Command → Type 0
+CanRefuse misses misses' [] = ⊥
+CanRefuse misses misses' (command ∷ rest) =
+    ((why : Refusal) × MayRefuse command.op why × IsMissed misses misses' why) ⊎ CanRefuse misses misses' rest
+
+-- why a script may be refused, whether the outside tells its contents or not: where the script is a text, it is too
+-- long, or one of its commands may be refused; what a file or the input holds is not known then
+abbrev pub HasCause : Counts → TheScript → Type 0
+HasCause counts (AsText text) = (MAX_BYTES < length text) ⊎ CanRefuse counts.misses counts.misses_after (script_commands text)
+HasCause counts script = Unit {0}
+
+-- the cause of a status, whether the outside tells its contents or not, by what the words ask for
+abbrev pub IsCaused : Counts → Option TheOptions → Status → Type 0
+IsCaused counts (Some options) Done = NoneGrew counts
+IsCaused counts (Some options) Refused = NoneGrew counts × HasCause counts options.script
+IsCaused counts (Some options) Fault = (what : Failed) × HasFailed counts what
+IsCaused counts None Usage = Unit {0}
+IsCaused counts asked Memory = Unit {0}
+IsCaused counts asked status = ⊥
+
+-- whether the script stands on the input
+abbrev pub is_input : TheScript → Bool
+is_input OnInput = true
+is_input script = false
+
+abbrev pub asks_input : Option TheOptions → Bool
+asks_input None = false
+asks_input (Some options) = is_input options.script
 
 -- the exit statuses
 abbrev pub code_of : Status → ℕ

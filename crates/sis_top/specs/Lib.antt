@@ -1,13 +1,4 @@
-pub mod Answers
-pub mod Causes
 pub mod Headline
-pub mod Keyword
-pub mod OrderedForm
-pub mod Outcome
-pub mod ReaderSteps
-pub mod Replies
 pub mod Run
 pub mod Running
-pub mod Script
-pub mod State
-pub mod Step
+pub mod Source

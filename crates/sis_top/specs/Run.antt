@@ -1,18 +1,20 @@
 -- The run of the command machine over the commands of a script.
--- Source: the SIS manual (UCB/ERL M92/41): commands run one after the other, and a script ends at the first one that
--- is refused unless it was asked to go on.
+-- Source: the SIS manual (UCB/ERL M92/41): commands run one after the other, and a script ends at `quit`, and at the
+-- first one that is refused unless it was asked to go on.
 use Rattle.std.specs.Prelude.{◌≡◌, ℕ, zero, suc, Bool, true, false, ◌||◌, ◌⊎◌, IsTrue, Option, Some, None, List, [], ◌∷◌, ◌++◌, take, if◌then◌else◌}
 use Rattle.std.specs.Option.{option_or}
 use Rattle.sis_outside.specs.Files.{Files}
 use Rattle.circuit_model.specs.declared.circuit.Circuit.{Circuit}
-use Rattle.sis_top.specs.State.{Held, nothing_held}
-use Rattle.sis_top.specs.Outcome.{Call, Effect, Outcome, Does, Refuses}
-use Rattle.sis_top.specs.Step.{Step, loads}
-use Rattle.sis_top.specs.Answers.{files_after, out_after, SavesPart, PutsPart}
-use Rattle.sis_top.specs.Replies.{refusal_line}
-use Rattle.sis_top.specs.declared.refusal.Refusal.{Refusal}
-use Rattle.sis_top.specs.declared.refusal.Refusal.TheVariants as refusal
-use Rattle.sis_top.specs.declared.command.Command.{Command}
+use Rattle.sis_session.specs.State.{Held, nothing_held}
+use Rattle.sis_session.specs.Outcome.{Call, Effect, Outcome, Does, Refuses}
+use Rattle.sis_session.specs.Step.{Step, loads}
+use Rattle.sis_session.specs.Answers.{files_after, out_after, SavesPart, PutsPart}
+use Rattle.sis_session.specs.Replies.{refusal_line}
+use Rattle.sis_session.specs.declared.refusal.Next.{Next}
+use Rattle.sis_session.specs.declared.refusal.Next.TheVariants as next
+use Rattle.sis_session.specs.declared.refusal.Refusal.{Refusal}
+use Rattle.sis_session.specs.declared.refusal.Refusal.TheVariants as refusal
+use Rattle.sis_script.specs.declared.command.Command.{Command}
 use Rattle.sis_top.specs.declared.running.Failed.{Failed}
 use Rattle.sis_top.specs.declared.running.Failed.TheVariants as failed
 
@@ -66,9 +68,14 @@ place_after e place = record {
 abbrev pub place_refused : ℕ → Refusal → Place → Place
 place_refused line reason place = record place { err = place.err ++ refusal_line line reason; refused = true; missed = place.missed || is_missing reason }
 
+-- the commands to come behind one that is done
+abbrev pub todo_after : Next → List Command → List Command
+todo_after next.Go rest = rest
+todo_after next.Quit rest = []
+
 -- the machine after a command: behind a refusal the rest is run only where it was asked to go on
 abbrev pub after : Bool → Place → ℕ → List Command → Outcome → Machine
-after goes_on place line rest (Does e) = record { place = place_after e place; todo = rest }
+after goes_on place line rest (Does e) = record { place = place_after e place; todo = todo_after e.onward rest }
 after goes_on place line rest (Refuses reason) = record { place = place_refused line reason place; todo = if goes_on then rest else [] }
 
 -- one command leads from one machine to another
@@ -114,6 +121,7 @@ ErrCut place (command ∷ rest) cut =
 -- what stands where a run is cut short at a machine, by what failed; where memory is wanting all is as it was
 abbrev pub Cuts : Failed → Machine → Place → Type 0
 Cuts failed.Store machine cut = StoreCut machine.place machine.todo cut
+Cuts failed.Input machine cut = ⊥
 Cuts failed.Out machine cut = OutCut machine.place machine.todo cut
 Cuts failed.Err machine cut = ErrCut machine.place machine.todo cut
 Cuts failed.Memory machine cut = cut ≡ machine.place

@@ -1,21 +1,29 @@
 -- What the code of the run answers, by cases on the answer.
 -- Source: the project's own rule for faults of the outside.
-use Rattle.std.specs.Prelude.{◌≡◌, ℕ, Bool, true, false, ◌||◌, ◌⊎◌, IsTrue, List, [], ◌∷◌, ◌++◌, take, Result, Ok, Err, if◌then◌else◌}
+use Rattle.std.specs.Global.{Vec}
+use Rattle.std.specs.Prelude.{◌≡◌, ℕ, ◌+◌, ◌≤◌, ◌<◌, length, drop, Bool, true, false, not, ◌||◌, ◌⊎◌, IsTrue, List, [], ◌∷◌, ◌++◌, take, Result, Ok, Err, if◌then◌else◌}
 use Rattle.sis_outside.specs.Counts.{Rose}
 use Rattle.sis_outside.specs.Files.{Files}
-use Rattle.sis_top.specs.State.{Held}
+use Rattle.sis_session.specs.State.{Held}
 use Rattle.sis_top.specs.Run.{Place, Machine, Advances, Reaches, Cuts, Stands, IsNextLine}
-use Rattle.sis_top.specs.Causes.{MayRefuse, CanRefuse}
-use Rattle.sis_top.specs.declared.command.Op.{Op}
-use Rattle.sis_top.specs.declared.command.Command.{Command}
-use Rattle.sis_top.specs.declared.refusal.Refusal.{Refusal}
+use Rattle.sis_session.specs.Causes.{MayRefuse}
+use Rattle.sis_session.specs.Outcome.{MAX_BYTES}
+use Rattle.sis_session.specs.declared.refusal.Next.{Next}
+use Rattle.sis_session.specs.declared.refusal.Next.TheVariants as next
+use Rattle.sis_top.specs.declared.input.Unread.{Unread}
+use Rattle.sis_top.specs.declared.input.Unread.TheVariants as unread
+use Rattle.sis_top.specs.declared.running.Turn.{Turn}
+use Rattle.sis_top.specs.declared.running.Turn.TheVariants as turn
+use Rattle.sis_script.specs.declared.command.Op.{Op}
+use Rattle.sis_script.specs.declared.command.Command.{Command}
+use Rattle.sis_session.specs.declared.refusal.Refusal.{Refusal}
 use Rattle.sis_top.specs.declared.running.Failed.{Failed}
 use Rattle.sis_top.specs.declared.running.Failed.TheVariants as failed
 use Rattle.sis_top.specs.declared.running.Ended.{Ended}
-use Rattle.sis_top.specs.Headline.{failure_line}
-use Rattle.sis_top.specs.Replies.{usage_line}
+use Rattle.sis_top.specs.Source.{Seen, script_commands}
+use Rattle.sis_top.specs.Headline.{CanRefuse, Counts, EndsAt, EndsCut, HasFailed, IsMissed, NoneGrew, begun, failure_line, usage_line}
 use Rattle.sis_top.specs.declared.status.Status.{Status}
-use Rattle.sis_top.specs.declared.status.Status.TheVariants.{Usage, Fault, Memory}
+use Rattle.sis_top.specs.declared.status.Status.TheVariants.{Done, Refused, Usage, Fault, Memory}
 
 -- what the put of a refusal's line leaves on the error output
 abbrev pub Tells : List ℕ → List ℕ → Result (Unit {0}) Failed → List ℕ → Type 0
@@ -24,17 +32,35 @@ Tells line old (Err failed.Err) new = (count : ℕ) × (new ≡ old ++ take coun
 Tells line old (Err failed.Memory) new = new ≡ old
 Tells line old (Err other) new = ⊥
 
--- the commands that are left behind one that was refused or not
-abbrev pub left_after : Bool → Bool → List Command → List Command
-left_after goes_on false rest = rest
-left_after goes_on true rest = if goes_on then rest else []
+-- a command that was refused
+abbrev pub is_refusal : Turn → Bool
+is_refusal turn.Refused = true
+is_refusal turn.Went = false
+is_refusal turn.Ended = false
+
+-- the turn of a command that is done
+abbrev pub turn_by : Next → Turn
+turn_by next.Go = turn.Went
+turn_by next.Quit = turn.Ended
+
+-- whether a run ends behind a command
+abbrev pub ends_at : Bool → Turn → Bool
+ends_at goes_on turn.Went = false
+ends_at goes_on turn.Ended = true
+ends_at goes_on turn.Refused = not goes_on
+
+-- the commands that are left behind one
+abbrev pub left_after : Bool → Turn → List Command → List Command
+left_after goes_on turn.Went rest = rest
+left_after goes_on turn.Ended rest = []
+left_after goes_on turn.Refused rest = if goes_on then rest else []
 
 -- one command was run: the machine advanced, or is cut short
-abbrev pub Advanced : Bool → Command → Place → Result Bool Failed → Held → Files → List ℕ → List ℕ → ℕ → ℕ → Type 0
-Advanced goes_on command place (Ok refused) held files out err misses misses' =
-    (next : Place) × Stands next held files out err × (next.refused ≡ (place.refused || refused))
+abbrev pub Advanced : Bool → Command → Place → Result Turn Failed → Held → Files → List ℕ → List ℕ → ℕ → ℕ → Type 0
+Advanced goes_on command place (Ok turned) held files out err misses misses' =
+    (next : Place) × Stands next held files out err × (next.refused ≡ (place.refused || is_refusal turned))
     × (IsTrue next.missed → IsTrue place.missed ⊎ Rose misses misses')
-    × ((rest : List Command) → Advances goes_on (record { place = place; todo = command ∷ rest }) (record { place = next; todo = left_after goes_on refused rest }))
+    × ((rest : List Command) → Advances goes_on (record { place = place; todo = command ∷ rest }) (record { place = next; todo = left_after goes_on turned rest }))
 Advanced goes_on command place (Err what) held files out err misses misses' =
     (cut : Place) × Stands cut held files out err × ((rest : List Command) → Cuts what (record { place = place; todo = command ∷ rest }) cut)
 
@@ -42,6 +68,10 @@ Advanced goes_on command place (Err what) held files out err misses misses' =
 abbrev pub StoreRun : {T : Type 0} → Result T Failed → ℕ → ℕ → Type 0
 StoreRun (Err failed.Store) before now = Rose before now
 StoreRun answer before now = now ≡ before
+
+abbrev pub InputRun : {T : Type 0} → Result T Failed → ℕ → ℕ → Type 0
+InputRun (Err failed.Input) before now = Rose before now
+InputRun answer before now = now ≡ before
 
 abbrev pub OutRun : {T : Type 0} → Result T Failed → ℕ → ℕ → Type 0
 OutRun (Err failed.Out) before now = Rose before now
@@ -69,6 +99,9 @@ ended_as (Err ended) = Err ended.failed
 abbrev pub StoreEnd : {T : Type 0} → Result T Ended → ℕ → ℕ → Type 0
 StoreEnd result before now = StoreRun (ended_as result) before now
 
+abbrev pub InputEnd : {T : Type 0} → Result T Ended → ℕ → ℕ → Type 0
+InputEnd result before now = InputRun (ended_as result) before now
+
 abbrev pub OutEnd : {T : Type 0} → Result T Ended → ℕ → ℕ → Type 0
 OutEnd result before now = OutRun (ended_as result) before now
 
@@ -76,8 +109,8 @@ abbrev pub ErrEnd : {T : Type 0} → Result T Ended → ℕ → ℕ → Type 0
 ErrEnd result before now = ErrRun (ended_as result) before now
 
 -- a command that was refused had a cause
-abbrev pub AdvanceCauses : ℕ → ℕ → Op → Result Bool Failed → Type 0
-AdvanceCauses misses misses' op (Ok refused) = IsTrue refused → (why : Refusal) × MayRefuse misses misses' op why
+abbrev pub AdvanceCauses : ℕ → ℕ → Op → Result Turn Failed → Type 0
+AdvanceCauses misses misses' op (Ok turned) = IsTrue (is_refusal turned) → (why : Refusal) × MayRefuse op why × IsMissed misses misses' why
 AdvanceCauses misses misses' op answer = Unit {0}
 
 -- a run in which a command was refused had a cause
@@ -89,13 +122,51 @@ RunCauses misses misses' commands answer = Unit {0}
 abbrev pub SaysOn : List ℕ → List ℕ → List ℕ → ℕ → ℕ → Type 0
 SaysOn line old new before now = (new ≡ old ++ line) ⊎ ((count : ℕ) × (new ≡ old ++ take count line) × Rose before now)
 
--- the last line of a run that was cut short, by what failed and the status
-abbrev pub EndLine : Failed → ℕ → List ℕ → List ℕ → ℕ → ℕ → Status → Type 0
-EndLine failed.Memory line old new before now Memory = (new ≡ old) ⊎ SaysOn (failure_line line failed.Memory) old new before now
-EndLine failed.Memory line old new before now status = ⊥
-EndLine what line old new before now Fault = SaysOn (failure_line line what) old new before now
-EndLine what line old new before now Memory = new ≡ old
-EndLine what line old new before now status = ⊥
+-- the last line of a call that was cut short, by the status and by what failed
+abbrev pub EndLine : Status → Failed → ℕ → List ℕ → List ℕ → ℕ → ℕ → Type 0
+EndLine Fault failed.Memory line old new before now = ⊥
+EndLine Fault what line old new before now = SaysOn (failure_line line what) old new before now
+EndLine Memory failed.Memory line old new before now = (new ≡ old) ⊎ SaysOn (failure_line line failed.Memory) old new before now
+EndLine Memory what line old new before now = new ≡ old
+EndLine status what line old new before now = ⊥
+
+-- what failed did fail: the count of its object rose, or memory was wanting
+abbrev pub Failing : Counts → Failed → Type 0
+Failing counts failed.Memory = Unit {0}
+Failing counts what = HasFailed counts what
+
+-- how the run of a text ends: at a machine, or for want of memory before the first command
+abbrev pub EndsRun : Counts → Bool → List ℕ → Seen → Status → Seen → Type 0
+EndsRun counts goes_on text before status end =
+    ((machine : Machine) × EndsAt counts goes_on (begun text before) before.left status end machine)
+    ⊎ EndsCut counts status failed.Memory 0 before end
+
+-- the cause of how a text ends, by its commands
+abbrev pub IsCausedRun : Counts → List ℕ → Status → Type 0
+IsCausedRun counts text Done = NoneGrew counts
+IsCausedRun counts text Refused = NoneGrew counts × CanRefuse counts.misses counts.misses_after (script_commands text)
+IsCausedRun counts text Fault = (what : Failed) × HasFailed counts what
+IsCausedRun counts text Memory = Unit {0}
+IsCausedRun counts text Usage = ⊥
+
+-- what becomes of the count of the error output's faults where a script is refused as a whole
+abbrev pub IsDenied : Status → ℕ → ℕ → Type 0
+IsDenied Refused before now = now ≡ before
+IsDenied Fault before now = Rose before now
+IsDenied Memory before now = before ≤ now
+IsDenied status before now = ⊥
+
+-- what the reading of a script from the input leaves of it: its whole rest, just one byte more than the longest, or,
+-- where a take failed or memory was wanting, no more than that
+abbrev pub TakesScript : List ℕ → Result (Vec ℕ) Unread → List ℕ → Type 0
+TakesScript old (Ok text) new = (old ≡ text.items) × (new ≡ drop (MAX_BYTES + 1) old) × (length old ≤ MAX_BYTES)
+TakesScript old (Err unread.TooLong) new = (MAX_BYTES < length old) × (new ≡ drop (MAX_BYTES + 1) old)
+TakesScript old (Err other) new = (count : ℕ) × (count ≤ MAX_BYTES + 1) × (new ≡ drop count old)
+
+-- the count of the input's faults rose where a take failed, and stays else
+abbrev pub TakeRun : {T : Type 0} → Result T Unread → ℕ → ℕ → Type 0
+TakeRun (Err unread.Failed) before now = Rose before now
+TakeRun answer before now = now ≡ before
 
 -- the usage line, by the status
 abbrev pub UsageLine : List ℕ → List ℕ → ℕ → ℕ → Status → Type 0
@@ -103,13 +174,12 @@ UsageLine old new before now Usage = SaysOn usage_line old new before now
 UsageLine old new before now Memory = new ≡ old
 UsageLine old new before now status = ⊥
 
--- a run that was cut short ends in a fault or in want of memory
-abbrev pub IsCut : Failed → Status → Type 0
-IsCut failed.Memory Memory = Unit {0}
-IsCut failed.Memory status = ⊥
-IsCut what Fault = Unit {0}
-IsCut what Memory = Unit {0}
-IsCut what status = ⊥
+-- a call that was cut short ends in a fault, where it was not for want of memory, or in want of memory
+abbrev pub IsCut : Status → Failed → Type 0
+IsCut Fault failed.Memory = ⊥
+IsCut Fault what = Unit {0}
+IsCut Memory what = Unit {0}
+IsCut status what = ⊥
 
 -- words that are not taken end in usage or in want of memory
 abbrev pub IsUsage : Status → Type 0

@@ -1,5 +1,6 @@
-use crate::{Status, Word, run_sis};
+use crate::{Status, run_sis};
 use sis_outside::{MemSink, MemSource, MemStore};
+use sis_text::Word;
 use std::alloc::Global;
 use std::process::Abort;
 use std::test::Fail;
@@ -9,6 +10,7 @@ use std::test::Fail;
 enum Failing {
     Nothing,
     Store(u8, u8),
+    Input(u8, u8),
     Out(u8, u8),
     Err(u8, u8),
 }
@@ -17,6 +19,7 @@ enum Failing {
 #[derive(Drop)]
 struct Case<'a> {
     words: &'a [&'a str],
+    input: &'a [u8],
     failing: Failing,
     status: Status,
     out: &'a [u8],
@@ -26,20 +29,30 @@ struct Case<'a> {
 
 const PASS: &[u8] = b".model a\n.inputs x\n.outputs x\n.end\n";
 
+const STATS: &[u8] = b"a pi=1 po=1 nodes=0 latches=0 lits=0 dc=0\n";
+
+const USAGE: &[u8] = b"sis: usage: sis [-k] [-f FILE | -c TEXT]\n";
+
 /// The files of all cases.
-const FILES: [(&str, &[u8]); 6] = [
+const FILES: [(&str, &[u8]); 9] = [
     ("a", PASS),
     (
-        "f",
+        "l",
         b".model t\n.outputs q\n.latch n q 0\n.names q n\n0 1\n",
     ),
+    ("m", b".model m\n.inputs a b\n.outputs y\n.names a b y\n1\n"),
+    ("c", b".outputs y\n.names y x\n0 1\n.names x y\n0 1\n"),
+    ("f", b".model t\n.outputs q\n.frob q\n"),
     ("j", b".model m\n.outputs j\n.names j"),
     (
         "n",
         b".model m # nand\n.inputs a \\\nb\n.outputs y\n.names a b y\n11 0\n.end\n",
     ),
     ("u", b".inputs a\n.outputs y z\n.names a y\n1 1\n"),
-    ("r", b".inputs a b\n.outputs y\n.names a b y\n1\n"),
+    (
+        "s",
+        b"echo hi\nfrob # no command\necho bye; quit; echo no\n",
+    ),
 ];
 
 fn words_of(alloc: Global, texts: &[&str]) -> Result<Vec<Word>, Fail> {
@@ -64,12 +77,13 @@ fn run_cases<R: Abort + AllocGlobal>(rt: &R, cases: &[Case<'_>]) -> Result<(), F
     for case in cases {
         let words = words_of(alloc, case.words)?;
         let mut store = store_of(alloc)?;
-        let mut input = MemSource::new(alloc, b"")?;
+        let mut input = MemSource::new(alloc, case.input)?;
         let mut out = MemSink::new(alloc);
         let mut err = MemSink::new(alloc);
         match case.failing {
             Failing::Nothing => {}
             Failing::Store(call, passes) => store.fail_at(usize::from(call), usize::from(passes))?,
+            Failing::Input(call, passes) => input.fail_at(usize::from(call), usize::from(passes))?,
             Failing::Out(call, passes) => out.fail_at(usize::from(call), usize::from(passes))?,
             Failing::Err(call, passes) => err.fail_at(usize::from(call), usize::from(passes))?,
         }
@@ -92,8 +106,9 @@ fn run_cases<R: Abort + AllocGlobal>(rt: &R, cases: &[Case<'_>]) -> Result<(), F
 
 #[test]
 fn commands_are_done(rt: HostRuntime) -> Result<(), Fail> {
-    let done = |words, out, written| Case {
+    let done = |words, input, out, written| Case {
         words,
+        input,
         failing: Failing::Nothing,
         status: Status::Done,
         out,
@@ -105,13 +120,15 @@ fn commands_are_done(rt: HostRuntime) -> Result<(), Fail> {
         &[
             done(
                 &["-c", "read_blif a; print_stats; write_blif"],
+                b"",
                 b"a pi=1 po=1 nodes=0 latches=0 lits=0 dc=0\n.model a\n.inputs x\n.outputs x\n.end\n",
                 None,
             ),
-            done(&["-c", ""], b"", None),
-            done(&["-c", " ;; # read_blif ?\n\n"], b"", None),
+            done(&["-c", ""], b"frob", b"", None),
+            done(&["-k", "-c", " ;; # read_blif ?\n\n"], b"", b"", None),
             done(
                 &["-c", "read_blif j;write_blif b"],
+                b"",
                 b"",
                 Some(b".model m\n.inputs\n.outputs j\n.names j\n.end\n"),
             ),
@@ -120,8 +137,29 @@ fn commands_are_done(rt: HostRuntime) -> Result<(), Fail> {
                     "-c",
                     "read_blif a\nread_blif n # again\nprint_stats;write_blif b",
                 ],
+                b"",
                 b"m pi=2 po=1 nodes=1 latches=0 lits=2 dc=0\n",
                 Some(b".model m\n.inputs a b\n.outputs y\n.names a b y\n11 0\n.end\n"),
+            ),
+            done(
+                &["-c", "read_blif n; print y; print; print_latch"],
+                b"",
+                b".names a b y\n11 0\n.names a b y\n11 0\n",
+                None,
+            ),
+            done(
+                &["-c", "read_blif l; print_latch; print_stats; write_blif b"],
+                b"",
+                b".latch n q 0\nt pi=0 po=1 nodes=1 latches=1 lits=1 dc=0\n",
+                Some(b".model t\n.inputs\n.outputs q\n.latch n q 0\n.names q n\n0 1\n.end\n"),
+            ),
+            done(&[], b"echo ready\nquit\n", b"ready\n", None),
+            done(&["-k"], b"", b"", None),
+            done(
+                &["-c", "echo; echo -n\ta  b -- ; quit; frob"],
+                b"",
+                b"\n-n a b --\n",
+                None,
             ),
         ],
     )
@@ -129,35 +167,72 @@ fn commands_are_done(rt: HostRuntime) -> Result<(), Fail> {
 
 #[test]
 fn commands_are_refused(rt: HostRuntime) -> Result<(), Fail> {
-    let refused = |words, err| Case {
+    let refused = |words, out, err| Case {
         words,
+        input: b"",
         failing: Failing::Nothing,
         status: Status::Refused,
-        out: b"",
+        out,
         err,
         written: None,
     };
+    let none = b"".as_slice();
     run_cases(
         &rt,
         &[
             refused(
                 &["-c", "read_blif f"],
+                none,
                 b"sis: line 1: f: line 3: unknown word\n",
             ),
-            refused(&["-c", "read_blif x"], b"sis: line 1: no file x\n"),
-            refused(&["-c", "print_stats"], b"sis: line 1: no network\n"),
+            refused(&["-c", "read_blif x"], none, b"sis: line 1: no file x\n"),
+            refused(&["-c", "print_stats"], none, b"sis: line 1: no network\n"),
+            refused(&["-c", "print_latch"], none, b"sis: line 1: no network\n"),
             refused(
                 &["-c", "\n write_blif b; read_blif a"],
+                none,
                 b"sis: line 2: no network\n",
             ),
-            refused(&["-c", "frob"], b"sis: line 1: unknown command\n"),
-            refused(&["-c", "read_blif a b"], b"sis: line 1: unknown command\n"),
-            refused(&["-c", "read_blif -x"], b"sis: line 1: unknown command\n"),
-            refused(&["-c", "read_blif u"], b"sis: line 1: u: undriven z\n"),
+            refused(&["-c", "undo"], none, b"sis: line 1: nothing to undo\n"),
             refused(
-                &["-c", "read_blif r; write_blif b"],
-                b"sis: line 1: r: line 4: unknown word\n",
+                &["-c", "read_blif n; print -z"],
+                none,
+                b"sis: line 1: no table -z\n",
             ),
+            refused(&["-c", "frob"], none, b"sis: line 1: unknown command\n"),
+            refused(&["-c", "read_blif"], none, b"sis: line 1: missing word\n"),
+            refused(&["-c", "read_blif a b"], none, b"sis: line 1: bad option\n"),
+            refused(&["-c", "read_blif -x"], none, b"sis: line 1: bad option\n"),
+            refused(&["-c", "write_blif -n"], none, b"sis: line 1: bad option\n"),
+            refused(
+                &["-c", "write_blif a -n"],
+                none,
+                b"sis: line 1: bad option\n",
+            ),
+            refused(&["-c", "print a b"], none, b"sis: line 1: bad option\n"),
+            refused(&["-c", "quit now"], none, b"sis: line 1: bad option\n"),
+            refused(
+                &["-c", "read_blif u"],
+                none,
+                b"sis: line 1: u: undriven z\n",
+            ),
+            refused(&["-f", "s"], b"hi\n", b"sis: line 2: unknown command\n"),
+            refused(
+                &["-k", "-f", "s"],
+                b"hi\nbye\n",
+                b"sis: line 2: unknown command\n",
+            ),
+            refused(
+                &["-c", "read_blif m; write_blif b"],
+                none,
+                b"sis: line 1: m: line 5: bad row\n",
+            ),
+            refused(
+                &["-k", "-c", "read_blif a; read_blif c; print_stats"],
+                STATS,
+                b"sis: line 1: c: cycle through x\n",
+            ),
+            refused(&["-k", "-f", "x"], none, b"sis: line 0: no file x\n"),
         ],
     )
 }
@@ -166,13 +241,23 @@ fn commands_are_refused(rt: HostRuntime) -> Result<(), Fail> {
 fn faults_and_words(rt: HostRuntime) -> Result<(), Fail> {
     let ended = |words, failing, status, out, err, written| Case {
         words,
+        input: b"echo hi",
         failing,
         status,
         out,
         err,
         written,
     };
-    let usage = b"sis: usage: sis [-k] [-f FILE | -c TEXT]\n".as_slice();
+    let none = b"".as_slice();
+    let usage = |words, failing, err| Case {
+        words,
+        input: b"echo hi",
+        failing,
+        status: Status::Usage,
+        out: none,
+        err,
+        written: None,
+    };
     run_cases(
         &rt,
         &[
@@ -180,16 +265,32 @@ fn faults_and_words(rt: HostRuntime) -> Result<(), Fail> {
                 &["-c", "read_blif a; write_blif b"],
                 Failing::Store(1, 7),
                 Status::Fault,
-                b"",
+                none,
                 b"sis: line 1: store failed\n",
                 Some(b".model "),
             ),
             ended(
-                &["-c", "read_blif a; print_stats"],
+                &["-k", "-c", "read_blif a; print_stats"],
                 Failing::Store(0, 0),
                 Status::Fault,
-                b"",
+                none,
                 b"sis: line 1: store failed\n",
+                None,
+            ),
+            ended(
+                &["-f", "s"],
+                Failing::Store(0, 0),
+                Status::Fault,
+                none,
+                b"sis: line 0: store failed\n",
+                None,
+            ),
+            ended(
+                &[],
+                Failing::Input(1, 0),
+                Status::Fault,
+                none,
+                b"sis: line 0: input failed\n",
                 None,
             ),
             ended(
@@ -204,44 +305,25 @@ fn faults_and_words(rt: HostRuntime) -> Result<(), Fail> {
                 &["-c", "frob; read_blif a"],
                 Failing::Err(0, 5),
                 Status::Fault,
-                b"",
+                none,
                 b"sis: sis: line 1: output failed\n",
                 None,
             ),
             ended(
-                &["-f", "s", "-c", "t"],
-                Failing::Nothing,
-                Status::Usage,
-                b"",
-                usage,
-                None,
-            ),
-            ended(
-                &["-f", "s", "-c", "t"],
+                &["-f", "x"],
                 Failing::Err(0, 5),
-                Status::Usage,
-                b"",
-                b"sis: ",
+                Status::Fault,
+                none,
+                b"sis: sis: line 0: output failed\n",
                 None,
             ),
-            ended(&[], Failing::Nothing, Status::Usage, b"", usage, None),
-            ended(&["-c"], Failing::Nothing, Status::Usage, b"", usage, None),
-            ended(
-                &["-c", "-x"],
-                Failing::Nothing,
-                Status::Usage,
-                b"",
-                usage,
-                None,
-            ),
-            ended(
-                &["-k", "-c"],
-                Failing::Nothing,
-                Status::Usage,
-                b"",
-                usage,
-                None,
-            ),
+            usage(&["-f", "s", "-c", "t"], Failing::Nothing, USAGE),
+            usage(&["-f", "s", "-c", "t"], Failing::Err(0, 5), b"sis: "),
+            usage(&["-c"], Failing::Nothing, USAGE),
+            usage(&["-k", "-c"], Failing::Nothing, USAGE),
+            usage(&["-x"], Failing::Nothing, USAGE),
+            usage(&["-k", "-k"], Failing::Nothing, USAGE),
+            usage(&["s"], Failing::Nothing, USAGE),
         ],
     )
 }

@@ -3,7 +3,7 @@ use Rattle.sis_top.proofs.running.advance.Goals as goal
 
 pub returns-in-Ok-clause-advanced : goal.returns-in-Ok-clause-advanced
 returns-in-Ok-clause-advanced g c = λ goes_on place st ot et s.
-    advanced_done goes_on place c.args.command.now _ _ _ _ _ _ _ _ _ s (c.in-Ok.ensures.answers st ot)
+    advanced_done goes_on place c.args.command.now _ _ _ _ _ _ _ _ _ _ _ s (c.in-Ok.ensures.answers st ot) c.turn_by.ensures
 
 pub returns-in-Err-StoreFault-clause-advanced : goal.returns-in-Err-StoreFault-clause-advanced
 returns-in-Err-StoreFault-clause-advanced g c = λ goes_on place st ot et s.

@@ -1,7 +1,7 @@
 use Rattle.std.proofs.Common.{◌≡◌, ◌≤◌, drop}
 use Rattle.std.specs.Prelude.{IsTrue}
 use Rattle.sis_top.proofs.Goings.{Goes}
-use Rattle.sis_top.specs.Causes.{CanRefuse}
+use Rattle.sis_top.specs.Headline.{CanRefuse}
 use Rattle.sis_top.specs.Run.{start}
 use Rattle.sis_top.proofs.running.run_from.Given as goal
 

@@ -6,7 +6,7 @@ pub returns-clause-circuits : goal.returns-clause-circuits
 returns-clause-circuits g c = writes _ _ _ _ _
 
 pub returns-clause-refusal : goal.returns-clause-refusal
-returns-clause-refusal g c = λ st ot et. is_refused _ _ _ _ _ (c.run_words.ensures.ends st ot et)
+returns-clause-refusal g c = λ st it ot et. is_refused _ _ _ _ _ (c.run_words.ensures.ends st it ot et)
 
 pub returns-clause-complete : goal.returns-clause-complete
-returns-clause-complete g c = λ st ot et. completes _ _ _ _ _ (c.run_words.ensures.ends st ot et)
+returns-clause-complete g c = λ st it ot et. completes _ _ _ _ _ (c.run_words.ensures.ends st it ot et)

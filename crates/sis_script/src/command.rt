@@ -1,0 +1,53 @@
+//! The commands of a script.
+
+use sis_base::Sequence;
+use sis_text::Word;
+
+/// A word as it was read: its bytes, which need not be text.
+pub type RawWord = Sequence<u8>;
+/// Words as they were read, in order.
+pub type RawWords = Sequence<RawWord>;
+
+/// What a command does, with its words as they were read.
+#[derive(Debug, Drop)]
+pub enum Op {
+    /// Puts its words on the output, as a line.
+    Echo(RawWords),
+    /// Ends the run.
+    Quit,
+    /// Reads a file as a circuit.
+    ReadBlif(Word),
+    /// Writes the network to a file, or to the output where no file is named.
+    WriteBlif(Option<Word>),
+    /// Prints how large the network is.
+    PrintStats,
+    /// Prints the table of a name, or all tables where none is named.
+    Print(Option<RawWord>),
+    /// Prints the latches.
+    PrintLatch,
+    /// Takes the last change of the network back.
+    Undo,
+    /// A command that is refused when it is reached.
+    Bad(ScriptFault),
+}
+
+/// Why a command is refused for its words alone.
+#[derive(Clone, Copy, Debug, PartialEq, Eq)]
+pub enum ScriptFault {
+    /// Its first word is no command.
+    BadCommand,
+    /// A word does not fit its place, or is one too many.
+    BadOption,
+    /// Each word fits its place, and a word that is needed lacks.
+    MissingWord,
+}
+
+/// A command and the line of the script on which it stands, from 1.
+#[derive(Debug, Drop)]
+pub struct Command {
+    pub line: usize,
+    pub op: Op,
+}
+
+/// The commands of a script, in order.
+pub type Commands = Sequence<Command>;

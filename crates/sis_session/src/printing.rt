@@ -1,0 +1,70 @@
+//! The replies of the commands that print.
+
+ghost use Rattle.std.specs.Prelude.{◌≡◌, ◌∷◌, find, bytes_eq, option_copied, IfSome};
+ghost use Rattle.circuit_model.specs.Counts.{IsWithinLimits};
+ghost use Rattle.sis_session.specs.Answers.{IsReply};
+ghost use Rattle.sis_session.specs.Outcome.{echo_outcome, stats_outcome, print_outcome, latch_outcome, table_named};
+ghost use Rattle.sis_session.specs.State.{Held};
+
+use crate::refusal::{Refusal, StepFault};
+use crate::texts::{echo_text, stats_text};
+use blif_write::{latches_text, table_text, tables_text};
+use circuit_model::{Circuit, Table};
+use sis_base::Copied;
+use sis_script::{RawWord, RawWords};
+use std::alloc::Global;
+
+/// What `echo` puts.
+pub fn echo(alloc: Global, words: &RawWords) -> Result<Vec<u8>, StepFault>
+    ensures { (held : Held) → IsReply (echo_outcome held words.now) held result }
+{
+    Ok(echo_text(alloc, words.as_slice())?)
+}
+
+/// What `print_stats` puts.
+pub fn print_stats(alloc: Global, network: &Option<Circuit>) -> Result<Vec<u8>, StepFault>
+    requires { IfSome network.now IsWithinLimits }
+    ensures { (held : Held) → IsReply (stats_outcome held network.now) held result }
+{
+    match network {
+        Some(circuit) => Ok(stats_text(alloc, circuit)?),
+        None => Err(StepFault::Refused(Refusal::NoNetwork)),
+    }
+}
+
+/// The first table of a name.
+fn table_named<'a>(tables: &'a [Table], name: &[u8]) -> Option<&'a Table>
+    ensures { option_copied result ≡ table_named name.now tables.now }
+{
+    tables.iter().find(|table| table.output.as_slice() == name)
+}
+
+/// What `print` puts.
+pub fn print(
+    alloc: Global,
+    network: &Option<Circuit>,
+    name: &Option<RawWord>,
+) -> Result<Vec<u8>, StepFault>
+    ensures { (held : Held) → IsReply (print_outcome held name.now network.now) held result }
+{
+    let Some(circuit) = network else {
+        return Err(StepFault::Refused(Refusal::NoNetwork));
+    };
+    let Some(wanted) = name else {
+        return Ok(tables_text(alloc, circuit.tables.as_slice())?);
+    };
+    match table_named(circuit.tables.as_slice(), wanted.as_slice()) {
+        Some(table) => Ok(table_text(alloc, table)?),
+        None => Err(StepFault::Refused(Refusal::NoSignal(wanted.copy(alloc)?))),
+    }
+}
+
+/// What `print_latch` puts.
+pub fn print_latch(alloc: Global, network: &Option<Circuit>) -> Result<Vec<u8>, StepFault>
+    ensures { (held : Held) → IsReply (latch_outcome held network.now) held result }
+{
+    match network {
+        Some(circuit) => Ok(latches_text(alloc, &circuit.timing, circuit.latches.as_slice())?),
+        None => Err(StepFault::Refused(Refusal::NoNetwork)),
+    }
+}

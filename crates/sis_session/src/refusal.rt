@@ -1,0 +1,59 @@
+//! How a step ends: what comes next, or why it was not done.
+
+use blif_read::BlifFault;
+use sis_script::{RawWord, ScriptFault};
+use sis_text::Word;
+use std::alloc::AllocError;
+
+/// How a script goes on behind a command that is done.
+#[derive(Clone, Copy, Debug, PartialEq, Eq)]
+pub enum Next {
+    /// With the next command.
+    Go,
+    /// Not at all: its end has come.
+    Quit,
+}
+
+/// Why a command, or a script, is refused. The session is then as before.
+#[derive(Debug, Drop)]
+pub enum Refusal {
+    /// Its words are wrong.
+    Script(ScriptFault),
+    /// There is no network.
+    NoNetwork,
+    /// No network is kept.
+    NothingToUndo,
+    /// No table has this name.
+    NoSignal(RawWord),
+    /// There is no file of this name.
+    Missing(Word),
+    /// The file of this name is longer than is read.
+    TooLong(Word),
+    /// The file of this name has a fault.
+    Blif(Word, BlifFault),
+    /// The script as a whole is longer than is run; no command is refused so.
+    LongScript,
+}
+
+/// Why a step was not done. The session is then as before.
+#[derive(Debug, Drop)]
+pub enum StepFault {
+    Refused(Refusal),
+    /// The store failed, and its count of faults rose.
+    StoreFault,
+    /// The output failed, and its count of faults rose.
+    SinkFault,
+    /// Memory was wanting.
+    Memory,
+}
+
+impl From<AllocError> for StepFault {
+    ghost use Rattle.std.specs.Prelude.{◌≡◌};
+    ghost use Rattle.sis_session.specs.declared.refusal.StepFault.TheVariants.{Memory};
+
+    ghost from_gives = { λ _ fault. fault ≡ Memory };
+
+    fn from(_error: AllocError) -> Self {
+        StepFault::Memory
+    }
+}

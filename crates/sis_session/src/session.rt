@@ -1,0 +1,196 @@
+//! The session: what is held between two commands, and one step of the command machine.
+//!
+//! Every answer but `Ok` leaves the session as it was: the new parts are built beside the old ones, then the
+//! call on the outside is made, then the parts change places by moves.
+
+ghost use Rattle.std.specs.Prelude.{◌≡◌, ℕ, List, IsTrue, OnErr, false, true, None, option_map};
+ghost use Rattle.sis_outside.specs.Files.{Files, file_at};
+ghost use Rattle.sis_script.specs.declared.command.Op.TheVariants.{ReadBlif};
+ghost use Rattle.sis_session.specs.Answers.{Answers, Gives, HasRead, Undoes, StoreFaults, SinkFaults, StoreMisses};
+ghost use Rattle.sis_session.specs.Causes.{Judges, JudgesWholly, judged, Refutes, refusal_in};
+ghost use Rattle.sis_session.specs.Outcome.{read_outcome, write_outcome, undo_outcome};
+ghost use Rattle.sis_session.specs.Replies.{stats_of};
+ghost use Rattle.sis_session.specs.State.{nothing_held};
+ghost use Rattle.sis_session.specs.Step.{Step, loads};
+
+use crate::outside::{load, put, put_reply, save};
+use crate::printing::{echo, print, print_latch, print_stats};
+use crate::refusal::{Next, Refusal, StepFault};
+use crate::texts::{Stats, stats_of};
+use blif_read::{ReadFault, read};
+use blif_write::circuit_text;
+use circuit_model::Circuit;
+use sis_outside::{Sink, Store};
+use sis_script::{Command, Op};
+use sis_text::Word;
+use std::alloc::Global;
+use std::marker::Model;
+use std::mem;
+
+/// The longest file and the longest script that is read, in bytes.
+pub const MAX_BYTES: usize = 67_108_864;
+
+/// What is held between two commands: the network, and the one before its last change; both keep the limits of what
+/// is read.
+#[derive(Drop)]
+pub struct Session {
+    network: Option<Circuit>,
+    kept: Option<Circuit>,
+}
+
+impl Model for Session {
+    ghost use Rattle.std.specs.Prelude.{IfSome};
+    ghost use Rattle.circuit_model.specs.Counts.{IsWithinLimits};
+    ghost use Rattle.sis_session.specs.State.{Held};
+
+    ghost Value = { Held };
+
+    ghost view = { λ s. record { network = s.network; kept = s.kept } };
+
+    ghost invariant = { λ s. IfSome s.network IsWithinLimits × IfSome s.kept IsWithinLimits };
+}
+
+impl Session {
+    /// The session that holds nothing; takes no memory.
+    pub fn new() -> Self
+        ensures { result ≡ nothing_held }
+    {
+        Session {
+            network: None,
+            kept: None,
+        }
+    }
+
+    /// Reads bytes as the network; after an error the session is as before.
+    pub fn read(&mut self, alloc: Global, bytes: &[u8]) -> Result<(), ReadFault>
+        ensures { HasRead bytes.now self.old result self.new }
+    {
+        let circuit = read(alloc, bytes)?;
+        self.network = Some(circuit);
+        self.kept = None;
+        Ok(())
+    }
+
+    /// How large the network is, if there is one; takes no memory.
+    pub fn stats(&self) -> Option<Stats>
+        ensures { result ≡ option_map stats_of self.now.network }
+    {
+        match &self.network {
+            Some(circuit) => Some(stats_of(circuit)),
+            None => None,
+        }
+    }
+
+    /// Takes the last change of the network back: it and the network that is kept change places. Whether one was
+    /// kept; takes no memory.
+    pub fn undo(&mut self) -> bool
+        ensures { Undoes self.old.kept self.old result self.new }
+    {
+        if self.kept.is_none() {
+            return false;
+        }
+        mem::swap(&mut self.network, &mut self.kept);
+        true
+    }
+
+    /// Reads a file as the network.
+    fn read_blif<S: Store>(
+        &mut self,
+        alloc: Global,
+        name: &Word,
+        store: &mut S,
+    ) -> Result<Next, StepFault>
+        ensures tells { S.tells store.new ≡ S.tells store.old }
+        ensures gives { (out : List ℕ) → IsTrue (S.tells store.old) → Gives true (read_outcome name.now (file_at (S.files store.old) name.now)) self.old (S.files store.old) out result self.new (S.files store.new) out }
+        ensures err { OnErr result (self.new ≡ self.old) }
+        ensures faults { StoreFaults result (S.faults store.old) (S.faults store.new) }
+        ensures misses { StoreMisses result (S.misses store.old) (S.misses store.new) }
+        ensures sink { (count : ℕ) → SinkFaults result count count }
+        ensures words { Judges None result }
+        ensures causes { Refutes (ReadBlif name.now) result }
+    {
+        let bytes = load(alloc, name.text(), store)?;
+        match self.read(alloc, bytes.as_slice()) {
+            Ok(()) => Ok(Next::Go),
+            Err(ReadFault::Fault(fault)) => Err(StepFault::Refused(Refusal::Blif(
+                name.copy(alloc)?,
+                fault,
+            ))),
+            Err(ReadFault::Memory) => Err(StepFault::Memory),
+        }
+    }
+
+    /// Sends the network's text to a file, or to the output where none is named.
+    fn write_blif<S: Store, O: Sink>(
+        &self,
+        alloc: Global,
+        file: &Option<Word>,
+        store: &mut S,
+        out: &mut O,
+    ) -> Result<Next, StepFault>
+        ensures tells_store { S.tells store.new ≡ S.tells store.old }
+        ensures tells_out { O.tells out.new ≡ O.tells out.old }
+        ensures gives { IsTrue (S.tells store.old) → IsTrue (O.tells out.old) → Gives false (write_outcome self.now file.now self.now.network) self.now (S.files store.old) (O.written out.old) result self.now (S.files store.new) (O.written out.new) }
+        ensures store { StoreFaults result (S.faults store.old) (S.faults store.new) }
+        ensures sink { SinkFaults result (O.faults out.old) (O.faults out.new) }
+        ensures misses { StoreMisses result (S.misses store.old) (S.misses store.new) }
+        ensures words { JudgesWholly (refusal_in (write_outcome self.now file.now self.now.network)) result }
+    {
+        let Some(network) = &self.network else {
+            return Err(StepFault::Refused(Refusal::NoNetwork));
+        };
+        let mut text = Vec::new(alloc);
+        circuit_text(alloc, network, &mut text)?;
+        match file {
+            Some(name) => save(store, name, text.as_slice()),
+            None => put(out, text.as_slice()),
+        }
+    }
+
+    /// Takes the last change back, or is refused where there is none.
+    fn undo_or_refuse(&mut self) -> Result<Next, StepFault>
+        ensures gives { (files : Files) (out : List ℕ) → Gives false (undo_outcome self.old self.old.kept) self.old files out result self.new files out }
+        ensures err { OnErr result (self.new ≡ self.old) }
+        ensures counts { (count : ℕ) → StoreFaults result count count × (SinkFaults result count count × StoreMisses result count count) }
+        ensures words { JudgesWholly (refusal_in (undo_outcome self.old self.old.kept)) result }
+    {
+        if self.undo() {
+            Ok(Next::Go)
+        } else {
+            Err(StepFault::Refused(Refusal::NothingToUndo))
+        }
+    }
+
+    /// One step of the command machine. The depth is the number of scripts that this one stands in; no command asks
+    /// it so far.
+    pub fn step<S: Store, O: Sink>(
+        &mut self,
+        alloc: Global,
+        command: &Command,
+        _depth: u32,
+        store: &mut S,
+        out: &mut O,
+    ) -> Result<Next, StepFault>
+        ensures answers { IsTrue (S.tells store.old) → IsTrue (O.tells out.old) → Answers (loads command.now.op) (Step (S.files store.old) self.old command.now.op) self.old (S.files store.old) (O.written out.old) result self.new (S.files store.new) (O.written out.new) }
+        ensures err { OnErr result (self.new ≡ self.old) }
+        ensures tells_store { S.tells store.new ≡ S.tells store.old }
+        ensures tells_out { O.tells out.new ≡ O.tells out.old }
+        ensures store { StoreFaults result (S.faults store.old) (S.faults store.new) }
+        ensures sink { SinkFaults result (O.faults out.old) (O.faults out.new) }
+        ensures misses { StoreMisses result (S.misses store.old) (S.misses store.new) }
+        ensures words { Judges (judged self.old command.now.op) result }
+        ensures causes { Refutes command.now.op result }
+    {
+        match &command.op {
+            Op::Echo(words) => put_reply(echo(alloc, words), out),
+            Op::Quit => Ok(Next::Quit),
+            Op::ReadBlif(name) => self.read_blif(alloc, name, store),
+            Op::WriteBlif(file) => self.write_blif(alloc, file, store, out),
+            Op::PrintStats => put_reply(print_stats(alloc, &self.network), out),
+            Op::Print(name) => put_reply(print(alloc, &self.network, name), out),
+            Op::PrintLatch => put_reply(print_latch(alloc, &self.network), out),
+            Op::Undo => self.undo_or_refuse(),
+            Op::Bad(fault) => Err(StepFault::Refused(Refusal::Script(*fault))),
+        }
+    }
+}

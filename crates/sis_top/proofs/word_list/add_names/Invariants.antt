@@ -1,6 +1,0 @@
-use Rattle.std.proofs.Common.{◌≡◌, ◌++◌, take}
-use Rattle.sis_top.specs.ReaderSteps.{texts}
-use Rattle.sis_top.proofs.word_list.add_names.Given as goal
-
-abbrev pub invariant-loop-word : goal.invariant-loop-word
-invariant-loop-word l = l.names ≡ l.fn.names ++ texts (take l.word-index l.words)

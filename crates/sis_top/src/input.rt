@@ -1,0 +1,43 @@
+//! The script on the input.
+
+ghost use Rattle.std.specs.Prelude.{◌≡◌, IsTrue};
+ghost use Rattle.sis_top.specs.Running.{TakesScript, TakeRun};
+
+use sis_outside::{Source, TakeFault};
+use sis_session::MAX_BYTES;
+use std::alloc::Global;
+
+/// Why the input gives no script.
+#[derive(Clone, Copy, Debug, PartialEq, Eq)]
+pub enum Unread {
+    /// It has more bytes than are run.
+    TooLong,
+    /// A take failed.
+    Failed,
+    /// Memory was wanting.
+    Memory,
+}
+
+/// Takes what is left of the input, to its end, but no more than one byte past the longest script.
+pub fn take_script<I: Source>(alloc: Global, input: &mut I) -> Result<Vec<u8>, Unread>
+    ensures tells { I.tells input.new ≡ I.tells input.old }
+    ensures takes { IsTrue (I.tells input.old) → TakesScript (I.left input.old) result (I.left input.new) }
+    ensures faults { TakeRun result (I.faults input.old) (I.faults input.new) }
+{
+    let mut text = Vec::new(alloc);
+    'pieces: while text.len() <= MAX_BYTES {
+        match input.take(alloc, MAX_BYTES + 1 - text.len()) {
+            Ok(piece) => {
+                if piece.is_empty() {
+                    return Ok(text);
+                }
+                if text.extend_from_slice(piece.as_slice()).is_err() {
+                    return Err(Unread::Memory);
+                }
+            }
+            Err(TakeFault::Failed) => return Err(Unread::Failed),
+            Err(TakeFault::Memory) => return Err(Unread::Memory),
+        }
+    }
+    Err(Unread::TooLong)
+}
