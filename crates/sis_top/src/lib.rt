@@ -3,7 +3,8 @@
 //!
 //! The commands are those of SIS (UCB/ERL M92/41) that stand so far. `run_sis` promises that a call is a run of the
 //! command machine (`specs/Run`, `specs/Source`, `specs/Headline`), that each circuit that it writes refines the circuit
-//! last read, that each status has its cause, and that all is done where every command is served and nothing failed.
+//! last read, and that all is done where every command is served and nothing failed, where the outside tells its bytes;
+//! and that usage and faults have their causes, and no count grew where all was done or refused, in any case.
 //!
 //! Rooms: `input` (a script on the input), `running` (all steps of a run), `top` (the script, its run and the last line).
 #![tactic(auto)]

@@ -6,13 +6,13 @@ ghost use Rattle.sis_top.specs.Headline.{code_of};
 /// The answer of the top call.
 #[derive(Clone, Copy, Debug, PartialEq, Eq)]
 pub enum Status {
-    /// Every command was done.
+    /// Every command up to `quit` or the last was done.
     Done,
-    /// A command was refused, or the script is too long.
+    /// A command was refused, or the script is missing or too long.
     Refused,
     /// The words of the command line are not taken.
     Usage,
-    /// A load, a save or a put failed.
+    /// A load, a save, a take or a put failed.
     Fault,
     /// Memory was wanting.
     Memory,
