@@ -3,6 +3,7 @@
 # the time and the peak memory of each. Usage: bench/first_path.sh [TABLES ..]   (20000 and 65000 where none is named)
 set -u
 top=$(cd "$(dirname "$0")/.." && pwd) || exit 1
+. "$top/bench/common.sh" || exit 1
 work=$(mktemp -d) || exit 1
 trap 'rm -rf "$work"' EXIT
 sizes=("$@"); [ ${#sizes[@]} -gt 0 ] || sizes=(20000 65000)
@@ -27,26 +28,8 @@ make() {
   }'
 }
 
-measure() { # name, command ..
-  local name=$1; shift
-  python3 - "$name" "$@" <<'PY'
-import resource, subprocess, sys, time
-name, command = sys.argv[1], sys.argv[2:]
-begun = time.time()
-status = subprocess.run(command, stdout=subprocess.DEVNULL, stderr=subprocess.DEVNULL).returncode
-taken = time.time() - begun
-peak = resource.getrusage(resource.RUSAGE_CHILDREN).ru_maxrss
-print(f"  {name:4} {taken:.2f} s, peak {peak} kB, status {status}")
-PY
-}
-
 for tables in "${sizes[@]}"; do
   make "$tables" >"$work/a.blif"
   printf '%s tables, %s bytes\n' "$tables" "$(wc -c <"$work/a.blif")"
-  (cd "$work" && measure sis "$top/bin/sis" -c "read_blif a.blif; print_stats; write_blif b.blif")
-  if command -v berkeley-abc >/dev/null; then
-    (cd "$work" && measure abc berkeley-abc -c "read_blif a.blif; print_stats; write_blif c.blif")
-  else
-    echo "  abc  not installed (Debian's berkeley-abc): left out"
-  fi
+  compare print_stats
 done

@@ -136,7 +136,7 @@ bit_next name bit value (latch ∷ latches) h stays = cases (bytes_eq name latch
     cases true same k more = ap (λ (x : Bool). Some x) (stays.0 same)
     cases false apart k more = more k
 
-fixed_next : (circuit : Circuit) (name : List ℕ) (bit : Bool) → IsSettled circuit → IsFixed circuit name bit → (state row : List Bool) → HasBit circuit name bit (next_state circuit state row)
+pub fixed_next : (circuit : Circuit) (name : List ℕ) (bit : Bool) → IsSettled circuit → IsFixed circuit name bit → (state row : List Bool) → HasBit circuit name bit (next_state circuit state row)
 unfolding next_state
 fixed_next circuit name bit settled fixed state row =
     bit_next name bit (value_in circuit state row) circuit.latches fixed.latch

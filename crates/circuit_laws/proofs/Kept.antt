@@ -143,7 +143,7 @@ all_start test [] = tt
 all_start test (latch ∷ latches) = (λ goes. may_start_bit latch.init, all_start test latches)
 
 -- the next bits of the kept latches
-kept_next : (test : List ℕ → Bool) (f g : List ℕ → Bool) (latches : List Latch) → AllByRecursion (λ (latch : Latch). test latch.output ≡ true → f latch.input ≡ g latch.input) latches
+pub kept_next : (test : List ℕ → Bool) (f g : List ℕ → Bool) (latches : List Latch) → AllByRecursion (λ (latch : Latch). test latch.output ≡ true → f latch.input ≡ g latch.input) latches
     → bits_kept test latches (map (λ (latch : Latch). f latch.input) latches) ≡ map (λ (latch : Latch). g latch.input) (latches_kept test latches)
 unfolding bits_kept latches_kept
 kept_next test f g [] h = refl

@@ -62,7 +62,7 @@ bits_twice some fewer within (latch ∷ latches) (bit ∷ bits) = cases (some la
     cases false gone true left rest = absurd (false≢true (sym gone ∙ within latch.output left))
     cases false gone false goes rest = rest
 
-bits_long : (test : List ℕ → Bool) (latches : List Latch) (bits : List Bool) → length bits ≡ length latches → length (bits_kept test latches bits) ≡ length (latches_kept test latches)
+pub bits_long : (test : List ℕ → Bool) (latches : List Latch) (bits : List Bool) → length bits ≡ length latches → length (bits_kept test latches bits) ≡ length (latches_kept test latches)
 unfolding latches_kept bits_kept
 bits_long test [] bits e = refl
 bits_long test (latch ∷ latches) [] e = absurd (omega arith)

@@ -1,3 +1,4 @@
+pub mod Chains
 pub mod Edits
 pub mod Ranks
 pub mod Valuations

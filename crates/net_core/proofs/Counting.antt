@@ -1,19 +1,16 @@
 -- Sums and counts over rows and tables, as far as a loop has come, and how large they can be.
 use Rattle.std.proofs.Common.{◌≡◌, ℕ, ◌+◌, ◌*◌, ◌^◌, ◌<◌, ◌≤◌, zero, suc, Bool, true, false, not, ◌&&◌, ◌||◌, cond, if◌then◌else◌, Option, Some, None, List, [], ◌∷◌, ◌++◌, length, get_or, take, map, bytes_eq, refl, sym, ap, ◌∙◌, subst, arith}
-use Rattle.std.specs.List.{sum_by, find, filter, AllByRecursion, IsDistinct}
+use Rattle.std.specs.List.{sum_by, find, filter, AllByRecursion}
 use Rattle.std.proofs.lemmas.List.{map_more, length-append, length-map, map-append}
 use Rattle.std.proofs.lemmas.List.Sums.{sum_by_push, sum_by-append, sum_by-cons, count_by-le-length}
 use Rattle.std.proofs.lemmas.List.Elements.{filter-append}
-use Rattle.std.proofs.lemmas.Map.Keys.{IsDistinct-cons}
-use Rattle.std.proofs.lemmas.Map.Made.{length-le_from_is_member}
-use Rattle.std.proofs.lemmas.Cmp.{nat_list_eq_equiv}
 use Rattle.std.proofs.lemmas.Nat.{mul-le}
 use Rattle.std.proofs.lemmas.Option.{same_Some}
-use Rattle.circuit_model.specs.Names.{has, all_different}
+use Rattle.circuit_model.specs.Names.{has}
 use Rattle.circuit_model.specs.Values.{driver}
 use Rattle.circuit_model.specs.Runs.{latch_outputs}
 use Rattle.circuit_model.specs.Counts.{is_literal, literals_of_row, literals_of_table}
-use Rattle.circuit_model.specs.Soundness.{given, control_of, names_of, taken, table_inputs, latch_inputs, outputs_of, IsSound, IsShaped}
+use Rattle.circuit_model.specs.Soundness.{given, control_of, names_of, outputs_of, IsSound, IsShaped}
 use Rattle.circuit_model.specs.declared.circuit.Tri.{Tri}
 use Rattle.circuit_model.specs.declared.circuit.Latch.{Latch}
 use Rattle.circuit_model.specs.declared.circuit.Table.{Table as Written}
@@ -22,7 +19,7 @@ use Rattle.net_core.specs.declared.places.Entry.{Entry}
 use Rattle.net_core.specs.declared.table.Table.{Table}
 use Rattle.net_core.specs.Tables.{character_of, characters_of, named}
 use Rattle.net_core.specs.Places.{present}
-use Rattle.net_core.specs.Reads.{readers_of, HasFewRows, HasBounds}
+use Rattle.net_core.specs.Reads.{readers_of, IsBounded, HasBounds}
 use Rattle.net_core.specs.Fresh.{used_names, IsNewName}
 use Rattle.net_core.proofs.Lookups.{same_name, has-append}
 use Rattle.net_core.proofs.Indexing.{present_more}
@@ -33,6 +30,16 @@ sum_more f h xs i d lt = ap (sum_by f) (map_more h xs i d lt) ∙ sum_by_push f 
 pub literals_more : (row : List (Option Bool)) (i : ℕ) → i < length row → literals_of_row (characters_of (take (i + 1) row)) ≡ literals_of_row (characters_of (take i row)) + (if is_literal (character_of (get_or row i None)) then 1 else 0)
 unfolding literals_of_row
 literals_more row i lt = sum_more (λ (c : Tri). if is_literal c then 1 else 0) character_of row i None lt
+
+-- what holds of each table holds of the driver of a signal
+pub driver_has : (P : Written → Type 0) (tables : List Written) (q : List ℕ) (t : Written) → AllByRecursion P tables → driver tables q ≡ Some t → P t
+unfolding driver
+driver_has P [] q t h e = absurd cc
+driver_has P (first ∷ tables) q t h e = cases (bytes_eq q first.output) e (λ k. driver_has P tables q t h.1 k)
+  where
+    cases : (b : Bool) → cond b (Some first) (find (λ (table : Written). bytes_eq q table.output) tables) ≡ Some t → (find (λ (table : Written). bytes_eq q table.output) tables ≡ Some t → P t) → P t
+    cases true k rest = subst (λ (x : Written). P x) (same_Some first t k) h.0
+    cases false k rest = rest k
 
 module _ {R : Type 0} where
   -- a sum over the tables at places, and a bound on it
@@ -77,86 +84,17 @@ module _ {R : Type 0} where
   all_present_at P (None ∷ slots) (suc i) x h lt e = all_present_at P slots i x h (omega arith) e
   all_present_at P (Some t ∷ slots) (suc i) x h lt e = all_present_at P slots i x h.1 (omega arith) e
 
-  pub few_rows_of : (e : Entry R) → AllByRecursion HasFewRows (present (Some e ∷ [])) → length e.table.cover.rows < 2 ^ 29
+  pub few_rows_of : (e : Entry R) → AllByRecursion IsBounded (present (Some e ∷ [])) → length e.table.cover.rows < 2 ^ 29
   unfolding present named
-  few_rows_of e h = omega (arith, h.0, length-map e.table.cover.rows characters_of)
+  few_rows_of e h = omega (arith, h.0.rows, length-map e.table.cover.rows characters_of)
 
-  pub few_rows_named : (q : List ℕ) (t : Table R) → HasFewRows (named q t) → length t.cover.rows < 2 ^ 29
+  pub few_rows_named : (q : List ℕ) (t : Table R) → IsBounded (named q t) → length t.cover.rows < 2 ^ 29
   unfolding named
-  few_rows_named q t h = omega (arith, h, length-map t.cover.rows characters_of)
+  few_rows_named q t h = omega (arith, h.rows, length-map t.cover.rows characters_of)
 
   pub one_present : (e : Entry R) (n bound : ℕ) → n ≤ bound → n ≤ length (present (Some e ∷ [])) * bound
   unfolding present
   one_present e n bound h = omega (arith, h)
-
--- what holds of each table holds of the driver of a signal
-pub driver_has : (P : Written → Type 0) (tables : List Written) (q : List ℕ) (t : Written) → AllByRecursion P tables → driver tables q ≡ Some t → P t
-unfolding driver
-driver_has P [] q t h e = absurd cc
-driver_has P (first ∷ tables) q t h e = cases (bytes_eq q first.output) e (λ k. driver_has P tables q t h.1 k)
-  where
-    cases : (b : Bool) → cond b (Some first) (find (λ (table : Written). bytes_eq q table.output) tables) ≡ Some t → (find (λ (table : Written). bytes_eq q table.output) tables ≡ Some t → P t) → P t
-    cases true k rest = subst (λ (x : Written). P x) (same_Some first t k) h.0
-    cases false k rest = rest k
-
--- names that are different and all among others are at most as many
-no_member : (x : List ℕ) (xs : List (List ℕ)) → has xs x ≡ false → AllByRecursion (λ y. bytes_eq x y ≡ false) xs
-no_member x [] h = tt
-no_member x (y ∷ xs) h = (left (bytes_eq x y) (has xs x) h, no_member x xs (right (bytes_eq x y) (has xs x) h))
-  where
-    left : (a b : Bool) → (a || b) ≡ false → a ≡ false
-    left true b k = cc
-    left false b k = refl
-
-    right : (a b : Bool) → (a || b) ≡ false → b ≡ false
-    right true b k = cc
-    right false b k = k
-
-distinct_names : (xs : List (List ℕ)) → all_different xs ≡ true → IsDistinct bytes_eq xs
-unfolding all_different IsDistinct
-distinct_names [] h = tt
-distinct_names (x ∷ xs) h = IsDistinct-cons bytes_eq x xs (no_member x xs (left (has xs x) (all_different xs) h)) (distinct_names xs (right (has xs x) (all_different xs) h))
-  where
-    left : (a b : Bool) → (not a && b) ≡ true → a ≡ false
-    left true b k = cc
-    left false b k = refl
-
-    right : (a b : Bool) → (not a && b) ≡ true → b ≡ true
-    right true b k = cc
-    right false b k = k
-
-pub fewer_names : (xs ys : List (List ℕ)) → all_different xs ≡ true → ((q : List ℕ) → has xs q ≡ true → has ys q ≡ true) → length xs ≤ length ys
-fewer_names xs ys d h = length-le_from_is_member nat_list_eq_equiv xs ys (distinct_names xs d) h
-
--- the inputs of a table of a sound circuit are given signals
-all_left : {X : Type 0} (P : X → Type 0) (xs ys : List X) → AllByRecursion P (xs ++ ys) → AllByRecursion P xs
-all_left P [] ys h = tt
-all_left P (x ∷ xs) ys h = (h.0, all_left P xs ys h.1)
-
-all_right : {X : Type 0} (P : X → Type 0) (xs ys : List X) → AllByRecursion P (xs ++ ys) → AllByRecursion P ys
-all_right P [] ys h = h
-all_right P (x ∷ xs) ys h = all_right P xs ys h.1
-
-each_table : (P : List ℕ → Type 0) (tables : List Written) → AllByRecursion P (table_inputs tables) → AllByRecursion (λ (t : Written). AllByRecursion P t.inputs) tables
-each_table P [] h = tt
-each_table P (t ∷ tables) h = (all_left P t.inputs (table_inputs tables) h, each_table P tables (all_right P t.inputs (table_inputs tables) h))
-
-all_has : (xs ys : List (List ℕ)) → AllByRecursion (λ n. has ys n ≡ true) xs → (q : List ℕ) → has xs q ≡ true → has ys q ≡ true
-all_has [] ys h q k = cc
-all_has (x ∷ xs) ys h q k = cases (bytes_eq q x) refl k (λ m. all_has xs ys h.1 q m)
-  where
-    cases : (b : Bool) → bytes_eq q x ≡ b → (b || has xs q) ≡ true → (has xs q ≡ true → has ys q ≡ true) → has ys q ≡ true
-    cases true e m rest = ap (has ys) (same_name q x e) ∙ h.0
-    cases false e m rest = rest m
-
-inputs_bound : (c : Circuit) (q : List ℕ) (t : Written) → IsSound c → HasBounds c → driver c.tables q ≡ Some t → length t.inputs ≤ 2 ^ 30
-unfolding given taken
-inputs_bound c q t h b e =
-    let once : all_different t.inputs ≡ true = driver_has (λ (u : Written). all_different u.inputs ≡ true) c.tables q t h.table_inputs_once e in
-    let known : AllByRecursion (λ n. has (given c) n ≡ true) t.inputs =
-    driver_has (λ (u : Written). AllByRecursion (λ n. has (given c) n ≡ true) u.inputs) c.tables q t (each_table (λ n. has (given c) n ≡ true) c.tables (all_left (λ n. has (given c) n ≡ true) (table_inputs c.tables) (latch_inputs c ++ c.outputs) h.driven)) e in
-    let few : length t.inputs ≤ length (given c) = fewer_names t.inputs (given c) once (all_has t.inputs (given c) known) in
-    omega (arith, few, b.inputs, b.nodes, length-append c.inputs (latch_outputs c ++ outputs_of c.tables), length-append (latch_outputs c) (outputs_of c.tables), length-map c.latches (λ (latch : Latch). latch.output), length-map c.tables (λ (u : Written). u.output))
 
 rows_bound : (w : ℕ) (rows : List (List Tri)) → AllByRecursion (λ (row : List Tri). length row ≡ w) rows → sum_by literals_of_row rows ≤ length rows * w
 unfolding literals_of_row
@@ -169,8 +107,8 @@ pub literals_bound : (c : Circuit) (q : List ℕ) (t : Written) → IsSound c �
 unfolding literals_of_table
 literals_bound c q t h b e =
     let shaped : IsShaped t = driver_has IsShaped c.tables q t h.shaped e in
-    let few : length t.rows < 2 ^ 29 = driver_has HasFewRows c.tables q t b.rows e in
-    omega (arith, rows_bound (length t.inputs) t.rows shaped.0, mul-le (length t.rows) (length t.inputs) (2 ^ 29) (2 ^ 30) (omega (arith, few)) (inputs_bound c q t h b e))
+    let small : IsBounded t = driver_has IsBounded c.tables q t b.tables e in
+    omega (arith, rows_bound (length t.inputs) t.rows shaped.0, mul-le (length t.rows) (length t.inputs) (2 ^ 29) (2 ^ 30) (omega (arith, small.rows)) (omega (arith, small.inputs)))
 
 -- the readers among tables before and behind
 pub readers-append : (xs ys : List Written) (q : List ℕ) → readers_of (xs ++ ys) q ≡ readers_of xs q ++ readers_of ys q

@@ -1,5 +1,5 @@
 -- The places of tables: what stands in order, and that each name leads to its place, after a push, a write and a removal.
-use Rattle.std.proofs.Common.{◌≡◌, ℕ, ◌<◌, ◌+◌, zero, suc, Bool, true, false, ◌||◌, if◌then◌else◌, Option, Some, None, List, [], ◌∷◌, ◌++◌, length, get_or, set, take, drop, bytes_eq, is_some, refl, sym, ap, ◌∙◌, arith, inl, inr, ◌⊎◌}
+use Rattle.std.proofs.Common.{◌≡◌, ℕ, ◌<◌, ◌+◌, zero, suc, Bool, true, false, ◌||◌, if◌then◌else◌, Option, Some, None, List, [], ◌∷◌, ◌++◌, length, get_or, set, take, drop, bytes_eq, is_some, IfSome, refl, sym, ap, ◌∙◌, subst, arith, inl, inr, ◌⊎◌}
 use Rattle.std.specs.List.{slice_get}
 use Rattle.std.proofs.lemmas.Bool.{cases_eq}
 use Rattle.std.proofs.lemmas.List.{take_more, drop_more, map-append, take-append-drop}
@@ -10,9 +10,13 @@ use Rattle.circuit_model.specs.Values.{driver}
 use Rattle.circuit_model.specs.declared.circuit.Table.{Table as Written}
 use Rattle.circuit_laws.specs.Edits.{replaced, without, tables_kept}
 use Rattle.net_core.specs.declared.places.Entry.{Entry}
-use Rattle.net_core.specs.Tables.{named}
-use Rattle.net_core.specs.Places.{written_of, present, IsIndexed}
-use Rattle.net_core.proofs.Lookups.{has-append, apart_parts, same_name, name_is, name_itself, name_not, apart, get_set_same, get_set_other, get_push_at, get_push_left, get_push_cases}
+use Rattle.net_core.specs.Tables.{named, IsOverInputs}
+use Rattle.net_core.specs.Places.{written_of, present, IsIndexed, AreOverInputs}
+use Rattle.net_core.proofs.Lookups.{has-append, apart_parts, same_name, name_is, name_itself, name_not, apart, get_set_same, get_set_other, get_push_at, get_push_left, get_push_cases, get_at}
+
+pub over_nothing : (R : Type 0) → AreOverInputs {R = R} []
+unfolding AreOverInputs
+over_nothing R i e h = cc
 
 module _ {R : Type 0} where
   pub present-append : (xs ys : List (Option (Entry R))) → present (xs ++ ys) ≡ present xs ++ present ys
@@ -186,6 +190,40 @@ module _ {R : Type 0} where
           let n : j ≡ i → ⊥ = λ z. apart old.output q s (ap (λ (u : Entry R). u.output) (same_Some old t (same_Some (Some old) (Some t) (sym a ∙ (ap (slice_get slots) (sym z) ∙ x)))) ∙ y) in
           (t, get_set_other slots i j None n ∙ x, y)
 
+  -- a cover over its inputs at each place: after a push, a write and a removal, and at the next place of a loop
+  pub over_push : (slots : List (Option (Entry R))) (e : Entry R) → AreOverInputs slots → IsOverInputs e.table → AreOverInputs (slots ++ Some e ∷ [])
+  unfolding AreOverInputs
+  over_push slots e h w i t a = elim (get_push_cases slots (Some e) (Some t) i a) [
+    | inl b ↦ h i t b
+    | inr b ↦ subst (λ (x : Entry R). IsOverInputs x.table) (same_Some e t b.1) w
+  ]
+
+  pub over_write : (slots : List (Option (Entry R))) (i : ℕ) (old new : Entry R) → AreOverInputs slots → slice_get slots i ≡ Some (Some old) → IsOverInputs new.table → AreOverInputs (set slots i (Some new))
+  unfolding AreOverInputs
+  over_write slots i old new h a w j t b = elim (cases_eq j i) [
+    | inl z ↦
+        let x : Some (Some new) ≡ Some (Some t) = sym (get_set_same slots i (Some old) (Some new) a) ∙ (ap (slice_get (set slots i (Some new))) (sym z) ∙ b) in
+        subst (λ (x : Entry R). IsOverInputs x.table) (same_Some new t (same_Some (Some new) (Some t) x)) w
+    | inr n ↦ h j t (sym (get_set_other slots i j (Some new) n) ∙ b)
+  ]
+
+  pub over_removal : (slots : List (Option (Entry R))) (i : ℕ) (old : Entry R) → AreOverInputs slots → slice_get slots i ≡ Some (Some old) → AreOverInputs (set slots i None)
+  unfolding AreOverInputs
+  over_removal slots i old h a j t b = elim (cases_eq j i) [
+    | inl z ↦
+        let w : slice_get (set slots i None) i ≡ Some (Some t) = ap (slice_get (set slots i None)) (sym z) ∙ b in
+        let s : None ≡ Some t = same_Some None (Some t) (sym (get_set_same slots i (Some old) None a) ∙ w) in absurd cc
+    | inr n ↦ h j t (sym (get_set_other slots i j None n) ∙ b)
+  ]
+
+  pub over_at : (slots : List (Option (Entry R))) (i : ℕ) (e : Entry R) → AreOverInputs slots → slice_get slots i ≡ Some (Some e) → IsOverInputs e.table
+  unfolding AreOverInputs
+  over_at slots i e h a = h i e a
+
+  pub next_over : (slots : List (Option (Entry R))) (i : ℕ) (x : Option (Entry R)) → AreOverInputs slots → i < length slots → x ≡ get_or slots i x → IfSome x (λ stored. IsOverInputs stored.table)
+  next_over slots i None h lt e = tt
+  next_over slots i (Some stored) h lt e = over_at slots i stored h (get_at slots i (Some stored) lt ∙ ap (λ (x : Option (Entry R)). Some x) (sym e))
+
   -- tables at places that names lead to have different names
   not_in_tail : (slots : List (Option (Entry R))) (q : List ℕ) → ((j : ℕ) (e : Entry R) → slice_get slots j ≡ Some (Some e) → e.output ≡ q → ⊥) → has (outputs_of (present slots)) q ≡ false
   not_in_tail slots q h = cases (has (outputs_of (present slots)) q) refl
@@ -225,6 +263,15 @@ module _ {R : Type 0} where
       ∙ ap (λ (zs : List (List ℕ)). outputs_of (present (take i slots)) ++ zs) (map-append (λ (t : Written). t.output) (present (x ∷ [])) (present (drop (i + 1) slots)))) in
       apart_parts (outputs_of (present (take i slots))) (outputs_of (present (x ∷ [])) ++ outputs_of (present (drop (i + 1) slots))) q (ap all_different (sym names) ∙ d)
       (has-append (outputs_of (present (x ∷ []))) (outputs_of (present (drop (i + 1) slots))) q ∙ ap (λ (b : Bool). b || has (outputs_of (present (drop (i + 1) slots))) q) h)
+
+  -- a name that no table has is driven by none
+  pub driver_absent : (slots : List (Option (Entry R))) (q : List ℕ) → IsAbsent slots q → driver (present slots) q ≡ None
+  unfolding present named driver
+  driver_absent [] q h = refl
+  driver_absent (None ∷ slots) q h = driver_absent slots q (λ j e a b. h (suc j) e a b)
+  driver_absent (Some f ∷ slots) q h =
+      let n : bytes_eq q f.output ≡ false = name_not q f.output (λ e. h zero f refl (sym e)) in
+      rw n (driver_absent slots q (λ j e a b. h (suc j) e a b))
 
   -- the table at a place drives its name
   pub driver_at : (slots : List (Option (Entry R))) (i : ℕ) (e : Entry R) → slice_get slots i ≡ Some (Some e) → IsAlone slots i e.output → driver (present slots) e.output ≡ Some (written_of e)

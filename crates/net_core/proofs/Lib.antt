@@ -4,4 +4,5 @@ pub mod Indexing
 pub mod Removals
 pub mod Counting
 pub mod NewNames
-pub mod TidyTables
+pub mod Tidied
+pub mod Sounds

@@ -59,6 +59,11 @@ get_push_cases [] y x (suc i) h = cc
 get_push_cases (z ∷ xs) y x zero h = inl h
 get_push_cases (z ∷ xs) y x (suc i) h = elim (get_push_cases xs y x i h) [ inl a ↦ inl a | inr b ↦ inr (ap suc b.0, b.1) ]
 
+pub get_at : {X : Type 0} (xs : List X) (i : ℕ) (x : X) → i < length xs → slice_get xs i ≡ Some (get_or xs i x)
+get_at [] i x lt = absurd (omega arith)
+get_at (y ∷ xs) zero x lt = refl
+get_at (y ∷ xs) (suc i) x lt = get_at xs i x (omega arith)
+
 -- members of a list of names
 pub has-append : (xs ys : List (List ℕ)) (q : List ℕ) → has (xs ++ ys) q ≡ (has xs q || has ys q)
 has-append [] ys q = refl

@@ -2,4 +2,3 @@ pub mod Tables
 pub mod Places
 pub mod Reads
 pub mod Fresh
-pub mod Tidy

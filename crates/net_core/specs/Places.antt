@@ -3,7 +3,7 @@
 -- known by their names).
 use Rattle.std.specs.Prelude.{◌≡◌, ℕ, Option, Some, None, List, [], ◌∷◌, slice_get}
 use Rattle.circuit_model.specs.declared.circuit.Table.{Table as Written}
-use Rattle.net_core.specs.Tables.{named}
+use Rattle.net_core.specs.Tables.{named, IsOverInputs}
 use Rattle.net_core.specs.declared.places.Entry.{Entry}
 
 -- the table of a circuit that an entry is
@@ -20,3 +20,7 @@ present (Some entry ∷ slots) = written_of entry ∷ present slots
 pub record IsIndexed {R : Type 0} (slots : List (Option (Entry R))) (place_of : List ℕ → Option ℕ) : Type 0 where
   pub placed : (i : ℕ) (entry : Entry R) → slice_get slots i ≡ Some (Some entry) → place_of entry.output ≡ Some i
   pub only : (name : List ℕ) (i : ℕ) → place_of name ≡ Some i → (entry : Entry R) × (slice_get slots i ≡ Some (Some entry)) × (entry.output ≡ name)
+
+-- each table's cover has one place for each of its inputs
+unfoldable pub AreOverInputs : {R : Type 0} → List (Option (Entry R)) → Type 0
+AreOverInputs {R} slots = (i : ℕ) (entry : Entry R) → slice_get slots i ≡ Some (Some entry) → IsOverInputs entry.table

@@ -1,4 +1,4 @@
--- What a network tells of its tables: who reads a signal, and what a table is worth.
+-- What a network tells of its tables: who reads a signal, what a table is worth, and how many there are.
 -- Source: Brayton, Rudell, Sangiovanni-Vincentelli and Wang, "MIS: A Multiple-Level Logic Optimization System" (1987),
 -- and De Micheli, "Synthesis and Optimization of Digital Circuits", chapter 8: eliminating a node of l literals that is
 -- used n times adds n * l - n - l literals.
@@ -11,6 +11,7 @@ use Rattle.circuit_model.specs.declared.circuit.Tri.{Tri}
 use Rattle.circuit_model.specs.declared.circuit.Tri.TheVariants.{Free}
 use Rattle.circuit_model.specs.declared.circuit.Table.{Table}
 use Rattle.circuit_model.specs.declared.circuit.Circuit.{Circuit}
+use Rattle.net_core.specs.declared.network.Sizes.{Sizes}
 
 -- the names of the tables that read a signal, in table order
 unfoldable pub readers_of : List Table → List ℕ → List (List ℕ)
@@ -45,11 +46,23 @@ unfoldable pub value_of : List Table → List ℕ → ℤ
 value_of tables name =
     pos (uses_of tables name * own_literals tables name) -ℤ pos (uses_of tables name) -ℤ pos (own_literals tables name)
 
-abbrev pub HasFewRows : Table → Type 0
-HasFewRows table = length table.rows < 2 ^ 29
+-- fewer than 2^29 rows and fewer than 2^30 inputs, and so fewer than 2^59 literals
+pub record IsBounded (table : Table) : Type 0 where
+  pub rows : length table.rows < 2 ^ 29
+  pub inputs : length table.inputs < 2 ^ 30
 
--- inputs, tables with latches, and each table's rows number below 2^29
+-- fewer than 2^29 tables and latches, each table within its bounds; what is read keeps far below. Of the circuit's own
+-- inputs nothing is asked: a table reads only some of them.
 pub record HasBounds (circuit : Circuit) : Type 0 where
-  pub inputs : length circuit.inputs < 2 ^ 29
   pub nodes : length circuit.tables + length circuit.latches < 2 ^ 29
-  pub rows : AllByRecursion HasFewRows circuit.tables
+  pub tables : AllByRecursion IsBounded circuit.tables
+
+-- how many inputs, outputs, tables, latches and tables of the don't-care part a circuit has
+unfoldable pub sizes_of : Circuit → Sizes
+sizes_of circuit = record {
+  inputs = length circuit.inputs;
+  outputs = length circuit.outputs;
+  tables = length circuit.tables;
+  latches = length circuit.latches;
+  dont_cares = length circuit.dont_care;
+}

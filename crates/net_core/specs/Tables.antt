@@ -43,6 +43,10 @@ covered written = record {
   phase = written.phase;
 }
 
+-- the cover has one place for each input
+abbrev pub IsOverInputs : {R : Type 0} → Table R → Type 0
+IsOverInputs table = table.cover.width ≡ length table.inputs
+
 -- each row has so many characters
 abbrev pub HasCharacters : ℕ → List (List Tri) → Type 0
 HasCharacters width rows = AllByRecursion (λ (row : List Tri). length row ≡ width) rows

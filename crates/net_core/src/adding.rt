@@ -110,7 +110,7 @@ fn slot_count<R: Row>(slot: &Option<Entry<R>>) -> usize
 }
 
 // How many tables are left.
-fn table_count<R: Row>(slots: &[Option<Entry<R>>]) -> usize
+pub(crate) fn table_count<R: Row>(slots: &[Option<Entry<R>>]) -> usize
     ensures { result ≡ length (present slots.now) }
 {
     let mut count = 0;

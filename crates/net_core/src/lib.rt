@@ -14,6 +14,6 @@ mod table;
 mod tidying;
 
 pub use adding::AddFault;
-pub use network::Network;
+pub use network::{Network, Sizes};
 pub use table::Table;
-pub use tidying::{tidied_keeps_its_value, tidy};
+pub use tidying::tidy;

@@ -1,6 +1,6 @@
 //! Networks: a circuit whose tables are found by their names.
 
-ghost use Rattle.std.specs.Prelude.{◌≡◌, ℕ, ◌<◌, Bool, true, false, not, Option, Some, None, List, [], ◌∷◌, ◌++◌, length, filter, bytes_eq, ◌≤◌, ◌↔◌, IsTrue, IfOk, OnOk, OnErr};
+ghost use Rattle.std.specs.Prelude.{◌≡◌, ℕ, ◌<◌, Bool, true, false, not, Option, Some, None, List, [], ◌∷◌, ◌++◌, length, filter, bytes_eq, ◌≤◌, ◌↔◌, option_map, IsTrue, IfSome, IfOk, OnOk, OnErr};
 ghost use Rattle.std.specs.List.{AllByRecursion};
 ghost use Rattle.circuit_model.specs.Names.{has, all_different};
 ghost use Rattle.circuit_model.specs.Soundness.{outputs_of, IsSound, IsShaped, IsAcyclic};
@@ -9,11 +9,15 @@ ghost use Rattle.circuit_model.specs.Values.{driver};
 ghost use Rattle.circuit_laws.specs.Fitting.{IsFitting};
 ghost use Rattle.circuit_laws.specs.Kept.{IsClosed};
 ghost use Rattle.circuit_laws.specs.Edits.{replaced, with_replaced, with_added, with_removed, is_other, latches_kept, timing_with};
-ghost use Rattle.net_core.specs.Tables.{named};
+ghost use Rattle.net_core.specs.Tables.{named, IsOverInputs};
 ghost use Rattle.net_core.specs.Fresh.{used_names, IsNewName, node_count, Adds};
-ghost use Rattle.net_core.specs.Places.{present, written_of};
+ghost use Rattle.net_core.specs.Places.{present, written_of, AreOverInputs};
+ghost use Rattle.net_core.specs.Reads.{sizes_of};
+ghost use Rattle.table_order.specs.Order.{order_of};
 
-use crate::adding::{AddFault, bracketed_name, drives_latch, is_control, is_full, is_mentioned};
+use crate::adding::{
+    AddFault, bracketed_name, drives_latch, is_control, is_full, is_mentioned, table_count,
+};
 use crate::places::{Entry, NamedTables};
 use crate::reads::is_among;
 use crate::table::Table;
@@ -24,6 +28,17 @@ use cube_cover::Row;
 use sis_base::{Copied, Sequence};
 use std::alloc::{AllocError, Global};
 use std::marker::Model;
+use table_order::order;
+
+/// How many inputs, outputs, tables, latches and tables of the don't-care part a network has.
+#[derive(Clone, Copy)]
+pub struct Sizes {
+    pub inputs: usize,
+    pub outputs: usize,
+    pub tables: usize,
+    pub latches: usize,
+    pub dont_cares: usize,
+}
 
 /// A sound circuit whose tables are found by their names, and changed one at a time.
 #[derive(Drop)]
@@ -43,7 +58,11 @@ impl<R: Row> Model for Network<R> {
 
     ghost Value = { TheCircuit };
 
+    ghost use Rattle.circuit_model.specs.Soundness.{IsSound};
+
     ghost view = { λ n. record { name = n.name; inputs = n.inputs; outputs = n.outputs; clocks = n.clocks; timing = n.timing; latches = n.latches.items; tables = n.tables; dont_care = n.dont_care } };
+
+    ghost invariant = { λ n. IsSound (record { name = n.name; inputs = n.inputs; outputs = n.outputs; clocks = n.clocks; timing = n.timing; latches = n.latches.items; tables = n.tables; dont_care = n.dont_care }) };
 }
 
 // The tables of a circuit, found by their names.
@@ -93,7 +112,8 @@ fn push_copy<R: Row>(
     made: &mut NamedTables<R>,
     entry: &Option<Entry<R>>,
 ) -> Result<(), AllocError>
-    requires { (name : List ℕ) → has (outputs_of (present (entry.now ∷ []))) name ≡ true → has (outputs_of made.old) name ≡ false }
+    requires new { (name : List ℕ) → has (outputs_of (present (entry.now ∷ []))) name ≡ true → has (outputs_of made.old) name ≡ false }
+    requires over { IfSome entry.now (λ stored. IsOverInputs stored.table) }
     ensures { OnOk result (made.new ≡ made.old ++ present (entry.now ∷ [])) }
 {
     if let Some(entry) = entry {
@@ -107,7 +127,8 @@ fn tables_copied<R: Row>(
     alloc: Global,
     slots: &[Option<Entry<R>>],
 ) -> Result<NamedTables<R>, AllocError>
-    requires { all_different (outputs_of (present slots.now)) ≡ true }
+    requires distinct { all_different (outputs_of (present slots.now)) ≡ true }
+    requires over { AreOverInputs slots.now }
     ensures { IfOk result (λ made. made ≡ present slots.now) }
 {
     let mut made = NamedTables::new(alloc);
@@ -195,60 +216,59 @@ impl<R: Row> Network<R> {
         })
     }
 
+    /// The name of the model.
+    pub fn name(&self) -> &Name
+        ensures { result.now ≡ self.now.name }
+    {
+        &self.name
+    }
+
+    /// How much of everything there is.
+    #[tactic(auto, unfolding(crate::specs::Reads::sizes_of))]
+    pub fn sizes(&self) -> Sizes
+        ensures { result ≡ sizes_of self.now }
+    {
+        Sizes {
+            inputs: self.inputs.len(),
+            outputs: self.outputs.len(),
+            tables: table_count(self.slots()),
+            latches: self.latches.len(),
+            dont_cares: self.dont_care.len(),
+        }
+    }
+
+    /// The names of the tables, each behind those of the tables that it reads: again and again the first that may come
+    /// next. An error only for want of memory.
+    pub fn order(&self, alloc: Global) -> Result<Names, AllocError>
+        ensures { IfOk result (λ names. names ≡ order_of self.now.tables) }
+    {
+        let tables = tables_to(alloc, self.tables.slots())?;
+        order(alloc, tables.as_slice())
+    }
+
+    /// What every network is: a sound circuit. It does nothing, and gives its caller this fact.
+    pub fn sound(&self)
+        ensures { IsSound self.now }
+    {
+        let _name = &self.name;
+    }
+
     /// Puts another table in the place of the table of a name.
-    #[tactic(auto, using(circuit_laws::proofs::Sound::sound_replaced))]
+    #[tactic(auto, unfolding(circuit_laws::specs::Edits::with_replaced))]
     pub fn replace(&mut self, name: &Name, table: Table<R>)
-        requires sound { IsSound self.old }
         requires known { has (outputs_of self.old.tables) name.now ≡ true }
         requires fitting { IsFitting self.old (named name.now table) }
         requires acyclic { IsAcyclic (replaced self.old.tables (named name.now table)) }
-        ensures edit { self.new ≡ with_replaced self.old (named name.now table) }
-        ensures sound { IsSound self.new }
-    {
-        self.replace_table(name, table);
-    }
-
-    /// Takes the table or the latch of a name away that nothing else needs; the timing goes with the last latch.
-    #[tactic(auto, using(circuit_laws::proofs::Sound::sound_kept))]
-    pub fn remove(&mut self, name: &Name)
-        requires sound { IsSound self.old }
-        requires unread { IsClosed self.old (is_other name.now) }
-        ensures edit { self.new ≡ with_removed self.old name.now }
-        ensures sound { IsSound self.new }
-    {
-        self.remove_named(name);
-    }
-
-    /// Adds a table under the least number in brackets that names nothing, behind the last table; refused where as many
-    /// tables and latches stand as may. An error changes nothing.
-    pub fn add(&mut self, alloc: Global, table: Table<R>) -> Result<Name, AddFault>
-        requires sound { IsSound self.old }
-        requires fitting { (name : List ℕ) → IsFitting self.old (named name table) }
-        ensures answer { Adds self.old table self.new result }
-        ensures sound { IsSound self.new }
-    {
-        if self.is_at_limit() {
-            return Err(AddFault::NodeLimit);
-        }
-        match self.add_new(alloc, table) {
-            Ok(name) => Ok(name),
-            Err(_) => Err(AddFault::Memory),
-        }
-    }
-
-    // Puts another table in the place of the table of a name.
-    #[tactic(auto, unfolding(circuit_laws::specs::Edits::with_replaced))]
-    fn replace_table(&mut self, name: &Name, table: Table<R>)
-        requires { has (outputs_of self.old.tables) name.now ≡ true }
+        requires over { IsOverInputs table }
         ensures { self.new ≡ with_replaced self.old (named name.now table) }
     {
         self.tables.replace(name, table);
     }
 
-    // Takes the table or the latch of a name away.
+    /// Takes the table or the latch of a name away that nothing else needs; the timing goes with the last latch.
     #[tactic(auto, using(crate::proofs::Removals::removed_table, crate::proofs::Removals::removed_latch))]
-    fn remove_named(&mut self, name: &Name)
-        requires { IsSound self.old }
+    pub fn remove(&mut self, name: &Name)
+        requires { IsClosed self.old (is_other name.now) }
         ensures { self.new ≡ with_removed self.old name.now }
     {
         if self.tables.remove(name) {
@@ -256,6 +276,22 @@ impl<R: Row> Network<R> {
         }
         remove_latch(&mut self.latches, name);
         drop_timing(self.latches.as_slice(), &mut self.timing);
+    }
+
+    /// Adds a table under the least number in brackets that names nothing, behind the last table; refused where as many
+    /// tables and latches stand as may. An error changes nothing.
+    #[tactic(auto, using(crate::proofs::Counting::new_is_no_table), unfolding(circuit_laws::specs::Edits::with_added))]
+    pub fn add(&mut self, alloc: Global, table: Table<R>) -> Result<Name, AddFault>
+        requires fitting { (name : List ℕ) → IsFitting self.old (named name table) }
+        requires over { IsOverInputs table }
+        ensures { Adds self.old table self.new result }
+    {
+        if self.is_at_limit() {
+            return Err(AddFault::NodeLimit);
+        }
+        let name = self.new_name(alloc)?;
+        self.tables.push(alloc, &name, table)?;
+        Ok(name)
     }
 
     // Whether a new table may not take the name.
@@ -295,22 +331,10 @@ impl<R: Row> Network<R> {
         is_full(self.slots(), self.latches.len(), self.dont_care.len())
     }
 
-    // Adds a table under a new name.
-    #[tactic(auto, using(crate::proofs::Counting::new_is_no_table), unfolding(circuit_laws::specs::Edits::with_added))]
-    fn add_new(&mut self, alloc: Global, table: Table<R>) -> Result<Name, AllocError>
-        ensures new { IfOk result (λ name. IsNewName self.old name) }
-        ensures ok { IfOk result (λ name. self.new ≡ with_added self.old (named name table)) }
-        ensures err { OnErr result (self.new ≡ self.old) }
-    {
-        let name = self.new_name(alloc)?;
-        self.tables.push(alloc, &name, table)?;
-        Ok(name)
-    }
-
-    /// The table of a name that one has.
-    pub fn table(&self, name: &Name) -> &Table<R>
-        requires { has (outputs_of self.now.tables) name.now ≡ true }
-        ensures { driver self.now.tables name.now ≡ Some (named name.now result.now) }
+    /// The table of a name, if there is one.
+    pub fn table(&self, name: &Name) -> Option<&Table<R>>
+        ensures driver { driver self.now.tables name.now ≡ option_map (λ table. named name.now table.now) result }
+        ensures over { IfSome result (λ table. IsOverInputs table.now) }
     {
         self.tables.get(name)
     }

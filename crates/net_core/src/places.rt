@@ -2,15 +2,15 @@
 //!
 //! A table that goes leaves its place empty, so that the others keep theirs; an index leads from a name to its place.
 
-ghost use Rattle.std.specs.Prelude.{◌≡◌, ℕ, ◌<◌, Bool, true, false, Option, Some, None, List, [], ◌∷◌, ◌++◌, length, slice_get, slice_set, bytes_eq, is_some, if◌then◌else◌, IsSome, IfOk, OnOk, OnErr};
+ghost use Rattle.std.specs.Prelude.{◌≡◌, ℕ, ◌<◌, Bool, true, false, Option, Some, None, List, [], ◌∷◌, ◌++◌, length, slice_get, slice_set, bytes_eq, is_some, option_map, if◌then◌else◌, IsSome, IfSome, IfOk, OnOk, OnErr};
 ghost use Rattle.indexmap.specs.IndexMap.{get};
 ghost use Rattle.circuit_model.specs.Names.{has, all_different};
 ghost use Rattle.circuit_model.specs.Soundness.{outputs_of};
 ghost use Rattle.circuit_model.specs.declared.circuit.Table.{Table as TheWritten};
 ghost use Rattle.circuit_model.specs.Values.{driver};
 ghost use Rattle.circuit_laws.specs.Edits.{replaced, without};
-ghost use Rattle.net_core.specs.Tables.{named};
-ghost use Rattle.net_core.specs.Places.{present, written_of, IsIndexed};
+ghost use Rattle.net_core.specs.Tables.{named, IsOverInputs};
+ghost use Rattle.net_core.specs.Places.{present, written_of, IsIndexed, AreOverInputs};
 ghost use Rattle.net_core.specs.declared.places.Entry.{Entry as TheEntry};
 
 use crate::table::Table;
@@ -42,11 +42,11 @@ impl<R: Row> Model for NamedTables<R> {
 
     ghost Value = { List TheWritten };
 
-    ghost use Rattle.net_core.specs.Places.{present, IsIndexed};
+    ghost use Rattle.net_core.specs.Places.{present, IsIndexed, AreOverInputs};
 
     ghost view = { λ t. present t.slots.items };
 
-    ghost invariant = { λ t. IsIndexed t.slots.items (get bytes_eq t.places) };
+    ghost invariant = { λ t. IsIndexed t.slots.items (get bytes_eq t.places) × AreOverInputs t.slots.items };
 }
 
 // Where the table of a name stands.
@@ -140,10 +140,12 @@ impl<R: Row> NamedTables<R> {
         }
     }
 
-    /// The places in order: at each a table, or none where it is gone. No two tables have one name.
+    /// The places in order: at each a table, or none where it is gone. No two tables have one name, and each table's
+    /// cover has one place for each of its inputs.
     pub fn slots(&self) -> &[Option<Entry<R>>]
         ensures items { present result.now ≡ self.now }
         ensures distinct { all_different (outputs_of (present result.now)) ≡ true }
+        ensures over { AreOverInputs result.now }
     {
         self.slots.as_slice()
     }
@@ -155,19 +157,22 @@ impl<R: Row> NamedTables<R> {
         found_place(&self.places, name).is_some()
     }
 
-    /// The table of a name that one has.
-    pub fn get(&self, name: &Name) -> &Table<R>
-        requires { has (outputs_of self.now) name.now ≡ true }
-        ensures { driver self.now name.now ≡ Some (named name.now result.now) }
+    /// The table of a name, if there is one.
+    pub fn get(&self, name: &Name) -> Option<&Table<R>>
+        ensures driver { driver self.now name.now ≡ option_map (λ table. named name.now table.now) result }
+        ensures over { IfSome result (λ table. IsOverInputs table.now) }
     {
-        let place = known_place(&self.places, name);
-        &entry_at(self.slots.as_slice(), place).table
+        match found_place(&self.places, name) {
+            None => None,
+            Some(place) => Some(&entry_at(self.slots.as_slice(), place).table),
+        }
     }
 
     /// Puts a table behind the last under a name that no table has; an error only for want of memory, and then nothing
     /// changed.
     pub fn push(&mut self, alloc: Global, name: &Name, table: Table<R>) -> Result<(), AllocError>
-        requires { has (outputs_of self.old) name.now ≡ false }
+        requires new { has (outputs_of self.old) name.now ≡ false }
+        requires over { IsOverInputs table }
         ensures ok { OnOk result (self.new ≡ self.old ++ named name.now table ∷ []) }
         ensures err { OnErr result (self.new ≡ self.old) }
     {
@@ -184,7 +189,8 @@ impl<R: Row> NamedTables<R> {
 
     /// Puts another table in the place of the table of a name.
     pub fn replace(&mut self, name: &Name, table: Table<R>)
-        requires { has (outputs_of self.old) name.now ≡ true }
+        requires known { has (outputs_of self.old) name.now ≡ true }
+        requires over { IsOverInputs table }
         ensures { self.new ≡ replaced self.old (named name.now table) }
     {
         let place = known_place(&self.places, name);

@@ -3,13 +3,12 @@
 ghost use Rattle.std.specs.Prelude.{◌≡◌, ℕ, ◌+◌, ◌*◌, ◌^◌, ◌<◌, ◌≤◌, ℤ, pos, ◌-ℤ◌, Bool, true, Option, Some, None, List, [], ◌∷◌, ◌++◌, length, map, sum_by, bytes_eq, position, slice_index_or, if◌then◌else◌, IfOk, OnOk};
 ghost use Rattle.std.specs.List.{AllByRecursion};
 ghost use Rattle.circuit_model.specs.Names.{has};
-ghost use Rattle.circuit_model.specs.Soundness.{outputs_of, IsSound};
 ghost use Rattle.circuit_model.specs.Counts.{is_literal, literals_of_row, literals_of_table, literals_of};
 ghost use Rattle.circuit_model.specs.declared.circuit.Tri.TheVariants.{Free};
 ghost use Rattle.circuit_model.specs.declared.circuit.Table.{Table as TheWritten};
 ghost use Rattle.net_core.specs.Tables.{character_of, characters_of, named};
 ghost use Rattle.net_core.specs.Places.{present, written_of};
-ghost use Rattle.net_core.specs.Reads.{readers_of, rows_with, uses_in, uses_of, own_literals, value_of, HasFewRows, HasBounds};
+ghost use Rattle.net_core.specs.Reads.{readers_of, rows_with, uses_in, uses_of, own_literals, value_of, IsBounded, HasBounds};
 
 use crate::network::Network;
 use crate::places::Entry;
@@ -119,7 +118,7 @@ pub(crate) fn is_among(names: &Names, name: &Name) -> bool
 // The literals of the table at a place.
 #[tactic(auto, unfolding(crate::specs::Places::present))]
 fn slot_literals<R: Row>(slot: &Option<Entry<R>>) -> u128
-    requires { AllByRecursion HasFewRows (present (slot.now ∷ [])) }
+    requires { AllByRecursion IsBounded (present (slot.now ∷ [])) }
     ensures literals { result ≡ sum_by literals_of_table (present (slot.now ∷ [])) }
     ensures bound { result ≤ length (present (slot.now ∷ [])) * 2 ^ 93 }
 {
@@ -132,7 +131,7 @@ fn slot_literals<R: Row>(slot: &Option<Entry<R>>) -> u128
 // The literals of the tables at places.
 fn slots_literals<R: Row>(slots: &[Option<Entry<R>>]) -> u128
     requires few { length (present slots.now) < 2 ^ 29 }
-    requires rows { AllByRecursion HasFewRows (present slots.now) }
+    requires rows { AllByRecursion IsBounded (present slots.now) }
     ensures { result ≡ sum_by literals_of_table (present slots.now) }
 {
     let mut total: u128 = 0;
@@ -145,7 +144,7 @@ fn slots_literals<R: Row>(slots: &[Option<Entry<R>>]) -> u128
 // The uses of a name in the table at a place.
 #[tactic(auto, using(crate::proofs::Counting::one_present), unfolding(crate::specs::Places::present))]
 fn slot_uses<R: Row>(slot: &Option<Entry<R>>, name: &Name) -> u128
-    requires { AllByRecursion HasFewRows (present (slot.now ∷ [])) }
+    requires { AllByRecursion IsBounded (present (slot.now ∷ [])) }
     ensures uses { result ≡ sum_by (uses_in name.now) (present (slot.now ∷ [])) }
     ensures bound { result ≤ length (present (slot.now ∷ [])) * 2 ^ 29 }
 {
@@ -159,7 +158,7 @@ fn slot_uses<R: Row>(slot: &Option<Entry<R>>, name: &Name) -> u128
 #[tactic(auto, unfolding(crate::specs::Reads::uses_of))]
 fn slots_uses<R: Row>(slots: &[Option<Entry<R>>], name: &Name) -> u128
     requires few { length (present slots.now) < 2 ^ 29 }
-    requires rows { AllByRecursion HasFewRows (present slots.now) }
+    requires rows { AllByRecursion IsBounded (present slots.now) }
     ensures uses { result ≡ uses_of (present slots.now) name.now }
     ensures bound { result ≤ 2 ^ 58 }
 {
@@ -219,16 +218,28 @@ impl<R: Row> Network<R> {
         Ok(Sequence::from_vec(made))
     }
 
-    /// What the table of a name is worth: n * l - n - l for its n uses and its l literals.
-    #[tactic(auto, unfolding(crate::specs::Reads::value_of, crate::specs::Reads::own_literals))]
+    /// What the table of a name is worth: n * l - n - l for its n uses and its l literals, none where there is no table.
+    #[tactic(auto, unfolding(crate::specs::Reads::value_of))]
     pub fn value(&self, name: &Name) -> i128
-        requires sound { IsSound self.now }
-        requires bounds { HasBounds self.now }
-        requires known { has (outputs_of self.now.tables) name.now ≡ true }
+        requires { HasBounds self.now }
         ensures { result ≡ value_of self.now.tables name.now }
     {
         let uses = slots_uses(self.slots(), name);
-        let literals = table_literals(self.table(name));
+        let literals = self.own_literals(name);
         worth(uses, literals)
+    }
+
+    // The literals of the table of a name, none where there is no table.
+    #[tactic(auto, unfolding(crate::specs::Reads::own_literals))]
+    fn own_literals(&self, name: &Name) -> u128
+        requires { HasBounds self.now }
+        ensures literals { result ≡ own_literals self.now.tables name.now }
+        ensures bound { result ≤ 2 ^ 59 }
+    {
+        self.sound();
+        match self.table(name) {
+            None => 0,
+            Some(table) => table_literals(table),
+        }
     }
 }

@@ -6,7 +6,7 @@ use Rattle.std.specs.Prelude.{ℕ, Bool, false, not, ◌==◌, ◌&&◌, Option,
 use Rattle.std.specs.Str.{is_utf8}
 use Rattle.sis_text.specs.Entries.{Entry}
 use Rattle.sis_script.specs.declared.command.Op.{Op}
-use Rattle.sis_script.specs.declared.command.Op.TheVariants.{Echo, Quit, ReadBlif, WriteBlif, PrintStats, Print, PrintLatch, Undo, Bad}
+use Rattle.sis_script.specs.declared.command.Op.TheVariants.{Echo, Quit, ReadBlif, WriteBlif, PrintStats, Print, PrintLatch, Sweep, Undo, Bad}
 use Rattle.sis_script.specs.declared.command.ScriptFault.TheVariants.{BadCommand, BadOption, MissingWord}
 use Rattle.sis_script.specs.declared.command.Command.{Command}
 
@@ -55,8 +55,9 @@ op_by word words =
     else (if bytes_eq word (codes "print_stats") then alone PrintStats words
     else (if bytes_eq word (codes "print") then print_op words
     else (if bytes_eq word (codes "print_latch") then alone PrintLatch words
+    else (if bytes_eq word (codes "sweep") then alone Sweep words
     else (if bytes_eq word (codes "undo") then alone Undo words
-    else Bad BadCommand)))))))
+    else Bad BadCommand))))))))
 
 unfoldable pub op_of : List (List ℕ) → Op
 op_of [] = Bad BadCommand

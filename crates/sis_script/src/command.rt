@@ -25,6 +25,8 @@ pub enum Op {
     Print(Option<RawWord>),
     /// Prints the latches.
     PrintLatch,
+    /// Takes constants, single inputs and what is not needed out of the network.
+    Sweep,
     /// Takes the last change of the network back.
     Undo,
     /// A command that is refused when it is reached.

@@ -130,6 +130,8 @@ fn op_by(alloc: Global, source: &[u8], first: &[u8], words: &[Span]) -> Result<O
         print_op(alloc, source, words)
     } else if first == b"print_latch".as_slice() {
         Ok(alone(Op::PrintLatch, words))
+    } else if first == b"sweep".as_slice() {
+        Ok(alone(Op::Sweep, words))
     } else if first == b"undo".as_slice() {
         Ok(alone(Op::Undo, words))
     } else {

@@ -1,2 +1,3 @@
 pub mod Answering
-pub mod TextsLimits
+pub mod Bounds
+pub mod Moving

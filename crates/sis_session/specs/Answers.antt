@@ -1,17 +1,21 @@
 -- What the code of a command answers, by cases on the answer: what it leaves of the session, files and output.
 -- Source: the project's own rule: a refusal, a fault and want of memory leave the session as it was; a call that
 -- failed leaves a front of what it was to write.
-use Rattle.std.specs.Prelude.{◌≡◌, ◌≤◌, ℕ, Bool, ◌⊎◌, IsTrue, List, ◌++◌, take, Option, Some, None, true, false, Result, Ok, Err}
+use Rattle.std.specs.Prelude.{◌≡◌, ◌≤◌, length, ℕ, Bool, ◌⊎◌, IsTrue, List, ◌++◌, take, Option, Some, None, true, false, Result, Ok, Err}
 use Rattle.std.specs.Global.{Vec}
 use Rattle.sis_outside.specs.Counts.{Rose}
 use Rattle.sis_outside.specs.Files.{Files, with_file as put_file}
 use Rattle.sis_text.specs.Entries.{entries_of}
 use Rattle.circuit_model.specs.declared.circuit.Circuit.{Circuit}
+use Rattle.circuit_laws.specs.Chains.{Chain}
+use Rattle.sweep_rules.specs.Rules.{sweep_step}
 use Rattle.blif_read.specs.Reader.{read_lines}
 use Rattle.blif_read.specs.declared.fault.ReadFault.{ReadFault}
 use Rattle.blif_read.specs.declared.fault.ReadFault.TheVariants as reading
+use Rattle.sis_script.specs.declared.command.Op.{Op}
 use Rattle.sis_session.specs.State.{Held, just_read, exchanged}
-use Rattle.sis_session.specs.Outcome.{Call, Save, Put, Effect, Outcome, Does, Refuses, put_of, replies, if_loaded}
+use Rattle.sis_session.specs.Outcome.{MAX_BYTES, Call, Save, Put, Effect, Outcome, Does, Refuses, put_of, replies, if_loaded}
+use Rattle.sis_session.specs.Step.{Step, loads}
 use Rattle.sis_session.specs.declared.refusal.Next.{Next}
 use Rattle.sis_session.specs.declared.refusal.Next.TheVariants.{Go}
 use Rattle.sis_session.specs.declared.refusal.StepFault.{StepFault}
@@ -71,6 +75,44 @@ Answers loads may held files out (Err fault.SinkFault) held' files' out' =
     (held' ≡ held) × (files' ≡ files) × ((e : Effect) × may (Does e) × PutsPart e.call out out')
 Answers loads may held files out (Err fault.Memory) held' files' out' = IsSame held files out held' files' out'
 
+-- whether a call may fail in the store, and in the output
+abbrev pub IsSave : Call → Type 0
+IsSave (Save name bytes) = Unit {0}
+IsSave call = ⊥
+
+abbrev pub IsPut : Call → Type 0
+IsPut (Put reply) = Unit {0}
+IsPut call = ⊥
+
+-- What a command does to what is held, and why it does nothing, whatever becomes of files and output, and whether the
+-- outside tells them or not: there are files with which the command may end so.
+abbrev pub Moves : Op → Held → Result Next StepFault → Held → Type 0
+Moves op held (Ok onward) held' = (files : Files) × (e : Effect) × Step files held op (Does e) × (held' ≡ e.held) × (onward ≡ e.onward)
+Moves op held (Err (fault.Refused why)) held' = (held' ≡ held) × ((files : Files) × Step files held op (Refuses why))
+Moves op held (Err fault.StoreFault) held' =
+    (held' ≡ held) × (IsTrue (loads op) ⊎ ((files : Files) × (e : Effect) × Step files held op (Does e) × IsSave e.call))
+Moves op held (Err fault.SinkFault) held' = (held' ≡ held) × ((files : Files) × (e : Effect) × Step files held op (Does e) × IsPut e.call)
+Moves op held (Err fault.Memory) held' = held' ≡ held
+
+-- the same for a command that loads nothing and has one outcome
+abbrev pub MovesBy : Outcome → Held → Result Next StepFault → Held → Type 0
+MovesBy (Does e) held (Ok onward) held' = (held' ≡ e.held) × (onward ≡ e.onward)
+MovesBy (Does e) held (Err (fault.Refused why)) held' = ⊥
+MovesBy (Does e) held (Err fault.StoreFault) held' = (held' ≡ held) × IsSave e.call
+MovesBy (Does e) held (Err fault.SinkFault) held' = (held' ≡ held) × IsPut e.call
+MovesBy (Does e) held (Err fault.Memory) held' = held' ≡ held
+MovesBy (Refuses r) held (Err (fault.Refused why)) held' = (why ≡ r) × (held' ≡ held)
+MovesBy (Refuses r) held (Err fault.Memory) held' = held' ≡ held
+MovesBy (Refuses r) held answer held' = ⊥
+
+-- how a call ends: only one that saves fails in the store, and only one that puts in the output
+abbrev pub Calls : Call → Result Next StepFault → Type 0
+Calls call (Ok onward) = onward ≡ Go
+Calls call (Err (fault.Refused why)) = ⊥
+Calls call (Err fault.StoreFault) = IsSave call
+Calls call (Err fault.SinkFault) = IsPut call
+Calls call (Err fault.Memory) = Unit {0}
+
 -- the counts of the outside: a count rose where its object is named as failed, and stays else
 abbrev pub StoreFaults : {T : Type 0} → Result T StepFault → ℕ → ℕ → Type 0
 StoreFaults (Err fault.StoreFault) before now = Rose before now
@@ -106,6 +148,16 @@ IsLoaded name file (Ok bytes) = (used : List ℕ → Outcome) → if_loaded name
 IsLoaded name file (Err (fault.Refused r)) = (used : List ℕ → Outcome) → if_loaded name file used ≡ Refuses r
 IsLoaded name file (Err other) = Unit {0}
 
+-- what a load answers, whatever the outside tells: no more bytes than are read, or that the file is missing or too long
+abbrev pub MayLoad : List ℕ → Result (Vec ℕ) StepFault → Type 0
+MayLoad name (Ok bytes) = length bytes.items ≤ MAX_BYTES
+MayLoad name (Err (fault.Refused (refusal.Missing file))) = file ≡ name
+MayLoad name (Err (fault.Refused (refusal.TooLong file))) = file ≡ name
+MayLoad name (Err (fault.Refused other)) = ⊥
+MayLoad name (Err fault.StoreFault) = Unit {0}
+MayLoad name (Err fault.SinkFault) = ⊥
+MayLoad name (Err fault.Memory) = Unit {0}
+
 -- what a save and a put for a command leave
 abbrev pub SavesOr : Call → Files → Result Next StepFault → Files → Type 0
 SavesOr call old (Ok onward) new = (onward ≡ Go) × (new ≡ files_after call old)
@@ -124,6 +176,14 @@ abbrev pub HasRead : List ℕ → Held → Result (Unit {0}) ReadFault → Held 
 HasRead bytes old (Ok done) new = (circuit : Circuit) × (read_lines (entries_of bytes) ≡ Ok circuit) × (new ≡ just_read circuit)
 HasRead bytes old (Err (reading.Fault why)) new = (read_lines (entries_of bytes) ≡ Err why) × (new ≡ old)
 HasRead bytes old (Err reading.Memory) new = new ≡ old
+
+-- what the sweep of a copy makes of a network that is held
+abbrev pub IsSweptCopy : Option Circuit → Result Circuit StepFault → Type 0
+IsSweptCopy None (Ok new) = ⊥
+IsSweptCopy (Some circuit) (Ok new) = Chain sweep_step circuit new
+IsSweptCopy held (Err (fault.Refused why)) = (held ≡ None) × (why ≡ refusal.NoNetwork)
+IsSweptCopy held (Err fault.Memory) = Unit {0}
+IsSweptCopy held (Err other) = ⊥
 
 -- what an undo leaves: whether something was kept, and then the exchange
 abbrev pub Undoes : Option Circuit → Held → Bool → Held → Type 0

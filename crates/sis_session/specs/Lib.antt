@@ -1,5 +1,4 @@
 pub mod Answers
-pub mod Causes
 pub mod Outcome
 pub mod Replies
 pub mod State

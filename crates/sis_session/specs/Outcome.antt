@@ -1,7 +1,7 @@
 -- How one command ends: it is refused, or it is done with an effect.
 -- Source: the SIS manual (UCB/ERL M92/41), the commands one by one; the order of refusals is the project's own: a
 -- command's words, then the parts that it needs, then names, then the file that it loads, then what is read of it.
-use Rattle.std.specs.Prelude.{ℕ, Bool, Option, Some, None, Result, Ok, Err, List, [], ◌∷◌, length, nat_le, find, flat_map, map, bytes_eq, if◌then◌else◌}
+use Rattle.std.specs.Prelude.{◌≡◌, ℕ, Bool, Option, Some, None, Result, Ok, Err, List, [], ◌∷◌, length, nat_le, find, flat_map, map, bytes_eq, if◌then◌else◌}
 use Rattle.sis_base.specs.Written.{lines_text}
 use Rattle.sis_text.specs.Entries.{entries_of}
 use Rattle.circuit_model.specs.Text.{text_of, table_lines, latch_line}
@@ -9,8 +9,10 @@ use Rattle.circuit_model.specs.declared.circuit.Circuit.{Circuit}
 use Rattle.circuit_model.specs.declared.circuit.Table.{Table}
 use Rattle.blif_read.specs.Reader.{read_lines}
 use Rattle.blif_read.specs.declared.fault.BlifFault.{BlifFault}
+use Rattle.circuit_laws.specs.Chains.{Chain}
+use Rattle.sweep_rules.specs.Rules.{sweep_step}
 use Rattle.sis_session.specs.Replies.{stats_line, echo_line}
-use Rattle.sis_session.specs.State.{Held, just_read, exchanged}
+use Rattle.sis_session.specs.State.{Held, just_read, changed, exchanged}
 use Rattle.sis_session.specs.declared.refusal.Refusal.{Refusal}
 use Rattle.sis_session.specs.declared.refusal.Refusal.TheVariants as refusal
 use Rattle.sis_session.specs.declared.refusal.Next.{Next}
@@ -114,6 +116,13 @@ print_outcome held name (Some circuit) = tables_outcome held name circuit
 abbrev pub latch_outcome : Held → Option Circuit → Outcome
 latch_outcome held None = Refuses refusal.NoNetwork
 latch_outcome held (Some circuit) = Does (replies held (lines_text (map (latch_line circuit.timing) circuit.latches)))
+
+-- `sweep`: steps are taken until none applies; the circuit where they end becomes the network, and the one before it is
+-- kept
+abbrev pub SweepsTo : Held → Option Circuit → Outcome → Type 0
+SweepsTo held None outcome = outcome ≡ Refuses refusal.NoNetwork
+SweepsTo held (Some circuit) outcome =
+    (new : Circuit) × Chain sweep_step circuit new × (outcome ≡ Does (changes (changed circuit new)))
 
 -- `undo`: the network that is kept and the network change places
 abbrev pub undo_outcome : Held → Option Circuit → Outcome

@@ -30,12 +30,16 @@ stats_of circuit = record {
   dont_cares = length circuit.dont_care;
 }
 
--- how large a circuit is: inputs, outputs, tables, latches, literals, don't-care tables
-unfoldable pub stats_line : Circuit → List ℕ
-stats_line circuit =
-    circuit.name ++ (codes " pi=" ++ (decimal (length circuit.inputs) ++ (codes " po=" ++ (decimal (length circuit.outputs)
-    ++ (codes " nodes=" ++ (decimal (length circuit.tables) ++ (codes " latches=" ++ (decimal (length circuit.latches)
-    ++ (codes " lits=" ++ (decimal (literals_of circuit) ++ (codes " dc=" ++ (decimal (length circuit.dont_care) ++ codes "\n"))))))))))))
+-- a name and numbers: inputs, outputs, tables, latches, literals, don't-care tables
+unfoldable pub numbers_line : List ℕ → Stats → List ℕ
+numbers_line name stats =
+    name ++ (codes " pi=" ++ (decimal stats.inputs ++ (codes " po=" ++ (decimal stats.outputs
+    ++ (codes " nodes=" ++ (decimal stats.tables ++ (codes " latches=" ++ (decimal stats.latches
+    ++ (codes " lits=" ++ (decimal stats.lits ++ (codes " dc=" ++ (decimal stats.dont_cares ++ codes "\n"))))))))))))
+
+-- how large a circuit is, behind its name
+abbrev pub stats_line : Circuit → List ℕ
+stats_line circuit = numbers_line circuit.name (stats_of circuit)
 
 -- what is wrong with a line, what limit is passed, and what else is wrong with a file
 unfoldable pub line_fault_text : ℕ → List ℕ → List ℕ

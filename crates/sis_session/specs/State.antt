@@ -18,3 +18,7 @@ just_read circuit = record { network = Some circuit; kept = None }
 -- the network and the one that is kept change places
 abbrev pub exchanged : Held → Held
 exchanged held = record { network = held.kept; kept = held.network }
+
+-- a new network in place of an old one, which is kept
+abbrev pub changed : Circuit → Circuit → Held
+changed old new = record { network = Some new; kept = Some old }

@@ -3,9 +3,9 @@
 use Rattle.std.specs.Prelude.{◌≡◌, Bool, true, false}
 use Rattle.sis_outside.specs.Files.{Files, file_at}
 use Rattle.sis_script.specs.declared.command.Op.{Op}
-use Rattle.sis_script.specs.declared.command.Op.TheVariants.{Echo, Quit, ReadBlif, WriteBlif, PrintStats, Print, PrintLatch, Undo, Bad}
+use Rattle.sis_script.specs.declared.command.Op.TheVariants.{Echo, Quit, ReadBlif, WriteBlif, PrintStats, Print, PrintLatch, Sweep, Undo, Bad}
 use Rattle.sis_session.specs.State.{Held}
-use Rattle.sis_session.specs.Outcome.{Outcome, Refuses, echo_outcome, quit_outcome, read_outcome, write_outcome, stats_outcome, print_outcome, latch_outcome, undo_outcome}
+use Rattle.sis_session.specs.Outcome.{Outcome, Refuses, echo_outcome, quit_outcome, read_outcome, write_outcome, stats_outcome, print_outcome, latch_outcome, SweepsTo, undo_outcome}
 use Rattle.sis_session.specs.declared.refusal.Refusal.TheVariants as refusal
 
 -- where these files stand and this is held, the command may end so
@@ -17,6 +17,7 @@ Step files held (WriteBlif file) outcome = outcome ≡ write_outcome held file h
 Step files held PrintStats outcome = outcome ≡ stats_outcome held held.network
 Step files held (Print name) outcome = outcome ≡ print_outcome held name held.network
 Step files held PrintLatch outcome = outcome ≡ latch_outcome held held.network
+Step files held Sweep outcome = SweepsTo held held.network outcome
 Step files held Undo outcome = outcome ≡ undo_outcome held held.kept
 Step files held (Bad fault) outcome = outcome ≡ Refuses (refusal.Script fault)
 

@@ -1,10 +1,8 @@
 //! The calls that a step makes on the outside.
 
-ghost use Rattle.std.specs.Prelude.{◌≡◌, IsTrue, ℕ, None, false};
+ghost use Rattle.std.specs.Prelude.{◌≡◌, IsTrue, ℕ, false};
 ghost use Rattle.sis_outside.specs.Files.{Files, file_at};
-ghost use Rattle.sis_script.specs.declared.command.Op.TheVariants.{ReadBlif};
-ghost use Rattle.sis_session.specs.Answers.{Gives, IsLoaded, IsReply, SavesOr, PutsOr, StoreFaults, SinkFaults, StoreMisses};
-ghost use Rattle.sis_session.specs.Causes.{Judges, JudgesWholly, Refutes, refusal_in};
+ghost use Rattle.sis_session.specs.Answers.{Gives, MovesBy, Calls, MayLoad, IsLoaded, IsReply, SavesOr, PutsOr, StoreFaults, SinkFaults, StoreMisses};
 ghost use Rattle.sis_session.specs.Outcome.{Outcome, Save, put_of};
 ghost use Rattle.sis_session.specs.State.{Held};
 
@@ -22,8 +20,7 @@ pub fn load<S: Store>(alloc: Global, name: &str, store: &mut S) -> Result<Vec<u8
     ensures faults { StoreFaults result (S.faults store.old) (S.faults store.new) }
     ensures misses { StoreMisses result (S.misses store.old) (S.misses store.new) }
     ensures sink { SinkFaults result 0 0 }
-    ensures words { Judges None result }
-    ensures causes { Refutes (ReadBlif name.now) result }
+    ensures may { MayLoad name.now result }
 {
     match store.load(alloc, name, MAX_BYTES) {
         Ok(bytes) => Ok(bytes),
@@ -45,7 +42,7 @@ pub fn save<S: Store>(store: &mut S, name: &Word, bytes: &[u8]) -> Result<Next, 
     ensures faults { StoreFaults result (S.faults store.old) (S.faults store.new) }
     ensures misses { StoreMisses result (S.misses store.old) (S.misses store.new) }
     ensures sink { SinkFaults result 0 0 }
-    ensures words { JudgesWholly None result }
+    ensures calls { Calls (Save name.now bytes.now) result }
 {
     match store.save(name.text(), bytes) {
         Ok(()) => Ok(Next::Go),
@@ -61,7 +58,7 @@ pub fn put<O: Sink>(out: &mut O, reply: &[u8]) -> Result<Next, StepFault>
     ensures faults { SinkFaults result (O.faults out.old) (O.faults out.new) }
     ensures store { StoreFaults result 0 0 }
     ensures misses { StoreMisses result 0 0 }
-    ensures words { JudgesWholly None result }
+    ensures calls { Calls (put_of reply.now) result }
 {
     match reply {
         [] => Ok(Next::Go),
@@ -77,7 +74,7 @@ pub fn put<O: Sink>(out: &mut O, reply: &[u8]) -> Result<Next, StepFault>
 pub fn put_reply<O: Sink>(reply: Result<Vec<u8>, StepFault>, out: &mut O) -> Result<Next, StepFault>
     ensures tells { O.tells out.new ≡ O.tells out.old }
     ensures gives { (outcome : Outcome) (held : Held) (files : Files) → IsTrue (O.tells out.old) → IsReply outcome held reply → Gives false outcome held files (O.written out.old) result held files (O.written out.new) }
-    ensures words { (outcome : Outcome) (held : Held) → IsReply outcome held reply → JudgesWholly (refusal_in outcome) result }
+    ensures moves { (outcome : Outcome) (held : Held) → IsReply outcome held reply → MovesBy outcome held result held }
     ensures sink { (outcome : Outcome) (held : Held) → IsReply outcome held reply → SinkFaults result (O.faults out.old) (O.faults out.new) }
     ensures store { (outcome : Outcome) (held : Held) (count : ℕ) → IsReply outcome held reply → StoreFaults result count count × StoreMisses result count count }
 {

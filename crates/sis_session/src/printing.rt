@@ -1,15 +1,18 @@
 //! The replies of the commands that print.
 
 ghost use Rattle.std.specs.Prelude.{◌≡◌, ◌∷◌, find, bytes_eq, option_copied, IfSome};
-ghost use Rattle.circuit_model.specs.Counts.{IsWithinLimits};
+ghost use Rattle.net_core.specs.Reads.{HasBounds};
 ghost use Rattle.sis_session.specs.Answers.{IsReply};
 ghost use Rattle.sis_session.specs.Outcome.{echo_outcome, stats_outcome, print_outcome, latch_outcome, table_named};
+ghost use Rattle.sis_session.specs.Replies.{stats_of};
 ghost use Rattle.sis_session.specs.State.{Held};
 
 use crate::refusal::{Refusal, StepFault};
-use crate::texts::{echo_text, stats_text};
+use crate::texts::{Stats, echo_text, stats_text};
 use blif_write::{latches_text, table_text, tables_text};
-use circuit_model::{Circuit, Table};
+use circuit_model::Table;
+use cube_cover::PlainRow;
+use net_core::Network;
 use sis_base::Copied;
 use sis_script::{RawWord, RawWords};
 use std::alloc::Global;
@@ -21,13 +24,30 @@ pub fn echo(alloc: Global, words: &RawWords) -> Result<Vec<u8>, StepFault>
     Ok(echo_text(alloc, words.as_slice())?)
 }
 
+/// How large a network is; takes no memory.
+#[tactic(auto, unfolding(crate::specs::Replies::stats_of, net_core::specs::Reads::sizes_of))]
+pub fn stats_of(network: &Network<PlainRow>) -> Stats
+    requires { HasBounds network.now }
+    ensures { result ≡ stats_of network.now }
+{
+    let sizes = network.sizes();
+    Stats {
+        inputs: sizes.inputs,
+        outputs: sizes.outputs,
+        tables: sizes.tables,
+        latches: sizes.latches,
+        lits: network.lits(),
+        dont_cares: sizes.dont_cares,
+    }
+}
+
 /// What `print_stats` puts.
-pub fn print_stats(alloc: Global, network: &Option<Circuit>) -> Result<Vec<u8>, StepFault>
-    requires { IfSome network.now IsWithinLimits }
+pub fn print_stats(alloc: Global, network: &Option<Network<PlainRow>>) -> Result<Vec<u8>, StepFault>
+    requires { IfSome network.now HasBounds }
     ensures { (held : Held) → IsReply (stats_outcome held network.now) held result }
 {
     match network {
-        Some(circuit) => Ok(stats_text(alloc, circuit)?),
+        Some(network) => Ok(stats_text(alloc, network.name().as_slice(), stats_of(network))?),
         None => Err(StepFault::Refused(Refusal::NoNetwork)),
     }
 }
@@ -42,14 +62,15 @@ fn table_named<'a>(tables: &'a [Table], name: &[u8]) -> Option<&'a Table>
 /// What `print` puts.
 pub fn print(
     alloc: Global,
-    network: &Option<Circuit>,
+    network: &Option<Network<PlainRow>>,
     name: &Option<RawWord>,
 ) -> Result<Vec<u8>, StepFault>
     ensures { (held : Held) → IsReply (print_outcome held name.now network.now) held result }
 {
-    let Some(circuit) = network else {
+    let Some(network) = network else {
         return Err(StepFault::Refused(Refusal::NoNetwork));
     };
+    let circuit = network.to_circuit(alloc)?;
     let Some(wanted) = name else {
         return Ok(tables_text(alloc, circuit.tables.as_slice())?);
     };
@@ -60,11 +81,12 @@ pub fn print(
 }
 
 /// What `print_latch` puts.
-pub fn print_latch(alloc: Global, network: &Option<Circuit>) -> Result<Vec<u8>, StepFault>
+pub fn print_latch(alloc: Global, network: &Option<Network<PlainRow>>) -> Result<Vec<u8>, StepFault>
     ensures { (held : Held) → IsReply (latch_outcome held network.now) held result }
 {
-    match network {
-        Some(circuit) => Ok(latches_text(alloc, &circuit.timing, circuit.latches.as_slice())?),
-        None => Err(StepFault::Refused(Refusal::NoNetwork)),
-    }
+    let Some(network) = network else {
+        return Err(StepFault::Refused(Refusal::NoNetwork));
+    };
+    let circuit = network.to_circuit(alloc)?;
+    Ok(latches_text(alloc, &circuit.timing, circuit.latches.as_slice())?)
 }

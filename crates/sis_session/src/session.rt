@@ -3,23 +3,25 @@
 //! Every answer but `Ok` leaves the session as it was: the new parts are built beside the old ones, then the
 //! call on the outside is made, then the parts change places by moves.
 
-ghost use Rattle.std.specs.Prelude.{◌≡◌, ℕ, List, IsTrue, OnErr, false, true, None, option_map};
+ghost use Rattle.std.specs.Prelude.{◌≡◌, ℕ, List, IsTrue, IfOk, IfSome, OnErr, false, true, option_map};
 ghost use Rattle.sis_outside.specs.Files.{Files, file_at};
 ghost use Rattle.sis_script.specs.declared.command.Op.TheVariants.{ReadBlif};
-ghost use Rattle.sis_session.specs.Answers.{Answers, Gives, HasRead, Undoes, StoreFaults, SinkFaults, StoreMisses};
-ghost use Rattle.sis_session.specs.Causes.{Judges, JudgesWholly, judged, Refutes, refusal_in};
-ghost use Rattle.sis_session.specs.Outcome.{read_outcome, write_outcome, undo_outcome};
+ghost use Rattle.net_core.specs.Reads.{HasBounds};
+ghost use Rattle.sis_session.specs.Answers.{Answers, Gives, Moves, MovesBy, HasRead, IsSweptCopy, Undoes, StoreFaults, SinkFaults, StoreMisses};
+ghost use Rattle.sis_session.specs.Outcome.{read_outcome, write_outcome, SweepsTo, undo_outcome};
 ghost use Rattle.sis_session.specs.Replies.{stats_of};
 ghost use Rattle.sis_session.specs.State.{nothing_held};
 ghost use Rattle.sis_session.specs.Step.{Step, loads};
 
 use crate::outside::{load, put, put_reply, save};
-use crate::printing::{echo, print, print_latch, print_stats};
+use crate::printing::{echo, print, print_latch, print_stats, stats_of};
 use crate::refusal::{Next, Refusal, StepFault};
-use crate::texts::{Stats, stats_of};
+use crate::texts::Stats;
 use blif_read::{ReadFault, read};
 use blif_write::circuit_text;
-use circuit_model::Circuit;
+use cube_cover::PlainRow;
+use net_core::Network;
+use net_sweep::{SweepFault, sweep};
 use sis_outside::{Sink, Store};
 use sis_script::{Command, Op};
 use sis_text::Word;
@@ -30,24 +32,44 @@ use std::mem;
 /// The longest file and the longest script that is read, in bytes.
 pub const MAX_BYTES: usize = 67_108_864;
 
-/// What is held between two commands: the network, and the one before its last change; both keep the limits of what
-/// is read.
+/// What is held between two commands: the network, and the one before its last change; both keep the bounds in which
+/// literals are counted.
 #[derive(Drop)]
 pub struct Session {
-    network: Option<Circuit>,
-    kept: Option<Circuit>,
+    network: Option<Network<PlainRow>>,
+    kept: Option<Network<PlainRow>>,
 }
 
 impl Model for Session {
     ghost use Rattle.std.specs.Prelude.{IfSome};
-    ghost use Rattle.circuit_model.specs.Counts.{IsWithinLimits};
+    ghost use Rattle.net_core.specs.Reads.{HasBounds};
     ghost use Rattle.sis_session.specs.State.{Held};
 
     ghost Value = { Held };
 
     ghost view = { λ s. record { network = s.network; kept = s.kept } };
 
-    ghost invariant = { λ s. IfSome s.network IsWithinLimits × IfSome s.kept IsWithinLimits };
+    ghost invariant = { λ s. IfSome s.network HasBounds × IfSome s.kept HasBounds };
+}
+
+/// A copy of a network that is held, swept.
+#[tactic(auto, using(crate::proofs::Bounds::bounds_swept))]
+fn swept_copy(
+    alloc: Global,
+    held: &Option<Network<PlainRow>>,
+) -> Result<Network<PlainRow>, StepFault>
+    requires { IfSome held.now HasBounds }
+    ensures sweeps { IsSweptCopy held.now result }
+    ensures bounds { IfOk result HasBounds }
+{
+    let Some(network) = held else {
+        return Err(StepFault::Refused(Refusal::NoNetwork));
+    };
+    let mut swept = network.copy(alloc)?;
+    match sweep(alloc, &mut swept) {
+        Ok(_) => Ok(swept),
+        Err(SweepFault::Memory) => Err(StepFault::Memory),
+    }
 }
 
 impl Session {
@@ -62,11 +84,12 @@ impl Session {
     }
 
     /// Reads bytes as the network; after an error the session is as before.
+    #[tactic(auto, using(crate::proofs::Bounds::bounds_read))]
     pub fn read(&mut self, alloc: Global, bytes: &[u8]) -> Result<(), ReadFault>
         ensures { HasRead bytes.now self.old result self.new }
     {
         let circuit = read(alloc, bytes)?;
-        self.network = Some(circuit);
+        self.network = Some(Network::from_circuit(alloc, &circuit)?);
         self.kept = None;
         Ok(())
     }
@@ -76,7 +99,7 @@ impl Session {
         ensures { result ≡ option_map stats_of self.now.network }
     {
         match &self.network {
-            Some(circuit) => Some(stats_of(circuit)),
+            Some(network) => Some(stats_of(network)),
             None => None,
         }
     }
@@ -106,8 +129,7 @@ impl Session {
         ensures faults { StoreFaults result (S.faults store.old) (S.faults store.new) }
         ensures misses { StoreMisses result (S.misses store.old) (S.misses store.new) }
         ensures sink { (count : ℕ) → SinkFaults result count count }
-        ensures words { Judges None result }
-        ensures causes { Refutes (ReadBlif name.now) result }
+        ensures moves { Moves (ReadBlif name.now) self.old result self.new }
     {
         let bytes = load(alloc, name.text(), store)?;
         match self.read(alloc, bytes.as_slice()) {
@@ -134,17 +156,28 @@ impl Session {
         ensures store { StoreFaults result (S.faults store.old) (S.faults store.new) }
         ensures sink { SinkFaults result (O.faults out.old) (O.faults out.new) }
         ensures misses { StoreMisses result (S.misses store.old) (S.misses store.new) }
-        ensures words { JudgesWholly (refusal_in (write_outcome self.now file.now self.now.network)) result }
+        ensures moves { MovesBy (write_outcome self.now file.now self.now.network) self.now result self.now }
     {
         let Some(network) = &self.network else {
             return Err(StepFault::Refused(Refusal::NoNetwork));
         };
         let mut text = Vec::new(alloc);
-        circuit_text(alloc, network, &mut text)?;
+        circuit_text(alloc, &network.to_circuit(alloc)?, &mut text)?;
         match file {
             Some(name) => save(store, name, text.as_slice()),
             None => put(out, text.as_slice()),
         }
+    }
+
+    /// Sweeps the network, and keeps the one before for an undo.
+    fn sweep_network(&mut self, alloc: Global) -> Result<Next, StepFault>
+        ensures answers { (files : Files) (out : List ℕ) → Answers false (SweepsTo self.old self.old.network) self.old files out result self.new files out }
+        ensures err { OnErr result (self.new ≡ self.old) }
+        ensures counts { (count : ℕ) → StoreFaults result count count × (SinkFaults result count count × StoreMisses result count count) }
+    {
+        let swept = swept_copy(alloc, &self.network)?;
+        self.kept = mem::replace(&mut self.network, Some(swept));
+        Ok(Next::Go)
     }
 
     /// Takes the last change back, or is refused where there is none.
@@ -152,7 +185,6 @@ impl Session {
         ensures gives { (files : Files) (out : List ℕ) → Gives false (undo_outcome self.old self.old.kept) self.old files out result self.new files out }
         ensures err { OnErr result (self.new ≡ self.old) }
         ensures counts { (count : ℕ) → StoreFaults result count count × (SinkFaults result count count × StoreMisses result count count) }
-        ensures words { JudgesWholly (refusal_in (undo_outcome self.old self.old.kept)) result }
     {
         if self.undo() {
             Ok(Next::Go)
@@ -178,8 +210,7 @@ impl Session {
         ensures store { StoreFaults result (S.faults store.old) (S.faults store.new) }
         ensures sink { SinkFaults result (O.faults out.old) (O.faults out.new) }
         ensures misses { StoreMisses result (S.misses store.old) (S.misses store.new) }
-        ensures words { Judges (judged self.old command.now.op) result }
-        ensures causes { Refutes command.now.op result }
+        ensures moves { Moves command.now.op self.old result self.new }
     {
         match &command.op {
             Op::Echo(words) => put_reply(echo(alloc, words), out),
@@ -189,6 +220,7 @@ impl Session {
             Op::PrintStats => put_reply(print_stats(alloc, &self.network), out),
             Op::Print(name) => put_reply(print(alloc, &self.network, name), out),
             Op::PrintLatch => put_reply(print_latch(alloc, &self.network), out),
+            Op::Sweep => self.sweep_network(alloc),
             Op::Undo => self.undo_or_refuse(),
             Op::Bad(fault) => Err(StepFault::Refused(Refusal::Script(*fault))),
         }

@@ -1,88 +1,23 @@
 //! The texts that the program prints: replies, lines of refusals and of faults.
 
-ghost use Rattle.std.specs.Prelude.{◌≡◌, ◌<◌, ◌^◌, ◌++◌, length, flat_map, sum_by, codes, decimal, IfOk, OnOk};
+ghost use Rattle.std.specs.Prelude.{◌≡◌, ◌++◌, flat_map, codes, decimal, IfOk, OnOk};
 ghost use Rattle.sis_base.specs.Written.{spaced};
-ghost use Rattle.circuit_model.specs.Counts.{
-  IsWithinLimits,
-  is_literal,
-  literals_of,
-  literals_of_row,
-  literals_of_table,
-};
 ghost use Rattle.sis_session.specs.Replies.{
   blif_fault_text,
   echo_line,
   error_line,
+  numbers_line,
   refusal_line,
   refusal_text,
   script_fault_text,
-  stats_line,
-  stats_of,
 };
 
 use crate::fault_texts::{put_blif_fault, put_three};
 use crate::refusal::Refusal;
 use blif_read::BlifFault;
-use circuit_model::{Circuit, Row, Table, Tri};
 use sis_script::{RawWord, ScriptFault};
 use sis_text::Word;
 use std::alloc::{AllocError, Global};
-
-/// Whether a character of a row is a literal, which is no dash.
-fn is_literal(place: Tri) -> bool
-    ensures { result ≡ is_literal place }
-{
-    match place {
-        Tri::Zero | Tri::One => true,
-        Tri::Free => false,
-    }
-}
-
-/// The literals of a row.
-#[tactic(auto, unfolding(circuit_model::specs::Counts::literals_of_row))]
-fn row_literals(row: &[Tri]) -> u64
-    ensures { result ≡ literals_of_row row.now }
-{
-    row.iter().filter(|place| is_literal(**place)).count() as u64
-}
-
-/// The literals of rows.
-fn rows_literals(rows: &[Row]) -> u64
-    requires { sum_by literals_of_row rows.now < 2 ^ 64 }
-    ensures { result ≡ sum_by literals_of_row rows.now }
-{
-    rows.iter().map(|row| row_literals(row.as_slice())).sum()
-}
-
-/// The literals of a table.
-#[tactic(auto, unfolding(circuit_model::specs::Counts::literals_of_table))]
-fn table_literals(table: &Table) -> u64
-    requires { literals_of_table table.now < 2 ^ 64 }
-    ensures { result ≡ literals_of_table table.now }
-{
-    rows_literals(table.rows.as_slice())
-}
-
-/// The literals of tables.
-fn tables_literals(tables: &[Table]) -> u64
-    requires { sum_by literals_of_table tables.now < 2 ^ 64 }
-    ensures { result ≡ sum_by literals_of_table tables.now }
-{
-    let mut total = 0;
-    for table in tables {
-        total += table_literals(table);
-    }
-    total
-}
-
-/// The literals in all rows of all tables outside the don't-care part.
-#[tactic(auto, unfolding(circuit_model::specs::Counts::literals_of), using(crate::proofs::TextsLimits::literals_fit))]
-fn literals(circuit: &Circuit) -> u64
-    requires { IsWithinLimits circuit.now }
-    ensures { result ≡ literals_of circuit.now }
-{
-    tables_literals(circuit.tables.as_slice())
-}
 
 /// How large a network is, in numbers.
 #[derive(Clone, Copy, Debug, PartialEq, Eq)]
@@ -92,25 +27,9 @@ pub struct Stats {
     pub tables: usize,
     pub latches: usize,
     /// The literals of all tables outside the don't-care part.
-    pub lits: u64,
+    pub lits: u128,
     /// The tables of the don't-care part.
     pub dont_cares: usize,
-}
-
-/// How large a circuit is.
-#[tactic(auto, unfolding(crate::specs::Replies::stats_of))]
-pub fn stats_of(circuit: &Circuit) -> Stats
-    requires { IsWithinLimits circuit.now }
-    ensures { result ≡ stats_of circuit.now }
-{
-    Stats {
-        inputs: circuit.inputs.len(),
-        outputs: circuit.outputs.len(),
-        tables: circuit.tables.len(),
-        latches: circuit.latches.len(),
-        lits: literals(circuit),
-        dont_cares: circuit.dont_care.len(),
-    }
 }
 
 /// Words as a line, with one blank between; an error only for want of memory.
@@ -141,7 +60,7 @@ fn put_spaced(out: &mut Vec<u8>, words: &[RawWord]) -> Result<(), AllocError>
 
 /// Puts a label and a number.
 #[tactic(auto, using(std::proofs::lemmas::Grind::common_steps))]
-fn put_count(out: &mut Vec<u8>, alloc: Global, label: &[u8], number: u64) -> Result<(), AllocError>
+fn put_count(out: &mut Vec<u8>, alloc: Global, label: &[u8], number: u128) -> Result<(), AllocError>
     ensures { OnOk result (out.new.items ≡ out.old.items ++ (label.now ++ decimal number)) }
 {
     let text = format!(in alloc; "{number}")?;
@@ -150,55 +69,38 @@ fn put_count(out: &mut Vec<u8>, alloc: Global, label: &[u8], number: u64) -> Res
     Ok(())
 }
 
-/// Puts the counts of the ports and the tables.
+/// Puts the numbers of the ports and the tables.
 #[tactic(auto, using(std::proofs::lemmas::Grind::common_steps))]
-fn put_first_counts(out: &mut Vec<u8>, alloc: Global, circuit: &Circuit) -> Result<(), AllocError>
-    ensures { OnOk result (out.new.items ≡ out.old.items ++ (codes " pi=" ++ (decimal (length circuit.now.inputs) ++ (codes " po=" ++ (decimal (length circuit.now.outputs) ++ (codes " nodes=" ++ decimal (length circuit.now.tables))))))) }
+fn put_first_counts(out: &mut Vec<u8>, alloc: Global, stats: Stats) -> Result<(), AllocError>
+    ensures { OnOk result (out.new.items ≡ out.old.items ++ (codes " pi=" ++ (decimal stats.inputs ++ (codes " po=" ++ (decimal stats.outputs ++ (codes " nodes=" ++ decimal stats.tables)))))) }
 {
-    put_count(out, alloc, b" pi=".as_slice(), circuit.inputs.len() as u64)?;
-    put_count(out, alloc, b" po=".as_slice(), circuit.outputs.len() as u64)?;
-    put_count(
-        out,
-        alloc,
-        b" nodes=".as_slice(),
-        circuit.tables.len() as u64,
-    )?;
+    put_count(out, alloc, b" pi=".as_slice(), stats.inputs as u128)?;
+    put_count(out, alloc, b" po=".as_slice(), stats.outputs as u128)?;
+    put_count(out, alloc, b" nodes=".as_slice(), stats.tables as u128)?;
     Ok(())
 }
 
-/// Puts the counts of the latches, the literals and the don't-care tables.
+/// Puts the numbers of the latches, the literals and the don't-care tables.
 #[tactic(auto, using(std::proofs::lemmas::Grind::common_steps))]
-fn put_last_counts(out: &mut Vec<u8>, alloc: Global, circuit: &Circuit) -> Result<(), AllocError>
-    requires { IsWithinLimits circuit.now }
-    ensures { OnOk result (out.new.items ≡ out.old.items ++ (codes " latches=" ++ (decimal (length circuit.now.latches) ++ (codes " lits=" ++ (decimal (literals_of circuit.now) ++ (codes " dc=" ++ decimal (length circuit.now.dont_care))))))) }
+fn put_last_counts(out: &mut Vec<u8>, alloc: Global, stats: Stats) -> Result<(), AllocError>
+    ensures { OnOk result (out.new.items ≡ out.old.items ++ (codes " latches=" ++ (decimal stats.latches ++ (codes " lits=" ++ (decimal stats.lits ++ (codes " dc=" ++ decimal stats.dont_cares)))))) }
 {
-    put_count(
-        out,
-        alloc,
-        b" latches=".as_slice(),
-        circuit.latches.len() as u64,
-    )?;
-    put_count(out, alloc, b" lits=".as_slice(), literals(circuit))?;
-    put_count(
-        out,
-        alloc,
-        b" dc=".as_slice(),
-        circuit.dont_care.len() as u64,
-    )?;
+    put_count(out, alloc, b" latches=".as_slice(), stats.latches as u128)?;
+    put_count(out, alloc, b" lits=".as_slice(), stats.lits)?;
+    put_count(out, alloc, b" dc=".as_slice(), stats.dont_cares as u128)?;
     Ok(())
 }
 
-/// How large a circuit is, as a line: its name, inputs, outputs, tables, latches, literals, don't-care tables.
-/// An error only for want of memory.
-#[tactic(auto, unfolding(crate::specs::Replies::stats_line), using(std::proofs::lemmas::Grind::common_steps))]
-pub fn stats_text(alloc: Global, circuit: &Circuit) -> Result<Vec<u8>, AllocError>
-    requires { IsWithinLimits circuit.now }
-    ensures { IfOk result (λ text. text.items ≡ stats_line circuit.now) }
+/// A name and how large its network is, as a line: inputs, outputs, tables, latches, literals, don't-care tables. An
+/// error only for want of memory.
+#[tactic(auto, unfolding(crate::specs::Replies::numbers_line), using(std::proofs::lemmas::Grind::common_steps))]
+pub fn stats_text(alloc: Global, name: &[u8], stats: Stats) -> Result<Vec<u8>, AllocError>
+    ensures { IfOk result (λ text. text.items ≡ numbers_line name.now stats) }
 {
     let mut text = Vec::new(alloc);
-    text.extend_from_slice(circuit.name.as_slice())?;
-    put_first_counts(&mut text, alloc, circuit)?;
-    put_last_counts(&mut text, alloc, circuit)?;
+    text.extend_from_slice(name)?;
+    put_first_counts(&mut text, alloc, stats)?;
+    put_last_counts(&mut text, alloc, stats)?;
     text.push(10)?;
     Ok(text)
 }

@@ -8,8 +8,7 @@ use Rattle.sis_session.specs.State.{Held}
 use Rattle.sis_session.specs.Step.{Step, loads}
 use Rattle.sis_session.specs.Outcome.{Effect, Outcome, Does, Refuses}
 use Rattle.sis_top.specs.Run.{Place, Machine, Stands, place_after, place_refused, todo_after, is_missing}
-use Rattle.sis_top.specs.Running.{Advanced, Tells, is_refusal, turn_by, left_after}
-use Rattle.sis_top.specs.Headline.{IsMissed}
+use Rattle.sis_top.specs.Running.{Advanced, MayAdvanced, Tells, is_refusal, turn_by, left_after}
 use Rattle.sis_session.specs.Replies.{refusal_line}
 use Rattle.sis_script.specs.declared.command.Op.{Op}
 use Rattle.sis_session.specs.declared.refusal.Next.{Next}
@@ -156,14 +155,47 @@ pub advanced_unheld : (goes_on : Bool) (place : Place) (command : Command) (held
 advanced_unheld goes_on place command held files out err held' files' out' misses misses' s h =
     (place, (s.0 ∙ sym h.0, s.1 ∙ sym h.1, s.2 ∙ sym h.2, s.3), λ rest. refl)
 
--- the cause of a refusal, with what the count of misses tells
-pub refusal_cause : (reason : Refusal) (misses misses' : ℕ) → StoreMisses {T = Next} (Err (fault.Refused reason)) misses misses'
-    → IsMissed misses misses' reason
-refusal_cause (refusal.Missing name) misses misses' h = h
-refusal_cause (refusal.Script why) misses misses' h = tt
-refusal_cause refusal.NoNetwork misses misses' h = tt
-refusal_cause refusal.NothingToUndo misses misses' h = tt
-refusal_cause (refusal.NoSignal name) misses misses' h = tt
-refusal_cause (refusal.TooLong name) misses misses' h = tt
-refusal_cause (refusal.Blif name why) misses misses' h = tt
-refusal_cause refusal.LongScript misses misses' h = tt
+-- what one step leaves, whatever files stood then
+pub may_done : (goes_on : Bool) (place : Place) (command : Command) (onward : Next) (turned : Turn) (held held' : Held) (misses misses' : ℕ)
+    → place.held ≡ held
+    → (files : Files) × (e : Effect) × Step files held command.op (Does e) × (held' ≡ e.held) × (onward ≡ e.onward)
+    → turned ≡ turn_by onward
+    → MayAdvanced goes_on command place (Ok turned) held' misses misses'
+may_done goes_on place command onward turned held held' misses misses' s h t =
+    subst (λ (b : Turn). MayAdvanced goes_on command place (Ok b) held' misses misses') (sym t) done
+  where
+    done : MayAdvanced goes_on command place (Ok (turn_by onward)) held' misses misses'
+    done = let (files, e, step, left, next) = h in (
+      place_after e (record place { files = files }),
+      sym left,
+      turn_unrefused place.refused onward,
+      (λ t. inl t),
+      λ rest. (
+        files,
+        (
+          Does e,
+          subst (λ x. Step files x command.op (Does e)) (sym s) step,
+          ap (λ (todo : List Command). let m : Machine = record { place = place_after e (record place { files = files }); todo = todo } in m)
+              (todo_same goes_on onward rest ∙ ap (λ (n : Next). todo_after n rest) next),
+        ),
+      ),
+    )
+
+pub may_refuse : (goes_on : Bool) (place : Place) (command : Command) (reason : Refusal) (held held' : Held) (misses misses' : ℕ)
+    → place.held ≡ held
+    → (held' ≡ held) × ((files : Files) × Step files held command.op (Refuses reason))
+    → StoreMisses {T = Next} (Err (fault.Refused reason)) misses misses'
+    → MayAdvanced goes_on command place (Ok turn.Refused) held' misses misses'
+may_refuse goes_on place command reason held held' misses misses' s h m =
+    let (left, some) = h in
+    let (files, step) = some in (
+      place_refused command.line reason (record place { files = files }),
+      s ∙ sym left,
+      or-true place.refused,
+      (λ t. pick (either place.missed (is_missing reason) t)),
+      λ rest. (files, (Refuses reason, subst (λ x. Step files x command.op (Refuses reason)) (sym s) step, refl)),
+    )
+  where
+    pick : IsTrue place.missed ⊎ IsTrue (is_missing reason) → IsTrue place.missed ⊎ Rose misses misses'
+    pick (inl p) = inl p
+    pick (inr p) = inr (missed_rose Next reason misses misses' m p)

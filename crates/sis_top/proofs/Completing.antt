@@ -5,21 +5,20 @@ use Rattle.std.specs.Prelude.{◌⊎◌, Option, Some, None, Ok, if◌then◌els
 use Rattle.sis_text.specs.Entries.{entries_of}
 use Rattle.sis_outside.specs.Files.{Files, file_at}
 use Rattle.circuit_model.specs.declared.circuit.Circuit.{Circuit}
-use Rattle.circuit_model.specs.declared.circuit.Table.{Table}
 use Rattle.blif_read.specs.Reader.{read_lines}
 use Rattle.sis_words.specs.Asked.{TheOptions}
 use Rattle.sis_script.specs.declared.command.Op.{Op}
-use Rattle.sis_script.specs.declared.command.Op.TheVariants.{Echo, Quit, ReadBlif, WriteBlif, PrintStats, Print, PrintLatch, Undo, Bad}
+use Rattle.sis_script.specs.declared.command.Op.TheVariants.{Echo, Quit, ReadBlif, WriteBlif, PrintStats, Print, PrintLatch, Sweep, Undo, Bad}
 use Rattle.sis_script.specs.declared.command.Command.{Command}
 use Rattle.sis_session.specs.State.{Held}
-use Rattle.sis_session.specs.Outcome.{MAX_BYTES, Outcome, Does, Refuses, takes, read_by, read_outcome, stats_outcome, print_outcome, named_outcome, latch_outcome, undo_outcome, write_outcome, table_named}
+use Rattle.sis_session.specs.Outcome.{MAX_BYTES, Outcome, Does, Refuses, takes, read_by, read_outcome, stats_outcome, print_outcome, named_outcome, latch_outcome, SweepsTo, undo_outcome, write_outcome, table_named}
 use Rattle.sis_session.specs.Step.{Step}
 use Rattle.sis_session.specs.declared.refusal.Refusal.{Refusal}
 use Rattle.sis_session.specs.declared.refusal.Refusal.TheVariants as refusal
-use Rattle.sis_top.specs.Run.{Place, Machine, AdvancesBy, Reaches, Runs, after, start}
-use Rattle.sis_top.specs.Source.{Seen, Given, Gives, Denies, given, behind, script_commands}
-use Rattle.sis_top.specs.Headline.{Counts, HasFailed, NoneRose, EndsCut, EndsAt, EndsBy, was_unread, was_denied, was_run, Ends, Completes, IsRefused, HasRefusal, as_whole, at_command, MayBeRefused, MeetsRefusal, AreServed, IsServed, NextIsServed, HasNetwork, HasTable, begun}
-use Rattle.sis_top.proofs.Goings.{reaches_more, reaches_itself}
+use Rattle.sis_top.specs.Run.{Place, Machine, Advances, AdvancesBy, Reaches, Runs, after, start}
+use Rattle.sis_top.specs.Source.{Seen, Gives, Denies, script_commands}
+use Rattle.sis_top.specs.Headline.{Counts, NoneRose, EndsCut, EndsAt, EndsBy, was_unread, was_denied, was_run, Ends, Completes, IsRefused, HasRefusal, as_whole, at_command, MayBeRefused, MeetsRefusal, AreServed, IsServed, NextIsServed, HasNetwork, HasTable, begun}
+use Rattle.sis_top.proofs.Goings.{comes_more, comes_itself}
 use Rattle.sis_top.specs.declared.running.Failed.{Failed}
 use Rattle.sis_top.specs.declared.status.Status.{Status}
 use Rattle.sis_top.specs.declared.status.Status.TheVariants.{Done, Refused, Usage, Fault, Memory}
@@ -40,7 +39,7 @@ refused_here : (goes_on : Bool) (from machine next : Machine) → Reaches goes_o
 refused_here goes_on from machine next reaches later (inl may) = record { machine = machine; reached = reaches; refused = may }
 refused_here goes_on from machine next reaches later (inr still) = later still
 
-meets : (goes_on : Bool) (from : Machine) (count : ℕ) (machine to : Machine) → Reaches goes_on from machine → Runs goes_on count machine to
+meets : (goes_on : Bool) (from : Machine) (count : ℕ) (machine to : Machine) → Reaches goes_on from machine → Runs (Advances goes_on) count machine to
     → machine.place.refused ≡ false → to.place.refused ≡ true → MeetsRefusal goes_on from
 unfolding Runs
 meets goes_on from zero machine to reaches same unrefused turned =
@@ -48,13 +47,13 @@ meets goes_on from zero machine to reaches same unrefused turned =
 meets goes_on from (suc count) machine to reaches h unrefused turned =
     let (next, step, rest) = h in
     refused_here goes_on from machine next reaches
-    (λ still. meets goes_on from count next to (reaches_more goes_on from machine next reaches step) rest still turned)
+    (λ still. meets goes_on from count next to (comes_more (Advances goes_on) from machine next reaches step) rest still turned)
     (refused_or_not goes_on machine.place machine.todo next step unrefused)
 
 pub meets_refusal : (goes_on : Bool) (commands : List Command) (files : Files) (out err : List ℕ) (machine : Machine)
     → Reaches goes_on (start commands files out err) machine → machine.place.refused ≡ true → MeetsRefusal goes_on (start commands files out err)
 meets_refusal goes_on commands files out err machine h e =
-    meets goes_on (start commands files out err) h.count (start commands files out err) machine (reaches_itself goes_on (start commands files out err)) h.runs refl e
+    meets goes_on (start commands files out err) h.count (start commands files out err) machine (comes_itself (Advances goes_on) (start commands files out err)) h.runs refl e
 
 -- a command that is served is not refused
 read_served : (name : List ℕ) (file : Option (List ℕ)) (bytes : List ℕ) (circuit : Circuit) (why : Refusal) → file ≡ Some bytes → length bytes ≤ MAX_BYTES
@@ -85,6 +84,10 @@ latch_served : (held : Held) (network : Option Circuit) (why : Refusal) → HasN
 latch_served held None why s h = let e = s.1 in cc
 latch_served held (Some circuit) why s h = cc
 
+sweep_served : (held : Held) (network : Option Circuit) (why : Refusal) → HasNetwork network → SweepsTo held network (Refuses why) → ⊥
+sweep_served held None why s h = let e = s.1 in cc
+sweep_served held (Some circuit) why s h = let (new, chain, is) = h in cc
+
 undo_served : (held : Held) (kept : Option Circuit) (why : Refusal) → HasNetwork kept → Refuses why ≡ undo_outcome held kept → ⊥
 undo_served held None why s h = let e = s.1 in cc
 undo_served held (Some circuit) why s h = cc
@@ -103,6 +106,7 @@ served place PrintStats why s h = stats_served place.held place.held.network why
 served place (Print None) why s h = all_served place.held place.held.network why s h
 served place (Print (Some name)) why s h = named_served place.held name place.held.network why s h
 served place PrintLatch why s h = latch_served place.held place.held.network why s h
+served place Sweep why s h = sweep_served place.held place.held.network why s h
 served place Undo why s h = undo_served place.held place.held.kept why s h
 served place (Bad fault) why s h = absurd s
 

@@ -1,21 +1,25 @@
 -- The end of a call, from what the code of the run and of the last line answers.
-use Rattle.std.proofs.Common.{◌≡◌, ℕ, ◌≤◌, ◌<◌, ◌+◌, Bool, true, false, List, ◌++◌, length, drop, take, refl, sym, ap, subst, ◌∙◌, inl, inr, arith}
+use Rattle.std.proofs.Common.{◌≡◌, ℕ, zero, suc, ◌≤◌, ◌<◌, Bool, true, false, List, [], ◌∷◌, ◌++◌, length, take, refl, sym, ap, subst, ◌∙◌, inl, inr, arith, cond}
 use Rattle.std.proofs.lemmas.Bool.{le-leb, leb-true}
-use Rattle.std.specs.Prelude.{◌⊎◌, IsTrue, Option, Some, None, Result, Ok, Err, nat_le, if◌then◌else◌}
+use Rattle.std.specs.Prelude.{IsTrue, Option, Some, None, Result, Ok, Err, nat_le, if◌then◌else◌}
 use Rattle.sis_outside.specs.Counts.{Rose}
-use Rattle.sis_outside.specs.Files.{Files}
+use Rattle.std.specs.FinMap.{empty, get-empty, get-insert}
+use Rattle.std.proofs.lemmas.Cmp.{nat_list_cmp_total, eq_by_cmp_equiv}
+use Rattle.sis_outside.specs.Files.{Files, file_at, with_file}
 use Rattle.sis_words.specs.Asked.{TheOptions, TheScript, InFile, AsText, OnInput}
 use Rattle.sis_session.specs.Outcome.{MAX_BYTES, Outcome, Does, Refuses, changes, if_loaded}
+use Rattle.sis_session.specs.Answers.{MayLoad}
 use Rattle.sis_session.specs.State.{nothing_held}
-use Rattle.sis_session.specs.Outcome.{Call, Save}
+use Rattle.sis_session.specs.declared.refusal.StepFault.TheVariants as fault
+use Rattle.sis_session.specs.Outcome.{Save}
 use Rattle.sis_session.specs.Replies.{refusal_line}
 use Rattle.sis_session.specs.declared.refusal.Refusal.{Refusal}
 use Rattle.sis_session.specs.declared.refusal.Refusal.TheVariants as refusal
 use Rattle.sis_script.specs.declared.command.Command.{Command}
 use Rattle.sis_top.specs.Run.{Place, Machine, Reaches, Cuts, IsNextLine, is_missing, start}
-use Rattle.sis_top.specs.Source.{Seen, Given, Gives, Denies, given, given_by, within, behind, IsUnread, script_commands}
-use Rattle.sis_top.specs.Running.{Ran, Tells, StoreRun, InputRun, OutRun, ErrRun, EndLine, SaysOn, Failing, EndsRun, IsCausedRun, IsCut, IsDenied, IsUsage, UsageLine}
-use Rattle.sis_top.specs.Headline.{Counts, HasFailed, seen, said, Says, EndsCut, EndsAt, EndsBy, was_unread, was_denied, was_run, Ends, EndsUnused, EndsDenied, LineCut, MayFail, CanRefuse, HasCause, IsCaused, begun, failure_line, usage_line}
+use Rattle.sis_top.specs.Source.{Seen, Gives, Denies, given, given_by, within, behind, IsUnread, script_commands}
+use Rattle.sis_top.specs.Running.{Ran, Tells, StoreRun, InputRun, OutRun, ErrRun, EndLine, SaysOn, Failing, EndsRun, MayRan, MayRunOut, IsCausedRun, IsCut, IsDenied}
+use Rattle.sis_top.specs.Headline.{Counts, HasFailed, seen, said, Says, EndsCut, EndsAt, EndsBy, was_unread, was_denied, was_run, Ends, EndsDenied, LineCut, MayFail, MayEnd, IsCaused, begun}
 use Rattle.sis_top.proofs.Goings.{rose_then, then_rose}
 use Rattle.sis_top.specs.declared.running.Failed.{Failed}
 use Rattle.sis_top.specs.declared.running.Failed.TheVariants as failed
@@ -93,15 +97,15 @@ pub ends_done : (counts : Counts) (goes_on : Bool) (text left : List ℕ) (befor
     → before.left ≡ left → Ran goes_on (begun text before) (Ok false) files out err misses misses'
     → EndsRun counts goes_on text before Done (record { files = files; left = left; out = out; err = err })
 ends_done counts goes_on text left before files out err misses misses' l h =
-    let (machine, reaches, todo, refused, p, q, r, missed) = h in
-    inl (machine, (reaches, todo, refused, sym (seen_by left _ _ _ _ _ _ p q r) ∙ ap (λ x. seen x machine.place) (sym l)))
+    let (machine, reaches, todo, refused, shows, missed) = h in
+    inl (machine, (reaches, todo, refused, sym (seen_by left _ _ _ _ _ _ shows.0 shows.1 shows.2) ∙ ap (λ x. seen x machine.place) (sym l)))
 
 pub ends_refused : (counts : Counts) (goes_on : Bool) (text left : List ℕ) (before : Seen) (files : Files) (out err : List ℕ)
     → before.left ≡ left → Ran goes_on (begun text before) (Ok true) files out err counts.misses counts.misses_after
     → EndsRun counts goes_on text before Refused (record { files = files; left = left; out = out; err = err })
 ends_refused counts goes_on text left before files out err l h =
-    let (machine, reaches, todo, refused, p, q, r, missed) = h in
-    inl (machine, (reaches, todo, refused, sym (seen_by left _ _ _ _ _ _ p q r) ∙ ap (λ x. seen x machine.place) (sym l), missed))
+    let (machine, reaches, todo, refused, shows, missed) = h in
+    inl (machine, (reaches, todo, refused, sym (seen_by left _ _ _ _ _ _ shows.0 shows.1 shows.2) ∙ ap (λ x. seen x machine.place) (sym l), missed))
 
 pub ends_cut : (counts : Counts) (goes_on : Bool) (text left : List ℕ) (before : Seen) (what : Failed) (line : ℕ) (status : Status)
     (files : Files) (out err err' : List ℕ) (misses misses' low : ℕ)
@@ -194,6 +198,13 @@ by_run counts options text before stands end status is same may some (inr h) = w
 pub is_within : (text : List ℕ) (why : Refusal) → length text ≤ MAX_BYTES → within text why ≡ Gives text
 is_within text why short = let fits = le-leb (length text) MAX_BYTES short in rw fits refl
 
+pub is_past : (text : List ℕ) (why : Refusal) → MAX_BYTES < length text → within text why ≡ Denies why
+is_past text why long = by_test (nat_le (length text) MAX_BYTES) refl
+  where
+    by_test : (b : Bool) → nat_le (length text) MAX_BYTES ≡ b → within text why ≡ Denies why
+    by_test true e = absurd (let le = leb-true (length text) MAX_BYTES e in omega (arith, le, long))
+    by_test false e = rw e refl
+
 -- the script of a file that was loaded, or not
 pub file_given : (name : List ℕ) (file : Option (List ℕ)) (text : List ℕ)
     → ((used : List ℕ → Outcome) → if_loaded name file used ≡ used text) → given_by name file ≡ Gives text
@@ -265,51 +276,88 @@ ran_for goes_on commands text before answer files' out' err' misses misses' e h 
     subst (λ (c : List Command). Ran goes_on (start c before.files before.out before.err) answer files' out' err' misses misses') e h
 
 -- the cause of a call that was cut short
-pub caused_run : (counts : Counts) (text : List ℕ) (status : Status) (what : Failed) → IsCut status what → Failing counts what → IsCausedRun counts text status
-caused_run counts text Done what c f = absurd c
-caused_run counts text Refused what c f = absurd c
-caused_run counts text Usage what c f = absurd c
-caused_run counts text Fault what c f = (what, cut_cause counts what c f)
-caused_run counts text Memory what c f = tt
+pub caused_run : (counts : Counts) (goes_on : Bool) (text : List ℕ) (status : Status) (what : Failed) → IsCut status what → Failing counts what
+    → IsCausedRun counts goes_on text status
+caused_run counts goes_on text Done what c f = absurd c
+caused_run counts goes_on text Refused what c f = absurd c
+caused_run counts goes_on text Usage what c f = absurd c
+caused_run counts goes_on text Fault what c f = (what, cut_cause counts what c f)
+caused_run counts goes_on text Memory what c f = tt
 
-pub caused_cut : (counts : Counts) (options : TheOptions) (status : Status) (what : Failed) → IsCut status what → Failing counts what → IsCaused counts (Some options) status
-caused_cut counts options Done what c f = absurd c
-caused_cut counts options Refused what c f = absurd c
-caused_cut counts options Usage what c f = absurd c
-caused_cut counts options Fault what c f = (what, cut_cause counts what c f)
-caused_cut counts options Memory what c f = tt
+-- a run that came to its end may have run so, from whatever is seen before it
+pub may_run_out : (counts : Counts) (goes_on : Bool) (commands : List Command) (text : List ℕ) (refused : Bool) (misses misses' : ℕ)
+    → commands ≡ script_commands text → counts.misses ≡ misses → counts.misses_after ≡ misses'
+    → ((files : Files) (out err : List ℕ) → MayRan goes_on (start commands files out err) (Ok refused) misses misses')
+    → MayRunOut counts goes_on text refused
+may_run_out counts goes_on commands text refused misses misses' e m m' h before =
+    subst (λ n. MayRan goes_on (begun text before) (Ok refused) counts.misses n) (sym m')
+    (subst (λ n. MayRan goes_on (begun text before) (Ok refused) n misses') (sym m)
+    (subst (λ (c : List Command). MayRan goes_on (start c before.files before.out before.err) (Ok refused) misses misses') e
+    (h before.files before.out before.err)))
+
+may_end : (counts : Counts) (options : TheOptions) (text : List ℕ) (before : Seen) (refused : Bool) → given options.script before ≡ Gives text
+    → MayRunOut counts options.keep text refused → MayEnd counts options refused
+may_end counts options text before refused is h =
+    let (machine, reached, ended, refusal, shows, missed) = h before in
+    record { before = before; text = text; gives = is; machine = machine; reached = reached; ended = ended; refusal = refusal; missed = missed }
 
 -- the cause of a run is that of its call
-pub caused_by_run : (counts : Counts) (options : TheOptions) (text : List ℕ) (status : Status)
-    → (CanRefuse counts.misses counts.misses_after (script_commands text) → HasCause counts options.script)
-    → IsCausedRun counts text status → IsCaused counts (Some options) status
-caused_by_run counts options text Done may h = h
-caused_by_run counts options text Refused may h = (h.0, may h.1)
-caused_by_run counts options text Usage may h = absurd h
-caused_by_run counts options text Fault may h = h
-caused_by_run counts options text Memory may h = tt
+pub caused_by_run : (counts : Counts) (options : TheOptions) (text : List ℕ) (before : Seen) (status : Status)
+    → given options.script before ≡ Gives text → IsCausedRun counts options.keep text status → IsCaused counts (Some options) status
+caused_by_run counts options text before Done is h = (h.0, may_end counts options text before false is h.1)
+caused_by_run counts options text before Refused is h = (h.0, inr (may_end counts options text before true is h.1))
+caused_by_run counts options text before Usage is h = absurd h
+caused_by_run counts options text before Fault is h = h
+caused_by_run counts options text before Memory is h = tt
 
 -- the cause of a script that is refused as a whole
-pub caused_denied : (counts : Counts) (options : TheOptions) (status : Status) → counts.store_after ≡ counts.store → counts.input_after ≡ counts.input
-    → counts.out_after ≡ counts.out → HasCause counts options.script → IsDenied status counts.err counts.err_after → IsCaused counts (Some options) status
-caused_denied counts options Done s i o may h = absurd h
-caused_denied counts options Refused s i o may h = ((s, i, o, h), may)
-caused_denied counts options Usage s i o may h = absurd h
-caused_denied counts options Fault s i o may h = (failed.Err, h)
-caused_denied counts options Memory s i o may h = tt
+pub caused_denied : (counts : Counts) (options : TheOptions) (status : Status) (why : Refusal) (before : Seen)
+    → counts.store_after ≡ counts.store → counts.input_after ≡ counts.input → counts.out_after ≡ counts.out
+    → given options.script before ≡ Denies why → (IsTrue (is_missing why) → Rose counts.misses counts.misses_after)
+    → IsDenied status counts.err counts.err_after → IsCaused counts (Some options) status
+caused_denied counts options Done why before s i o is m h = absurd h
+caused_denied counts options Refused why before s i o is m h = ((s, i, o, h), inl (record { before = before; why = why; denies = is; missed = m }))
+caused_denied counts options Usage why before s i o is m h = absurd h
+caused_denied counts options Fault why before s i o is m h = (failed.Err, h)
+caused_denied counts options Memory why before s i o is m h = tt
+
+-- there is a longer script than each
+pub longer : (n : ℕ) → (bytes : List ℕ) × (n < length bytes)
+longer zero = (0 ∷ [], omega arith)
+longer (suc n) = let (bytes, more) = longer n in (0 ∷ bytes, omega (arith, more))
+
+-- a file of a name may hold these bytes, and may be refused so
+with_itself : (name bytes : List ℕ) → file_at (with_file empty name bytes) name ≡ Some bytes
+with_itself name bytes =
+    get-insert nat_list_cmp_total empty name bytes name
+    ∙ ap (λ same. cond same (Some bytes) (file_at empty name)) ((eq_by_cmp_equiv nat_list_cmp_total).refl name)
+
+without_any : (name : List ℕ) → file_at empty name ≡ None
+without_any name = get-empty _ name
+
+pub may_give : (name bytes : List ℕ) → length bytes ≤ MAX_BYTES → (files : Files) × (given_by name (file_at files name) ≡ Gives bytes)
+may_give name bytes short =
+    (with_file empty name bytes, ap (given_by name) (with_itself name bytes) ∙ is_within bytes (refusal.TooLong name) short)
+
+pub may_deny : (name : List ℕ) (why : Refusal) → MayLoad name (Err (fault.Refused why)) → (files : Files) × (given_by name (file_at files name) ≡ Denies why)
+may_deny name (refusal.Missing file) h = (empty, ap (given_by name) (without_any name) ∙ ap (λ f. Denies (refusal.Missing f)) (sym h))
+may_deny name (refusal.TooLong file) h =
+    let (bytes, long) = longer MAX_BYTES in (
+      with_file empty name bytes,
+      ap (given_by name) (with_itself name bytes) ∙ is_past bytes (refusal.TooLong name) long ∙ ap (λ f. Denies (refusal.TooLong f)) (sym h),
+    )
+may_deny name (refusal.Script why) h = absurd h
+may_deny name refusal.NoNetwork h = absurd h
+may_deny name refusal.NothingToUndo h = absurd h
+may_deny name (refusal.NoSignal signal) h = absurd h
+may_deny name (refusal.Blif file why) h = absurd h
+may_deny name refusal.LongScript h = absurd h
 
 -- a script that is refused as a whole
 pub by_denial : (counts : Counts) (options : TheOptions) (why : Refusal) (before stands end : Seen) (status : Status)
     → given options.script before ≡ Denies why → stands ≡ behind options.script before
     → EndsDenied counts why status stands end → EndsBy counts options before status end
 by_denial counts options why before stands end status is same h = was_denied why is (subst (λ (s : Seen). EndsDenied counts why status s end) same h)
-
-pub is_past : (text : List ℕ) (why : Refusal) → MAX_BYTES < length text → within text why ≡ Denies why
-is_past text why long = by_test (nat_le (length text) MAX_BYTES) refl
-  where
-    by_test : (b : Bool) → nat_le (length text) MAX_BYTES ≡ b → within text why ≡ Denies why
-    by_test true e = absurd (let le = leb-true (length text) MAX_BYTES e in omega (arith, le, long))
-    by_test false e = rw e refl
 
 -- a run that began behind the load of its script, or behind its taking off the input
 pub ends_behind_load : (counts : Counts) (goes_on : Bool) (text : List ℕ) (before end : Seen) (status : Status) (store misses : ℕ) (files : Files)
@@ -321,20 +369,20 @@ ends_behind_load counts goes_on text before end status store misses files p q r 
     (subst (λ (m : ℕ). EndsRun (record counts { misses = m }) goes_on text (record before { files = files }) status end) q
     (subst (λ (s : ℕ). EndsRun (record counts { store = s; misses = misses }) goes_on text (record before { files = files }) status end) p h))
 
-pub cause_behind_load : (counts : Counts) (text : List ℕ) (status : Status) (store misses : ℕ) → store ≡ counts.store → misses ≡ counts.misses
-    → IsCausedRun (record counts { store = store; misses = misses }) text status → IsCausedRun counts text status
-cause_behind_load counts text status store misses p q h =
-    subst (λ (m : ℕ). IsCausedRun (record counts { misses = m }) text status) q
-    (subst (λ (s : ℕ). IsCausedRun (record counts { store = s; misses = misses }) text status) p h)
+pub cause_behind_load : (counts : Counts) (goes_on : Bool) (text : List ℕ) (status : Status) (store misses : ℕ) → store ≡ counts.store → misses ≡ counts.misses
+    → IsCausedRun (record counts { store = store; misses = misses }) goes_on text status → IsCausedRun counts goes_on text status
+cause_behind_load counts goes_on text status store misses p q h =
+    subst (λ (m : ℕ). IsCausedRun (record counts { misses = m }) goes_on text status) q
+    (subst (λ (s : ℕ). IsCausedRun (record counts { store = s; misses = misses }) goes_on text status) p h)
 
 pub ends_behind_takes : (counts : Counts) (goes_on : Bool) (text : List ℕ) (before end : Seen) (status : Status) → counts.input ≡ counts.input_after
     → EndsRun (record counts { input_after = counts.input }) goes_on text before status end → EndsRun counts goes_on text before status end
 ends_behind_takes counts goes_on text before end status p h =
     subst (λ (n : ℕ). EndsRun (record counts { input_after = n }) goes_on text before status end) p h
 
-pub cause_behind_takes : (counts : Counts) (text : List ℕ) (status : Status) → counts.input ≡ counts.input_after
-    → IsCausedRun (record counts { input_after = counts.input }) text status → IsCausedRun counts text status
-cause_behind_takes counts text status p h = subst (λ (n : ℕ). IsCausedRun (record counts { input_after = n }) text status) p h
+pub cause_behind_takes : (counts : Counts) (goes_on : Bool) (text : List ℕ) (status : Status) → counts.input ≡ counts.input_after
+    → IsCausedRun (record counts { input_after = counts.input }) goes_on text status → IsCausedRun counts goes_on text status
+cause_behind_takes counts goes_on text status p h = subst (λ (n : ℕ). IsCausedRun (record counts { input_after = n }) goes_on text status) p h
 
 -- nothing is gone yet where the words are read
 may_want : (script : TheScript) → MayFail script failed.Memory
@@ -356,30 +404,6 @@ ends_unasked counts None before end Usage h = absurd h
 ends_unasked counts None before end Fault h = absurd h.0
 ends_unasked counts None before end Memory h = h
 ends_unasked counts (Some options) before end status h = was_unread failed.Memory (may_want options.script) before (not_read options.script before) h
-
-pub caused_unasked : (counts : Counts) (asked : Option TheOptions) (status : Status) → IsCut status failed.Memory → IsCaused counts asked status
-caused_unasked counts asked Done h = absurd h
-caused_unasked counts asked Refused h = absurd h
-caused_unasked counts asked Usage h = absurd h
-caused_unasked counts asked Fault h = absurd h
-caused_unasked counts None Memory h = tt
-caused_unasked counts (Some options) Memory h = tt
-
--- the words are not taken
-pub ends_unused : (counts : Counts) (before : Seen) (new : List ℕ) (status : Status)
-    → UsageLine before.err new counts.err counts.err_after status → EndsUnused counts before status (record before { err = new })
-ends_unused counts before new Done h = absurd h
-ends_unused counts before new Refused h = absurd h
-ends_unused counts before new Fault h = absurd h
-ends_unused counts before new Usage h = says_on counts before usage_line new counts.err (omega arith) h
-ends_unused counts before new Memory h = inl (with_err before new before.err h)
-
-pub caused_unused : (counts : Counts) (status : Status) → IsUsage status → IsCaused counts None status
-caused_unused counts Done h = absurd h
-caused_unused counts Refused h = absurd h
-caused_unused counts Fault h = absurd h
-caused_unused counts Usage h = tt
-caused_unused counts Memory h = tt
 
 pub ends_asked : (counts : Counts) (asked : Option TheOptions) (options : TheOptions) (before end : Seen) (status : Status) → asked ≡ Some options
     → EndsBy counts options before status end → Ends counts asked before status end

@@ -4,3 +4,5 @@ pub mod Goings
 pub mod Endings
 pub mod Faithful
 pub mod Completing
+pub mod Single
+pub mod Anywhere

@@ -1,28 +1,28 @@
 -- What a call of the program promises.
 -- Source: the SIS manual (UCB/ERL M92/41) for the commands; that what is written refines what was read is the
 -- project's own promise.
-use Rattle.std.specs.Prelude.{◌≡◌, ℕ, ◌≤◌, ◌<◌, Bool, true, false, ◌⊎◌, IsTrue, Option, Some, None, Ok, List, [], ◌∷◌, ◌++◌, take, length, codes}
+use Rattle.std.specs.Prelude.{◌≡◌, ℕ, ◌≤◌, Bool, true, false, ◌⊎◌, IsTrue, Option, Some, None, Ok, List, [], ◌∷◌, ◌++◌, take, length, codes}
 use Rattle.std.specs.List.{AllByRecursion}
 use Rattle.sis_text.specs.Entries.{entries_of}
 use Rattle.sis_outside.specs.Counts.{Rose}
-use Rattle.sis_outside.specs.Files.{file_at}
+use Rattle.sis_outside.specs.Files.{Files, file_at}
 use Rattle.circuit_model.specs.Runs.{Refines}
+use Rattle.circuit_model.specs.Soundness.{IsSound}
 use Rattle.circuit_model.specs.Text.{text_of}
 use Rattle.circuit_model.specs.declared.circuit.Circuit.{Circuit}
 use Rattle.circuit_model.specs.declared.circuit.Table.{Table}
 use Rattle.blif_read.specs.Reader.{read_lines}
-use Rattle.sis_words.specs.Asked.{TheOptions, TheScript, InFile, AsText, OnInput}
+use Rattle.sis_words.specs.Asked.{TheOptions, TheScript, InFile, OnInput}
 use Rattle.sis_script.specs.declared.command.Op.{Op}
-use Rattle.sis_script.specs.declared.command.Op.TheVariants.{Echo, Quit, ReadBlif, WriteBlif, PrintStats, Print, PrintLatch, Undo, Bad}
+use Rattle.sis_script.specs.declared.command.Op.TheVariants.{Echo, Quit, ReadBlif, WriteBlif, PrintStats, Print, PrintLatch, Sweep, Undo, Bad}
 use Rattle.sis_script.specs.declared.command.Command.{Command}
-use Rattle.sis_session.specs.Causes.{MayRefuse}
 use Rattle.sis_session.specs.Replies.{error_line, refusal_line}
 use Rattle.sis_session.specs.Outcome.{MAX_BYTES, Refuses, sent_to, table_named}
+use Rattle.sis_session.specs.State.{Held}
 use Rattle.sis_session.specs.Step.{Step}
 use Rattle.sis_session.specs.declared.refusal.Refusal.{Refusal}
-use Rattle.sis_session.specs.declared.refusal.Refusal.TheVariants as refusal
-use Rattle.sis_top.specs.Run.{Writing, Place, Machine, Reaches, Cuts, IsNextLine, is_missing, start}
-use Rattle.sis_top.specs.Source.{Seen, Given, Gives, Denies, given, behind, IsUnread, script_commands}
+use Rattle.sis_top.specs.Run.{Writing, Place, Machine, Reaches, MayReach, Cuts, IsNextLine, is_missing, start}
+use Rattle.sis_top.specs.Source.{Seen, Gives, Denies, given, behind, IsUnread, script_commands}
 use Rattle.sis_top.specs.declared.running.Failed.{Failed}
 use Rattle.sis_top.specs.declared.running.Failed.TheVariants as failed
 use Rattle.sis_top.specs.declared.status.Status.{Status}
@@ -143,11 +143,12 @@ abbrev pub Ends : Counts → Option TheOptions → Seen → Status → Seen → 
 Ends counts None before status end = EndsUnused counts before status end
 Ends counts (Some options) before status end = EndsBy counts options before status end
 
--- each circuit that is held refines the circuit last read
+-- a circuit that is held is sound and refines the circuit last read
 abbrev pub RefinesSpec : Option Circuit → Option Circuit → Type 0
-RefinesSpec spec held = (circuit : Circuit) → held ≡ Some circuit → (read : Circuit) × (spec ≡ Some read) × Refines read circuit
+RefinesSpec spec held =
+    (circuit : Circuit) → held ≡ Some circuit → (read : Circuit) × (spec ≡ Some read) × IsSound circuit × Refines read circuit
 
--- what every run keeps: the network and the one that is kept for an undo refine the circuit last read
+-- what every run keeps: the network and the one that is kept for an undo are sound and refine the circuit last read
 pub record IsRefined (place : Place) : Type 0 where
   pub network : RefinesSpec place.spec place.held.network
   pub kept : RefinesSpec place.spec place.held.kept
@@ -215,6 +216,7 @@ IsServed place PrintStats = HasNetwork place.held.network
 IsServed place (Print None) = HasNetwork place.held.network
 IsServed place (Print (Some name)) = HasTable place.held.network name
 IsServed place PrintLatch = HasNetwork place.held.network
+IsServed place Sweep = HasNetwork place.held.network
 IsServed place Undo = HasNetwork place.held.kept
 IsServed place (Bad fault) = ⊥
 
@@ -243,31 +245,53 @@ Completes counts None before status = Unit {0}
 Completes counts (Some options) before status =
     AreServed options before → NoneRose counts → (status ≡ Done) ⊎ (status ≡ Memory)
 
--- a file that a refusal tells to be missing was missed, and the count of misses rose
-abbrev pub IsMissed : ℕ → ℕ → Refusal → Type 0
-IsMissed misses misses' (refusal.Missing name) = Rose misses misses'
-IsMissed misses misses' why = Unit {0}
+-- What may have led to a status, where the outside need not tell its contents: for some contents of it, and with any
+-- files at each command, the script is refused as a whole, or its run comes to its end, with some command refused or
+-- with none. Where the script is a text of the words, it is that text. A file that is told to be missing was missed.
+pub record MayDeny (counts : Counts) (script : TheScript) : Type 0 where
+  pub before : Seen
+  pub why : Refusal
+  pub denies : given script before ≡ Denies why
+  pub missed : IsTrue (is_missing why) → Rose counts.misses counts.misses_after
 
--- some command of a list may be refused
-unfoldable pub CanRefuse : ℕ → ℕ → List Command → Type 0
-CanRefuse misses misses' [] = ⊥
-CanRefuse misses misses' (command ∷ rest) =
-    ((why : Refusal) × MayRefuse command.op why × IsMissed misses misses' why) ⊎ CanRefuse misses misses' rest
+pub record MayEnd (counts : Counts) (options : TheOptions) (refused : Bool) : Type 0 where
+  pub before : Seen
+  pub text : List ℕ
+  pub gives : given options.script before ≡ Gives text
+  pub machine : Machine
+  pub reached : MayReach options.keep (begun text before) machine
+  pub ended : machine.todo ≡ []
+  pub refusal : machine.place.refused ≡ refused
+  pub missed : IsTrue machine.place.missed → Rose counts.misses counts.misses_after
 
--- why a script may be refused, whether the outside tells its contents or not: where the script is a text, it is too
--- long, or one of its commands may be refused; what a file or the input holds is not known then
-abbrev pub HasCause : Counts → TheScript → Type 0
-HasCause counts (AsText text) = (MAX_BYTES < length text) ⊎ CanRefuse counts.misses counts.misses_after (script_commands text)
-HasCause counts script = Unit {0}
-
--- the cause of a status, whether the outside tells its contents or not, by what the words ask for
+-- the cause of a status, whether the outside tells its contents or not, by what the words ask for; a fault has the
+-- count that rose
 abbrev pub IsCaused : Counts → Option TheOptions → Status → Type 0
-IsCaused counts (Some options) Done = NoneGrew counts
-IsCaused counts (Some options) Refused = NoneGrew counts × HasCause counts options.script
+IsCaused counts (Some options) Done = NoneGrew counts × MayEnd counts options false
+IsCaused counts (Some options) Refused = NoneGrew counts × (MayDeny counts options.script ⊎ MayEnd counts options true)
 IsCaused counts (Some options) Fault = (what : Failed) × HasFailed counts what
 IsCaused counts None Usage = Unit {0}
 IsCaused counts asked Memory = Unit {0}
 IsCaused counts asked status = ⊥
+
+-- whatever files stand, the next command is refused for a missing file alone
+abbrev pub LacksFilesAlone : Held → List Command → Type 0
+LacksFilesAlone held [] = Unit {0}
+LacksFilesAlone held (command ∷ rest) = (files : Files) (why : Refusal) → Step files held command.op (Refuses why) → IsTrue (is_missing why)
+
+-- whatever the outside holds, the script is refused as a whole for a missing file alone, and so is each command that its
+-- run may come to, with any files at each command
+abbrev pub AreServedAnywhere : TheOptions → Type 0
+AreServedAnywhere options =
+    ((before : Seen) (why : Refusal) → given options.script before ≡ Denies why → IsTrue (is_missing why))
+    × ((before : Seen) (text : List ℕ) → given options.script before ≡ Gives text
+    → (machine : Machine) → MayReach options.keep (begun text before) machine → LacksFilesAlone machine.place.held machine.todo)
+
+-- where that is so, no count of faults rose and the misses did not, all is done, but for want of memory
+abbrev pub CompletesAnywhere : Counts → Option TheOptions → Status → Type 0
+CompletesAnywhere counts None status = Unit {0}
+CompletesAnywhere counts (Some options) status =
+    AreServedAnywhere options → NoneRose counts → (Rose counts.misses counts.misses_after → ⊥) → (status ≡ Done) ⊎ (status ≡ Memory)
 
 -- whether the script stands on the input
 abbrev pub is_input : TheScript → Bool

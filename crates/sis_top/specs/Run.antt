@@ -87,15 +87,27 @@ AdvancesBy goes_on place (command ∷ rest) machine =
 abbrev pub Advances : Bool → Machine → Machine → Type 0
 Advances goes_on from to = AdvancesBy goes_on from.place from.todo to
 
--- so many commands lead from one machine to another
-unfoldable pub Runs : Bool → ℕ → Machine → Machine → Type 0
-Runs goes_on zero from to = to ≡ from
-Runs goes_on (suc count) from to = (next : Machine) × Advances goes_on from next × Runs goes_on count next to
+-- one command may lead from one machine to another: it does where the files are some others then
+abbrev pub MayAdvance : Bool → Machine → Machine → Type 0
+MayAdvance goes_on from to = (files : Files) × Advances goes_on (record from { place = record from.place { files = files } }) to
 
--- some commands do
-pub record Reaches (goes_on : Bool) (from to : Machine) : Type 0 where
+-- so many steps lead from one machine to another
+unfoldable pub Runs : (Machine → Machine → Type 0) → ℕ → Machine → Machine → Type 0
+Runs steps zero from to = to ≡ from
+Runs steps (suc count) from to = (next : Machine) × steps from next × Runs steps count next to
+
+-- some steps do
+pub record Comes (steps : Machine → Machine → Type 0) (from to : Machine) : Type 0 where
   pub count : ℕ
-  pub runs : Runs goes_on count from to
+  pub runs : Runs steps count from to
+
+-- some commands lead from one machine to another
+abbrev pub Reaches : Bool → Machine → Machine → Type 0
+Reaches goes_on from to = Comes (Advances goes_on) from to
+
+-- some commands may, where the files may change between any two of them
+abbrev pub MayReach : Bool → Machine → Machine → Type 0
+MayReach goes_on from to = Comes (MayAdvance goes_on) from to
 
 -- What stands where the next command's call on the outside failed, or memory was wanting.
 -- The store failed: at the load of a command that loads, with all as it was; or at a save, of which a front may stand.

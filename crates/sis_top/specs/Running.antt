@@ -5,8 +5,7 @@ use Rattle.std.specs.Prelude.{◌≡◌, ℕ, ◌+◌, ◌≤◌, ◌<◌, lengt
 use Rattle.sis_outside.specs.Counts.{Rose}
 use Rattle.sis_outside.specs.Files.{Files}
 use Rattle.sis_session.specs.State.{Held}
-use Rattle.sis_top.specs.Run.{Place, Machine, Advances, Reaches, Cuts, Stands, IsNextLine}
-use Rattle.sis_session.specs.Causes.{MayRefuse}
+use Rattle.sis_top.specs.Run.{Place, Machine, Advances, MayAdvance, Comes, Reaches, Cuts, Stands, IsNextLine}
 use Rattle.sis_session.specs.Outcome.{MAX_BYTES}
 use Rattle.sis_session.specs.declared.refusal.Next.{Next}
 use Rattle.sis_session.specs.declared.refusal.Next.TheVariants as next
@@ -14,14 +13,12 @@ use Rattle.sis_top.specs.declared.input.Unread.{Unread}
 use Rattle.sis_top.specs.declared.input.Unread.TheVariants as unread
 use Rattle.sis_top.specs.declared.running.Turn.{Turn}
 use Rattle.sis_top.specs.declared.running.Turn.TheVariants as turn
-use Rattle.sis_script.specs.declared.command.Op.{Op}
 use Rattle.sis_script.specs.declared.command.Command.{Command}
-use Rattle.sis_session.specs.declared.refusal.Refusal.{Refusal}
 use Rattle.sis_top.specs.declared.running.Failed.{Failed}
 use Rattle.sis_top.specs.declared.running.Failed.TheVariants as failed
 use Rattle.sis_top.specs.declared.running.Ended.{Ended}
-use Rattle.sis_top.specs.Source.{Seen, script_commands}
-use Rattle.sis_top.specs.Headline.{CanRefuse, Counts, EndsAt, EndsCut, HasFailed, IsMissed, NoneGrew, begun, failure_line, usage_line}
+use Rattle.sis_top.specs.Source.{Seen}
+use Rattle.sis_top.specs.Headline.{Counts, EndsAt, EndsCut, HasFailed, NoneGrew, begun, failure_line, usage_line}
 use Rattle.sis_top.specs.declared.status.Status.{Status}
 use Rattle.sis_top.specs.declared.status.Status.TheVariants.{Done, Refused, Usage, Fault, Memory}
 
@@ -55,14 +52,26 @@ left_after goes_on turn.Went rest = rest
 left_after goes_on turn.Ended rest = []
 left_after goes_on turn.Refused rest = if goes_on then rest else []
 
+-- one command was run from a place: it came to a next one, of which this holds, by a step of this kind, whatever
+-- commands are left behind it
+abbrev pub Turns : (Machine → Machine → Type 0) → (Place → Type 0) → Bool → Command → Place → Turn → ℕ → ℕ → Type 0
+Turns steps stands goes_on command place turned misses misses' =
+    (next : Place) × stands next × (next.refused ≡ (place.refused || is_refusal turned))
+    × (IsTrue next.missed → IsTrue place.missed ⊎ Rose misses misses')
+    × ((rest : List Command) → steps (record { place = place; todo = command ∷ rest }) (record { place = next; todo = left_after goes_on turned rest }))
+
 -- one command was run: the machine advanced, or is cut short
 abbrev pub Advanced : Bool → Command → Place → Result Turn Failed → Held → Files → List ℕ → List ℕ → ℕ → ℕ → Type 0
 Advanced goes_on command place (Ok turned) held files out err misses misses' =
-    (next : Place) × Stands next held files out err × (next.refused ≡ (place.refused || is_refusal turned))
-    × (IsTrue next.missed → IsTrue place.missed ⊎ Rose misses misses')
-    × ((rest : List Command) → Advances goes_on (record { place = place; todo = command ∷ rest }) (record { place = next; todo = left_after goes_on turned rest }))
+    Turns (Advances goes_on) (λ next. Stands next held files out err) goes_on command place turned misses misses'
 Advanced goes_on command place (Err what) held files out err misses misses' =
     (cut : Place) × Stands cut held files out err × ((rest : List Command) → Cuts what (record { place = place; todo = command ∷ rest }) cut)
+
+-- one command was run, whatever files stood then: the machine may have advanced so
+abbrev pub MayAdvanced : Bool → Command → Place → Result Turn Failed → Held → ℕ → ℕ → Type 0
+MayAdvanced goes_on command place (Ok turned) held misses misses' =
+    Turns (MayAdvance goes_on) (λ next. next.held ≡ held) goes_on command place turned misses misses'
+MayAdvanced goes_on command place (Err what) held misses misses' = Unit {0}
 
 -- the counts: one rose where its object failed, and stays else
 abbrev pub StoreRun : {T : Type 0} → Result T Failed → ℕ → ℕ → Type 0
@@ -81,12 +90,19 @@ abbrev pub ErrRun : {T : Type 0} → Result T Failed → ℕ → ℕ → Type 0
 ErrRun (Err failed.Err) before now = Rose before now
 ErrRun answer before now = now ≡ before
 
+-- steps of this kind led from a machine to the end of its commands, at a place of which this holds
+abbrev pub RanOut : (Machine → Machine → Type 0) → (Place → Type 0) → Machine → Bool → ℕ → ℕ → Type 0
+RanOut steps stands from refused misses misses' =
+    (machine : Machine) × Comes steps from machine × (machine.todo ≡ []) × (machine.place.refused ≡ refused) × stands machine.place
+    × (IsTrue machine.place.missed → Rose misses misses')
+
+-- what is seen at a place of files and outputs
+abbrev pub Shows : Files → List ℕ → List ℕ → Place → Type 0
+Shows files out err place = (place.files ≡ files) × (place.out ≡ out) × (place.err ≡ err)
+
 -- a run from a machine came to its end, or was cut short at a command
 abbrev pub Ran : Bool → Machine → Result Bool Ended → Files → List ℕ → List ℕ → ℕ → ℕ → Type 0
-Ran goes_on from (Ok refused) files out err misses misses' =
-    (machine : Machine) × Reaches goes_on from machine × (machine.todo ≡ []) × (machine.place.refused ≡ refused)
-    × (machine.place.files ≡ files) × (machine.place.out ≡ out) × (machine.place.err ≡ err)
-    × (IsTrue machine.place.missed → Rose misses misses')
+Ran goes_on from (Ok refused) files out err misses misses' = RanOut (Advances goes_on) (Shows files out err) from refused misses misses'
 Ran goes_on from (Err ended) files out err misses misses' =
     (machine : Machine) × Reaches goes_on from machine × IsNextLine machine.todo ended.line × (cut : Place) × Cuts ended.failed machine cut
     × (cut.files ≡ files) × (cut.out ≡ out) × (cut.err ≡ err)
@@ -108,15 +124,10 @@ OutEnd result before now = OutRun (ended_as result) before now
 abbrev pub ErrEnd : {T : Type 0} → Result T Ended → ℕ → ℕ → Type 0
 ErrEnd result before now = ErrRun (ended_as result) before now
 
--- a command that was refused had a cause
-abbrev pub AdvanceCauses : ℕ → ℕ → Op → Result Turn Failed → Type 0
-AdvanceCauses misses misses' op (Ok turned) = IsTrue (is_refusal turned) → (why : Refusal) × MayRefuse op why × IsMissed misses misses' why
-AdvanceCauses misses misses' op answer = Unit {0}
-
--- a run in which a command was refused had a cause
-abbrev pub RunCauses : ℕ → ℕ → List Command → Result Bool Ended → Type 0
-RunCauses misses misses' commands (Ok refused) = IsTrue refused → CanRefuse misses misses' commands
-RunCauses misses misses' commands answer = Unit {0}
+-- a run from a machine came to its end, whatever files stood at each command: it may have run so
+abbrev pub MayRan : Bool → Machine → Result Bool Ended → ℕ → ℕ → Type 0
+MayRan goes_on from (Ok refused) misses misses' = RanOut (MayAdvance goes_on) (λ place. Unit {0}) from refused misses misses'
+MayRan goes_on from (Err ended) misses misses' = Unit {0}
 
 -- a line stands whole behind what was there, or in part where the count of faults rose
 abbrev pub SaysOn : List ℕ → List ℕ → List ℕ → ℕ → ℕ → Type 0
@@ -141,13 +152,17 @@ EndsRun counts goes_on text before status end =
     ((machine : Machine) × EndsAt counts goes_on (begun text before) before.left status end machine)
     ⊎ EndsCut counts status failed.Memory 0 before end
 
--- the cause of how a text ends, by its commands
-abbrev pub IsCausedRun : Counts → List ℕ → Status → Type 0
-IsCausedRun counts text Done = NoneGrew counts
-IsCausedRun counts text Refused = NoneGrew counts × CanRefuse counts.misses counts.misses_after (script_commands text)
-IsCausedRun counts text Fault = (what : Failed) × HasFailed counts what
-IsCausedRun counts text Memory = Unit {0}
-IsCausedRun counts text Usage = ⊥
+-- the cause of how the run of a text ends: it may have run so
+abbrev pub MayRunOut : Counts → Bool → List ℕ → Bool → Type 0
+MayRunOut counts goes_on text refused =
+    (before : Seen) → RanOut (MayAdvance goes_on) (λ place. Unit {0}) (begun text before) refused counts.misses counts.misses_after
+
+abbrev pub IsCausedRun : Counts → Bool → List ℕ → Status → Type 0
+IsCausedRun counts goes_on text Done = NoneGrew counts × MayRunOut counts goes_on text false
+IsCausedRun counts goes_on text Refused = NoneGrew counts × MayRunOut counts goes_on text true
+IsCausedRun counts goes_on text Fault = (what : Failed) × HasFailed counts what
+IsCausedRun counts goes_on text Memory = Unit {0}
+IsCausedRun counts goes_on text Usage = ⊥
 
 -- what becomes of the count of the error output's faults where a script is refused as a whole
 abbrev pub IsDenied : Status → ℕ → ℕ → Type 0

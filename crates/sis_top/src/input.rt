@@ -1,6 +1,7 @@
 //! The script on the input.
 
-ghost use Rattle.std.specs.Prelude.{◌≡◌, IsTrue};
+ghost use Rattle.std.specs.Prelude.{◌≡◌, ◌≤◌, IsTrue, IfOk, length};
+ghost use Rattle.sis_session.specs.Outcome.{MAX_BYTES as longest};
 ghost use Rattle.sis_top.specs.Running.{TakesScript, TakeRun};
 
 use sis_outside::{Source, TakeFault};
@@ -22,6 +23,7 @@ pub enum Unread {
 pub fn take_script<I: Source>(alloc: Global, input: &mut I) -> Result<Vec<u8>, Unread>
     ensures tells { I.tells input.new ≡ I.tells input.old }
     ensures takes { IsTrue (I.tells input.old) → TakesScript (I.left input.old) result (I.left input.new) }
+    ensures within { IfOk result (λ text. length text.items ≤ longest) }
     ensures faults { TakeRun result (I.faults input.old) (I.faults input.new) }
 {
     let mut text = Vec::new(alloc);

@@ -2,8 +2,9 @@
 //! the error output.
 
 ghost use Rattle.std.specs.Prelude.{◌≡◌, ◌≤◌, ◌||◌, List, ℕ, IsTrue, Bool};
+ghost use Rattle.sis_outside.specs.Files.{Files};
 ghost use Rattle.sis_top.specs.Run.{Place, Stands, start};
-ghost use Rattle.sis_top.specs.Running.{Advanced, Ran, is_refusal, turn_by, ends_at, Tells, StoreRun, InputRun, OutRun, ErrRun, StoreEnd, InputEnd, OutEnd, ErrEnd, AdvanceCauses, RunCauses};
+ghost use Rattle.sis_top.specs.Running.{Advanced, MayAdvanced, Ran, MayRan, is_refusal, turn_by, ends_at, Tells, StoreRun, InputRun, OutRun, ErrRun, StoreEnd, InputEnd, OutEnd, ErrEnd};
 ghost use Rattle.sis_session.specs.Replies.{refusal_line};
 ghost use Rattle.sis_session.specs.State.{nothing_held};
 
@@ -99,7 +100,7 @@ fn advance<S: Store, O: Sink, E: Sink>(
     ensures out { OutRun result (O.faults out.old) (O.faults out.new) }
     ensures err { ErrRun result (E.faults err.old) (E.faults err.new) }
     ensures misses { S.misses store.old ≤ S.misses store.new }
-    ensures causes { AdvanceCauses (S.misses store.old) (S.misses store.new) command.now.op result }
+    ensures causes { (goes_on : Bool) (place : Place) → place.held ≡ session.old → MayAdvanced goes_on command.now place result session.new (S.misses store.old) (S.misses store.new) }
 {
     match session.step(alloc, command, 0, store, out) {
         Ok(next) => Ok(turn_by(next)),
@@ -155,7 +156,7 @@ fn run_from<S: Store, O: Sink, E: Sink>(
     ensures input { (count : ℕ) → InputEnd result count count }
     ensures out { OutEnd result (O.faults out.old) (O.faults out.new) }
     ensures err { ErrEnd result (E.faults err.old) (E.faults err.new) }
-    ensures causes { RunCauses (S.misses store.old) (S.misses store.new) commands.now result }
+    ensures causes { (files : Files) (output errors : List ℕ) → MayRan goes_on (start commands.now files output errors) result (S.misses store.old) (S.misses store.new) }
 {
     let mut refused = false;
     for command in commands {
@@ -195,7 +196,7 @@ pub fn run<S: Store, O: Sink, E: Sink>(
     ensures input { (count : ℕ) → InputEnd result count count }
     ensures out { OutEnd result (O.faults out.old) (O.faults out.new) }
     ensures err { ErrEnd result (E.faults err.old) (E.faults err.new) }
-    ensures causes { RunCauses (S.misses store.old) (S.misses store.new) commands.now result }
+    ensures causes { (files : Files) (output errors : List ℕ) → MayRan goes_on (start commands.now files output errors) result (S.misses store.old) (S.misses store.new) }
 {
     let mut session = Session::new();
     run_from(alloc, goes_on, &mut session, commands, store, out, err)

@@ -34,8 +34,20 @@ const STATS: &[u8] = b"a pi=1 po=1 nodes=0 latches=0 lits=0 dc=0\n";
 const USAGE: &[u8] = b"sis: usage: sis [-k] [-f FILE | -c TEXT]\n";
 
 /// The files of all cases.
-const FILES: [(&str, &[u8]); 9] = [
+const FILES: [(&str, &[u8]); 12] = [
     ("a", PASS),
+    (
+        "k",
+        b".model k\n.outputs q\n.latch k q 2\n.names k\n1\n.end\n",
+    ),
+    (
+        "i",
+        b".model i\n.outputs q\n.latch k q 3\n.names k\n1\n.end\n",
+    ),
+    (
+        "w",
+        b".model w\n.inputs a b c\n.outputs y\n.names a b x\n11 1\n.names x n\n0 1\n.names n c y\n11 1\n.end\n",
+    ),
     (
         "l",
         b".model t\n.outputs q\n.latch n q 0\n.names q n\n0 1\n",
@@ -153,6 +165,27 @@ fn commands_are_done(rt: HostRuntime) -> Result<(), Fail> {
                 b".latch n q 0\nt pi=0 po=1 nodes=1 latches=1 lits=1 dc=0\n",
                 Some(b".model t\n.inputs\n.outputs q\n.latch n q 0\n.names q n\n0 1\n.end\n"),
             ),
+            done(
+                &["-c", "read_blif k; sweep; print_latch; write_blif b"],
+                b"",
+                b"",
+                Some(b".model k\n.inputs\n.outputs q\n.names q\n1\n.end\n"),
+            ),
+            done(
+                &["-c", "read_blif i; sweep; write_blif b"],
+                b"",
+                b"",
+                Some(b".model i\n.inputs\n.outputs q\n.latch k q 3\n.names k\n1\n.end\n"),
+            ),
+            done(
+                &[
+                    "-c",
+                    "read_blif w; sweep; print; echo; undo; print; echo; undo; print",
+                ],
+                b"",
+                b".names a b x\n11 1\n.names x c y\n01 1\n\n.names a b x\n11 1\n.names x n\n0 1\n.names n c y\n11 1\n\n.names a b x\n11 1\n.names x c y\n01 1\n",
+                None,
+            ),
             done(&[], b"echo ready\nquit\n", b"ready\n", None),
             done(&["-k"], b"", b"", None),
             done(
@@ -188,6 +221,17 @@ fn commands_are_refused(rt: HostRuntime) -> Result<(), Fail> {
             refused(&["-c", "read_blif x"], none, b"sis: line 1: no file x\n"),
             refused(&["-c", "print_stats"], none, b"sis: line 1: no network\n"),
             refused(&["-c", "print_latch"], none, b"sis: line 1: no network\n"),
+            refused(&["-c", "sweep"], none, b"sis: line 1: no network\n"),
+            refused(
+                &["-c", "read_blif w; sweep x"],
+                none,
+                b"sis: line 1: bad option\n",
+            ),
+            refused(
+                &["-c", "read_blif w; print z"],
+                none,
+                b"sis: line 1: no table z\n",
+            ),
             refused(
                 &["-c", "\n write_blif b; read_blif a"],
                 none,

@@ -2,7 +2,7 @@
 
 ghost use Rattle.std.specs.Prelude.{◌≡◌, ◌≤◌, ℕ, List, IsTrue, IfOk, Some, false};
 ghost use Rattle.sis_outside.specs.Counts.{Rose};
-ghost use Rattle.sis_top.specs.Headline.{Counts, EndsBy, EndsCut, EndsDenied, Ends, IsCaused, IsRefused, Completes, Writes, asks_input, failure_text};
+ghost use Rattle.sis_top.specs.Headline.{Counts, EndsBy, EndsCut, EndsDenied, Ends, IsCaused, IsRefused, Completes, CompletesAnywhere, Writes, asks_input, failure_text};
 ghost use Rattle.sis_top.specs.Run.{is_missing};
 ghost use Rattle.sis_top.specs.Running.{EndLine, EndsRun, Failing, IsCausedRun, IsCut, IsDenied, IsUsage, UsageLine};
 ghost use Rattle.sis_top.specs.Source.{Seen, script_commands};
@@ -101,7 +101,7 @@ fn run_script<S: Store, O: Sink, E: Sink>(
         (record { files = S.files store.new; left = left; out = O.written out.new; err = E.written err.new }) }
     ensures cause { (input : ℕ) → IsCausedRun
         (record { store = S.faults store.old; store_after = S.faults store.new; misses = S.misses store.old; misses_after = S.misses store.new; input = input; input_after = input; out = O.faults out.old; out_after = O.faults out.new; err = E.faults err.old; err_after = E.faults err.new })
-        text.now result }
+        keep text.now result }
     ensures tells_store { S.tells store.new ≡ S.tells store.old }
     ensures tells_out { O.tells out.new ≡ O.tells out.old }
     ensures tells_err { E.tells err.new ≡ E.tells err.old }
@@ -284,7 +284,7 @@ pub fn run_sis<S: Store, I: Source, O: Sink, E: Sink>(
         (options_of words.now) (record { files = S.files store.old; left = I.left input.old; out = O.written out.old; err = E.written err.old }) result
         (record { files = S.files store.new; left = I.left input.new; out = O.written out.new; err = E.written err.new }) }
 
-    // Each status has its cause, and a refusal its command.
+    // Each status has its cause, whether the outside tells its contents or not, and a refusal its command.
     ensures cause { IsCaused
         (record { store = S.faults store.old; store_after = S.faults store.new; misses = S.misses store.old; misses_after = S.misses store.new; input = I.faults input.old; input_after = I.faults input.new; out = O.faults out.old; out_after = O.faults out.new; err = E.faults err.old; err_after = E.faults err.new })
         (options_of words.now) result }
@@ -294,6 +294,12 @@ pub fn run_sis<S: Store, I: Source, O: Sink, E: Sink>(
     ensures complete { IsTrue (S.tells store.old) → IsTrue (I.tells input.old) → IsTrue (O.tells out.old) → IsTrue (E.tells err.old) → Completes
         (record { store = S.faults store.old; store_after = S.faults store.new; misses = S.misses store.old; misses_after = S.misses store.new; input = I.faults input.old; input_after = I.faults input.new; out = O.faults out.old; out_after = O.faults out.new; err = E.faults err.old; err_after = E.faults err.new })
         (options_of words.now) (record { files = S.files store.old; left = I.left input.old; out = O.written out.old; err = E.written err.old }) result }
+
+    // The same where the outside need not tell its contents: no command can be refused but for a missing file, none was
+    // missed and nothing failed.
+    ensures complete_anywhere { CompletesAnywhere
+        (record { store = S.faults store.old; store_after = S.faults store.new; misses = S.misses store.old; misses_after = S.misses store.new; input = I.faults input.old; input_after = I.faults input.new; out = O.faults out.old; out_after = O.faults out.new; err = E.faults err.old; err_after = E.faults err.new })
+        (options_of words.now) result }
 
     // The input is touched only where the script stands on it.
     ensures untouched { asks_input (options_of words.now) ≡ false → input.new ≡ input.old }

@@ -10,16 +10,19 @@ use Rattle.circuit_model.specs.declared.circuit.Table.{Table}
 use Rattle.circuit_model.specs.declared.circuit.Latch.{Latch}
 use Rattle.circuit_model.specs.declared.circuit.Circuit.{Circuit}
 use Rattle.circuit_model.proofs.Refinement.{refines-itself, refines-through}
-use Rattle.sweep_rules.specs.Chains.{Leads, Chain}
+use Rattle.circuit_laws.specs.Chains.{Leads, Chain}
 use Rattle.circuit_laws.specs.Edits.{latches_kept}
 use Rattle.circuit_laws.specs.Left.{Held}
+use Rattle.circuit_laws.proofs.Names.{different_none}
 use Rattle.circuit_laws.proofs.Kept.{all_weaker, has_latches_kept}
 use Rattle.circuit_laws.proofs.Sound.{all_append}
 use Rattle.circuit_laws.proofs.Left.{left_itself, left_through}
 use Rattle.sweep_rules.specs.Points.{constant_bit, written_bit}
 use Rattle.sweep_rules.specs.Rules.{unwritten_bit, constant_rule, tables_read, put_rule, tidy_rule, bypass_rule, latch_rule, need_rule, sweep_step}
 use Rattle.sweep_rules.specs.Sweeping.{IsSwept}
-use Rattle.sweep_rules.specs.Keeping.{IsKept}
+use Rattle.sweep_rules.specs.Keeping.{IsKept, may_begin}
+use Rattle.sweep_rules.proofs.Begun.{begins_before, held_different}
+use Rattle.sweep_rules.proofs.Staying.{stays_through}
 use Rattle.sweep_rules.proofs.Steps.{tidy_kept, constant_kept, put_kept, bypass_kept, latch_kept, need_kept}
 use Rattle.sweep_rules.proofs.Swept.{written_same, fails_where, all_written, all_put, swept}
 
@@ -53,7 +56,7 @@ step_kept circuit new sound h =
 -- what is kept is kept step after step
 
 pub kept_itself : (circuit : Circuit) → IsSound circuit → IsKept circuit circuit
-kept_itself circuit sound = record { sound = sound; refines = refines-itself circuit; held = []; gone = tt; left = left_itself circuit }
+kept_itself circuit sound = record { sound = sound; refines = refines-itself circuit; held = []; different = different_none; begun = tt; stays = λ state row a has_bits. tt; gone = tt; left = left_itself circuit }
 
 gone_later : (held : List Held) (second third : Circuit) → third.latches ≡ latches_kept (has (latch_outputs third)) second.latches
     → AllByRecursion (λ (latch : Held). has (latch_outputs second) latch.0 ≡ false) held → AllByRecursion (λ (latch : Held). has (latch_outputs third) latch.0 ≡ false) held
@@ -75,11 +78,16 @@ kept_through first second third p q = record {
   sound = q.sound;
   refines = refines-through first second third p.refines q.refines;
   held = p.held ++ q.held;
+  different = held_different p.held q.held second p.different q.different p.gone q.left.among;
+  begun = all_append (λ (latch : Held). may_begin first latch ≡ true) p.held q.held p.begun
+      (all_weaker (λ (latch : Held). may_begin second latch ≡ true) (λ (latch : Held). may_begin first latch ≡ true)
+      (λ latch begins. begins_before first second latch p.left.latches begins) q.held q.begun);
+  stays = stays_through p.held q.held first second p.sound p.left q.left.among p.stays q.stays;
   gone = all_append (λ (latch : Held). has (latch_outputs third) latch.0 ≡ false) p.held q.held (gone_later p.held second third q.left.latches p.gone) q.gone;
   left = left_through p.held q.held first second third p.left q.left;
 }
 
-leads_kept : (between : List Circuit) (circuit new : Circuit) → IsSound circuit → Leads sweep_step between circuit new → IsKept circuit new
+pub leads_kept : (between : List Circuit) (circuit new : Circuit) → IsSound circuit → Leads sweep_step between circuit new → IsKept circuit new
 leads_kept [] circuit new sound same = subst (IsKept circuit) same (kept_itself circuit sound)
 leads_kept (next ∷ rest) circuit new sound steps =
     let first : IsKept circuit next = step_kept circuit next sound steps.0 in

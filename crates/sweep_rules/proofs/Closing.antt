@@ -109,10 +109,10 @@ stable seen names grows start next n e =
 
 -- what is needed
 
-tables_reach : (List ℕ → Bool) → List ℕ → List Table → Bool
+unfoldable pub tables_reach : (List ℕ → Bool) → List ℕ → List Table → Bool
 tables_reach test name tables = list_any (λ (table : Table). test table.output && has table.inputs name) tables
 
-latches_reach : (List ℕ → Bool) → List ℕ → List Latch → Bool
+unfoldable pub latches_reach : (List ℕ → Bool) → List ℕ → List Latch → Bool
 latches_reach test name latches = list_any (λ (latch : Latch). test latch.output && bytes_eq latch.input name) latches
 
 within_more : (circuit : Circuit) (n : ℕ) (name : List ℕ)

@@ -11,8 +11,8 @@ use Rattle.circuit_model.specs.declared.circuit.Latch.{Latch}
 use Rattle.circuit_model.specs.declared.circuit.Circuit.{Circuit}
 use Rattle.circuit_laws.specs.Edits.{with_tables, with_replaced, with_fixed, constant_table}
 use Rattle.circuit_laws.proofs.Names.{has_head}
-use Rattle.sweep_rules.specs.Tidy.{is_tidy, tidied}
-use Rattle.sweep_rules.proofs.Tidied.{tidied_smaller, tidied_output, tidied_reads}
+use Rattle.table_tidy.specs.Tidy.{is_tidy, tidied}
+use Rattle.table_tidy.proofs.Tidied.{tidied_smaller, tidied_output, tidied_reads}
 use Rattle.sweep_rules.specs.Points.{constant_bit, written_bit}
 use Rattle.sweep_rules.specs.Needed.{all_needed, only_needed}
 use Rattle.sweep_rules.specs.Rules.{tidy_rule, unwritten_bit, with_constant, constant_rule, tables_read, at_bit, with_bit_put, put_rule, rewired, only_input, is_inverter, with_bypass, bypass_rule, fixed_bit, with_latch_fixed, latch_rule, need_rule, sweep_step}

@@ -1,12 +1,16 @@
 pub mod Worked
-pub mod Tidied
 pub mod Points
 pub mod Turned
 pub mod Mapped
 pub mod Closing
+pub mod Least
+pub mod Begun
+pub mod Staying
 pub mod Steps
 pub mod Swept
 pub mod Chaining
 pub mod Sizes
 pub mod Weight
 pub mod Falling
+pub mod Larger
+pub mod Framed

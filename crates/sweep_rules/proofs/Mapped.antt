@@ -13,7 +13,7 @@ use Rattle.circuit_laws.specs.Edits.{replaced, with_tables, with_replaced}
 use Rattle.circuit_laws.specs.Same.{KeepsEach}
 use Rattle.circuit_laws.specs.Valuations.{Obeys}
 use Rattle.sweep_rules.specs.Keeping.{IsKept}
-use Rattle.circuit_laws.proofs.Names.{name_itself, name_not, all_has, all_from_has, different_apart, different_head, different_tail}
+use Rattle.circuit_laws.proofs.Names.{name_itself, name_not, all_has, all_from_has, different_none, different_apart, different_head, different_tail}
 use Rattle.circuit_laws.proofs.Drivers.{driver_output, driver_reads, outputs-replaced}
 use Rattle.circuit_laws.proofs.Paths.{narrowed_acyclic, mapped_acyclic}
 use Rattle.circuit_laws.proofs.Same.{same_refines}
@@ -96,6 +96,9 @@ replaced_kept circuit old new sound at same within once shaped turns =
       }) acyclic;
       refines = same_refines circuit (with_replaced circuit new) each.same;
       held = [];
+      different = different_none;
+      begun = tt;
+      stays = λ state row a has_bits. tt;
       gone = tt;
       left = each_left circuit (with_replaced circuit new) each (λ signal h. ap (λ (names : List (List ℕ)). has names signal) (sym (given-turned circuit new)) ∙ h);
     }
@@ -110,7 +113,7 @@ names_each : (P : List ℕ → Type 0) (list : Table → List (List ℕ)) (table
 names_each P list [] h = tt
 names_each P list (table ∷ tables) h = all_append P (list table) (flat_map list tables) h.0 (names_each P list tables h.1)
 
-all_turned : (P Q : Table → Type 0) (turn : Table → Table) → ((table : Table) → P table → Q (turn table)) → (tables : List Table) → AllByRecursion P tables → AllByRecursion Q (map turn tables)
+pub all_turned : (P Q : Table → Type 0) (turn : Table → Table) → ((table : Table) → P table → Q (turn table)) → (tables : List Table) → AllByRecursion P tables → AllByRecursion Q (map turn tables)
 all_turned P Q turn h [] all = tt
 all_turned P Q turn h (table ∷ tables) all = (h table all.0, all_turned P Q turn h tables all.1)
 
@@ -197,6 +200,9 @@ mapped_kept circuit turn sound turns leads values =
       sound = sound_mapped circuit turn sound turns acyclic;
       refines = same_refines circuit (with_tables circuit (map turn circuit.tables)) each.same;
       held = [];
+      different = different_none;
+      begun = tt;
+      stays = λ state row a has_bits. tt;
       gone = tt;
       left = each_left circuit (with_tables circuit (map turn circuit.tables)) each (λ signal h. ap (λ (names : List (List ℕ)). has names signal) (sym (given-mapped circuit turn turns.keeps)) ∙ h);
     }

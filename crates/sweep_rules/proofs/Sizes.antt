@@ -13,9 +13,9 @@ use Rattle.circuit_model.specs.declared.circuit.Tri.{Tri}
 use Rattle.circuit_model.specs.declared.circuit.Tri.TheVariants.{Free}
 use Rattle.circuit_model.specs.declared.circuit.Table.{Table}
 use Rattle.circuit_laws.specs.Edits.{constant_table}
-use Rattle.sweep_rules.specs.Tidy.{front_place, behind_front, used_places, same_row, rows_differ, some_row_or_phase_one, is_tidy, rows_once, chosen, with_rows_once, narrowed, tidied}
+use Rattle.table_tidy.specs.Tidy.{front_place, behind_front, used_places, same_row, rows_differ, some_row_or_phase_one, is_tidy, rows_once, chosen, with_rows_once, narrowed, tidied}
 use Rattle.table_fold.specs.Folding.{constant_one}
-use Rattle.sweep_rules.proofs.Tidied.{once_all, size_of, narrowed_fewer, tidied_small, tidied_is, tidied_lost, lost_small, tidied_reads, tidy_parts}
+use Rattle.table_tidy.proofs.Tidied.{once_all, size_of, narrowed_fewer, tidied_small, tidied_is, tidied_lost, lost_small, tidied_reads, tidy_parts}
 use Rattle.sweep_rules.specs.Points.{constant_bit, bit_by, written_bit}
 use Rattle.sweep_rules.specs.Rules.{asks_against, row_at_bit, at_bit, renamed, row_turned, rewired}
 use Rattle.sweep_rules.proofs.Points.{constant_at}
@@ -53,7 +53,7 @@ rows_free P h each (row ∷ rows) = cases (h row) (each row) (rows_free P h each
     cases None k rest = rest
     cases (Some made) k rest = (k made refl, rest)
 
-filtered_few : (h : List Tri → Option (List Tri)) (rows : List (List Tri)) → length (filter_map h rows) ≤ length rows
+pub filtered_few : (h : List Tri → Option (List Tri)) (rows : List (List Tri)) → length (filter_map h rows) ≤ length rows
 filtered_few h [] = omega arith
 filtered_few h (row ∷ rows) = cases (h row) (filtered_few h rows)
   where

@@ -14,16 +14,16 @@ use Rattle.circuit_model.specs.declared.circuit.Circuit.{Circuit}
 use Rattle.circuit_laws.specs.Edits.{with_tables, with_replaced, with_kept, with_fixed, constant_table, is_other, with_added}
 use Rattle.circuit_laws.specs.Fixed.{IsConstant, IsFixed}
 use Rattle.circuit_laws.specs.Valuations.{Obeys}
-use Rattle.circuit_laws.proofs.Names.{same_name, name_cases, has_head, has_tail, all_from_has, different_head, different_tail}
+use Rattle.circuit_laws.proofs.Names.{same_name, name_cases, has_head, has_tail, all_from_has, different_none, different_cons, different_head, different_tail}
 use Rattle.circuit_laws.proofs.Drivers.{driver_reads}
 use Rattle.circuit_laws.proofs.Ranks.{leads_one}
 use Rattle.circuit_laws.proofs.Kept.{kept_refines, has_latches_kept}
-use Rattle.circuit_laws.proofs.Sound.{sound_kept}
-use Rattle.circuit_laws.proofs.Fixed.{own_fails}
+use Rattle.circuit_laws.proofs.Sound.{sound_settled, sound_kept}
+use Rattle.circuit_laws.proofs.Fixed.{own_fails, fixed_next}
 use Rattle.circuit_laws.proofs.FixedSound.{sound_fixed, sound_refines}
 use Rattle.circuit_laws.proofs.Left.{kept_left, fixed_left}
-use Rattle.sweep_rules.specs.Tidy.{is_tidy, tidied}
-use Rattle.sweep_rules.proofs.Tidied.{tidied_value, tidied_output, tidied_reads, tidied_once, tidied_shaped}
+use Rattle.table_tidy.specs.Tidy.{is_tidy, tidied}
+use Rattle.table_tidy.proofs.Tidied.{tidied_value, tidied_output, tidied_reads, tidied_once, tidied_shaped}
 use Rattle.sweep_rules.specs.Points.{constant_bit, written_bit}
 use Rattle.sweep_rules.specs.Needed.{dont_care_reads, is_needed, all_needed, only_needed}
 use Rattle.sweep_rules.specs.Rules.{tidy_rule, unwritten_bit, with_constant, constant_rule, tables_read, at_bit, with_bit_put, put_rule, rewired, only_input, is_inverter, with_bypass, bypass_rule, starts_at, fixed_bit, with_latch_fixed, latch_rule, need_rule, bit_from_start}
@@ -32,6 +32,7 @@ use Rattle.sweep_rules.proofs.Points.{constant_turned, written_constant, only_is
 use Rattle.sweep_rules.proofs.Turned.{at_value, at_output, at_reads, at_once, at_shaped, rewired_value, rewired_output, rewired_reads, rewired_once, rewired_shaped}
 use Rattle.sweep_rules.proofs.Mapped.{find_test, find_all, find_none, found_driver, outputs_different, latches_different, live_reads, replaced_kept, mapped_kept}
 use Rattle.sweep_rules.proofs.Closing.{needed_closed}
+use Rattle.sweep_rules.proofs.Begun.{found_begins}
 
 -- a rule that applies: where it applied, and what came of it
 pub applied : {X : Type 0} (turn : X → Circuit) (found : Option X) (new : Circuit) → option_map turn found ≡ Some new → (x : X) × (found ≡ Some x) × (turn x ≡ new)
@@ -194,7 +195,7 @@ starts (suc (suc n)) bit h = tt
 
 -- the latch is one that always has the bit
 pub record HasOneBit (circuit : Circuit) (latch : Latch) (bit : Bool) : Type 0 where
-  pub start : may_start latch.init bit
+  pub begins : starts_at latch.init bit ≡ true
   pub stays : (table : Table) × (driver circuit.tables latch.input ≡ Some table) × IsConstant table bit
   pub unread : dont_care_reads circuit latch.output ≡ false
 
@@ -208,7 +209,7 @@ one_bit circuit latch bit h = by (driver circuit.tables latch.input) refl h
     test table drives written at true d k =
         let p = and_parts (starts_at latch.init written) (not (dont_care_reads circuit latch.output)) d in
         let same : written ≡ bit = same_Some written bit k in record {
-          start = starts latch.init bit (subst (λ (b : Bool). starts_at latch.init b ≡ true) same p.0);
+          begins = subst (λ (b : Bool). starts_at latch.init b ≡ true) same p.0;
           stays = (table, drives, written_constant table bit (at ∙ k));
           unread = not-true (dont_care_reads circuit latch.output) p.1;
         }
@@ -225,7 +226,7 @@ pub latch_fixed : (circuit : Circuit) (p : Latch → Bool) (latch : Latch) (bit 
 unfolding dont_care_reads
 latch_fixed circuit p latch bit sound found one = record {
   latch = found_latch p circuit.latches latch found;
-  starts = only_latch (λ (l : Latch). may_start l.init bit) p circuit.latches latch (latches_different circuit sound) found one.start;
+  starts = only_latch (λ (l : Latch). may_start l.init bit) p circuit.latches latch (latches_different circuit sound) found (starts latch.init bit one.begins);
   stays = only_latch (λ (l : Latch). (table : Table) × (driver circuit.tables l.input ≡ Some table) × IsConstant table bit) p circuit.latches latch (latches_different circuit sound) found one.stays;
   unread = all_from_has (λ other. (has (outputs_of circuit.dont_care) other ≡ true) ⊎ (is_other latch.output other ≡ true)) (table_inputs circuit.dont_care) (λ other reads.
       elim (name_cases latch.output other) as (λ _. (has (outputs_of circuit.dont_care) other ≡ true) ⊎ (is_other latch.output other ≡ true)) [
@@ -248,13 +249,17 @@ unfolding latch_rule
 latch_kept circuit new sound h =
     let (latch, found, is) = applied (with_latch_fixed circuit) (find (λ (l : Latch). is_some (fixed_bit circuit l)) circuit.latches) new h in
     let (bit, at) = some_is (fixed_bit circuit latch) (find_test (λ (l : Latch). is_some (fixed_bit circuit l)) circuit.latches latch found) in
-    let fixed : IsFixed circuit latch.output bit = latch_fixed circuit (λ (l : Latch). is_some (fixed_bit circuit l)) latch bit sound found (one_bit circuit latch bit at) in
+    let one : HasOneBit circuit latch bit = one_bit circuit latch bit at in
+    let fixed : IsFixed circuit latch.output bit = latch_fixed circuit (λ (l : Latch). is_some (fixed_bit circuit l)) latch bit sound found one in
     let made : with_fixed circuit latch.output bit ≡ with_latch_fixed circuit latch =
     ap (λ (o : Option Bool). option_map_or (λ (b : Bool). with_fixed circuit latch.output b) o circuit) (sym at) in
     subst (IsKept circuit) (made ∙ is) (record {
       sound = sound_fixed circuit latch.output bit sound fixed;
       refines = sound_refines circuit latch.output bit sound fixed;
       held = (latch.output, bit) ∷ [];
+      different = different_cons latch.output [] refl different_none;
+      begun = (found_begins circuit (λ (l : Latch). is_some (fixed_bit circuit l)) latch bit found one.begins, tt);
+      stays = λ state row a has_bits. (fixed_next circuit latch.output bit (sound_settled circuit sound) fixed state row, tt);
       gone = (fixed_gone circuit latch.output bit, tt);
       left = fixed_left circuit latch.output bit sound fixed;
     })
@@ -270,6 +275,9 @@ need_kept circuit new sound h = cases (all_needed circuit) h
           sound = sound_kept circuit (is_needed circuit) sound (needed_closed circuit);
           refines = kept_refines circuit (is_needed circuit) sound.acyclic (needed_closed circuit);
           held = [];
+          different = different_none;
+          begun = tt;
+          stays = λ state row a has_bits. tt;
           gone = tt;
           left = kept_left circuit (is_needed circuit) sound.acyclic (needed_closed circuit);
         })

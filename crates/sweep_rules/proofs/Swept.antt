@@ -1,17 +1,19 @@
 -- What stands where no rule of sweep applies.
-use Rattle.std.proofs.Common.{◌≡◌, ℕ, Bool, true, false, not, ◌&&◌, if◌then◌else◌, Option, Some, None, is_some, List, [], ◌∷◌, length, refl, sym, ◌∙◌, arith}
+use Rattle.std.proofs.Common.{◌≡◌, ℕ, Bool, true, false, not, ◌&&◌, if◌then◌else◌, Option, Some, None, is_some, List, [], ◌∷◌, length, refl, sym, ap, ◌∙◌, arith}
 use Rattle.std.specs.List.{AllByRecursion, list_all}
-use Rattle.std.specs.Option.{option_or}
+use Rattle.std.specs.Option.{option_map_or, option_or}
 use Rattle.std.proofs.lemmas.Bool.{false≢true, and_parts, not-false}
 use Rattle.std.proofs.lemmas.Option.{none-some}
+use Rattle.circuit_model.specs.Values.{driver}
 use Rattle.circuit_model.specs.declared.circuit.Table.{Table}
 use Rattle.circuit_model.specs.declared.circuit.Latch.{Latch}
 use Rattle.circuit_model.specs.declared.circuit.Circuit.{Circuit}
 use Rattle.circuit_laws.specs.Edits.{with_replaced}
-use Rattle.sweep_rules.specs.Tidy.{is_tidy, tidied}
+use Rattle.circuit_laws.proofs.Drivers.{driver_all}
+use Rattle.table_tidy.specs.Tidy.{is_tidy, tidied}
 use Rattle.sweep_rules.specs.Points.{constant_bit, written_bit}
-use Rattle.sweep_rules.specs.Needed.{is_needed, all_needed, only_needed}
-use Rattle.sweep_rules.specs.Rules.{tidy_rule, unwritten_bit, with_constant, constant_rule, tables_read, with_bit_put, put_rule, only_input, with_bypass, bypass_rule, fixed_bit, with_latch_fixed, latch_rule, need_rule, sweep_step}
+use Rattle.sweep_rules.specs.Needed.{dont_care_reads, is_needed, all_needed, only_needed}
+use Rattle.sweep_rules.specs.Rules.{tidy_rule, unwritten_bit, with_constant, constant_rule, tables_read, with_bit_put, put_rule, only_input, with_bypass, bypass_rule, starts_at, bit_from_start, fixed_bit, with_latch_fixed, latch_rule, need_rule, sweep_step}
 use Rattle.sweep_rules.specs.Sweeping.{IsSweptTable, IsSweptLatch, IsSwept}
 use Rattle.sweep_rules.proofs.Points.{written_bit_constant}
 use Rattle.sweep_rules.proofs.Steps.{nothing_found}
@@ -99,7 +101,7 @@ swept_tables circuit (table ∷ tables) a b c d e = (
   record {
     tidy = not-false (is_tidy table) a.0;
     written = written_same table b.0;
-    not_constant = λ reads. fails_where (written_bit table) (tables_read circuit table.output) c.0 reads;
+    not_constant = λ reads. written_same table b.0 ∙ fails_where (written_bit table) (tables_read circuit table.output) c.0 reads;
     not_single = λ reads one. several table.inputs one (fails_where (only_input table.inputs) (tables_read circuit table.output) d.0 reads);
     needed = e.0;
   },
@@ -111,11 +113,36 @@ swept_tables circuit (table ∷ tables) a b c d e = (
     several (name ∷ []) one h = none-some name (sym h)
     several (name ∷ (other ∷ names)) one h = omega arith
 
-swept_latches : (circuit : Circuit) (latches : List Latch) → AllByRecursion (λ (latch : Latch). is_some (fixed_bit circuit latch) ≡ false) latches
+-- a latch that no rule fixes, though it may start at the constant that its input is, is read by the don't-care part
+fixed_read : (circuit : Circuit) (latch : Latch) (bit : Bool) (table : Table) → fixed_bit circuit latch ≡ None → starts_at latch.init bit ≡ true
+    → driver circuit.tables latch.input ≡ Some table → written_bit table ≡ Some bit → dont_care_reads circuit latch.output ≡ true
+unfolding fixed_bit
+fixed_read circuit latch bit table none starts drives written =
+    by (starts_at latch.init bit) (dont_care_reads circuit latch.output) starts
+    (sym (ap (λ (o : Option Bool). option_map_or (bit_from_start circuit latch) o None) (ap (λ (found : Option Table). option_map_or written_bit found None) drives ∙ written)) ∙ none)
+  where
+    by : (s d : Bool) → s ≡ true → (if s && not d then Some bit else None) ≡ None → d ≡ true
+    by s true h e = refl
+    by true false h e = absurd (none-some bit (sym e))
+    by false false h e = absurd (false≢true h)
+
+swept_latches : (circuit : Circuit) (latches : List Latch) → AllByRecursion (λ (table : Table). constant_bit table ≡ written_bit table) circuit.tables → AllByRecursion (λ (latch : Latch). is_some (fixed_bit circuit latch) ≡ false) latches
     → AllByRecursion (λ (latch : Latch). is_needed circuit latch.output ≡ true) latches → AllByRecursion (IsSweptLatch circuit) latches
-swept_latches circuit [] a b = tt
-swept_latches circuit (latch ∷ latches) a b =
-    (record { not_fixed = none_some_of (fixed_bit circuit latch) a.0; needed = b.0 }, swept_latches circuit latches a.1 b.1)
+swept_latches circuit [] same a b = tt
+swept_latches circuit (latch ∷ latches) same a b = (
+  record {
+    not_fixed = λ bit table starts drives constant.
+        fixed_read circuit latch bit table (none_some_of (fixed_bit circuit latch) a.0) starts drives
+        (sym (driver_all (λ (t : Table). constant_bit t ≡ written_bit t) circuit.tables same latch.input table drives) ∙ constant);
+    needed = b.0;
+  },
+  swept_latches circuit latches same a.1 b.1,
+)
+
+-- each constant is written as one
+each_written : (tables : List Table) → AllByRecursion (λ (table : Table). is_some (unwritten_bit table) ≡ false) tables → AllByRecursion (λ (table : Table). constant_bit table ≡ written_bit table) tables
+each_written [] all = tt
+each_written (table ∷ tables) all = (written_same table all.0, each_written tables all.1)
 
 -- the end of the chain
 pub swept : (circuit : Circuit) → sweep_step circuit ≡ None → IsSwept circuit
@@ -124,5 +151,5 @@ swept circuit h =
     let needed = and_parts (list_all (λ (table : Table). is_needed circuit table.output) circuit.tables) (list_all (λ (latch : Latch). is_needed circuit latch.output) circuit.latches) (each_needed circuit none.need) in record {
       tables = swept_tables circuit circuit.tables (all_tidy circuit none.tidy) (all_written circuit none.constant) (all_put circuit none.put) (all_bypassed circuit none.bypass)
           (all_true (λ (table : Table). is_needed circuit table.output) circuit.tables needed.0);
-      latches = swept_latches circuit circuit.latches (all_unfixed circuit none.latch) (all_true (λ (latch : Latch). is_needed circuit latch.output) circuit.latches needed.1);
+      latches = swept_latches circuit circuit.latches (each_written circuit.tables (all_written circuit none.constant)) (all_unfixed circuit none.latch) (all_true (λ (latch : Latch). is_needed circuit latch.output) circuit.latches needed.1);
     }

@@ -13,8 +13,8 @@ use Rattle.circuit_model.specs.declared.circuit.Tri.{Tri}
 use Rattle.circuit_model.specs.declared.circuit.Tri.TheVariants.{Zero, One, Free}
 use Rattle.circuit_model.specs.declared.circuit.Table.{Table}
 use Rattle.circuit_laws.proofs.Names.{same_name}
-use Rattle.sweep_rules.specs.Tidy.{tidied}
-use Rattle.sweep_rules.proofs.Tidied.{IsWide, tidied_value, tidied_output, tidied_reads, tidied_once, tidied_shaped}
+use Rattle.table_tidy.specs.Tidy.{IsWide, tidied}
+use Rattle.table_tidy.proofs.Tidied.{tidied_value, tidied_output, tidied_reads, tidied_once, tidied_shaped}
 use Rattle.sweep_rules.specs.Rules.{asks_against, row_at_bit, at_bit, renamed, turned_over, row_turned, rewired}
 
 abbrev some_fits : List (List Tri) → List Bool → Bool

@@ -19,7 +19,7 @@ use Rattle.circuit_laws.proofs.Ranks.{leads_one}
 use Rattle.circuit_laws.proofs.Paths.{no_return}
 use Rattle.circuit_laws.proofs.Places.{tables_stay}
 use Rattle.circuit_laws.proofs.Sound.{outputs-added}
-use Rattle.sweep_rules.proofs.Tidied.{size_of}
+use Rattle.table_tidy.proofs.Tidied.{size_of}
 use Rattle.sweep_rules.specs.Needed.{is_needed, all_needed, only_needed}
 use Rattle.sweep_rules.specs.Rules.{tables_read, at_bit, rewired}
 use Rattle.sweep_rules.proofs.Closing.{counted, counted_most, agree_or_more}
@@ -239,7 +239,7 @@ counted_added test (first ∷ names) name = cases (test first) (counted_added te
     cases true h = omega arith
     cases false h = omega arith
 
-latches_fewer : (name : List ℕ) (latches : List Latch) → has (map (λ (l : Latch). l.output) latches) name ≡ true → length (latches_kept (is_other name) latches) < length latches
+pub latches_fewer : (name : List ℕ) (latches : List Latch) → has (map (λ (l : Latch). l.output) latches) name ≡ true → length (latches_kept (is_other name) latches) < length latches
 unfolding latches_kept
 latches_fewer name [] h = absurd (false≢true h)
 latches_fewer name (latch ∷ latches) h = cases (bytes_eq name latch.output) h (most latches) (latches_fewer name latches)
@@ -337,11 +337,11 @@ kept_fewer p (x ∷ xs) h = cases (p x) h (kept_few p xs) (kept_fewer p xs)
     cases true k small more = let less : length (filter p xs) < length xs = more k in omega arith
     cases false k small more = omega arith
 
-tables_few : (test : List ℕ → Bool) (tables : List Table) → length (tables_kept test tables) ≤ length tables
+pub tables_few : (test : List ℕ → Bool) (tables : List Table) → length (tables_kept test tables) ≤ length tables
 unfolding tables_kept
 tables_few test tables = kept_few (λ (table : Table). test table.output) tables
 
-latches_few : (test : List ℕ → Bool) (latches : List Latch) → length (latches_kept test latches) ≤ length latches
+pub latches_few : (test : List ℕ → Bool) (latches : List Latch) → length (latches_kept test latches) ≤ length latches
 unfolding latches_kept
 latches_few test latches = kept_few (λ (latch : Latch). test latch.output) latches
 

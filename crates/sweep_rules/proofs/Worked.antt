@@ -15,7 +15,7 @@ use Rattle.circuit_model.specs.Values.{table_value, driver}
 use Rattle.circuit_model.specs.Names.{all_different}
 use Rattle.sis_base.specs.Rows.{value_by_phase, some_matches, matches}
 use Rattle.circuit_laws.specs.Edits.{with_replaced, replaced, with_fixed, with_added, with_kept, tables_kept, latches_kept}
-use Rattle.sweep_rules.specs.Tidy.{tidied, with_phase_one, is_tidy, same_row, rows_differ, used_places, rows_once, chosen, narrowed}
+use Rattle.table_tidy.specs.Tidy.{tidied, with_phase_one, is_tidy, same_row, rows_differ, used_places, rows_once, chosen, narrowed}
 
 a : List ℕ
 a = 97 ∷ []

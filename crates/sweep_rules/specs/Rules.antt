@@ -13,7 +13,7 @@ use Rattle.circuit_model.specs.declared.circuit.Table.{Table}
 use Rattle.circuit_model.specs.declared.circuit.Latch.{Latch}
 use Rattle.circuit_model.specs.declared.circuit.Circuit.{Circuit}
 use Rattle.circuit_laws.specs.Edits.{with_tables, with_replaced, with_fixed, constant_table}
-use Rattle.sweep_rules.specs.Tidy.{tidied, is_tidy}
+use Rattle.table_tidy.specs.Tidy.{tidied, is_tidy}
 use Rattle.sweep_rules.specs.Points.{constant_bit, written_bit}
 use Rattle.sweep_rules.specs.Needed.{dont_care_reads, all_needed, only_needed}
 

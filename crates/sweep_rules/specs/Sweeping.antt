@@ -1,29 +1,32 @@
 -- What sweep makes of a circuit: the end of its chain of steps, said without steps.
 -- Source: the SIS manual (UCB/ERL M92/41), `sweep`.
-use Rattle.std.specs.Prelude.{◌≡◌, ℕ, ◌-◌, true, not, None, length, count_by}
+use Rattle.std.specs.Prelude.{◌≡◌, ℕ, ◌-◌, Bool, true, not, Some, None, length, count_by}
 use Rattle.std.specs.List.{AllByRecursion}
 use Rattle.circuit_model.specs.Names.{has}
+use Rattle.circuit_model.specs.Values.{driver}
 use Rattle.circuit_model.specs.Soundness.{outputs_of}
 use Rattle.circuit_model.specs.declared.circuit.Table.{Table}
 use Rattle.circuit_model.specs.declared.circuit.Latch.{Latch}
 use Rattle.circuit_model.specs.declared.circuit.Circuit.{Circuit}
-use Rattle.sweep_rules.specs.Tidy.{is_tidy}
+use Rattle.table_tidy.specs.Tidy.{is_tidy}
 use Rattle.sweep_rules.specs.Points.{constant_bit, written_bit}
-use Rattle.sweep_rules.specs.Rules.{tables_read, fixed_bit}
-use Rattle.sweep_rules.specs.Needed.{is_needed}
+use Rattle.sweep_rules.specs.Rules.{tables_read, starts_at}
+use Rattle.sweep_rules.specs.Needed.{dont_care_reads, is_needed}
 
 -- a table that sweep leaves: tidy; written as a constant where it is one; and neither constant nor of one input where
 -- tables read it
 pub record IsSweptTable (circuit : Circuit) (table : Table) : Type 0 where
   pub tidy : is_tidy table ≡ true
   pub written : constant_bit table ≡ written_bit table
-  pub not_constant : tables_read circuit table.output ≡ true → written_bit table ≡ None
+  pub not_constant : tables_read circuit table.output ≡ true → constant_bit table ≡ None
   pub not_single : tables_read circuit table.output ≡ true → length table.inputs ≡ 1 → ⊥
   pub needed : is_needed circuit table.output ≡ true
 
--- a latch that sweep leaves: it has no one bit, or the don't-care part reads it; and it is needed
+-- a latch that sweep leaves: where it may start at a bit and its input is a table that is this constant, the don't-care
+-- part reads it; and it is needed
 pub record IsSweptLatch (circuit : Circuit) (latch : Latch) : Type 0 where
-  pub not_fixed : fixed_bit circuit latch ≡ None
+  pub not_fixed : (bit : Bool) (table : Table) → starts_at latch.init bit ≡ true → driver circuit.tables latch.input ≡ Some table → constant_bit table ≡ Some bit
+      → dont_care_reads circuit latch.output ≡ true
   pub needed : is_needed circuit latch.output ≡ true
 
 -- the finished form

@@ -1,17 +1,21 @@
-use Rattle.std.proofs.Common.{◌≡◌, List, ap, ◌∙◌, sym, get_or, take, ◌++◌, ◌∷◌, []}
+use Rattle.std.proofs.Common.{◌≡◌, List, refl, ap, ◌∙◌, sym, get_or, take, ◌++◌, ◌∷◌, []}
 use Rattle.std.proofs.lemmas.List.{take_more}
 use Rattle.circuit_model.specs.Names.{has}
 use Rattle.circuit_model.specs.Soundness.{outputs_of}
 use Rattle.circuit_model.specs.declared.circuit.Table.{Table as Written}
-use Rattle.net_core.specs.Tables.{named}
+use Rattle.net_core.specs.Tables.{named, covered}
 use Rattle.net_core.proofs.Rows.{written_back}
 use Rattle.net_core.proofs.Indexing.{next_is_new}
 use Rattle.net_core.proofs.network.tables_from.Goals as goal
 
-pub push-requires : goal.push-requires
-push-requires g c =
+pub push-requires-clause-new : goal.push-requires-clause-new
+push-requires-clause-new g c =
     ap (λ (ts : List Written). has (outputs_of ts) c.written-item.result.output) c.loop-written.invariant
     ∙ next_is_new c.args.tables.now c.loop-written.written-index c.written-item.result c.requires.distinct c.loop-written-test.true c.written-item.is
+
+pub push-requires-clause-over : goal.push-requires-clause-over
+unfolding covered
+push-requires-clause-over g c = rw c.in_ok-table.ensures refl
 
 pub loop-written-preserved : goal.loop-written-preserved
 loop-written-preserved g c =

@@ -1,7 +1,7 @@
 use Rattle.std.proofs.Common.{◌^◌, refl, arith}
 use Rattle.circuit_model.specs.Counts.{literals_of_table}
 use Rattle.net_core.specs.Places.{present}
-use Rattle.net_core.specs.Reads.{HasFewRows}
+use Rattle.net_core.specs.Reads.{IsBounded}
 use Rattle.net_core.proofs.Counting.{sum_slots, sum_small, all_present_at}
 use Rattle.net_core.proofs.reads.slots_literals.Goals as goal
 
@@ -10,7 +10,7 @@ unfolding present
 loop-slot-init g c = (refl, omega arith)
 
 pub slot_literals-total-requires : goal.slot_literals-total-requires
-slot_literals-total-requires g c = all_present_at HasFewRows c.args.slots.now c.loop-slot.slot-index c.slot-item.result c.requires.rows c.loop-slot-test.true c.slot-item.is
+slot_literals-total-requires g c = all_present_at IsBounded c.args.slots.now c.loop-slot.slot-index c.slot-item.result c.requires.rows c.loop-slot-test.true c.slot-item.is
 
 pub overflow_add-total : goal.overflow_add-total
 overflow_add-total g c =

@@ -1,4 +1,4 @@
-use Rattle.sis_top.proofs.Advancing.{advanced_done, advanced_refused, advanced_untold, advanced_unstored, advanced_unput, advanced_unheld}
+use Rattle.sis_top.proofs.Advancing.{advanced_done, advanced_refused, advanced_untold, advanced_unstored, advanced_unput, advanced_unheld, may_done, may_refuse}
 use Rattle.sis_top.proofs.running.advance.Goals as goal
 
 pub returns-in-Ok-clause-advanced : goal.returns-in-Ok-clause-advanced
@@ -29,3 +29,14 @@ returns-in-Err-Refused-clause-advanced g c = λ goes_on place st ot et s.
 pub returns-clause-advanced : goal.returns-clause-advanced
 returns-clause-advanced g c = λ goes_on place st ot et s.
     advanced_unheld goes_on place c.args.command.now _ _ _ _ _ _ _ 0 0 s (rw c.in-Err-Memory.field-0-is at (c.in-Err-Memory.ensures.answers st ot))
+
+pub returns-in-Ok-clause-causes : goal.returns-in-Ok-clause-causes
+returns-in-Ok-clause-causes g c = λ goes_on place s.
+    may_done goes_on place c.args.command.now c.in-Ok.next c.turn_by.result c.args.session.now c.step.new.self (g.S.Store.misses c.args.store.now) (g.S.Store.misses c.step.new.store) s
+    c.in-Ok.ensures.moves c.turn_by.ensures
+
+pub returns-in-Ok-tell-clause-causes : goal.returns-in-Ok-tell-clause-causes
+returns-in-Ok-tell-clause-causes g c = λ goes_on place s.
+    may_refuse goes_on place c.args.command.now c.in-Err-Refused.refusal c.args.session.now c.step.new.self (g.S.Store.misses c.args.store.now) (g.S.Store.misses c.step.new.store) s
+    (rw c.in-Err-Refused.field-0-is at c.in-Err-Refused.ensures.moves)
+    (rw c.in-Err-Refused.field-0-is at c.in-Err-Refused.ensures.misses)

@@ -1,5 +1,3 @@
-use Rattle.std.proofs.Common.{refl, subst, arith}
-use Rattle.sis_top.specs.Running.{EndLine}
 use Rattle.sis_top.proofs.Endings.{unbegun_told}
 use Rattle.sis_top.proofs.top.tell_unbegun.Goals as goal
 

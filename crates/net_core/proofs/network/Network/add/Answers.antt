@@ -1,6 +1,8 @@
-use Rattle.net_core.proofs.NewNames.{sound_new}
+use Rattle.circuit_laws.specs.Edits.{with_added}
+use Rattle.net_core.proofs.Sounds.{added_sound}
 use Rattle.net_core.proofs.network.Network.add.Goals as goal
 
-pub returns-in-Ok-clause-sound : goal.returns-in-Ok-clause-sound
-returns-in-Ok-clause-sound g c =
-    rw c.in-Ok.ensures.ok (sound_new c.args.self.now c.in-Ok.name c.args.table c.requires.sound c.in-Ok.ensures.new (c.requires.fitting c.in-Ok.name))
+pub invariant_of-self-2 : goal.invariant_of-self-2
+unfolding with_added
+invariant_of-self-2 g c =
+    rw c.in_ok-push.ensures.ok (added_sound _ c.args.self.now c.in_ok-name.name c.args.table c.self.view_is c.self.invariant c.in_ok-name.ensures (c.requires.fitting c.in_ok-name.name))

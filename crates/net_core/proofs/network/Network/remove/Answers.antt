@@ -1,6 +1,12 @@
-use Rattle.circuit_laws.specs.Edits.{is_other}
-use Rattle.circuit_laws.proofs.Sound.{sound_kept}
+use Rattle.std.proofs.Common.{◌∙◌, sym}
+use Rattle.net_core.proofs.Sounds.{table_gone_sound, latch_gone_sound}
 use Rattle.net_core.proofs.network.Network.remove.Goals as goal
 
-pub returns-clause-sound : goal.returns-clause-sound
-returns-clause-sound g c = rw c.remove_named.ensures (sound_kept c.args.self.now (is_other c.args.name.now) c.requires.sound c.requires.unread)
+pub invariant_of-self : goal.invariant_of-self
+invariant_of-self g c =
+    rw c.remove.ensures.tables (table_gone_sound _ c.args.self.now c.args.name.now c.self.view_is c.self.invariant c.requires (sym c.remove.ensures.found ∙ c.if-remove.true))
+
+pub invariant_of-self-2 : goal.invariant_of-self-2
+invariant_of-self-2 g c =
+    rw (c.drop_timing.ensures, c.as_slice.ensures.value, c.remove_latch.ensures, c.remove.ensures.tables)
+    (latch_gone_sound _ c.args.self.now c.args.name.now c.self.view_is c.self.invariant c.requires)

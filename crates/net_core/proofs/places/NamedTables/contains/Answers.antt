@@ -8,4 +8,4 @@ use Rattle.net_core.proofs.places.NamedTables.contains.Goals as goal
 pub returns : goal.returns
 returns g c =
     c.is_some.ensures ∙ (ap is_some c.found_place.ensures
-    ∙ (known_name c.self.inside.slots.items _ c.self.invariant c.args.name.now ∙ ap (λ (ts : List Written). has (outputs_of ts) c.args.name.now) c.self.view_is))
+    ∙ (known_name c.self.inside.slots.items _ c.self.invariant.0 c.args.name.now ∙ ap (λ (ts : List Written). has (outputs_of ts) c.args.name.now) c.self.view_is))

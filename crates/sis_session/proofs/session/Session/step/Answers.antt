@@ -1,6 +1,7 @@
-use Rattle.std.proofs.Common.{refl}
-use Rattle.sis_session.specs.Causes.{judged}
-use Rattle.sis_session.proofs.Answering.{answers_of, wholly_judged, wholly_refutes}
+use Rattle.std.proofs.Common.{refl, []}
+use Rattle.sis_script.specs.declared.command.Op.TheVariants.{Sweep, Undo}
+use Rattle.sis_session.proofs.Answering.{answers_of}
+use Rattle.sis_session.proofs.Moving.{answers_move, no_files, echo_moves, write_moves, stats_moves, print_moves, latch_moves}
 use Rattle.sis_session.proofs.session.Session.step.Goals as goal
 
 pub returns-in-Echo-clause-answers : goal.returns-in-Echo-clause-answers
@@ -16,12 +17,6 @@ returns-in-Echo-clause-sink g c = c.put_reply.ensures.sink _ _ (c.echo.ensures c
 pub returns-in-Echo-clause-misses : goal.returns-in-Echo-clause-misses
 returns-in-Echo-clause-misses g c = (c.put_reply.ensures.store _ _ (g.S.Store.misses c.args.store.now) (c.echo.ensures c.args.self.now)).1
 
-pub returns-in-Echo-clause-words : goal.returns-in-Echo-clause-words
-returns-in-Echo-clause-words g c = wholly_judged (judged c.args.self.now c.args.command.now.op) _ (rw c.in-Echo.is (c.put_reply.ensures.words _ _ (c.echo.ensures c.args.self.now)))
-
-pub returns-in-Echo-clause-causes : goal.returns-in-Echo-clause-causes
-returns-in-Echo-clause-causes g c = wholly_refutes c.args.self.now c.args.command.now.op _ (rw c.in-Echo.is (c.put_reply.ensures.words _ _ (c.echo.ensures c.args.self.now)))
-
 pub returns-in-PrintStats-clause-answers : goal.returns-in-PrintStats-clause-answers
 returns-in-PrintStats-clause-answers g c = λ st ot.
     rw (c.in-PrintStats.is, ← c.self.view_is) (answers_of _ _ _ _ _ _ _ _ _ (c.put_reply-in-PrintStats.ensures.gives _ _ (g.S.Store.files c.args.store.now) ot (c.print_stats.ensures _)))
@@ -34,12 +29,6 @@ returns-in-PrintStats-clause-sink g c = c.put_reply-in-PrintStats.ensures.sink _
 
 pub returns-in-PrintStats-clause-misses : goal.returns-in-PrintStats-clause-misses
 returns-in-PrintStats-clause-misses g c = (c.put_reply-in-PrintStats.ensures.store _ _ (g.S.Store.misses c.args.store.now) (c.print_stats.ensures c.args.self.now)).1
-
-pub returns-in-PrintStats-clause-words : goal.returns-in-PrintStats-clause-words
-returns-in-PrintStats-clause-words g c = wholly_judged (judged c.args.self.now c.args.command.now.op) _ (rw (c.in-PrintStats.is, ← c.self.view_is) (c.put_reply-in-PrintStats.ensures.words _ _ (c.print_stats.ensures _)))
-
-pub returns-in-PrintStats-clause-causes : goal.returns-in-PrintStats-clause-causes
-returns-in-PrintStats-clause-causes g c = wholly_refutes c.args.self.now c.args.command.now.op _ (rw (c.in-PrintStats.is, ← c.self.view_is) (c.put_reply-in-PrintStats.ensures.words _ _ (c.print_stats.ensures _)))
 
 pub returns-in-Print-clause-answers : goal.returns-in-Print-clause-answers
 returns-in-Print-clause-answers g c = λ st ot.
@@ -54,12 +43,6 @@ returns-in-Print-clause-sink g c = c.put_reply-in-Print.ensures.sink _ _ (c.prin
 pub returns-in-Print-clause-misses : goal.returns-in-Print-clause-misses
 returns-in-Print-clause-misses g c = (c.put_reply-in-Print.ensures.store _ _ (g.S.Store.misses c.args.store.now) (c.print.ensures c.args.self.now)).1
 
-pub returns-in-Print-clause-words : goal.returns-in-Print-clause-words
-returns-in-Print-clause-words g c = wholly_judged (judged c.args.self.now c.args.command.now.op) _ (rw (c.in-Print.is, ← c.self-in-Print.view_is) (c.put_reply-in-Print.ensures.words _ _ (c.print.ensures _)))
-
-pub returns-in-Print-clause-causes : goal.returns-in-Print-clause-causes
-returns-in-Print-clause-causes g c = wholly_refutes c.args.self.now c.args.command.now.op _ (rw (c.in-Print.is, ← c.self-in-Print.view_is) (c.put_reply-in-Print.ensures.words _ _ (c.print.ensures _)))
-
 pub returns-in-PrintLatch-clause-answers : goal.returns-in-PrintLatch-clause-answers
 returns-in-PrintLatch-clause-answers g c = λ st ot.
     rw (c.in-PrintLatch.is, ← c.self-in-PrintLatch.view_is) (answers_of _ _ _ _ _ _ _ _ _ (c.put_reply-in-PrintLatch.ensures.gives _ _ (g.S.Store.files c.args.store.now) ot (c.print_latch.ensures _)))
@@ -73,12 +56,6 @@ returns-in-PrintLatch-clause-sink g c = c.put_reply-in-PrintLatch.ensures.sink _
 pub returns-in-PrintLatch-clause-misses : goal.returns-in-PrintLatch-clause-misses
 returns-in-PrintLatch-clause-misses g c = (c.put_reply-in-PrintLatch.ensures.store _ _ (g.S.Store.misses c.args.store.now) (c.print_latch.ensures c.args.self.now)).1
 
-pub returns-in-PrintLatch-clause-words : goal.returns-in-PrintLatch-clause-words
-returns-in-PrintLatch-clause-words g c = wholly_judged (judged c.args.self.now c.args.command.now.op) _ (rw (c.in-PrintLatch.is, ← c.self-in-PrintLatch.view_is) (c.put_reply-in-PrintLatch.ensures.words _ _ (c.print_latch.ensures _)))
-
-pub returns-in-PrintLatch-clause-causes : goal.returns-in-PrintLatch-clause-causes
-returns-in-PrintLatch-clause-causes g c = wholly_refutes c.args.self.now c.args.command.now.op _ (rw (c.in-PrintLatch.is, ← c.self-in-PrintLatch.view_is) (c.put_reply-in-PrintLatch.ensures.words _ _ (c.print_latch.ensures _)))
-
 pub returns-in-Quit-clause-answers : goal.returns-in-Quit-clause-answers
 returns-in-Quit-clause-answers g c = λ st ot. rw c.in-Quit.is (_, refl, (refl, refl, refl, refl))
 
@@ -88,17 +65,43 @@ returns-in-ReadBlif-clause-answers g c = λ st ot. rw c.in-ReadBlif.is (answers_
 pub returns-in-WriteBlif-clause-answers : goal.returns-in-WriteBlif-clause-answers
 returns-in-WriteBlif-clause-answers g c = λ st ot. rw c.in-WriteBlif.is (answers_of _ _ _ _ _ _ _ _ _ (c.write_blif.ensures.gives st ot))
 
-pub returns-in-WriteBlif-clause-words : goal.returns-in-WriteBlif-clause-words
-returns-in-WriteBlif-clause-words g c = wholly_judged (judged c.args.self.now c.args.command.now.op) _ (rw c.in-WriteBlif.is c.write_blif.ensures.words)
-
-pub returns-in-WriteBlif-clause-causes : goal.returns-in-WriteBlif-clause-causes
-returns-in-WriteBlif-clause-causes g c = wholly_refutes c.args.self.now c.args.command.now.op _ (rw c.in-WriteBlif.is c.write_blif.ensures.words)
-
 pub returns-in-Undo-clause-answers : goal.returns-in-Undo-clause-answers
 returns-in-Undo-clause-answers g c = λ st ot. rw c.in-Undo.is (answers_of _ _ _ _ _ _ _ _ _ (c.undo_or_refuse.ensures.gives _ _))
 
-pub returns-in-Undo-clause-words : goal.returns-in-Undo-clause-words
-returns-in-Undo-clause-words g c = wholly_judged (judged c.args.self.now c.args.command.now.op) _ (rw c.in-Undo.is c.undo_or_refuse.ensures.words)
+pub returns-in-Echo-clause-moves : goal.returns-in-Echo-clause-moves
+returns-in-Echo-clause-moves g c =
+    rw c.in-Echo.is (echo_moves c.args.self.now _ _ _ (c.put_reply.ensures.moves _ _ (c.echo.ensures c.args.self.now)))
 
-pub returns-in-Undo-clause-causes : goal.returns-in-Undo-clause-causes
-returns-in-Undo-clause-causes g c = wholly_refutes c.args.self.now c.args.command.now.op _ (rw c.in-Undo.is c.undo_or_refuse.ensures.words)
+pub returns-in-PrintStats-clause-moves : goal.returns-in-PrintStats-clause-moves
+returns-in-PrintStats-clause-moves g c =
+    rw (c.in-PrintStats.is, ← c.self.view_is) (stats_moves _ _ _ (c.put_reply-in-PrintStats.ensures.moves _ _ (c.print_stats.ensures _)))
+
+pub returns-in-Print-clause-moves : goal.returns-in-Print-clause-moves
+returns-in-Print-clause-moves g c =
+    rw (c.in-Print.is, ← c.self-in-Print.view_is) (print_moves (record { network = c.self-in-Print.inside.network; kept = c.self-in-Print.inside.kept }) c.in-Print.name _ _ (c.put_reply-in-Print.ensures.moves _ _ (c.print.ensures _)))
+
+pub returns-in-PrintLatch-clause-moves : goal.returns-in-PrintLatch-clause-moves
+returns-in-PrintLatch-clause-moves g c =
+    rw (c.in-PrintLatch.is, ← c.self-in-PrintLatch.view_is) (latch_moves _ _ _ (c.put_reply-in-PrintLatch.ensures.moves _ _ (c.print_latch.ensures _)))
+
+pub returns-in-Quit-clause-moves : goal.returns-in-Quit-clause-moves
+returns-in-Quit-clause-moves g c = rw c.in-Quit.is (no_files, _, refl, refl, refl)
+
+pub returns-in-ReadBlif-clause-moves : goal.returns-in-ReadBlif-clause-moves
+returns-in-ReadBlif-clause-moves g c = rw c.in-ReadBlif.is c.read_blif.ensures.moves
+
+pub returns-in-WriteBlif-clause-moves : goal.returns-in-WriteBlif-clause-moves
+returns-in-WriteBlif-clause-moves g c = rw c.in-WriteBlif.is (write_moves _ _ _ _ c.write_blif.ensures.moves)
+
+pub returns-in-Sweep-clause-answers : goal.returns-in-Sweep-clause-answers
+returns-in-Sweep-clause-answers g c = λ st ot. rw c.in-Sweep.is (c.sweep_network.ensures.answers _ _)
+
+pub returns-in-Sweep-clause-moves : goal.returns-in-Sweep-clause-moves
+returns-in-Sweep-clause-moves g c = rw c.in-Sweep.is (answers_move Sweep _ no_files [] _ _ no_files [] (c.sweep_network.ensures.answers no_files []))
+
+pub returns-in-Undo-clause-moves : goal.returns-in-Undo-clause-moves
+returns-in-Undo-clause-moves g c =
+    rw c.in-Undo.is (answers_move Undo _ no_files [] _ _ no_files [] (answers_of _ _ _ _ _ _ _ _ _ (c.undo_or_refuse.ensures.gives no_files [])))
+
+pub returns-in-Bad-clause-moves : goal.returns-in-Bad-clause-moves
+returns-in-Bad-clause-moves g c = rw c.in-Bad.is (refl, (no_files, refl))

@@ -1,0 +1,99 @@
+-- Steps one after the other.
+use Rattle.std.proofs.Common.{◌≡◌, ℕ, ◌<◌, ◌≤◌, ◌-◌, not, length, count_by, Option, Some, None, List, [], ◌∷◌, ◌++◌, refl, sym, ap, ◌∙◌, subst, arith}
+use Rattle.std.specs.Option.{option_or}
+use Rattle.circuit_model.specs.Names.{has}
+use Rattle.circuit_model.specs.Soundness.{IsSound, outputs_of}
+use Rattle.circuit_model.specs.declared.circuit.Table.{Table}
+use Rattle.circuit_model.specs.declared.circuit.Circuit.{Circuit}
+use Rattle.circuit_laws.specs.Chains.{Leads, Chain}
+use Rattle.sweep_rules.specs.Rules.{tidy_rule, constant_rule, put_rule, bypass_rule, latch_rule, need_rule, sweep_step}
+use Rattle.sweep_rules.specs.Keeping.{IsKept}
+use Rattle.sweep_rules.specs.Sweeping.{IsSwept, tables_gone, latches_gone}
+use Rattle.sweep_rules.proofs.Chaining.{step_kept, chain_kept, chain_swept}
+use Rattle.sweep_rules.proofs.Falling.{step_falls}
+use Rattle.sweep_rules.proofs.Weight.{weight}
+use Rattle.net_sweep.specs.Settled.{table_step, HasLed}
+
+leads_more : {N : Type 0} (step : N → Option N) (between : List N) (from to next : N) → Leads step between from to → step to ≡ Some next → Leads step (between ++ next ∷ []) from next
+leads_more step [] from to next h e = (ap step h ∙ e, refl)
+leads_more step (first ∷ between) from to next h e = (h.0, leads_more step between first to next h.1 e)
+
+leads_through : {N : Type 0} (step : N → Option N) (between others : List N) (from to end : N) → Leads step between from to → Leads step others to end → Leads step (between ++ others) from end
+leads_through {N} step [] others from to end h k = subst (λ (n : N). Leads step others n end) (sym h) k
+leads_through step (first ∷ between) others from to end h k = (h.0, leads_through step between others first to end h.1 k)
+
+pub not_yet : (from : Circuit) → IsSound from → HasLed from from
+not_yet from h = record { between = []; leads = refl; sound = h }
+
+pub one_more : (from to next : Circuit) → HasLed from to → sweep_step to ≡ Some next → HasLed from next
+one_more from to next h e = record { between = h.between ++ next ∷ []; leads = leads_more sweep_step h.between from to next h.leads e; sound = (step_kept to next h.sound e).sound }
+
+pub led_through : (from to end : Circuit) → HasLed from to → HasLed to end → HasLed from end
+led_through from to end h k = record { between = h.between ++ k.between; leads = leads_through sweep_step h.between k.between from to end h.leads k.leads; sound = k.sound }
+
+pub at_end : (from to : Circuit) → HasLed from to → sweep_step to ≡ None → Chain sweep_step from to
+at_end from to h e = record { between = h.between; leads = h.leads; finished = e }
+
+-- a step of the rules that change tables is a step; where they do not apply the other rules decide
+pub table_step_is : (circuit next : Circuit) → table_step circuit ≡ Some next → sweep_step circuit ≡ Some next
+unfolding table_step sweep_step
+table_step_is circuit next h = by (tidy_rule circuit) (constant_rule circuit) (put_rule circuit) (bypass_rule circuit) (option_or (latch_rule circuit) (need_rule circuit)) h
+  where
+    by : (a b c d e : Option Circuit) → option_or a (option_or b (option_or c d)) ≡ Some next → option_or a (option_or b (option_or c (option_or d e))) ≡ Some next
+    by (Some x) b c d e k = k
+    by None (Some x) c d e k = k
+    by None None (Some x) d e k = k
+    by None None None (Some x) e k = k
+    by None None None None e k = let z : None ≡ Some next = k in absurd cc
+
+pub other_step_is : (circuit : Circuit) (next : Option Circuit) → table_step circuit ≡ None → next ≡ option_or (latch_rule circuit) (need_rule circuit) → sweep_step circuit ≡ next
+unfolding table_step sweep_step
+other_step_is circuit next h n = by (tidy_rule circuit) (constant_rule circuit) (put_rule circuit) (bypass_rule circuit) (option_or (latch_rule circuit) (need_rule circuit)) h (sym n)
+  where
+    by : (a b c d e : Option Circuit) → option_or a (option_or b (option_or c d)) ≡ None → e ≡ next → option_or a (option_or b (option_or c (option_or d e))) ≡ next
+    by (Some x) b c d e k m = let z : Some x ≡ None = k in absurd cc
+    by None (Some x) c d e k m = let z : Some x ≡ None = k in absurd cc
+    by None None (Some x) d e k m = let z : Some x ≡ None = k in absurd cc
+    by None None None (Some x) e k m = let z : Some x ≡ None = k in absurd cc
+    by None None None None e k m = m
+
+-- steps make a sound circuit no heavier
+lighter : (between : List Circuit) (from to : Circuit) → IsSound from → Leads sweep_step between from to → weight to ≤ weight from
+lighter [] from to sound h = let e : weight from ≡ weight to = ap weight h in omega (arith, e)
+lighter (next ∷ rest) from to sound h =
+    let one : weight next < weight from = step_falls from next sound h.0 in
+    let more : weight to ≤ weight next = lighter rest next to (step_kept from next sound h.0).sound h.1 in
+    omega (arith, one, more)
+
+pub no_heavier : (from to : Circuit) → IsSound from → HasLed from to → weight to ≤ weight from
+no_heavier from to sound h = lighter h.between from to sound h.leads
+
+-- a step of the other rules, and then steps of those that change tables
+pub next_led : (from to next : Circuit) (o : Option Circuit) → HasLed from to → table_step to ≡ None → o ≡ option_or (latch_rule to) (need_rule to) → o ≡ Some next → HasLed from next
+next_led from to next o h none is some = one_more from to next h (other_step_is to (Some next) none (sym some ∙ is))
+
+pub next_falls : (from to next end : Circuit) (o : Option Circuit) → HasLed from to → table_step to ≡ None → o ≡ option_or (latch_rule to) (need_rule to) → o ≡ Some next → HasLed next end → weight end < weight to
+next_falls from to next end o h none is some more =
+    let one : weight next < weight to = step_falls to next h.sound (other_step_is to (Some next) none (sym some ∙ is)) in
+    let rest : weight end ≤ weight next = no_heavier next end (next_led from to next o h none is some).sound more in
+    omega (arith, one, rest)
+
+pub all_finished : (from to : Circuit) (o : Option Circuit) → HasLed from to → table_step to ≡ None → o ≡ option_or (latch_rule to) (need_rule to) → o ≡ None → Chain sweep_step from to
+all_finished from to o h none is some = at_end from to h (other_step_is to None none (sym some ∙ is))
+
+-- the end of a chain, however the circuits at its ends are called
+pub all_kept : (old circuit end new : Circuit) → circuit ≡ old → IsSound old → Chain sweep_step circuit end → new ≡ end → IsKept old new
+all_kept old circuit end new e sound chain n =
+    subst (λ (c : Circuit). IsKept old c) (sym n) (chain_kept old end sound (subst (λ (c : Circuit). Chain sweep_step c end) e chain))
+
+pub all_swept : (circuit end new : Circuit) → Chain sweep_step circuit end → new ≡ end → IsSwept new
+all_swept circuit end new chain n = subst IsSwept (sym n) (chain_swept circuit end chain)
+
+pub all_counted : (old circuit end new : Circuit) (tables : List Table) (names : List (List ℕ)) (latches left count : ℕ) → circuit ≡ old → new ≡ end → tables ≡ circuit.tables
+    → names ≡ outputs_of tables → latches ≡ length circuit.latches → count ≡ count_by (λ name. not (has (outputs_of end.tables) name)) names → left ≡ latches - length end.latches
+    → (count ≡ tables_gone old new) × (left ≡ latches_gone old new)
+all_counted old circuit end new tables names latches left count e n t m l c g = (
+  c ∙ (ap (λ (ns : List (List ℕ)). count_by (λ name. not (has (outputs_of end.tables) name)) ns) (m ∙ (ap outputs_of t ∙ ap (λ (x : Circuit). outputs_of x.tables) e))
+      ∙ ap (λ (x : Circuit). count_by (λ name. not (has (outputs_of x.tables) name)) (outputs_of old.tables)) (sym n)),
+  g ∙ (ap (λ (k : ℕ). k - length end.latches) (l ∙ ap (λ (x : Circuit). length x.latches) e) ∙ ap (λ (x : Circuit). length old.latches - length x.latches) (sym n)),
+)

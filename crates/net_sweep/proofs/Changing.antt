@@ -1,0 +1,549 @@
+-- What rules change: tables at some places, and nothing that no table read before is read after.
+use Rattle.std.proofs.Common.{◌≡◌, ℕ, zero, suc, ◌+◌, ◌<◌, ◌≤◌, ◌==◌, Bool, true, false, not, ◌||◌, if◌then◌else◌, Option, Some, None, is_some, List, [], ◌∷◌, ◌++◌, take, length, map, set, get_or, find, slice_get, bytes_eq, inl, inr, ◌⊎◌, refl, sym, ap, ◌∙◌, subst, arith}
+use Rattle.std.specs.Prelude.{Result, OnOk}
+use Rattle.std.specs.declared.result.Result.TheVariants.{Ok, Err}
+use Rattle.std.specs.List.{AllByRecursion}
+use Rattle.std.specs.Option.{option_map, option_map_or, option_or}
+use Rattle.std.proofs.lemmas.List.{take_all}
+use Rattle.std.proofs.lemmas.Bool.{false≢true, and_parts, eqb-true, eqb-false}
+use Rattle.std.proofs.lemmas.Option.{same_Some, slice_get-map}
+use Rattle.std.proofs.lemmas.List.Folds.{list_any-append, list_any_more}
+use Rattle.circuit_model.specs.Names.{has, all_different}
+use Rattle.circuit_model.specs.Soundness.{table_inputs, IsShaped, IsSound}
+use Rattle.circuit_model.specs.declared.circuit.Table.{Table}
+use Rattle.circuit_model.specs.declared.circuit.Circuit.{Circuit}
+use Rattle.circuit_laws.specs.Edits.{with_tables, with_replaced, replaced, constant_table}
+use Rattle.circuit_laws.proofs.Names.{has_head, name_itself, name_not}
+use Rattle.circuit_laws.proofs.Places.{set_replaced, placed_driver}
+use Rattle.circuit_laws.proofs.Paths.{no_return}
+use Rattle.circuit_laws.proofs.Ranks.{leads_one}
+use Rattle.net_core.proofs.Lookups.{get_set_same, get_set_other}
+use Rattle.net_core.proofs.Removals.{tables_differ}
+use Rattle.table_tidy.specs.Tidy.{tidied}
+use Rattle.sweep_rules.specs.Points.{written_bit}
+use Rattle.sweep_rules.specs.Rules.{tidy_rule, constant_rule, put_rule, bypass_rule, unwritten_bit, only_input, is_inverter, at_bit, rewired}
+use Rattle.sweep_rules.proofs.Points.{only_is}
+use Rattle.table_tidy.proofs.Tidied.{tidied_reads, tidied_output}
+use Rattle.sweep_rules.proofs.Turned.{at_either, at_reads, at_shaped, rewired_either, rewired_reads, rewired_shaped}
+use Rattle.sweep_rules.proofs.Sizes.{at_without, rewired_without}
+use Rattle.net_sweep.specs.declared.marks.Rule.{Rule}
+use Rattle.net_sweep.specs.declared.marks.Rule.TheVariants.{Tidy, Constant, Put, Bypass}
+use Rattle.net_sweep.specs.declared.turns.Change.{Change}
+use Rattle.net_sweep.specs.declared.turns.Change.TheVariants.{Bit, Input}
+use Rattle.table_tidy.specs.Tidy.{IsWide}
+use Rattle.net_sweep.specs.Turns.{IsFirst}
+use Rattle.net_sweep.specs.Settled.{passes, rule_turn, table_step, IsNext, changed_by, is_apart, is_in, listed, AreListed, AreMarkedBy, AreMarked, AreSameBut}
+use Rattle.net_sweep.proofs.Marking.{read_by, reads_at}
+
+-- the next step of the rules that change tables
+
+abbrev named_step : Rule → Circuit → Option Circuit
+named_step Tidy circuit = tidy_rule circuit
+named_step Constant circuit = constant_rule circuit
+named_step Put circuit = put_rule circuit
+named_step Bypass circuit = bypass_rule circuit
+
+named_is : (rule : Rule) (circuit : Circuit) → named_step rule circuit ≡ option_map (rule_turn rule circuit) (find (passes rule circuit.tables) circuit.tables)
+unfolding tidy_rule constant_rule put_rule bypass_rule
+named_is Tidy circuit = refl
+named_is Constant circuit = refl
+named_is Put circuit = refl
+named_is Bypass circuit = refl
+
+absent : (rule : Rule) (circuit : Circuit) → find (passes rule circuit.tables) circuit.tables ≡ None → named_step rule circuit ≡ None
+absent rule circuit h = named_is rule circuit ∙ ap (option_map (rule_turn rule circuit)) h
+
+present : (rule : Rule) (circuit : Circuit) (place : ℕ) → IsFirst (passes rule circuit.tables) circuit.tables (Some place)
+    → (table : Table) × (slice_get circuit.tables place ≡ Some table) × (named_step rule circuit ≡ Some (rule_turn rule circuit table))
+present rule circuit place first =
+    let (lt, table, at, found) = first in (table, at, named_is rule circuit ∙ ap (option_map (rule_turn rule circuit)) found)
+
+pub next_tidy : (circuit : Circuit) (place : ℕ) → IsFirst (passes Tidy circuit.tables) circuit.tables (Some place) → IsNext circuit (Some (Tidy, place))
+unfolding table_step
+next_tidy circuit place first =
+    let (table, at, step) = present Tidy circuit place first in
+    (table, at, ap (λ (o : Option Circuit). option_or o (option_or (constant_rule circuit) (option_or (put_rule circuit) (bypass_rule circuit)))) step)
+
+pub next_constant : (circuit : Circuit) (place : ℕ) → find (passes Tidy circuit.tables) circuit.tables ≡ None → IsFirst (passes Constant circuit.tables) circuit.tables (Some place) → IsNext circuit (Some (Constant, place))
+unfolding table_step
+next_constant circuit place a first =
+    let (table, at, step) = present Constant circuit place first in (
+      table,
+      at,
+      ap (λ (o : Option Circuit). option_or o (option_or (constant_rule circuit) (option_or (put_rule circuit) (bypass_rule circuit)))) (absent Tidy circuit a)
+          ∙ ap (λ (o : Option Circuit). option_or o (option_or (put_rule circuit) (bypass_rule circuit))) step,
+    )
+
+pub next_put : (circuit : Circuit) (place : ℕ) → find (passes Tidy circuit.tables) circuit.tables ≡ None → find (passes Constant circuit.tables) circuit.tables ≡ None
+    → IsFirst (passes Put circuit.tables) circuit.tables (Some place) → IsNext circuit (Some (Put, place))
+unfolding table_step
+next_put circuit place a b first =
+    let (table, at, step) = present Put circuit place first in (
+      table,
+      at,
+      ap (λ (o : Option Circuit). option_or o (option_or (constant_rule circuit) (option_or (put_rule circuit) (bypass_rule circuit)))) (absent Tidy circuit a)
+          ∙ (ap (λ (o : Option Circuit). option_or o (option_or (put_rule circuit) (bypass_rule circuit))) (absent Constant circuit b)
+          ∙ ap (λ (o : Option Circuit). option_or o (bypass_rule circuit)) step),
+    )
+
+pub next_bypass : (circuit : Circuit) (place : ℕ) → find (passes Tidy circuit.tables) circuit.tables ≡ None → find (passes Constant circuit.tables) circuit.tables ≡ None
+    → find (passes Put circuit.tables) circuit.tables ≡ None → IsFirst (passes Bypass circuit.tables) circuit.tables (Some place) → IsNext circuit (Some (Bypass, place))
+unfolding table_step
+next_bypass circuit place a b c first =
+    let (table, at, step) = present Bypass circuit place first in (
+      table,
+      at,
+      ap (λ (o : Option Circuit). option_or o (option_or (constant_rule circuit) (option_or (put_rule circuit) (bypass_rule circuit)))) (absent Tidy circuit a)
+          ∙ (ap (λ (o : Option Circuit). option_or o (option_or (put_rule circuit) (bypass_rule circuit))) (absent Constant circuit b)
+          ∙ (ap (λ (o : Option Circuit). option_or o (bypass_rule circuit)) (absent Put circuit c) ∙ step)),
+    )
+
+pub next_none : (circuit : Circuit) → find (passes Tidy circuit.tables) circuit.tables ≡ None → find (passes Constant circuit.tables) circuit.tables ≡ None
+    → find (passes Put circuit.tables) circuit.tables ≡ None → find (passes Bypass circuit.tables) circuit.tables ≡ None → IsNext circuit None
+unfolding table_step
+next_none circuit a b c d =
+    ap (λ (o : Option Circuit). option_or o (option_or (constant_rule circuit) (option_or (put_rule circuit) (bypass_rule circuit)))) (absent Tidy circuit a)
+    ∙ (ap (λ (o : Option Circuit). option_or o (option_or (put_rule circuit) (bypass_rule circuit))) (absent Constant circuit b)
+    ∙ (ap (λ (o : Option Circuit). option_or o (bypass_rule circuit)) (absent Put circuit c) ∙ absent Bypass circuit d))
+
+pub marked_for_each : (marked : Rule → ℕ → Bool) (tables : List Table) → AreMarkedBy (passes Tidy tables) (marked Tidy) tables → AreMarkedBy (passes Constant tables) (marked Constant) tables
+    → AreMarkedBy (passes Put tables) (marked Put) tables → AreMarkedBy (passes Bypass tables) (marked Bypass) tables → AreMarked marked tables
+marked_for_each marked tables a b c d Tidy = a
+marked_for_each marked tables a b c d Constant = b
+marked_for_each marked tables a b c d Put = c
+marked_for_each marked tables a b c d Bypass = d
+
+-- a table gives place to one that reads no more
+
+pub there : {X : Type 0} (items : List X) (place : ℕ) → place < length items → (item : X) × (slice_get items place ≡ Some item)
+there [] place lt = absurd (omega (arith, lt))
+there (x ∷ items) zero lt = (x, refl)
+there (x ∷ items) (suc place) lt = there items place (omega (arith, lt))
+
+pub same_but_one : (tables : List Table) (place : ℕ) (made : Table) → AreSameBut (place ∷ []) tables (set tables place made)
+same_but_one tables place made i none = cases (place == i) refl none
+  where
+    cases : (b : Bool) → (place == i) ≡ b → (b || false) ≡ false → slice_get (set tables place made) i ≡ slice_get tables i
+    cases true e h = absurd (false≢true (sym h))
+    cases false e h = get_set_other tables place i made (λ same. eqb-false place i e (sym same))
+
+-- the table at a place of the new list: the new one, or the old one there
+at_set : (P : Table → Type 0) (tables : List Table) (place : ℕ) (old made : Table) (i : ℕ) (table : Table) → slice_get tables place ≡ Some old → slice_get (set tables place made) i ≡ Some table
+    → (i ≡ place → P made) → (slice_get tables i ≡ Some table → P table) → P table
+at_set P tables place old made i table at here new same = cases (place == i) refl
+  where
+    cases : (b : Bool) → (place == i) ≡ b → P table
+    cases true e =
+        let z : i ≡ place = sym (eqb-true place i e) in
+        subst P (same_Some made table (sym (get_set_same tables place old made at) ∙ subst (λ (n : ℕ). slice_get (set tables place made) n ≡ Some table) z here)) (new z)
+    cases false e = same (sym (get_set_other tables place i made (λ z. eqb-false place i e (sym z))) ∙ here)
+
+pub set_reads : (tables : List Table) (place : ℕ) (old made : Table) → slice_get tables place ≡ Some old → ((name : List ℕ) → has made.inputs name ≡ true → has old.inputs name ≡ true)
+    → (name : List ℕ) → has (table_inputs (set tables place made)) name ≡ true → has (table_inputs tables) name ≡ true
+set_reads tables place old made at less name h =
+    let (i, table, here, reads) = read_by (set tables place made) name h in
+    at_set (λ (t : Table). has t.inputs name ≡ true → has (table_inputs tables) name ≡ true) tables place old made i table at here
+    (λ z k. reads_at tables place old name at (less name k)) (λ there k. reads_at tables i table name there k) reads
+
+pub set_listed : (lists : List ℕ → Option (List ℕ)) (tables : List Table) (place : ℕ) (old made : Table) → slice_get tables place ≡ Some old → ((name : List ℕ) → has made.inputs name ≡ true → has old.inputs name ≡ true)
+    → AreListed lists tables → AreListed lists (set tables place made)
+set_listed lists tables place old made at less all i table name here reads =
+    at_set (λ (t : Table). has t.inputs name ≡ true → is_in (listed (lists name)) i ≡ true) tables place old made i table at here
+    (λ z k. all i old name (subst (λ (n : ℕ). slice_get tables n ≡ Some old) (sym z) at) (less name k)) (λ there k. all i table name there k) reads
+
+-- a table in which a signal has a bit or gives place to another one
+
+apart_names : (name to : List ℕ) → not (bytes_eq name to) ≡ true → bytes_eq name to ≡ false
+apart_names name to h = by (bytes_eq name to) h
+  where
+    by : (b : Bool) → not b ≡ true → b ≡ false
+    by true k = absurd (false≢true k)
+    by false k = refl
+
+unread_same : (name : List ℕ) (change : Change) (table : Table) → has table.inputs name ≡ false → changed_by name change table ≡ table
+unread_same name (Bit bit) table none = at_either (λ (made : Table). made ≡ table) name bit table (λ reads. absurd (false≢true (sym none ∙ reads))) (λ h. refl)
+unread_same name (Input to inverts) table none = rewired_either (λ (made : Table). made ≡ table) name to inverts table (λ reads. absurd (false≢true (sym none ∙ reads))) (λ h. refl)
+
+changed_without : (name : List ℕ) (change : Change) (table : Table) → is_apart name change ≡ true → all_different table.inputs ≡ true → has (changed_by name change table).inputs name ≡ false
+changed_without name (Bit bit) table apart once = at_without name bit table once
+changed_without name (Input to inverts) table apart once = rewired_without name to inverts table (apart_names name to apart)
+
+changed_shaped : (name : List ℕ) (change : Change) (table : Table) → IsShaped table → IsShaped (changed_by name change table)
+changed_shaped name (Bit bit) table shaped = at_shaped name bit table shaped
+changed_shaped name (Input to inverts) table shaped = rewired_shaped name to inverts table shaped
+
+changed_again : (name : List ℕ) (change : Change) (table : Table) → is_apart name change ≡ true → all_different table.inputs ≡ true → changed_by name change (changed_by name change table) ≡ changed_by name change table
+changed_again name change table apart once = unread_same name change (changed_by name change table) (changed_without name change table apart once)
+
+-- the signal that comes in the place of another one
+abbrev pub IsComing : Change → List ℕ → Type 0
+IsComing (Bit bit) name = ⊥
+IsComing (Input to inverts) name = name ≡ to
+
+changed_reads : (name : List ℕ) (change : Change) (table : Table) (x : List ℕ) → has (changed_by name change table).inputs x ≡ true → (has table.inputs x ≡ true) ⊎ (IsComing change x × (has table.inputs name ≡ true))
+changed_reads name (Bit bit) table x h = inl (at_reads name bit table x h)
+changed_reads name (Input to inverts) table x h = rewired_reads name to inverts table x h
+
+-- items at places
+
+unmapped : {X Y : Type 0} (f : X → Y) (items : List X) (place : ℕ) (y : Y) → slice_get (map f items) place ≡ Some y → (x : X) × (slice_get items place ≡ Some x) × (f x ≡ y)
+unmapped f [] place y at = let z : None ≡ Some y = at in absurd cc
+unmapped f (x ∷ items) zero y at = (x, refl, same_Some (f x) y at)
+unmapped f (x ∷ items) (suc place) y at = unmapped f items place y at
+
+pub all_at : {X : Type 0} (P : X → Type 0) (items : List X) (place : ℕ) (x : X) → AllByRecursion P items → slice_get items place ≡ Some x → P x
+all_at P [] place x all at = let z : None ≡ Some x = at in absurd cc
+all_at P (first ∷ items) zero x all at = subst P (same_Some first x at) all.0
+all_at P (first ∷ items) (suc place) x all at = all_at P items place x all.1 at
+
+all_from_places : {X : Type 0} (P : X → Type 0) (items : List X) → ((place : ℕ) (x : X) → slice_get items place ≡ Some x → P x) → AllByRecursion P items
+all_from_places P [] h = tt
+all_from_places P (first ∷ items) h = (h 0 first refl, all_from_places P items (λ place x at. h (suc place) x at))
+
+same_by_places : {X : Type 0} (xs ys : List X) → ((place : ℕ) → slice_get xs place ≡ slice_get ys place) → xs ≡ ys
+same_by_places [] [] h = refl
+same_by_places [] (y ∷ ys) h = let z : None ≡ Some y = h 0 in absurd cc
+same_by_places (x ∷ xs) [] h = let z : Some x ≡ None = h 0 in absurd cc
+same_by_places {X} (x ∷ xs) (y ∷ ys) h =
+    let first : x ≡ y = same_Some x y (h 0) in
+    let rest : xs ≡ ys = same_by_places xs ys (λ place. h (suc place)) in
+    ap (λ (z : X). z ∷ xs) first ∙ ap (λ (zs : List X). y ∷ zs) rest
+
+-- all readers of a signal change
+
+AllRead : List ℕ → List ℕ → List Table → Type 0
+AllRead name places tables = (place : ℕ) (table : Table) → slice_get tables place ≡ Some table → has table.inputs name ≡ true → is_in places place ≡ true
+
+map_same_but : (name : List ℕ) (change : Change) (places : List ℕ) (tables : List Table)
+    → ((place : ℕ) (table : Table) → slice_get tables place ≡ Some table → has table.inputs name ≡ true → is_in places place ≡ true)
+    → (place : ℕ) → is_in places place ≡ false → option_map (changed_by name change) (slice_get tables place) ≡ slice_get tables place
+map_same_but name change places tables all place none = cases (slice_get tables place) refl
+  where
+    unread : (table : Table) → slice_get tables place ≡ Some table → (b : Bool) → has table.inputs name ≡ b → has table.inputs name ≡ false
+    unread table at true e = absurd (false≢true (sym none ∙ all place table at e))
+    unread table at false e = e
+
+    cases : (o : Option Table) → slice_get tables place ≡ o → option_map (changed_by name change) o ≡ o
+    cases None e = refl
+    cases (Some table) e = ap Some (unread_same name change table (unread table e (has table.inputs name) refl))
+
+pub mapped_same_but : (name : List ℕ) (change : Change) (places : List ℕ) (tables : List Table)
+    → ((place : ℕ) (table : Table) → slice_get tables place ≡ Some table → has table.inputs name ≡ true → is_in places place ≡ true)
+    → AreSameBut places tables (map (changed_by name change) tables)
+mapped_same_but name change places tables all place none = slice_get-map (changed_by name change) tables place ∙ map_same_but name change places tables all place none
+
+map_reads : (name : List ℕ) (change : Change) (tables : List Table) → ((x : List ℕ) → IsComing change x → has (table_inputs tables) x ≡ true)
+    → (x : List ℕ) → has (table_inputs (map (changed_by name change) tables)) x ≡ true → has (table_inputs tables) x ≡ true
+map_reads name change tables coming x h =
+    let (place, made, at, reads) = read_by (map (changed_by name change) tables) x h in
+    let (table, here, is) = unmapped (changed_by name change) tables place made at in
+    elim (changed_reads name change table x (subst (λ (t : Table). has t.inputs x ≡ true) (sym is) reads)) as (λ _. has (table_inputs tables) x ≡ true) [
+      | inl old ↦ reads_at tables place table x here old
+      | inr new ↦ coming x new.0
+    ]
+
+-- some places are changed already
+pub record IsPartly (turn : Table → Table) (done : List ℕ) (old new : Circuit) : Type 0 where
+  pub same : new ≡ with_tables old new.tables
+  pub each : (place : ℕ) → slice_get new.tables place ≡ (if is_in done place then option_map turn (slice_get old.tables place) else slice_get old.tables place)
+
+pub partly_none : (turn : Table → Table) (old : Circuit) → IsPartly turn [] old old
+partly_none turn old = record { same = refl; each = λ place. refl }
+
+pub partly_more : (name : List ℕ) (change : Change) (done more : List ℕ) (place : ℕ) (old now new : Circuit) → IsSound old → is_apart name change ≡ true → IsPartly (changed_by name change) done old now
+    → new ≡ with_tables now new.tables
+    → ((other : ℕ) → slice_get new.tables other ≡ (if place == other then option_map (changed_by name change) (slice_get now.tables other) else slice_get now.tables other))
+    → ((other : ℕ) → is_in more other ≡ (is_in done other || (place == other))) → IsPartly (changed_by name change) more old new
+partly_more name change done more place old now new sound apart h same changed grows = record {
+  same = same ∙ ap (λ (c : Circuit). with_tables c new.tables) h.same;
+  each = λ other.
+      changed other
+      ∙ (by other (is_in done other) (place == other) (slice_get old.tables other) refl (slice_get now.tables other) (h.each other)
+      ∙ ap (λ (b : Bool). if b then option_map (changed_by name change) (slice_get old.tables other) else slice_get old.tables other) (sym (grows other)));
+}
+  where
+    twice : (other : ℕ) (o : Option Table) → slice_get old.tables other ≡ o → option_map (changed_by name change) (option_map (changed_by name change) o) ≡ option_map (changed_by name change) o
+    twice other None e = refl
+    twice other (Some table) e = ap Some (changed_again name change table apart (all_at (λ (t : Table). all_different t.inputs ≡ true) old.tables other table sound.table_inputs_once e))
+
+    by : (other : ℕ) (b c : Bool) (o : Option Table) → slice_get old.tables other ≡ o → (p : Option Table) → p ≡ (if b then option_map (changed_by name change) o else o)
+        → (if c then option_map (changed_by name change) p else p) ≡ (if b || c then option_map (changed_by name change) o else o)
+    by other true true o e p is = ap (option_map (changed_by name change)) is ∙ twice other o e
+    by other true false o e p is = is
+    by other false true o e p is = ap (option_map (changed_by name change)) is
+    by other false false o e p is = is
+
+pub partly_all : (name : List ℕ) (change : Change) (places : List ℕ) (old new : Circuit) → IsPartly (changed_by name change) places old new
+    → ((place : ℕ) (table : Table) → slice_get old.tables place ≡ Some table → has table.inputs name ≡ true → is_in places place ≡ true)
+    → new ≡ with_tables old (map (changed_by name change) old.tables)
+partly_all name change places old new h all =
+    h.same ∙ ap (with_tables old) (same_by_places new.tables (map (changed_by name change) old.tables) (λ place.
+    h.each place ∙ (by place (is_in places place) refl ∙ sym (slice_get-map (changed_by name change) old.tables place))))
+  where
+    by : (place : ℕ) (b : Bool) → is_in places place ≡ b
+        → (if b then option_map (changed_by name change) (slice_get old.tables place) else slice_get old.tables place) ≡ option_map (changed_by name change) (slice_get old.tables place)
+    by place true e = refl
+    by place false e = sym (map_same_but name change places old.tables all place e)
+
+pub partly_wide : (name : List ℕ) (change : Change) (done : List ℕ) (old new : Circuit) → IsSound old → IsPartly (changed_by name change) done old new → AllByRecursion IsWide new.tables
+partly_wide name change done old new sound h =
+    all_from_places IsWide new.tables (λ place table at. by place table (is_in done place) (slice_get old.tables place) refl (sym at ∙ h.each place))
+  where
+    by : (place : ℕ) (table : Table) (b : Bool) (o : Option Table) → slice_get old.tables place ≡ o → Some table ≡ (if b then option_map (changed_by name change) o else o) → IsWide table
+    by place table true None e is = let z : Some table ≡ None = is in absurd cc
+    by place table false None e is = let z : Some table ≡ None = is in absurd cc
+    by place table true (Some t) e is =
+        subst IsWide (sym (same_Some table (changed_by name change t) is)) (changed_shaped name change t (all_at IsShaped old.tables place t sound.shaped e)).0
+    by place table false (Some t) e is = subst IsWide (sym (same_Some table t is)) (all_at IsShaped old.tables place t sound.shaped e).0
+
+-- the readers afterwards
+
+is_in_front : (xs ys : List ℕ) (place : ℕ) → is_in xs place ≡ true → is_in (xs ++ ys) place ≡ true
+is_in_front xs ys place h = list_any-append (λ other. other == place) xs ys ∙ ap (λ (b : Bool). b || is_in ys place) h
+
+is_in_back : (xs ys : List ℕ) (place : ℕ) → is_in ys place ≡ true → is_in (xs ++ ys) place ≡ true
+is_in_back xs ys place h = list_any-append (λ other. other == place) xs ys ∙ (ap (λ (b : Bool). is_in xs place || b) h ∙ or_true (is_in xs place))
+  where
+    or_true : (b : Bool) → (b || true) ≡ true
+    or_true true = refl
+    or_true false = refl
+
+-- the list of the signal goes; where another one comes in its place, its readers have been put to those of that one
+pub map_listed : (name : List ℕ) (change : Change) (places : List ℕ) (lists new : List ℕ → Option (List ℕ)) (circuit : Circuit) → IsSound circuit → is_apart name change ≡ true
+    → places ≡ listed (lists name) → AreListed lists circuit.tables
+    → ((other : List ℕ) (place : ℕ) → bytes_eq name other ≡ false → is_in (listed (lists other)) place ≡ true → is_in (listed (new other)) place ≡ true)
+    → ((other : List ℕ) (place : ℕ) → IsComing change other → is_in places place ≡ true → is_in (listed (new other)) place ≡ true)
+    → AreListed new (map (changed_by name change) circuit.tables)
+map_listed name change places lists new circuit sound apart taken all others coming place made x at reads =
+    let (table, here, is) = unmapped (changed_by name change) circuit.tables place made at in
+    let reads_too : has (changed_by name change table).inputs x ≡ true = subst (λ (t : Table). has t.inputs x ≡ true) (sym is) reads in
+    let once : all_different table.inputs ≡ true = all_at (λ (t : Table). all_different t.inputs ≡ true) circuit.tables place table sound.table_inputs_once here in
+    let other : bytes_eq name x ≡ false = name_not name x (λ same.
+    false≢true (sym (changed_without name change table apart once) ∙ subst (λ (n : List ℕ). has (changed_by name change table).inputs n ≡ true) (sym same) reads_too)) in
+    elim (changed_reads name change table x reads_too) as (λ _. is_in (listed (new x)) place ≡ true) [
+      | inl old ↦ others x place other (all place table x here old)
+      | inr come ↦ coming x place come.0 (subst (λ (ps : List ℕ). is_in ps place ≡ true) (sym taken) (all place table name here come.1))
+    ]
+
+-- the list of a signal is taken out
+pub list_taken : (name : List ℕ) (lists new : List ℕ → Option (List ℕ)) → ((other : List ℕ) → new other ≡ (if bytes_eq name other then None else lists other))
+    → (other : List ℕ) (place : ℕ) → bytes_eq name other ≡ false → is_in (listed (lists other)) place ≡ true → is_in (listed (new other)) place ≡ true
+list_taken name lists new h other place apart is =
+    ap (λ (o : Option (List ℕ)). is_in (listed o) place) (h other ∙ ap (λ (b : Bool). if b then None else lists other) apart) ∙ is
+
+-- places are put behind the last of a signal's list
+pub list_more : (to places : List ℕ) (lists new : List ℕ → Option (List ℕ)) → ((other : List ℕ) → listed (new other) ≡ (if bytes_eq to other then listed (lists other) ++ places else listed (lists other)))
+    → (other : List ℕ) (place : ℕ) → is_in (listed (lists other)) place ≡ true → is_in (listed (new other)) place ≡ true
+list_more to places lists new h other place is = ap (λ (ps : List ℕ). is_in ps place) (h other) ∙ by (bytes_eq to other)
+  where
+    by : (b : Bool) → is_in (if b then listed (lists other) ++ places else listed (lists other)) place ≡ true
+    by true = is_in_front (listed (lists other)) places place is
+    by false = is
+
+pub list_has : (to places : List ℕ) (lists new : List ℕ → Option (List ℕ)) → ((other : List ℕ) → listed (new other) ≡ (if bytes_eq to other then listed (lists other) ++ places else listed (lists other)))
+    → (other : List ℕ) (place : ℕ) → other ≡ to → is_in places place ≡ true → is_in (listed (new other)) place ≡ true
+list_has to places lists new h other place same is =
+    ap (λ (ps : List ℕ). is_in ps place) (h other ∙ ap (λ (b : Bool). if b then listed (lists other) ++ places else listed (lists other)) (ap (λ (n : List ℕ). bytes_eq to n) same ∙ name_itself to))
+    ∙ is_in_back (listed (lists other)) places place is
+
+-- what each rule makes
+
+tidied_set : (circuit : Circuit) (place : ℕ) (table : Table) → IsSound circuit → slice_get circuit.tables place ≡ Some table → rule_turn Tidy circuit table ≡ with_tables circuit (set circuit.tables place (tidied table))
+unfolding with_replaced
+tidied_set circuit place table sound at =
+    ap (with_tables circuit) (sym (set_replaced circuit.tables place table (tidied table) (tables_differ circuit sound) at (sym (tidied_output table))))
+
+constant_set : (circuit : Circuit) (place : ℕ) (table : Table) (bit : Bool) → IsSound circuit → slice_get circuit.tables place ≡ Some table → unwritten_bit table ≡ Some bit
+    → rule_turn Constant circuit table ≡ with_tables circuit (set circuit.tables place (constant_table table.output bit))
+unfolding with_replaced
+constant_set circuit place table bit sound at is =
+    ap (λ (o : Option Bool). option_map_or (λ b. with_tables circuit (replaced circuit.tables (constant_table table.output b))) o circuit) is
+    ∙ ap (with_tables circuit) (sym (set_replaced circuit.tables place table (constant_table table.output bit) (tables_differ circuit sound) at refl))
+
+constant_same : (circuit : Circuit) (table : Table) → unwritten_bit table ≡ None → rule_turn Constant circuit table ≡ circuit
+constant_same circuit table is = ap (λ (o : Option Bool). option_map_or (λ b. with_replaced circuit (constant_table table.output b)) o circuit) is
+
+put_map : (circuit : Circuit) (table : Table) (bit : Bool) → written_bit table ≡ Some bit → rule_turn Put circuit table ≡ with_tables circuit (map (changed_by table.output (Bit bit)) circuit.tables)
+put_map circuit table bit is = ap (λ (o : Option Bool). option_map_or (λ b. with_tables circuit (map (at_bit table.output b) circuit.tables)) o circuit) is
+
+put_same : (circuit : Circuit) (table : Table) → written_bit table ≡ None → rule_turn Put circuit table ≡ circuit
+put_same circuit table is = ap (λ (o : Option Bool). option_map_or (λ b. with_tables circuit (map (at_bit table.output b) circuit.tables)) o circuit) is
+
+bypass_map : (circuit : Circuit) (table : Table) (input : List ℕ) → only_input table.inputs ≡ Some input → rule_turn Bypass circuit table ≡ with_tables circuit (map (changed_by table.output (Input input (is_inverter table))) circuit.tables)
+bypass_map circuit table input is =
+    ap (λ (o : Option (List ℕ)). option_map_or (λ i. with_tables circuit (map (rewired table.output i (is_inverter table)) circuit.tables)) o circuit) is
+
+bypass_same : (circuit : Circuit) (table : Table) → only_input table.inputs ≡ None → rule_turn Bypass circuit table ≡ circuit
+bypass_same circuit table is =
+    ap (λ (o : Option (List ℕ)). option_map_or (λ i. with_tables circuit (map (rewired table.output i (is_inverter table)) circuit.tables)) o circuit) is
+
+reads_input : (table : Table) (input : List ℕ) → only_input table.inputs ≡ Some input → has table.inputs input ≡ true
+reads_input table input is = subst (λ (names : List (List ℕ)). has names input ≡ true) (sym (only_is table.inputs input is)) (has_head input [])
+
+-- a table does not read its own signal
+pub input_apart : (circuit : Circuit) (place : ℕ) (table : Table) (input : List ℕ) → IsSound circuit → slice_get circuit.tables place ≡ Some table → only_input table.inputs ≡ Some input → bytes_eq table.output input ≡ false
+input_apart circuit place table input sound at is =
+    name_not table.output input (λ same.
+    no_return circuit.tables sound.acyclic table.output 0 (leads_one circuit.tables table.output table.output table (placed_driver circuit.tables place table (tables_differ circuit sound) at)
+    (subst (λ (x : List ℕ). has table.inputs x ≡ true) (sym same) (reads_input table input is))))
+
+-- tables read no more after a rule has been applied
+Narrows : Circuit → Circuit → Type 0
+Narrows old new = (name : List ℕ) → has (table_inputs new.tables) name ≡ true → has (table_inputs old.tables) name ≡ true
+
+pub turn_reads : (rule : Rule) (circuit : Circuit) (place : ℕ) (table : Table) → IsSound circuit → slice_get circuit.tables place ≡ Some table
+    → (name : List ℕ) → has (table_inputs (rule_turn rule circuit table).tables) name ≡ true → has (table_inputs circuit.tables) name ≡ true
+unfolding Narrows
+turn_reads Tidy circuit place table sound at =
+    subst (Narrows circuit) (sym (tidied_set circuit place table sound at)) (set_reads circuit.tables place table (tidied table) at (λ name h. tidied_reads table name h))
+turn_reads Constant circuit place table sound at = cases (unwritten_bit table) refl
+  where
+    cases : (o : Option Bool) → unwritten_bit table ≡ o → Narrows circuit (rule_turn Constant circuit table)
+    cases None e = subst (Narrows circuit) (sym (constant_same circuit table e)) (λ name h. h)
+    cases (Some bit) e =
+        subst (Narrows circuit) (sym (constant_set circuit place table bit sound at e)) (set_reads circuit.tables place table (constant_table table.output bit) at (λ name h. absurd (false≢true h)))
+turn_reads Put circuit place table sound at = cases (written_bit table) refl
+  where
+    cases : (o : Option Bool) → written_bit table ≡ o → Narrows circuit (rule_turn Put circuit table)
+    cases None e = subst (Narrows circuit) (sym (put_same circuit table e)) (λ name h. h)
+    cases (Some bit) e = subst (Narrows circuit) (sym (put_map circuit table bit e)) (map_reads table.output (Bit bit) circuit.tables (λ x never. absurd never))
+turn_reads Bypass circuit place table sound at = cases (only_input table.inputs) refl
+  where
+    cases : (o : Option (List ℕ)) → only_input table.inputs ≡ o → Narrows circuit (rule_turn Bypass circuit table)
+    cases None e = subst (Narrows circuit) (sym (bypass_same circuit table e)) (λ name h. h)
+    cases (Some input) e =
+        subst (Narrows circuit) (sym (bypass_map circuit table input e))
+        (map_reads table.output (Input input (is_inverter table)) circuit.tables (λ x is. subst (λ (n : List ℕ). has (table_inputs circuit.tables) n ≡ true) (sym is) (reads_at circuit.tables place table input at (reads_input table input e))))
+
+-- where tables read no more, a rule applies to a table only if it did before
+still_passes : (rule : Rule) (old new : List Table) (table : Table) → ((name : List ℕ) → has (table_inputs new) name ≡ true → has (table_inputs old) name ≡ true) → passes rule new table ≡ true → passes rule old table ≡ true
+still_passes Tidy old new table less h = h
+still_passes Constant old new table less h = h
+still_passes Put old new table less h =
+    let (a, b) = and_parts (is_some (written_bit table)) (has (table_inputs new) table.output) h in rw (a, less table.output b) refl
+still_passes Bypass old new table less h =
+    let (a, b) = and_parts (is_some (only_input table.inputs)) (has (table_inputs new) table.output) h in rw (a, less table.output b) refl
+
+-- the candidates afterwards
+pub marked_again : (old new : List Table) (places : List ℕ) (before after : Rule → ℕ → Bool) → AreMarked before old → AreSameBut places old new
+    → ((name : List ℕ) → has (table_inputs new) name ≡ true → has (table_inputs old) name ≡ true)
+    → ((rule : Rule) (place : ℕ) → is_in places place ≡ true → after rule place ≡ true) → ((rule : Rule) (place : ℕ) → before rule place ≡ true → after rule place ≡ true) → AreMarked after new
+marked_again old new places before after all same less put kept rule place table at passed = cases (is_in places place) refl
+  where
+    cases : (b : Bool) → is_in places place ≡ b → after rule place ≡ true
+    cases true e = put rule place e
+    cases false e = kept rule place (all rule place table (sym (same place e) ∙ at) (still_passes rule old new table less passed))
+
+-- one turn
+
+pub tidy_turned : (circuit new : Circuit) (place : ℕ) (here made : Table) → IsSound circuit → slice_get circuit.tables place ≡ Some here → made ≡ tidied here → new ≡ with_tables circuit (set circuit.tables place made)
+    → (table : Table) → slice_get circuit.tables place ≡ Some table → new ≡ rule_turn Tidy circuit table
+tidy_turned circuit new place here made sound at is n table there =
+    n ∙ (ap (λ (t : Table). with_tables circuit (set circuit.tables place t)) (is ∙ ap tidied (same_Some here table (sym at ∙ there))) ∙ sym (tidied_set circuit place table sound there))
+
+pub constant_turned : (circuit new : Circuit) (place : ℕ) (here made : Table) (bit : Bool) → IsSound circuit → slice_get circuit.tables place ≡ Some here → unwritten_bit here ≡ Some bit → made ≡ constant_table here.output bit
+    → new ≡ with_tables circuit (set circuit.tables place made) → (table : Table) → slice_get circuit.tables place ≡ Some table → new ≡ rule_turn Constant circuit table
+constant_turned circuit new place here made bit sound at has_bit is n table there =
+    let same : here ≡ table = same_Some here table (sym at ∙ there) in
+    n ∙ (ap (λ (t : Table). with_tables circuit (set circuit.tables place t)) (is ∙ ap (λ (t : Table). constant_table t.output bit) same)
+    ∙ sym (constant_set circuit place table bit sound there (ap unwritten_bit (sym same) ∙ has_bit)))
+
+pub set_others : (circuit new : Circuit) (place : ℕ) (made : Table) (places : List ℕ) → new ≡ with_tables circuit (set circuit.tables place made) → places ≡ place ∷ [] → AreSameBut places circuit.tables new.tables
+set_others circuit new place made places n p =
+    subst (λ (ps : List ℕ). AreSameBut ps circuit.tables new.tables) (sym p) (subst (λ (c : Circuit). AreSameBut (place ∷ []) circuit.tables c.tables) (sym n) (same_but_one circuit.tables place made))
+
+pub put_turned : (circuit new : Circuit) (place : ℕ) (here : Table) (bit : Bool) (name : List ℕ) → slice_get circuit.tables place ≡ Some here → written_bit here ≡ Some bit → name ≡ here.output
+    → new ≡ with_tables circuit (map (changed_by name (Bit bit)) circuit.tables) → (table : Table) → slice_get circuit.tables place ≡ Some table → new ≡ rule_turn Put circuit table
+put_turned circuit new place here bit name at has_bit is n table there =
+    let same : here ≡ table = same_Some here table (sym at ∙ there) in
+    n ∙ (ap (λ (x : List ℕ). with_tables circuit (map (changed_by x (Bit bit)) circuit.tables)) (is ∙ ap (λ (t : Table). t.output) same) ∙ sym (put_map circuit table bit (ap written_bit (sym same) ∙ has_bit)))
+
+pub bypass_turned : (circuit new : Circuit) (place : ℕ) (here : Table) (input to name : List ℕ) (inverts : Bool) → slice_get circuit.tables place ≡ Some here → only_input here.inputs ≡ Some input → to ≡ input → inverts ≡ is_inverter here
+    → name ≡ here.output → new ≡ with_tables circuit (map (changed_by name (Input to inverts)) circuit.tables) → (table : Table) → slice_get circuit.tables place ≡ Some table → new ≡ rule_turn Bypass circuit table
+bypass_turned circuit new place here input to name inverts at single t i is n table there =
+    let same : here ≡ table = same_Some here table (sym at ∙ there) in
+    let change : Input to inverts ≡ Input input (is_inverter table) = rw (t, i, same) refl in
+    n ∙ (ap (λ (x : List ℕ). with_tables circuit (map (changed_by x (Input to inverts)) circuit.tables)) (is ∙ ap (λ (t : Table). t.output) same)
+    ∙ (ap (λ (ch : Change). with_tables circuit (map (changed_by table.output ch) circuit.tables)) change
+    ∙ sym (bypass_map circuit table input (ap (λ (t : Table). only_input t.inputs) (sym same) ∙ single))))
+
+pub mapped_others : (circuit new : Circuit) (name : List ℕ) (change : Change) (places : List ℕ) (lists : List ℕ → Option (List ℕ)) → places ≡ listed (lists name) → AreListed lists circuit.tables
+    → new ≡ with_tables circuit (map (changed_by name change) circuit.tables) → AreSameBut places circuit.tables new.tables
+mapped_others circuit new name change places lists taken all n =
+    subst (λ (c : Circuit). AreSameBut places circuit.tables c.tables) (sym n)
+    (mapped_same_but name change places circuit.tables (λ place table at reads. subst (λ (ps : List ℕ). is_in ps place ≡ true) (sym taken) (all place table name at reads)))
+
+pub put_listed : (circuit new : Circuit) (name : List ℕ) (bit : Bool) (places : List ℕ) (lists after : List ℕ → Option (List ℕ)) → IsSound circuit → places ≡ listed (lists name) → AreListed lists circuit.tables
+    → ((other : List ℕ) → after other ≡ (if bytes_eq name other then None else lists other)) → new ≡ with_tables circuit (map (changed_by name (Bit bit)) circuit.tables) → AreListed after new.tables
+put_listed circuit new name bit places lists after sound taken all rest n =
+    subst (λ (c : Circuit). AreListed after c.tables) (sym n) (map_listed name (Bit bit) places lists after circuit sound refl taken all (list_taken name lists after rest) (λ other place never. absurd never))
+
+pub is_apart_input : (circuit : Circuit) (place : ℕ) (here : Table) (input to name : List ℕ) (inverts : Bool) → IsSound circuit → slice_get circuit.tables place ≡ Some here → only_input here.inputs ≡ Some input → to ≡ input
+    → name ≡ here.output → is_apart name (Input to inverts) ≡ true
+is_apart_input circuit place here input to name inverts sound at single t is = rw (t, is, input_apart circuit place here input sound at single) refl
+
+pub bypass_listed : (circuit new : Circuit) (name input to : List ℕ) (inverts : Bool) (places more : List ℕ) (lists mid after : List ℕ → Option (List ℕ)) → IsSound circuit → is_apart name (Input to inverts) ≡ true → to ≡ input
+    → places ≡ listed (lists name) → more ≡ places → AreListed lists circuit.tables → ((other : List ℕ) → mid other ≡ (if bytes_eq name other then None else lists other))
+    → ((other : List ℕ) → listed (after other) ≡ (if bytes_eq input other then listed (mid other) ++ more else listed (mid other)))
+    → new ≡ with_tables circuit (map (changed_by name (Input to inverts)) circuit.tables) → AreListed after new.tables
+bypass_listed circuit new name input to inverts places more lists mid after sound apart t taken m all rest grows n =
+    subst (λ (c : Circuit). AreListed after c.tables) (sym n)
+    (map_listed name (Input to inverts) places lists after circuit sound apart taken all
+    (λ other place not h. list_more input more mid after grows other place (list_taken name lists mid rest other place not h))
+    (λ other place come h. list_has input more mid after grows other place (come ∙ t) (subst (λ (ps : List ℕ). is_in ps place ≡ true) (sym m) h)))
+
+-- where one table is replaced the readers stay listed
+pub tidy_listed : (circuit new : Circuit) (place : ℕ) (lists : List ℕ → Option (List ℕ)) → IsSound circuit → place < length circuit.tables → AreListed lists circuit.tables
+    → ((table : Table) → slice_get circuit.tables place ≡ Some table → new ≡ rule_turn Tidy circuit table) → AreListed lists new.tables
+tidy_listed circuit new place lists sound lt all turned =
+    let (table, at) = there circuit.tables place lt in
+    subst (λ (c : Circuit). AreListed lists c.tables) (sym (turned table at ∙ tidied_set circuit place table sound at)) (set_listed lists circuit.tables place table (tidied table) at (λ name h. tidied_reads table name h) all)
+
+pub constant_listed : (circuit new : Circuit) (place : ℕ) (lists : List ℕ → Option (List ℕ)) → IsSound circuit → place < length circuit.tables → AreListed lists circuit.tables
+    → ((table : Table) → slice_get circuit.tables place ≡ Some table → new ≡ rule_turn Constant circuit table) → AreListed lists new.tables
+constant_listed circuit new place lists sound lt all turned = let (table, at) = there circuit.tables place lt in cases table at (unwritten_bit table) refl
+  where
+    cases : (table : Table) → slice_get circuit.tables place ≡ Some table → (o : Option Bool) → unwritten_bit table ≡ o → AreListed lists new.tables
+    cases table at None e = subst (λ (c : Circuit). AreListed lists c.tables) (sym (turned table at ∙ constant_same circuit table e)) all
+    cases table at (Some bit) e =
+        subst (λ (c : Circuit). AreListed lists c.tables) (sym (turned table at ∙ constant_set circuit place table bit sound at e))
+        (set_listed lists circuit.tables place table (constant_table table.output bit) at (λ name h. absurd (false≢true h)) all)
+
+pub turn_marked : (rule : Rule) (circuit new : Circuit) (place : ℕ) (places now : List ℕ) (before after : Rule → ℕ → Bool) → IsSound circuit → place < length circuit.tables → AreMarked before circuit.tables
+    → ((table : Table) → slice_get circuit.tables place ≡ Some table → new ≡ rule_turn rule circuit table) → AreSameBut places circuit.tables new.tables → now ≡ places
+    → ((r : Rule) (i : ℕ) → is_in now i ≡ true → after r i ≡ true) → ((r : Rule) (i : ℕ) → before r i ≡ true → after r i ≡ true) → AreMarked after new.tables
+turn_marked rule circuit new place places now before after sound lt all turned others same put kept =
+    let (table, at) = there circuit.tables place lt in
+    marked_again circuit.tables new.tables places before after all others
+    (λ name h. turn_reads rule circuit place table sound at name (subst (λ (c : Circuit). has (table_inputs c.tables) name ≡ true) (turned table at) h))
+    (λ r i h. put r i (subst (λ (ps : List ℕ). is_in ps i ≡ true) (sym same) h)) kept
+
+-- the table at one place is changed
+pub set_changed : (turn : Table → Table) (circuit new : Circuit) (place : ℕ) (here made : Table) → slice_get circuit.tables place ≡ Some here → made ≡ turn here → new ≡ with_tables circuit (set circuit.tables place made)
+    → (other : ℕ) → slice_get new.tables other ≡ (if place == other then option_map turn (slice_get circuit.tables other) else slice_get circuit.tables other)
+set_changed turn circuit new place here made at is n other =
+    ap (λ (c : Circuit). slice_get c.tables other) n ∙ cases (place == other) refl
+  where
+    cases : (b : Bool) → (place == other) ≡ b → slice_get (set circuit.tables place made) other ≡ (if b then option_map turn (slice_get circuit.tables other) else slice_get circuit.tables other)
+    cases true e =
+        subst (λ (i : ℕ). slice_get (set circuit.tables place made) i ≡ option_map turn (slice_get circuit.tables i)) (eqb-true place other e)
+        (get_set_same circuit.tables place here made at ∙ (ap Some is ∙ ap (option_map turn) (sym at)))
+    cases false e = get_set_other circuit.tables place other made (λ same. eqb-false place other e (sym same))
+
+pub grown : (places : List ℕ) (i place d : ℕ) → i < length places → place ≡ get_or places i d → (other : ℕ) → is_in (take (i + 1) places) other ≡ (is_in (take i places) other || (place == other))
+grown places i place d lt is other = list_any_more (λ n. n == other) places i d lt ∙ ap (λ (n : ℕ). is_in (take i places) other || (n == other)) (sym is)
+
+pub partly_ended : (name : List ℕ) (change : Change) (places : List ℕ) (i : ℕ) (old new : Circuit) → length places ≤ i → IsPartly (changed_by name change) (take i places) old new
+    → ((place : ℕ) (table : Table) → slice_get old.tables place ≡ Some table → has table.inputs name ≡ true → is_in places place ≡ true)
+    → new ≡ with_tables old (map (changed_by name change) old.tables)
+partly_ended name change places i old new le h all =
+    partly_all name change places old new (subst (λ (ps : List ℕ). IsPartly (changed_by name change) ps old new) (take_all i places le) h) all
+
+-- what holds where a call went well
+pub on_ok : {T E : Type 0} (r : Result T E) {A B : Type 0} → (A → B) → OnOk r A → OnOk r B
+on_ok (Ok x) f h = f h
+on_ok (Err e) f h = tt
+
+pub on_ok_both : {T E : Type 0} (r : Result T E) {A B C : Type 0} → (A → B → C) → OnOk r A → OnOk r B → OnOk r C
+on_ok_both (Ok x) f h k = f h k
+on_ok_both (Err e) f h k = tt

@@ -1,0 +1,14 @@
+use Rattle.std.proofs.Common.{◌∙◌}
+use Rattle.net_sweep.proofs.Chaining.{all_kept, all_swept, all_counted}
+use Rattle.net_sweep.proofs.sweeping.sweep.Goals as goal
+
+pub returns-clause-kept : goal.returns-clause-kept
+returns-clause-kept g c = all_kept c.args.network.now c.in_ok-circuit.circuit c.in_ok-end.end c.in_ok-made.made c.in_ok-circuit.ensures c.sound.ensures c.in_ok-end.ensures.chain c.in_ok-made.ensures
+
+pub returns-clause-finished : goal.returns-clause-finished
+returns-clause-finished g c = all_swept c.in_ok-circuit.circuit c.in_ok-end.end c.in_ok-made.made c.in_ok-end.ensures.chain c.in_ok-made.ensures
+
+pub returns-clause-counts : goal.returns-clause-counts
+returns-clause-counts g c =
+    all_counted c.args.network.now c.in_ok-circuit.circuit c.in_ok-end.end c.in_ok-made.made c.as_slice.result.now c.as_slice-2.result.now c.len-latches.result c.in_ok-swept.swept.latches c.in_ok-swept.swept.tables
+    c.in_ok-circuit.ensures c.in_ok-made.ensures c.as_slice.ensures (c.as_slice-2.ensures.value ∙ c.in_ok-tables.ensures) c.len-latches.ensures c.in_ok-swept.ensures.tables c.in_ok-swept.ensures.latches

@@ -1,0 +1,93 @@
+-- The first four rules of sweep, which change tables and leave their number, their outputs and their places; and what is
+-- kept to see soon where one of them applies: the readers of each signal, and places where a rule may apply.
+-- Source: the SIS manual (UCB/ERL M92/41), `sweep`.
+use Rattle.std.specs.Prelude.{◌≡◌, ℕ, ◌==◌, ◌&&◌, Bool, true, false, not, Option, Some, None, is_some, List, [], slice_get, bytes_eq}
+use Rattle.std.specs.Option.{option_or}
+use Rattle.std.specs.List.{list_any}
+use Rattle.std.specs.Ordering.{nat_cmp}
+use Rattle.std.specs.BTreeSet.{contains}
+use Rattle.circuit_model.specs.Names.{has}
+use Rattle.circuit_model.specs.Soundness.{table_inputs, IsSound}
+use Rattle.circuit_model.specs.declared.circuit.Table.{Table}
+use Rattle.circuit_model.specs.declared.circuit.Circuit.{Circuit}
+use Rattle.circuit_laws.specs.Edits.{with_replaced}
+use Rattle.table_tidy.specs.Tidy.{is_tidy, tidied}
+use Rattle.sweep_rules.specs.Points.{written_bit}
+use Rattle.circuit_laws.specs.Chains.{Leads}
+use Rattle.sweep_rules.specs.Rules.{tidy_rule, constant_rule, put_rule, bypass_rule, with_constant, with_bit_put, with_bypass, unwritten_bit, only_input, at_bit, rewired, sweep_step}
+use Rattle.net_sweep.specs.declared.marks.Rule.{Rule}
+use Rattle.net_sweep.specs.declared.marks.Rule.TheVariants.{Tidy, Constant, Put, Bypass}
+use Rattle.net_sweep.specs.declared.marks.Candidates.{Candidates}
+use Rattle.net_sweep.specs.declared.turns.Change.{Change}
+use Rattle.net_sweep.specs.declared.turns.Change.TheVariants.{Bit, Input}
+
+-- whether a rule applies to a table among others
+abbrev pub passes : Rule → List Table → Table → Bool
+passes Tidy tables table = not (is_tidy table)
+passes Constant tables table = is_some (unwritten_bit table)
+passes Put tables table = is_some (written_bit table) && has (table_inputs tables) table.output
+passes Bypass tables table = is_some (only_input table.inputs) && has (table_inputs tables) table.output
+
+-- what a rule makes of a circuit at a table to which it applies
+abbrev pub rule_turn : Rule → Circuit → Table → Circuit
+rule_turn Tidy circuit table = with_replaced circuit (tidied table)
+rule_turn Constant circuit table = with_constant circuit table
+rule_turn Put circuit table = with_bit_put circuit table
+rule_turn Bypass circuit table = with_bypass circuit table
+
+-- one step of the rules that change tables
+unfoldable pub table_step : Circuit → Option Circuit
+table_step circuit = option_or (tidy_rule circuit) (option_or (constant_rule circuit) (option_or (put_rule circuit) (bypass_rule circuit)))
+
+-- the rule and the place of the table to which the next step of these rules applies it, if there is one
+abbrev pub IsNext : Circuit → Option (Rule × ℕ) → Type 0
+IsNext circuit None = table_step circuit ≡ None
+IsNext circuit (Some (rule, place)) = (table : Table) × (slice_get circuit.tables place ≡ Some table) × (table_step circuit ≡ Some (rule_turn rule circuit table))
+
+-- a table in which a signal has a bit, or gives place to another one
+abbrev pub changed_by : List ℕ → Change → Table → Table
+changed_by name (Bit bit) table = at_bit name bit table
+changed_by name (Input to inverts) table = rewired name to inverts table
+
+-- whether the signal that comes in the place of another one is not that one
+abbrev pub is_apart : List ℕ → Change → Bool
+is_apart name (Bit bit) = true
+is_apart name (Input to inverts) = not (bytes_eq name to)
+
+-- whether a place is among some places
+abbrev pub is_in : List ℕ → ℕ → Bool
+is_in places place = list_any (λ other. other == place) places
+
+-- the places that are listed, none where there is no list
+abbrev pub listed : Option (List ℕ) → List ℕ
+listed None = []
+listed (Some places) = places
+
+-- each reader of each signal is in the signal's list
+abbrev pub AreListed : (List ℕ → Option (List ℕ)) → List Table → Type 0
+AreListed lists tables = (place : ℕ) (table : Table) (name : List ℕ) → slice_get tables place ≡ Some table → has table.inputs name ≡ true → is_in (listed (lists name)) place ≡ true
+
+-- each place of a table that passes a test is marked
+abbrev pub AreMarkedBy : (Table → Bool) → (ℕ → Bool) → List Table → Type 0
+AreMarkedBy test marked tables = (place : ℕ) (table : Table) → slice_get tables place ≡ Some table → test table ≡ true → marked place ≡ true
+
+-- each place where a rule applies is marked for the rule
+abbrev pub AreMarked : (Rule → ℕ → Bool) → List Table → Type 0
+AreMarked marked tables = (rule : Rule) → AreMarkedBy (passes rule tables) (marked rule) tables
+
+-- the candidates of a rule
+abbrev pub marked_in : Candidates → Rule → ℕ → Bool
+marked_in candidates Tidy place = contains nat_cmp candidates.untidy place
+marked_in candidates Constant place = contains nat_cmp candidates.unwritten place
+marked_in candidates Put place = contains nat_cmp candidates.constants place
+marked_in candidates Bypass place = contains nat_cmp candidates.singles place
+
+-- tables are the same but at some places
+abbrev pub AreSameBut : List ℕ → List Table → List Table → Type 0
+AreSameBut places old new = (place : ℕ) → is_in places place ≡ false → slice_get new place ≡ slice_get old place
+
+-- steps have led from one circuit to another one, which is sound
+pub record HasLed (from to : Circuit) : Type 0 where
+  pub between : List Circuit
+  pub leads : Leads sweep_step between from to
+  pub sound : IsSound to

@@ -1,0 +1,16 @@
+//! Sweep: constants are propagated, tables of one input are collapsed into their readers, latches that always have one
+//! bit become constants, and what is not needed goes.
+//!
+//! Source: the SIS manual (UCB/ERL M92/41), `sweep`. What a step is stands in sweep_rules. Here steps are taken until none
+//! applies: of the first four rules at places that wait in ordered sets (`marks`, `turns`), of the last two by net_needed.
+//! Promised: the chain of steps, to its end (`sweep`); an error, only for want of memory, changes nothing.
+#![tactic(auto)]
+
+mod constants;
+mod counting;
+mod marks;
+mod rows;
+mod sweeping;
+mod turns;
+
+pub use sweeping::{SweepFault, Swept, sweep};

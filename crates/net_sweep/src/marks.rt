@@ -1,0 +1,188 @@
+//! Where rules of sweep may apply: candidates for each rule, and the readers of each signal.
+//!
+//! Both hold too much rather than too little: what they hold is tried again before it counts.
+
+ghost use Rattle.std.specs.Prelude.{◌≡◌, ℕ, ◌+◌, ◌≤◌, ◌<◌, ◌==◌, ◌&&◌, ◌||◌, not, Bool, true, false, Option, Some, None, List, [], ◌∷◌, ◌++◌, is_some, bytes_eq, length, if◌then◌else◌, IfOk, OnOk, IfSome, IfNone};
+ghost use Rattle.std.specs.Ordering.{nat_cmp};
+ghost use Rattle.std.specs.BTreeSet.{contains, btree_set_len};
+ghost use Rattle.indexmap.specs.IndexMap.{get};
+ghost use Rattle.circuit_model.specs.Names.{has};
+ghost use Rattle.net_sweep.specs.declared.marks.Rule.{Rule as TheRule};
+ghost use Rattle.net_sweep.specs.Settled.{is_in, listed, marked_in, AreListed};
+
+use circuit_model::{Name, Table};
+use indexmap::IndexMap;
+use sis_base::{Copied, Sequence};
+use std::alloc::{AllocError, Global};
+use std::collections::BTreeSet;
+
+/// A rule of sweep that changes tables.
+#[derive(Clone, Copy)]
+pub(crate) enum Rule {
+    Tidy,
+    Constant,
+    Put,
+    Bypass,
+}
+
+/// For each rule the places of tables to which it may apply.
+#[derive(Drop)]
+pub(crate) struct Candidates {
+    pub(crate) untidy: BTreeSet<usize>,
+    pub(crate) unwritten: BTreeSet<usize>,
+    pub(crate) constants: BTreeSet<usize>,
+    pub(crate) singles: BTreeSet<usize>,
+}
+
+/// Places of tables.
+pub(crate) type Places = Sequence<usize>;
+
+// Takes the least place out.
+pub(crate) fn take_least(set: &mut BTreeSet<usize>) -> Option<usize>
+    ensures none { IfNone result ((place : ℕ) → contains nat_cmp set.old place ≡ false) }
+    ensures within { IfSome result (λ least. contains nat_cmp set.old least ≡ true) }
+    ensures least { IfSome result (λ least. (place : ℕ) → contains nat_cmp set.old place ≡ true → least ≤ place) }
+    ensures rest { IfSome result (λ least. (place : ℕ) → contains nat_cmp set.new place ≡ (not (least == place) && contains nat_cmp set.old place)) }
+    ensures len { btree_set_len set.new + (if is_some result then 1 else 0) ≡ btree_set_len set.old }
+{
+    set.pop_first()
+}
+
+// Puts a place in.
+pub(crate) fn put_place(set: &mut BTreeSet<usize>, put: usize) -> Result<(), AllocError>
+    ensures { OnOk result ((place : ℕ) → contains nat_cmp set.new place ≡ (put == place || contains nat_cmp set.old place)) }
+{
+    set.insert(put)?;
+    Ok(())
+}
+
+// Marks a place for each rule.
+pub(crate) fn mark(candidates: &mut Candidates, put: usize) -> Result<(), AllocError>
+    ensures { OnOk result ((rule : TheRule) (place : ℕ) → marked_in candidates.new rule place ≡ (put == place || marked_in candidates.old rule place)) }
+{
+    put_place(&mut candidates.untidy, put)?;
+    put_place(&mut candidates.unwritten, put)?;
+    put_place(&mut candidates.constants, put)?;
+    put_place(&mut candidates.singles, put)?;
+    Ok(())
+}
+
+// Marks places for each rule.
+pub(crate) fn mark_all(candidates: &mut Candidates, places: &[usize]) -> Result<(), AllocError>
+    ensures put { OnOk result ((rule : TheRule) (place : ℕ) → is_in places.now place ≡ true → marked_in candidates.new rule place ≡ true) }
+    ensures kept { OnOk result ((rule : TheRule) (place : ℕ) → marked_in candidates.old rule place ≡ true → marked_in candidates.new rule place ≡ true) }
+{
+    for put in places {
+        mark(candidates, *put)?;
+    }
+    Ok(())
+}
+
+// The candidates where each of so many places is marked for each rule.
+pub(crate) fn all_marked(alloc: Global, count: usize) -> Result<Candidates, AllocError>
+    ensures { IfOk result (λ candidates. (rule : TheRule) (place : ℕ) → place < count → marked_in candidates rule place ≡ true) }
+{
+    let mut candidates = Candidates {
+        untidy: BTreeSet::new(alloc),
+        unwritten: BTreeSet::new(alloc),
+        constants: BTreeSet::new(alloc),
+        singles: BTreeSet::new(alloc),
+    };
+    for place in 0..count {
+        mark(&mut candidates, place)?;
+    }
+    Ok(candidates)
+}
+
+// Takes the list of a signal out.
+pub(crate) fn take_list(alloc: Global, readers: &mut IndexMap<Name, Places>, name: &Name) -> Places
+    ensures list { result ≡ listed (get bytes_eq readers.old name.now) }
+    ensures rest { (other : List ℕ) → get bytes_eq readers.new other ≡ (if bytes_eq name.now other then None else get bytes_eq readers.old other) }
+{
+    match readers.swap_remove(name) {
+        Some(places) => places,
+        None => Sequence::new(alloc),
+    }
+}
+
+// Puts the list of a signal in.
+pub(crate) fn put_list(
+    readers: &mut IndexMap<Name, Places>,
+    name: Name,
+    places: Places,
+) -> Result<(), AllocError>
+    ensures { OnOk result ((other : List ℕ) → get bytes_eq readers.new other ≡ (if bytes_eq name other then Some places else get bytes_eq readers.old other)) }
+{
+    let _list = readers.insert(name, places)?;
+    Ok(())
+}
+
+// Puts places behind the last.
+fn push_all(places: &mut Places, more: &[usize]) -> Result<(), AllocError>
+    ensures { OnOk result (places.new ≡ places.old ++ more.now) }
+{
+    for place in more {
+        places.push(*place)?;
+    }
+    Ok(())
+}
+
+// Puts readers behind the last of a signal.
+pub(crate) fn add_readers(
+    alloc: Global,
+    readers: &mut IndexMap<Name, Places>,
+    name: &Name,
+    more: &[usize],
+) -> Result<(), AllocError>
+    ensures { OnOk result ((other : List ℕ) → listed (get bytes_eq readers.new other) ≡ (if bytes_eq name.now other then listed (get bytes_eq readers.old other) ++ more.now else listed (get bytes_eq readers.old other))) }
+{
+    let key = name.copy(alloc)?;
+    let mut places = take_list(alloc, readers, name);
+    push_all(&mut places, more)?;
+    put_list(readers, key, places)
+}
+
+// Puts a reader behind the last of a signal.
+fn add_reader(
+    alloc: Global,
+    readers: &mut IndexMap<Name, Places>,
+    name: &Name,
+    reader: usize,
+) -> Result<(), AllocError>
+    ensures { OnOk result ((other : List ℕ) → listed (get bytes_eq readers.new other) ≡ (if bytes_eq name.now other then listed (get bytes_eq readers.old other) ++ reader ∷ [] else listed (get bytes_eq readers.old other))) }
+{
+    let key = name.copy(alloc)?;
+    let mut places = take_list(alloc, readers, name);
+    places.push(reader)?;
+    put_list(readers, key, places)
+}
+
+// Lists a table among the readers of what it reads.
+fn list_table(
+    alloc: Global,
+    readers: &mut IndexMap<Name, Places>,
+    inputs: &[Name],
+    reader: usize,
+) -> Result<(), AllocError>
+    ensures put { OnOk result ((name : List ℕ) → has inputs.now name ≡ true → is_in (listed (get bytes_eq readers.new name)) reader ≡ true) }
+    ensures kept { OnOk result ((name : List ℕ) (place : ℕ) → is_in (listed (get bytes_eq readers.old name)) place ≡ true → is_in (listed (get bytes_eq readers.new name)) place ≡ true) }
+{
+    for input in inputs {
+        add_reader(alloc, readers, input, reader)?;
+    }
+    Ok(())
+}
+
+// The readers of each signal.
+pub(crate) fn all_readers(
+    alloc: Global,
+    tables: &[Table],
+) -> Result<IndexMap<Name, Places>, AllocError>
+    ensures { IfOk result (λ readers. AreListed (get bytes_eq readers) tables.now) }
+{
+    let mut readers = IndexMap::new(alloc);
+    for (place, table) in tables.iter().enumerate() {
+        list_table(alloc, &mut readers, table.inputs.as_slice(), place)?;
+    }
+    Ok(readers)
+}

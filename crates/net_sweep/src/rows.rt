@@ -1,0 +1,249 @@
+//! Tables that read a constant, and tables that read one signal in place of another one.
+
+ghost use Rattle.std.specs.Prelude.{◌≡◌, Bool, true, false, Option, Some, None, List, [], ◌∷◌, ◌++◌, length, map, bytes_eq, option_to_list, if◌then◌else◌, IfOk, OnOk};
+ghost use Rattle.std.specs.List.{filter_map, list_any};
+ghost use Rattle.circuit_model.specs.Names.{has};
+ghost use Rattle.circuit_model.specs.Values.{table_value};
+ghost use Rattle.circuit_model.specs.declared.circuit.Tri.TheVariants.{Free};
+ghost use Rattle.net_core.specs.Tables.{HasCharacters};
+ghost use Rattle.net_sweep.specs.Turns.{opens_at_one};
+ghost use Rattle.sweep_rules.specs.Rules.{asks_against, row_at_bit as bit_in_row, at_bit as table_at_bit, renamed as name_for, turned_over, row_turned as turned_row, rewired as table_rewired, is_inverter as inverts_input};
+
+use circuit_model::{Name, Names, Row, Rows, Table, Tri};
+use sis_base::{Copied, Sequence};
+use std::alloc::{AllocError, Global};
+use table_tidy::tidied_table;
+
+// Whether a name is among names.
+pub(crate) fn is_among(names: &Names, name: &Name) -> bool
+    ensures { result ≡ has names.now name.now }
+{
+    names.as_slice().iter().any(|other| *name == *other)
+}
+
+// The character of a place in a row where a signal has a bit: none is left where the row asks for the other one.
+fn place_at_bit(is_signal: bool, bit: bool, place: Tri) -> Option<Tri>
+    ensures { result ≡ (if is_signal then (if asks_against bit place then None else Some Free) else Some place) }
+{
+    if !is_signal {
+        return Some(place);
+    }
+    match (bit, place) {
+        (true, Tri::Zero) | (false, Tri::One) => None,
+        _ => Some(Tri::Free),
+    }
+}
+
+// A row in which a signal has a bit, if it is left.
+fn row_at_bit(
+    alloc: Global,
+    name: &Name,
+    bit: bool,
+    inputs: &[Name],
+    row: &[Tri],
+) -> Result<Option<Row>, AllocError>
+    requires { length row.now ≡ length inputs.now }
+    ensures { IfOk result (λ made. made ≡ bit_in_row name.now bit inputs.now row.now) }
+{
+    let mut made = Vec::with_capacity(alloc, row.len())?;
+    for (i, input) in inputs.iter().enumerate() {
+        match place_at_bit(*name == *input, bit, row[i]) {
+            None => return Ok(None),
+            Some(place) => made.push(place)?,
+        }
+    }
+    Ok(Some(Sequence::from_vec(made)))
+}
+
+// Puts a row, where there is one, behind the last.
+fn add_row(rows: &mut Rows, row: Option<Row>) -> Result<(), AllocError>
+    ensures { OnOk result (rows.new ≡ rows.old ++ option_to_list row) }
+{
+    if let Some(row) = row {
+        rows.push(row)?;
+    }
+    Ok(())
+}
+
+// The rows that are left where a signal has a bit.
+fn rows_at_bit(
+    alloc: Global,
+    name: &Name,
+    bit: bool,
+    inputs: &[Name],
+    rows: &[Row],
+) -> Result<Rows, AllocError>
+    requires { HasCharacters (length inputs.now) rows.now }
+    ensures { IfOk result (λ made. made ≡ filter_map (bit_in_row name.now bit inputs.now) rows.now) }
+{
+    let mut made = Sequence::new(alloc);
+    for row in rows {
+        let left = row_at_bit(alloc, name, bit, inputs, row.as_slice())?;
+        add_row(&mut made, left)?;
+    }
+    Ok(made)
+}
+
+// The table that reads a signal which has a bit, tidied; another table stays.
+#[tactic(auto, unfolding(sweep_rules::specs::Rules::at_bit))]
+pub(crate) fn at_bit(
+    alloc: Global,
+    table: &Table,
+    name: &Name,
+    bit: bool,
+) -> Result<Table, AllocError>
+    requires { HasCharacters (length table.now.inputs) table.now.rows }
+    ensures { IfOk result (λ made. made ≡ table_at_bit name.now bit table.now) }
+{
+    if !is_among(&table.inputs, name) {
+        return table.copy(alloc);
+    }
+    let rows = rows_at_bit(
+        alloc,
+        name,
+        bit,
+        table.inputs.as_slice(),
+        table.rows.as_slice(),
+    )?;
+    let put = Table {
+        inputs: table.inputs.copy(alloc)?,
+        output: table.output.copy(alloc)?,
+        rows,
+        phase: table.phase,
+    };
+    tidied_table(alloc, put)
+}
+
+// A character of a row, turned over where it is that of the signal.
+fn turned_place(is_signal: bool, place: Tri) -> Tri
+    ensures { result ≡ (if is_signal then turned_over place else place) }
+{
+    if !is_signal {
+        return place;
+    }
+    match place {
+        Tri::Zero => Tri::One,
+        Tri::One => Tri::Zero,
+        Tri::Free => Tri::Free,
+    }
+}
+
+// A row with the characters of a signal turned over.
+fn row_turned(alloc: Global, name: &Name, inputs: &[Name], row: &[Tri]) -> Result<Row, AllocError>
+    requires { length row.now ≡ length inputs.now }
+    ensures { IfOk result (λ made. made ≡ turned_row name.now inputs.now row.now) }
+{
+    let mut made = Vec::with_capacity(alloc, row.len())?;
+    for (i, input) in inputs.iter().enumerate() {
+        made.push(turned_place(*name == *input, row[i]))?;
+    }
+    Ok(Sequence::from_vec(made))
+}
+
+// Rows with the characters of a signal turned over.
+fn rows_turned(
+    alloc: Global,
+    name: &Name,
+    inputs: &[Name],
+    rows: &[Row],
+) -> Result<Rows, AllocError>
+    requires { HasCharacters (length inputs.now) rows.now }
+    ensures { IfOk result (λ made. made ≡ map (turned_row name.now inputs.now) rows.now) }
+{
+    let mut made = Vec::with_capacity(alloc, rows.len())?;
+    for row in rows {
+        made.push(row_turned(alloc, name, inputs, row.as_slice())?)?;
+    }
+    Ok(Sequence::from_vec(made))
+}
+
+// The rows of a table that reads a signal through an inverter or directly.
+fn rows_rewired(
+    alloc: Global,
+    table: &Table,
+    name: &Name,
+    inverts: bool,
+) -> Result<Rows, AllocError>
+    requires { HasCharacters (length table.now.inputs) table.now.rows }
+    ensures { IfOk result (λ made. made ≡ (if inverts then map (turned_row name.now table.now.inputs) table.now.rows else table.now.rows)) }
+{
+    if !inverts {
+        return table.rows.copy(alloc);
+    }
+    rows_turned(alloc, name, table.inputs.as_slice(), table.rows.as_slice())
+}
+
+// A name, or the one that takes its place.
+fn renamed(alloc: Global, from: &Name, to: &Name, name: &Name) -> Result<Name, AllocError>
+    ensures { IfOk result (λ made. made ≡ name_for from.now to.now name.now) }
+{
+    if *from == *name {
+        return to.copy(alloc);
+    }
+    name.copy(alloc)
+}
+
+// Names with one in place of another.
+fn names_renamed(alloc: Global, from: &Name, to: &Name, names: &[Name]) -> Result<Names, AllocError>
+    ensures { IfOk result (λ made. made ≡ map (name_for from.now to.now) names.now) }
+{
+    let mut made = Vec::with_capacity(alloc, names.len())?;
+    for name in names {
+        made.push(renamed(alloc, from, to, name)?)?;
+    }
+    Ok(Sequence::from_vec(made))
+}
+
+// The table that reads one signal in place of another one, turned over or not, tidied; a table that doesn't read it stays.
+#[tactic(auto, unfolding(sweep_rules::specs::Rules::rewired))]
+pub(crate) fn rewired(
+    alloc: Global,
+    table: &Table,
+    from: &Name,
+    to: &Name,
+    inverts: bool,
+) -> Result<Table, AllocError>
+    requires { HasCharacters (length table.now.inputs) table.now.rows }
+    ensures { IfOk result (λ made. made ≡ table_rewired from.now to.now inverts table.now) }
+{
+    if !is_among(&table.inputs, from) {
+        return table.copy(alloc);
+    }
+    let rows = rows_rewired(alloc, table, from, inverts)?;
+    let read = Table {
+        inputs: names_renamed(alloc, from, to, table.inputs.as_slice())?,
+        output: table.output.copy(alloc)?,
+        rows,
+        phase: table.phase,
+    };
+    tidied_table(alloc, read)
+}
+
+// Whether a row lets its first input be 1.
+fn is_open_at_one(row: &Row) -> bool
+    ensures { result ≡ opens_at_one row.now }
+{
+    match row.as_slice().first() {
+        Some(Tri::Zero) => false,
+        _ => true,
+    }
+}
+
+// Whether some row lets its first input be 1.
+fn are_open_at_one(rows: &[Row]) -> bool
+    ensures { result ≡ list_any opens_at_one rows.now }
+{
+    rows.iter().any(|row| is_open_at_one(row))
+}
+
+// Whether a table of one input is 0 where that is 1.
+#[tactic(auto, using(crate::proofs::RowSteps::inverts_positive, crate::proofs::RowSteps::inverts_negative))]
+pub(crate) fn is_inverter(table: &Table) -> bool
+    ensures { result ≡ inverts_input table.now }
+{
+    let is_matched = are_open_at_one(table.rows.as_slice());
+    if table.phase {
+        return !is_matched;
+    }
+    is_matched
+}

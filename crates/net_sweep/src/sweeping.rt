@@ -1,0 +1,113 @@
+//! Sweep of a network.
+
+ghost use Rattle.std.specs.Prelude.{◌≡◌, ◌-◌, not, None, count_by, length, IfOk, OnOk, OnErr};
+ghost use Rattle.circuit_model.specs.Names.{has};
+ghost use Rattle.circuit_model.specs.Soundness.{IsSound, outputs_of};
+ghost use Rattle.std.specs.Option.{option_or};
+ghost use Rattle.circuit_laws.specs.Chains.{Chain};
+ghost use Rattle.sweep_rules.specs.Keeping.{IsKept};
+ghost use Rattle.sweep_rules.specs.Rules.{latch_rule, need_rule, sweep_step};
+ghost use Rattle.sweep_rules.specs.Sweeping.{IsSwept, tables_gone, latches_gone};
+ghost use Rattle.net_sweep.specs.Settled.{table_step, HasLed};
+ghost use Rattle.net_sweep.specs.declared.sweeping.SweepFault.TheVariants.{Memory};
+
+use crate::counting::{count_undriven, outputs};
+use crate::marks::{all_marked, all_readers};
+use crate::turns::{next_turn, turn};
+use circuit_model::{Circuit, Name};
+use cube_cover::Row;
+use net_core::Network;
+use net_needed::{latch_step, need_step};
+use std::alloc::{AllocError, Global};
+
+/// How many tables and latches a sweep took away; a latch that became a table counts as a latch alone.
+#[derive(Clone, Copy, Debug, PartialEq, Eq)]
+pub struct Swept {
+    pub tables: usize,
+    pub latches: usize,
+}
+
+/// Why a sweep gave no answer.
+#[derive(Clone, Copy, Debug, PartialEq, Eq, Drop)]
+pub enum SweepFault {
+    Memory,
+}
+
+impl From<AllocError> for SweepFault {
+    ghost from_gives = { λ _ fault. fault ≡ Memory };
+
+    fn from(_error: AllocError) -> SweepFault {
+        SweepFault::Memory
+    }
+}
+
+// The step of the first of the last two rules that applies.
+fn step_from_latches(alloc: Global, circuit: &Circuit) -> Result<Option<Circuit>, AllocError>
+    requires { IsSound circuit.now }
+    ensures { IfOk result (λ next. next ≡ option_or (latch_rule circuit.now) (need_rule circuit.now)) }
+{
+    match latch_step(alloc, circuit)? {
+        Some(next) => Ok(Some(next)),
+        None => need_step(alloc, circuit),
+    }
+}
+
+// The circuit where no rule applies any more that changes tables.
+fn settled<R: Row>(alloc: Global, circuit: Circuit) -> Result<Circuit, AllocError>
+    requires { IsSound circuit }
+    ensures led { IfOk result (λ end. HasLed circuit end) }
+    ensures settled { IfOk result (λ end. table_step end ≡ None) }
+{
+    let mut end = circuit;
+    let mut readers = all_readers(alloc, end.tables.as_slice())?;
+    let mut candidates = all_marked(alloc, end.tables.len())?;
+    while let Some((rule, place)) = next_turn::<R>(alloc, &end, &readers, &mut candidates)? {
+        turn::<R>(alloc, rule, place, &mut end, &mut readers, &mut candidates)?;
+    }
+    Ok(end)
+}
+
+// The circuit where no step applies any more.
+fn finished<R: Row>(alloc: Global, circuit: Circuit) -> Result<Circuit, AllocError>
+    requires { IsSound circuit }
+    ensures chain { IfOk result (λ end. Chain sweep_step circuit end) }
+    ensures sound { IfOk result (λ end. IsSound end) }
+{
+    let mut end = settled::<R>(alloc, circuit)?;
+    while let Some(next) = step_from_latches(alloc, &end)? {
+        end = settled::<R>(alloc, next)?;
+    }
+    Ok(end)
+}
+
+// What went between tables and latches, given by the tables' names and the latches' number, and those of a circuit.
+fn gone(alloc: Global, tables: &[Name], latches: usize, end: &Circuit) -> Result<Swept, AllocError>
+    ensures tables { IfOk result (λ swept. swept.tables ≡ count_by (λ name. not (has (outputs_of end.now.tables) name)) tables.now) }
+    ensures latches { IfOk result (λ swept. swept.latches ≡ latches - length end.now.latches) }
+{
+    let count = count_undriven(alloc, tables, end.tables.as_slice())?;
+    Ok(Swept {
+        tables: count,
+        latches: latches.saturating_sub(end.latches.len()),
+    })
+}
+
+/// Sweeps a network: steps are taken until none applies; how many tables and latches went is answered. An error, only
+/// for want of memory, changes nothing.
+pub fn sweep<R: Row>(alloc: Global, network: &mut Network<R>) -> Result<Swept, SweepFault>
+    ensures chain { OnOk result (Chain sweep_step network.old network.new) }
+    ensures kept { OnOk result (IsKept network.old network.new) }
+    ensures finished { OnOk result (IsSwept network.new) }
+    ensures counts { IfOk result (λ swept. (swept.tables ≡ tables_gone network.old network.new) × (swept.latches ≡ latches_gone network.old network.new)) }
+    ensures err { OnErr result (network.new ≡ network.old) }
+{
+    network.sound();
+    let circuit = network.to_circuit(alloc)?;
+    let tables = outputs(alloc, circuit.tables.as_slice())?;
+    let latches = circuit.latches.len();
+    let end = finished::<R>(alloc, circuit)?;
+    let made = Network::from_circuit(alloc, &end)?;
+    let swept = gone(alloc, tables.as_slice(), latches, &end)?;
+    *network = made;
+    Ok(swept)
+}
