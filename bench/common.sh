@@ -1,5 +1,9 @@
 # What the benchmarks share: time and peak memory of a command, and the same script run by `sis` and by ABC (Debian's
-# berkeley-abc). Read by the scripts beside it, which set $top (the repository) and $work (a folder for files).
+# berkeley-abc). Read by the scripts beside it, which set $top (the repository); $work is a folder for
+# files that goes with the script.
+
+work=$(mktemp -d) || exit 1
+trap 'rm -rf "$work"' EXIT
 
 measure() { # name, command ..
   local name=$1; shift

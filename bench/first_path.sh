@@ -4,8 +4,6 @@
 set -u
 top=$(cd "$(dirname "$0")/.." && pwd) || exit 1
 . "$top/bench/common.sh" || exit 1
-work=$(mktemp -d) || exit 1
-trap 'rm -rf "$work"' EXIT
 sizes=("$@"); [ ${#sizes[@]} -gt 0 ] || sizes=(20000 65000)
 
 # A circuit of that many tables: each reads two of the signals before it, by a fixed random rule.

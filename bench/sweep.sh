@@ -4,8 +4,6 @@
 set -u
 top=$(cd "$(dirname "$0")/.." && pwd) || exit 1
 . "$top/bench/common.sh" || exit 1
-work=$(mktemp -d) || exit 1
-trap 'rm -rf "$work"' EXIT
 sizes=("$@"); [ ${#sizes[@]} -gt 0 ] || sizes=(2000 20000)
 
 # A chain: each table reads the one before it and one of the inputs in turn.
