@@ -1,3 +1,6 @@
 pub mod Answering
 pub mod Bounds
 pub mod Moving
+pub mod Effects
+pub mod Serving
+pub mod Once

@@ -84,17 +84,21 @@ abbrev pub IsPut : Call → Type 0
 IsPut (Put reply) = Unit {0}
 IsPut call = ⊥
 
--- What a command does to what is held, and why it does nothing, whatever becomes of files and output, and whether the
--- outside tells them or not: there are files with which the command may end so.
-abbrev pub Moves : Op → Held → Result Next StepFault → Held → Type 0
-Moves op held (Ok onward) held' = (files : Files) × (e : Effect) × Step files held op (Does e) × (held' ≡ e.held) × (onward ≡ e.onward)
-Moves op held (Err (fault.Refused why)) held' = (held' ≡ held) × ((files : Files) × Step files held op (Refuses why))
-Moves op held (Err fault.StoreFault) held' =
-    (held' ≡ held) × (IsTrue (loads op) ⊎ ((files : Files) × (e : Effect) × Step files held op (Does e) × IsSave e.call))
-Moves op held (Err fault.SinkFault) held' = (held' ≡ held) × ((files : Files) × (e : Effect) × Step files held op (Does e) × IsPut e.call)
-Moves op held (Err fault.Memory) held' = held' ≡ held
+-- What a command does to what is held, and why it does nothing, where these are the files that the store tells,
+-- whatever becomes of the output.
+abbrev pub MovesAt : Files → Op → Held → Result Next StepFault → Held → Type 0
+MovesAt files op held (Ok onward) held' = (e : Effect) × Step files held op (Does e) × (held' ≡ e.held) × (onward ≡ e.onward)
+MovesAt files op held (Err (fault.Refused why)) held' = (held' ≡ held) × Step files held op (Refuses why)
+MovesAt files op held (Err fault.StoreFault) held' =
+    (held' ≡ held) × (IsTrue (loads op) ⊎ ((e : Effect) × Step files held op (Does e) × IsSave e.call))
+MovesAt files op held (Err fault.SinkFault) held' = (held' ≡ held) × ((e : Effect) × Step files held op (Does e) × IsPut e.call)
+MovesAt files op held (Err fault.Memory) held' = held' ≡ held
 
--- the same for a command that loads nothing and has one outcome
+-- the same whether the outside tells its contents or not: there are files with which the command may end so
+abbrev pub Moves : Op → Held → Result Next StepFault → Held → Type 0
+Moves op held answer held' = (files : Files) × MovesAt files op held answer held'
+
+-- the same, whatever becomes of files, for a command that loads nothing and has one outcome
 abbrev pub MovesBy : Outcome → Held → Result Next StepFault → Held → Type 0
 MovesBy (Does e) held (Ok onward) held' = (held' ≡ e.held) × (onward ≡ e.onward)
 MovesBy (Does e) held (Err (fault.Refused why)) held' = ⊥

@@ -3,3 +3,4 @@ pub mod Outcome
 pub mod Replies
 pub mod State
 pub mod Step
+pub mod Keeping

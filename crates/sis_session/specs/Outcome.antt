@@ -1,10 +1,11 @@
 -- How one command ends: it is refused, or it is done with an effect.
 -- Source: the SIS manual (UCB/ERL M92/41), the commands one by one; the order of refusals is the project's own: a
 -- command's words, then the parts that it needs, then names, then the file that it loads, then what is read of it.
-use Rattle.std.specs.Prelude.{◌≡◌, ℕ, Bool, Option, Some, None, Result, Ok, Err, List, [], ◌∷◌, length, nat_le, find, flat_map, map, bytes_eq, if◌then◌else◌}
+use Rattle.std.specs.Prelude.{◌≡◌, ℕ, Bool, Option, Some, None, Result, Ok, Err, List, [], ◌∷◌, length, nat_le, flat_map, map, if◌then◌else◌}
 use Rattle.sis_base.specs.Written.{lines_text}
 use Rattle.sis_text.specs.Entries.{entries_of}
 use Rattle.circuit_model.specs.Text.{text_of, table_lines, latch_line}
+use Rattle.circuit_model.specs.Values.{driver}
 use Rattle.circuit_model.specs.declared.circuit.Circuit.{Circuit}
 use Rattle.circuit_model.specs.declared.circuit.Table.{Table}
 use Rattle.blif_read.specs.Reader.{read_lines}
@@ -95,10 +96,6 @@ abbrev pub stats_outcome : Held → Option Circuit → Outcome
 stats_outcome held None = Refuses refusal.NoNetwork
 stats_outcome held (Some circuit) = Does (replies held (stats_line circuit))
 
--- the first table of a name
-abbrev pub table_named : List ℕ → List Table → Option Table
-table_named name tables = find (λ (table : Table). bytes_eq table.output name) tables
-
 -- `print`: all tables are put as they are written, or the one that is named
 abbrev pub named_outcome : Held → List ℕ → Option Table → Outcome
 named_outcome held name None = Refuses (refusal.NoSignal name)
@@ -106,7 +103,7 @@ named_outcome held name (Some table) = Does (replies held (lines_text (table_lin
 
 abbrev pub tables_outcome : Held → Option (List ℕ) → Circuit → Outcome
 tables_outcome held None circuit = Does (replies held (lines_text (flat_map table_lines circuit.tables)))
-tables_outcome held (Some name) circuit = named_outcome held name (table_named name circuit.tables)
+tables_outcome held (Some name) circuit = named_outcome held name (driver circuit.tables name)
 
 abbrev pub print_outcome : Held → Option (List ℕ) → Option Circuit → Outcome
 print_outcome held name None = Refuses refusal.NoNetwork

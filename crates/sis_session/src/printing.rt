@@ -1,16 +1,18 @@
 //! The replies of the commands that print.
 
-ghost use Rattle.std.specs.Prelude.{◌≡◌, ◌∷◌, find, bytes_eq, option_copied, IfSome};
+ghost use Rattle.std.specs.Prelude.{◌≡◌, flat_map, IfSome};
+ghost use Rattle.sis_base.specs.Written.{lines_text};
+ghost use Rattle.circuit_model.specs.Text.{table_lines};
+ghost use Rattle.circuit_model.specs.Values.{driver};
 ghost use Rattle.net_core.specs.Reads.{HasBounds};
 ghost use Rattle.sis_session.specs.Answers.{IsReply};
-ghost use Rattle.sis_session.specs.Outcome.{echo_outcome, stats_outcome, print_outcome, latch_outcome, table_named};
+ghost use Rattle.sis_session.specs.Outcome.{Does, replies, echo_outcome, stats_outcome, named_outcome, print_outcome, latch_outcome};
 ghost use Rattle.sis_session.specs.Replies.{stats_of};
 ghost use Rattle.sis_session.specs.State.{Held};
 
 use crate::refusal::{Refusal, StepFault};
 use crate::texts::{Stats, echo_text, stats_text};
 use blif_write::{latches_text, table_text, tables_text};
-use circuit_model::Table;
 use cube_cover::PlainRow;
 use net_core::Network;
 use sis_base::Copied;
@@ -52,11 +54,29 @@ pub fn print_stats(alloc: Global, network: &Option<Network<PlainRow>>) -> Result
     }
 }
 
-/// The first table of a name.
-fn table_named<'a>(tables: &'a [Table], name: &[u8]) -> Option<&'a Table>
-    ensures { option_copied result ≡ table_named name.now tables.now }
+/// The text of the table of a name.
+fn named_text(
+    alloc: Global,
+    network: &Network<PlainRow>,
+    name: &RawWord,
+) -> Result<Vec<u8>, StepFault>
+    ensures { (held : Held) → IsReply (named_outcome held name.now (driver network.now.tables name.now)) held result }
 {
-    tables.iter().find(|table| table.output.as_slice() == name)
+    match network.table(name) {
+        Some(table) => {
+            let written = table.to_written(alloc, name)?;
+            Ok(table_text(alloc, &written)?)
+        }
+        None => Err(StepFault::Refused(Refusal::NoSignal(name.copy(alloc)?))),
+    }
+}
+
+/// The text of all tables.
+fn all_text(alloc: Global, network: &Network<PlainRow>) -> Result<Vec<u8>, StepFault>
+    ensures { (held : Held) → IsReply (Does (replies held (lines_text (flat_map table_lines network.now.tables)))) held result }
+{
+    let circuit = network.to_circuit(alloc)?;
+    Ok(tables_text(alloc, circuit.tables.as_slice())?)
 }
 
 /// What `print` puts.
@@ -70,13 +90,9 @@ pub fn print(
     let Some(network) = network else {
         return Err(StepFault::Refused(Refusal::NoNetwork));
     };
-    let circuit = network.to_circuit(alloc)?;
-    let Some(wanted) = name else {
-        return Ok(tables_text(alloc, circuit.tables.as_slice())?);
-    };
-    match table_named(circuit.tables.as_slice(), wanted.as_slice()) {
-        Some(table) => Ok(table_text(alloc, table)?),
-        None => Err(StepFault::Refused(Refusal::NoSignal(wanted.copy(alloc)?))),
+    match name {
+        None => all_text(alloc, network),
+        Some(name) => named_text(alloc, network, name),
     }
 }
 

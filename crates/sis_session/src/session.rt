@@ -7,7 +7,7 @@ ghost use Rattle.std.specs.Prelude.{◌≡◌, ℕ, List, IsTrue, IfOk, IfSome, 
 ghost use Rattle.sis_outside.specs.Files.{Files, file_at};
 ghost use Rattle.sis_script.specs.declared.command.Op.TheVariants.{ReadBlif};
 ghost use Rattle.net_core.specs.Reads.{HasBounds};
-ghost use Rattle.sis_session.specs.Answers.{Answers, Gives, Moves, MovesBy, HasRead, IsSweptCopy, Undoes, StoreFaults, SinkFaults, StoreMisses};
+ghost use Rattle.sis_session.specs.Answers.{Answers, Gives, Moves, MovesAt, MovesBy, HasRead, IsSweptCopy, Undoes, StoreFaults, SinkFaults, StoreMisses};
 ghost use Rattle.sis_session.specs.Outcome.{read_outcome, write_outcome, SweepsTo, undo_outcome};
 ghost use Rattle.sis_session.specs.Replies.{stats_of};
 ghost use Rattle.sis_session.specs.State.{nothing_held};
@@ -211,6 +211,7 @@ impl Session {
         ensures sink { SinkFaults result (O.faults out.old) (O.faults out.new) }
         ensures misses { StoreMisses result (S.misses store.old) (S.misses store.new) }
         ensures moves { Moves command.now.op self.old result self.new }
+        ensures told { IsTrue (S.tells store.old) → MovesAt (S.files store.old) command.now.op self.old result self.new }
     {
         match &command.op {
             Op::Echo(words) => put_reply(echo(alloc, words), out),

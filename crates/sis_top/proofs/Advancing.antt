@@ -3,7 +3,7 @@ use Rattle.std.proofs.Common.{◌≡◌, ℕ, ◌++◌, Bool, true, false, List,
 use Rattle.std.specs.Prelude.{◌⊎◌, ◌||◌, IsTrue, Ok, Err}
 use Rattle.sis_outside.specs.Counts.{Rose}
 use Rattle.sis_outside.specs.Files.{Files}
-use Rattle.sis_session.specs.Answers.{Answers, SavesPart, PutsPart, StoreMisses, files_after, out_after}
+use Rattle.sis_session.specs.Answers.{Answers, Moves, SavesPart, PutsPart, StoreMisses, files_after, out_after}
 use Rattle.sis_session.specs.State.{Held}
 use Rattle.sis_session.specs.Step.{Step, loads}
 use Rattle.sis_session.specs.Outcome.{Effect, Outcome, Does, Refuses}
@@ -158,14 +158,14 @@ advanced_unheld goes_on place command held files out err held' files' out' misse
 -- what one step leaves, whatever files stood then
 pub may_done : (goes_on : Bool) (place : Place) (command : Command) (onward : Next) (turned : Turn) (held held' : Held) (misses misses' : ℕ)
     → place.held ≡ held
-    → (files : Files) × (e : Effect) × Step files held command.op (Does e) × (held' ≡ e.held) × (onward ≡ e.onward)
+    → Moves command.op held (Ok onward) held'
     → turned ≡ turn_by onward
     → MayAdvanced goes_on command place (Ok turned) held' misses misses'
 may_done goes_on place command onward turned held held' misses misses' s h t =
     subst (λ (b : Turn). MayAdvanced goes_on command place (Ok b) held' misses misses') (sym t) done
   where
     done : MayAdvanced goes_on command place (Ok (turn_by onward)) held' misses misses'
-    done = let (files, e, step, left, next) = h in (
+    done = let (files, may) = h in let (e, step, left, next) = may in (
       place_after e (record place { files = files }),
       sym left,
       turn_unrefused place.refused onward,
@@ -183,12 +183,12 @@ may_done goes_on place command onward turned held held' misses misses' s h t =
 
 pub may_refuse : (goes_on : Bool) (place : Place) (command : Command) (reason : Refusal) (held held' : Held) (misses misses' : ℕ)
     → place.held ≡ held
-    → (held' ≡ held) × ((files : Files) × Step files held command.op (Refuses reason))
+    → Moves command.op held (Err (fault.Refused reason)) held'
     → StoreMisses {T = Next} (Err (fault.Refused reason)) misses misses'
     → MayAdvanced goes_on command place (Ok turn.Refused) held' misses misses'
 may_refuse goes_on place command reason held held' misses misses' s h m =
-    let (left, some) = h in
-    let (files, step) = some in (
+    let (files, refuses) = h in
+    let (left, step) = refuses in (
       place_refused command.line reason (record place { files = files }),
       s ∙ sym left,
       or-true place.refused,

@@ -1,23 +1,16 @@
 -- A run is refused only at a command that may be refused, and one whose commands are served is not.
-use Rattle.std.proofs.Common.{◌≡◌, ℕ, zero, suc, ◌≤◌, Bool, true, false, List, [], ◌∷◌, length, refl, sym, ap, subst, ◌∙◌, inl, inr}
-use Rattle.std.proofs.lemmas.Bool.{le-leb}
-use Rattle.std.specs.Prelude.{◌⊎◌, Option, Some, None, Ok, if◌then◌else◌}
-use Rattle.sis_text.specs.Entries.{entries_of}
-use Rattle.sis_outside.specs.Files.{Files, file_at}
-use Rattle.circuit_model.specs.declared.circuit.Circuit.{Circuit}
-use Rattle.blif_read.specs.Reader.{read_lines}
+use Rattle.std.proofs.Common.{◌≡◌, ℕ, zero, suc, Bool, true, false, List, [], ◌∷◌, refl, sym, ap, subst, ◌∙◌, inl, inr}
+use Rattle.std.specs.Prelude.{◌⊎◌, Option, Some, None}
+use Rattle.sis_outside.specs.Files.{Files}
 use Rattle.sis_words.specs.Asked.{TheOptions}
-use Rattle.sis_script.specs.declared.command.Op.{Op}
-use Rattle.sis_script.specs.declared.command.Op.TheVariants.{Echo, Quit, ReadBlif, WriteBlif, PrintStats, Print, PrintLatch, Sweep, Undo, Bad}
 use Rattle.sis_script.specs.declared.command.Command.{Command}
-use Rattle.sis_session.specs.State.{Held}
-use Rattle.sis_session.specs.Outcome.{MAX_BYTES, Outcome, Does, Refuses, takes, read_by, read_outcome, stats_outcome, print_outcome, named_outcome, latch_outcome, SweepsTo, undo_outcome, write_outcome, table_named}
+use Rattle.sis_session.proofs.Serving.{served_done}
+use Rattle.sis_session.specs.Outcome.{Outcome, Does, Refuses}
 use Rattle.sis_session.specs.Step.{Step}
 use Rattle.sis_session.specs.declared.refusal.Refusal.{Refusal}
-use Rattle.sis_session.specs.declared.refusal.Refusal.TheVariants as refusal
 use Rattle.sis_top.specs.Run.{Place, Machine, Advances, AdvancesBy, Reaches, Runs, after, start}
 use Rattle.sis_top.specs.Source.{Seen, Gives, Denies, script_commands}
-use Rattle.sis_top.specs.Headline.{Counts, NoneRose, EndsCut, EndsAt, EndsBy, was_unread, was_denied, was_run, Ends, Completes, IsRefused, HasRefusal, as_whole, at_command, MayBeRefused, MeetsRefusal, AreServed, IsServed, NextIsServed, HasNetwork, HasTable, begun}
+use Rattle.sis_top.specs.Headline.{Counts, NoneRose, EndsCut, EndsAt, EndsBy, was_unread, was_denied, was_run, Ends, Completes, IsRefused, HasRefusal, as_whole, at_command, MayBeRefused, MeetsRefusal, AreServed, NextIsServed, begun}
 use Rattle.sis_top.proofs.Goings.{comes_more, comes_itself}
 use Rattle.sis_top.specs.declared.running.Failed.{Failed}
 use Rattle.sis_top.specs.declared.status.Status.{Status}
@@ -55,64 +48,10 @@ pub meets_refusal : (goes_on : Bool) (commands : List Command) (files : Files) (
 meets_refusal goes_on commands files out err machine h e =
     meets goes_on (start commands files out err) h.count (start commands files out err) machine (comes_itself (Advances goes_on) (start commands files out err)) h.runs refl e
 
--- a command that is served is not refused
-read_served : (name : List ℕ) (file : Option (List ℕ)) (bytes : List ℕ) (circuit : Circuit) (why : Refusal) → file ≡ Some bytes → length bytes ≤ MAX_BYTES
-    → read_lines (entries_of bytes) ≡ Ok circuit → Refuses why ≡ read_outcome name file → ⊥
-read_served name file bytes circuit why at short reads h =
-    let opened : Refuses why ≡ read_outcome name (Some bytes) = subst (λ f. Refuses why ≡ read_outcome name f) at h in
-    let within : Refuses why ≡ read_by name (read_lines (entries_of bytes)) =
-    subst (λ (b : Bool). Refuses why ≡ (if b then read_by name (read_lines (entries_of bytes)) else Refuses (refusal.TooLong name))) (le-leb (length bytes) MAX_BYTES short) opened in
-    let read : Refuses why ≡ Does (takes circuit) = subst (λ r. Refuses why ≡ read_by name r) reads within in
-    cc
-
-stats_served : (held : Held) (network : Option Circuit) (why : Refusal) → HasNetwork network → Refuses why ≡ stats_outcome held network → ⊥
-stats_served held None why s h = let e = s.1 in cc
-stats_served held (Some circuit) why s h = cc
-
-all_served : (held : Held) (network : Option Circuit) (why : Refusal) → HasNetwork network → Refuses why ≡ print_outcome held None network → ⊥
-all_served held None why s h = let e = s.1 in cc
-all_served held (Some circuit) why s h = cc
-
-named_served : (held : Held) (name : List ℕ) (network : Option Circuit) (why : Refusal) → HasTable network name → Refuses why ≡ print_outcome held (Some name) network → ⊥
-named_served held name network why s h =
-    let (circuit, there, table, found) = s in
-    let opened : Refuses why ≡ named_outcome held name (table_named name circuit.tables) = subst (λ n. Refuses why ≡ print_outcome held (Some name) n) there h in
-    let shown : Refuses why ≡ named_outcome held name (Some table) = subst (λ t. Refuses why ≡ named_outcome held name t) found opened in
-    cc
-
-latch_served : (held : Held) (network : Option Circuit) (why : Refusal) → HasNetwork network → Refuses why ≡ latch_outcome held network → ⊥
-latch_served held None why s h = let e = s.1 in cc
-latch_served held (Some circuit) why s h = cc
-
-sweep_served : (held : Held) (network : Option Circuit) (why : Refusal) → HasNetwork network → SweepsTo held network (Refuses why) → ⊥
-sweep_served held None why s h = let e = s.1 in cc
-sweep_served held (Some circuit) why s h = let (new, chain, is) = h in cc
-
-undo_served : (held : Held) (kept : Option Circuit) (why : Refusal) → HasNetwork kept → Refuses why ≡ undo_outcome held kept → ⊥
-undo_served held None why s h = let e = s.1 in cc
-undo_served held (Some circuit) why s h = cc
-
-write_served : (held : Held) (file : Option (List ℕ)) (network : Option Circuit) (why : Refusal) → HasNetwork network → Refuses why ≡ write_outcome held file network → ⊥
-write_served held file None why s h = let e = s.1 in cc
-write_served held file (Some circuit) why s h = cc
-
-served : (place : Place) (op : Op) (why : Refusal) → IsServed place op → Step place.files place.held op (Refuses why) → ⊥
-served place (Echo words) why s h = cc
-served place Quit why s h = cc
-served place (ReadBlif name) why s h =
-    let (bytes, circuit, at, short, reads) = s in read_served name (file_at place.files name) bytes circuit why at short reads h
-served place (WriteBlif file) why s h = write_served place.held file place.held.network why s h
-served place PrintStats why s h = stats_served place.held place.held.network why s h
-served place (Print None) why s h = all_served place.held place.held.network why s h
-served place (Print (Some name)) why s h = named_served place.held name place.held.network why s h
-served place PrintLatch why s h = latch_served place.held place.held.network why s h
-served place Sweep why s h = sweep_served place.held place.held.network why s h
-served place Undo why s h = undo_served place.held place.held.kept why s h
-served place (Bad fault) why s h = absurd s
-
 next_served : (place : Place) (todo : List Command) → NextIsServed place todo → MayBeRefused place todo → ⊥
 next_served place [] s m = absurd m
-next_served place (command ∷ rest) s m = served place command.op m.0 s m.1
+next_served place (command ∷ rest) s m =
+    let (e, is) = served_done place.files place.held command.op (Refuses m.0) s m.1 in cc
 
 -- a call that is cut short where no count rose is cut short for want of memory
 cut_memory : (counts : Counts) (status : Status) (what : Failed) (line : ℕ) (stands end : Seen) → NoneRose counts

@@ -6,3 +6,4 @@ pub mod Faithful
 pub mod Completing
 pub mod Single
 pub mod Anywhere
+pub mod History

@@ -1,24 +1,20 @@
 -- What a call of the program promises.
 -- Source: the SIS manual (UCB/ERL M92/41) for the commands; that what is written refines what was read is the
 -- project's own promise.
-use Rattle.std.specs.Prelude.{◌≡◌, ℕ, ◌≤◌, Bool, true, false, ◌⊎◌, IsTrue, Option, Some, None, Ok, List, [], ◌∷◌, ◌++◌, take, length, codes}
+use Rattle.std.specs.Prelude.{◌≡◌, ℕ, Bool, true, false, ◌⊎◌, IsTrue, Option, Some, None, List, [], ◌∷◌, ◌++◌, take, codes}
 use Rattle.std.specs.List.{AllByRecursion}
-use Rattle.sis_text.specs.Entries.{entries_of}
 use Rattle.sis_outside.specs.Counts.{Rose}
-use Rattle.sis_outside.specs.Files.{Files, file_at}
+use Rattle.sis_outside.specs.Files.{Files}
 use Rattle.circuit_model.specs.Runs.{Refines}
-use Rattle.circuit_model.specs.Soundness.{IsSound}
 use Rattle.circuit_model.specs.Text.{text_of}
 use Rattle.circuit_model.specs.declared.circuit.Circuit.{Circuit}
-use Rattle.circuit_model.specs.declared.circuit.Table.{Table}
-use Rattle.blif_read.specs.Reader.{read_lines}
 use Rattle.sis_words.specs.Asked.{TheOptions, TheScript, InFile, OnInput}
-use Rattle.sis_script.specs.declared.command.Op.{Op}
-use Rattle.sis_script.specs.declared.command.Op.TheVariants.{Echo, Quit, ReadBlif, WriteBlif, PrintStats, Print, PrintLatch, Sweep, Undo, Bad}
+use Rattle.sis_script.specs.declared.command.Op.TheVariants.{WriteBlif}
 use Rattle.sis_script.specs.declared.command.Command.{Command}
 use Rattle.sis_session.specs.Replies.{error_line, refusal_line}
-use Rattle.sis_session.specs.Outcome.{MAX_BYTES, Refuses, sent_to, table_named}
+use Rattle.sis_session.specs.Outcome.{Refuses, sent_to}
 use Rattle.sis_session.specs.State.{Held}
+use Rattle.sis_session.specs.Keeping.{IsRefined, IsServed}
 use Rattle.sis_session.specs.Step.{Step}
 use Rattle.sis_session.specs.declared.refusal.Refusal.{Refusal}
 use Rattle.sis_top.specs.Run.{Writing, Place, Machine, Reaches, MayReach, Cuts, IsNextLine, is_missing, start}
@@ -143,15 +139,9 @@ abbrev pub Ends : Counts → Option TheOptions → Seen → Status → Seen → 
 Ends counts None before status end = EndsUnused counts before status end
 Ends counts (Some options) before status end = EndsBy counts options before status end
 
--- a circuit that is held is sound and refines the circuit last read
-abbrev pub RefinesSpec : Option Circuit → Option Circuit → Type 0
-RefinesSpec spec held =
-    (circuit : Circuit) → held ≡ Some circuit → (read : Circuit) × (spec ≡ Some read) × IsSound circuit × Refines read circuit
-
 -- what every run keeps: the network and the one that is kept for an undo are sound and refine the circuit last read
-pub record IsRefined (place : Place) : Type 0 where
-  pub network : RefinesSpec place.spec place.held.network
-  pub kept : RefinesSpec place.spec place.held.kept
+abbrev pub IsRefinedAt : Place → Type 0
+IsRefinedAt place = IsRefined place.spec place.held
 
 -- A circuit that a run wrote is faithful: at a machine of this run the next command was to write it; it was that
 -- machine's network; what was sent is its text, to the file that the command names; and it refines the circuit that
@@ -169,6 +159,10 @@ pub record IsFaithful (goes_on : Bool) (from : Machine) (writing : Writing) : Ty
   pub last_read : machine.place.spec ≡ Some read
   pub spec : writing.spec ≡ Some read
   pub refines : Refines read writing.circuit
+
+-- a circuit stands in a history, somewhere
+abbrev pub IsRemembered : Writing → List Writing → Type 0
+IsRemembered writing written = (before after : List Writing) × (written ≡ before ++ writing ∷ after)
 
 -- each circuit that a call wrote is faithful, at whatever machine the run came to its end
 abbrev pub Writes : Counts → Option TheOptions → Seen → Status → Seen → Type 0
@@ -198,31 +192,10 @@ abbrev pub IsRefused : Option TheOptions → Seen → Status → Type 0
 IsRefused (Some options) before Refused = HasRefusal options before
 IsRefused asked before status = Unit {0}
 
--- what a command needs so that it is done: its words fit; the network that it needs is there, or the one that is kept,
--- and the table that it names; the file that it reads is there, no longer than is read, and has no fault
-abbrev pub HasNetwork : Option Circuit → Type 0
-HasNetwork network = (circuit : Circuit) × (network ≡ Some circuit)
-
-abbrev pub HasTable : Option Circuit → List ℕ → Type 0
-HasTable network name = (circuit : Circuit) × (network ≡ Some circuit) × (table : Table) × (table_named name circuit.tables ≡ Some table)
-
-abbrev pub IsServed : Place → Op → Type 0
-IsServed place (Echo words) = Unit {0}
-IsServed place Quit = Unit {0}
-IsServed place (ReadBlif name) =
-    (bytes : List ℕ) × (circuit : Circuit) × (file_at place.files name ≡ Some bytes) × (length bytes ≤ MAX_BYTES) × (read_lines (entries_of bytes) ≡ Ok circuit)
-IsServed place (WriteBlif file) = HasNetwork place.held.network
-IsServed place PrintStats = HasNetwork place.held.network
-IsServed place (Print None) = HasNetwork place.held.network
-IsServed place (Print (Some name)) = HasTable place.held.network name
-IsServed place PrintLatch = HasNetwork place.held.network
-IsServed place Sweep = HasNetwork place.held.network
-IsServed place Undo = HasNetwork place.held.kept
-IsServed place (Bad fault) = ⊥
-
+-- the next command has what it needs so that it is done
 abbrev pub NextIsServed : Place → List Command → Type 0
 NextIsServed place [] = Unit {0}
-NextIsServed place (command ∷ rest) = IsServed place command.op
+NextIsServed place (command ∷ rest) = IsServed place.files place.held command.op
 
 -- the script is there and no longer than is run, and each command of its run is served when it is reached
 abbrev pub AreServed : TheOptions → Seen → Type 0

@@ -12,13 +12,15 @@
 
 mod input;
 mod laws;
+#[cfg(test)]
+mod refused_files;
 mod running;
 mod status;
 #[cfg(test)]
 mod tests;
 mod top;
 
-pub use laws::{runs_are_one, runs_keep_refinement};
+pub use laws::{runs_are_one, runs_keep_refinement, writings_are_remembered};
 pub use sis_text::Word;
 pub use status::Status;
 pub use top::run_sis;
