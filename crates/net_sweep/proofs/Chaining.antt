@@ -85,6 +85,9 @@ pub all_finished : (from to : Circuit) (o : Option Circuit) → HasLed from to �
 all_finished from to o h none unfixed is some = at_end from to h (last_step_is to None none unfixed (sym some ∙ is))
 
 -- the end of a chain, however the circuits at its ends are called
+pub all_chained : (old circuit end new : Circuit) → circuit ≡ old → Chain sweep_step circuit end → new ≡ end → Chain sweep_step old new
+all_chained old circuit end new e chain n = subst (λ (c : Circuit). Chain sweep_step old c) (sym n) (subst (λ (c : Circuit). Chain sweep_step c end) e chain)
+
 pub all_kept : (old circuit end new : Circuit) → circuit ≡ old → IsSound old → Chain sweep_step circuit end → new ≡ end → IsKept old new
 all_kept old circuit end new e sound chain n =
     subst (λ (c : Circuit). IsKept old c) (sym n) (chain_kept old end sound (subst (λ (c : Circuit). Chain sweep_step c end) e chain))

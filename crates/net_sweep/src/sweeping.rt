@@ -52,9 +52,7 @@ fn settled<R: Row>(alloc: Global, circuit: Circuit) -> Result<Circuit, AllocErro
     let mut standing = standing_of(alloc, &end)?;
     let mut readers = all_readers(alloc, end.tables.as_slice())?;
     let mut candidates = all_marked(alloc, end.tables.len())?;
-    while let Some(step) =
-        next_step::<R>(alloc, &end, &readers, &mut candidates, &mut standing)?
-    {
+    while let Some(step) = next_step::<R>(alloc, &end, &readers, &mut candidates, &mut standing)? {
         take_step::<R>(
             alloc,
             step,
