@@ -1,5 +1,5 @@
 -- Sums and counts over rows and tables, as far as a loop has come, and how large they can be.
-use Rattle.std.proofs.Common.{◌≡◌, ℕ, ◌+◌, ◌*◌, ◌^◌, ◌<◌, ◌≤◌, zero, suc, Bool, true, false, not, ◌&&◌, ◌||◌, cond, if◌then◌else◌, Option, Some, None, List, [], ◌∷◌, ◌++◌, length, get_or, take, map, bytes_eq, refl, sym, ap, ◌∙◌, subst, arith}
+use Rattle.std.proofs.Common.{◌≡◌, ℕ, ◌+◌, ◌*◌, ◌^◌, ◌<◌, ◌≤◌, zero, suc, Bool, true, false, ◌||◌, cond, if◌then◌else◌, Option, Some, None, List, [], ◌∷◌, ◌++◌, length, get_or, take, map, bytes_eq, refl, sym, ap, ◌∙◌, subst, arith}
 use Rattle.std.specs.List.{sum_by, find, filter, AllByRecursion}
 use Rattle.std.proofs.lemmas.List.{map_more, length-append, length-map, map-append}
 use Rattle.std.proofs.lemmas.List.Sums.{sum_by_push, sum_by-append, sum_by-cons, count_by-le-length}
@@ -12,7 +12,6 @@ use Rattle.circuit_model.specs.Runs.{latch_outputs}
 use Rattle.circuit_model.specs.Counts.{is_literal, literals_of_row, literals_of_table}
 use Rattle.circuit_model.specs.Soundness.{given, control_of, names_of, outputs_of, IsSound, IsShaped}
 use Rattle.circuit_model.specs.declared.circuit.Tri.{Tri}
-use Rattle.circuit_model.specs.declared.circuit.Latch.{Latch}
 use Rattle.circuit_model.specs.declared.circuit.Table.{Table as Written}
 use Rattle.circuit_model.specs.declared.circuit.Circuit.{Circuit}
 use Rattle.net_core.specs.declared.places.Entry.{Entry}
@@ -21,7 +20,7 @@ use Rattle.net_core.specs.Tables.{character_of, characters_of, named}
 use Rattle.net_core.specs.Places.{present}
 use Rattle.net_core.specs.Reads.{readers_of, IsBounded, HasBounds}
 use Rattle.net_core.specs.Fresh.{used_names, IsNewName}
-use Rattle.net_core.proofs.Lookups.{same_name, has-append}
+use Rattle.net_core.proofs.Lookups.{has-append}
 use Rattle.net_core.proofs.Indexing.{present_more}
 
 pub sum_more : {X Y : Type 0} (f : Y → ℕ) (h : X → Y) (xs : List X) (i : ℕ) (d : X) → i < length xs → sum_by f (map h (take (i + 1) xs)) ≡ sum_by f (map h (take i xs)) + f (h (get_or xs i d))

@@ -1,7 +1,7 @@
 //! Tidy tables whose rows are a cover.
 
-ghost use Rattle.std.specs.Prelude.{◌≡◌, ℕ, List, length, IfOk};
-ghost use Rattle.net_core.specs.Tables.{named};
+ghost use Rattle.std.specs.Prelude.{◌≡◌, ℕ, List, IfOk};
+ghost use Rattle.net_core.specs.Tables.{named, IsOverInputs};
 ghost use Rattle.table_tidy.specs.Tidy.{tidied};
 
 use crate::table::Table;
@@ -11,10 +11,12 @@ use std::alloc::{AllocError, Global};
 use table_tidy::tidied_table;
 
 /// The tidy table: inputs named twice are folded, rows that equal earlier ones go, a table of phase 0 without rows is
-/// the constant 1, and inputs without a literal go; an error only for want of memory.
+/// the constant 1, and inputs without a literal go. Its cover has one place for each input, with rows or without. An
+/// error only for want of memory.
 pub fn tidy<R: Row>(alloc: Global, table: &Table<R>) -> Result<Table<R>, AllocError>
-    requires { table.now.cover.width ≡ length table.now.inputs }
-    ensures { IfOk result (λ made. (name : List ℕ) → named name made ≡ tidied (named name table.now)) }
+    requires { IsOverInputs table.now }
+    ensures tidy { IfOk result (λ made. (name : List ℕ) → named name made ≡ tidied (named name table.now)) }
+    ensures over { IfOk result IsOverInputs }
 {
     let unnamed = Sequence::new(alloc);
     let written = table.to_written(alloc, &unnamed)?;

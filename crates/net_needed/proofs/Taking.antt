@@ -1,19 +1,17 @@
--- The steps of the last two rules of sweep.
-use Rattle.std.proofs.Common.{◌≡◌, ℕ, ◌+◌, ◌<◌, ◌≤◌, Bool, true, false, ◌&&◌, cond, if◌then◌else◌, Option, Some, None, is_some, option_map, List, [], ◌∷◌, ◌++◌, find, filter, drop, length, get_or, refl, sym, ap, ◌∙◌}
+-- The step of the last rule of sweep.
+use Rattle.std.proofs.Common.{◌≡◌, ℕ, Bool, true, false, ◌&&◌, if◌then◌else◌, Some, None, List, [], ◌∷◌, ◌++◌, filter, refl, sym, ap, ◌∙◌}
 use Rattle.std.specs.List.{list_all}
-use Rattle.std.specs.Option.{option_map_or}
 use Rattle.circuit_model.specs.Names.{has, all_different}
 use Rattle.circuit_model.specs.Runs.{latch_outputs}
 use Rattle.circuit_model.specs.Soundness.{outputs_of, given, IsSound}
 use Rattle.circuit_model.specs.declared.circuit.Table.{Table}
 use Rattle.circuit_model.specs.declared.circuit.Latch.{Latch}
 use Rattle.circuit_model.specs.declared.circuit.Circuit.{Circuit}
-use Rattle.circuit_laws.specs.Edits.{with_fixed, with_added, with_kept, is_other, constant_table, tables_kept, latches_kept, timing_with}
+use Rattle.circuit_laws.specs.Edits.{with_kept, tables_kept, latches_kept, timing_with}
 use Rattle.circuit_laws.proofs.Names.{different_apart}
 use Rattle.sweep_rules.specs.Needed.{is_needed, all_needed, only_needed}
-use Rattle.sweep_rules.specs.Rules.{latch_rule, need_rule, with_latch_fixed, fixed_bit}
+use Rattle.sweep_rules.specs.Rules.{need_rule}
 use Rattle.net_needed.specs.Reading.{held_by}
-use Rattle.net_needed.proofs.Searching.{find_here, find_done}
 
 -- the signals of a sound circuit differ
 pub tables_differ : (circuit : Circuit) → IsSound circuit → all_different (outputs_of circuit.tables) ≡ true
@@ -25,25 +23,6 @@ pub latches_differ : (circuit : Circuit) → IsSound circuit → all_different (
 unfolding given
 latches_differ circuit h =
     (different_apart (latch_outputs circuit) (outputs_of circuit.tables) (different_apart circuit.inputs (latch_outputs circuit ++ outputs_of circuit.tables) h.one_driver).back).front
-
--- a latch that always has one bit
-pub fixed_here : (circuit : Circuit) (latches : List Latch) (i : ℕ) (latch : Latch) (bit : Bool) → latches ≡ circuit.latches → i < length latches → latch ≡ get_or latches i latch
-    → fixed_bit circuit latch ≡ Some bit → find (λ (l : Latch). is_some (fixed_bit circuit l)) (drop i latches) ≡ find (λ (l : Latch). is_some (fixed_bit circuit l)) latches
-    → Some (with_fixed circuit latch.output bit) ≡ latch_rule circuit
-unfolding latch_rule
-fixed_here circuit latches i latch bit same lt is has_bit before =
-    let here : find (λ (l : Latch). is_some (fixed_bit circuit l)) latches ≡ Some latch =
-    sym before ∙ (find_here (λ (l : Latch). is_some (fixed_bit circuit l)) latches i latch lt is
-    ∙ ap (λ (o : Option Bool). cond (is_some o) (Some latch) (find (λ (l : Latch). is_some (fixed_bit circuit l)) (drop (i + 1) latches))) has_bit) in
-    sym (ap (λ (ls : List Latch). option_map (with_latch_fixed circuit) (find (λ (l : Latch). is_some (fixed_bit circuit l)) ls)) (sym same)
-    ∙ (ap (option_map (with_latch_fixed circuit)) here ∙ ap Some (ap (λ (o : Option Bool). option_map_or (λ b. with_fixed circuit latch.output b) o circuit) has_bit)))
-
-pub none_fixed : (circuit : Circuit) (latches : List Latch) (i : ℕ) → latches ≡ circuit.latches → length latches ≤ i
-    → find (λ (l : Latch). is_some (fixed_bit circuit l)) (drop i latches) ≡ find (λ (l : Latch). is_some (fixed_bit circuit l)) latches → None ≡ latch_rule circuit
-unfolding latch_rule
-none_fixed circuit latches i same le before =
-    sym (ap (λ (ls : List Latch). option_map (with_latch_fixed circuit) (find (λ (l : Latch). is_some (fixed_bit circuit l)) ls)) (sym same)
-    ∙ ap (option_map (with_latch_fixed circuit)) (sym before ∙ find_done (λ (l : Latch). is_some (fixed_bit circuit l)) latches i le))
 
 -- what is not needed
 all_same : {X : Type 0} (p q : X → Bool) → ((x : X) → p x ≡ q x) → (xs : List X) → list_all p xs ≡ list_all q xs
@@ -80,10 +59,3 @@ need_taken circuit names tables latches new h e t l n =
     l ∙ filter_same (λ (latch : Latch). has names latch.output) (λ (latch : Latch). is_needed circuit latch.output) (λ x. h x.output) circuit.latches in
     ap Some (n ∙ rw (ts, ls) refl)
     ∙ sym (ap (λ (b : Bool). if b then None else Some (only_needed circuit)) (sym (all_marked circuit names h) ∙ e))
-
--- a latch that becomes a constant
-pub fixed_made : (circuit : Circuit) (name output : List ℕ) (bit : Bool) (constant : Table) (kept tables ts : List Table) (latches ls : List Latch) (made : Circuit) → output ≡ name → constant ≡ constant_table output bit
-    → kept ≡ tables_kept (is_other name) ts → ts ≡ circuit.tables → tables ≡ kept ++ constant ∷ [] → latches ≡ latches_kept (is_other name) ls → ls ≡ circuit.latches
-    → made ≡ record circuit { tables = tables; latches = latches; timing = timing_with latches circuit.timing } → made ≡ with_fixed circuit name bit
-unfolding with_fixed with_added with_kept
-fixed_made circuit name output bit constant kept tables ts latches ls made o c k e t l f n = n ∙ rw (t, k, e, c, o, l, f) refl

@@ -75,9 +75,9 @@ fn undriven_inputs(
     Ok(names)
 }
 
-// The leaves that the don't-care part reads.
+/// The leaves that the don't-care part reads; an error only for want of memory.
 #[tactic(auto, unfolding(sweep_rules::specs::Needed::dont_care_reads))]
-pub(crate) fn leaves_read(alloc: Global, circuit: &Circuit) -> Result<IndexSet<Name>, AllocError>
+pub fn leaves_read(alloc: Global, circuit: &Circuit) -> Result<IndexSet<Name>, AllocError>
     ensures { IfOk result (λ names. (name : List ℕ) → has names.keys name ≡ dont_care_reads circuit.now name) }
 {
     let driven = driven_names(alloc, circuit.dont_care.as_slice())?;

@@ -5,7 +5,7 @@ ghost use Rattle.std.specs.List.{list_all};
 ghost use Rattle.circuit_model.specs.Names.{has};
 ghost use Rattle.circuit_model.specs.declared.circuit.Table.{Table as TheTable};
 ghost use Rattle.circuit_model.specs.declared.circuit.Latch.{Latch as TheLatch};
-ghost use Rattle.circuit_laws.specs.Edits.{tables_kept, latches_kept, timing_with, is_other};
+ghost use Rattle.circuit_laws.specs.Edits.{tables_kept, latches_kept, timing_with};
 
 use crate::leaves::is_among;
 use circuit_model::{Circuit, Latch, Latches, Name, Table, Tables, Timing, timing_copied};
@@ -26,38 +26,6 @@ fn push_kept<T: Copied + Drop>(
         made.push(item.copy(alloc)?)?;
     }
     Ok(())
-}
-
-// The tables of other signals.
-#[tactic(auto, using(crate::proofs::Kept::filter_more), unfolding(circuit_laws::specs::Edits::tables_kept))]
-pub(crate) fn other_tables(
-    alloc: Global,
-    tables: &[Table],
-    name: &Name,
-) -> Result<Tables, AllocError>
-    ensures { IfOk result (λ made. made ≡ tables_kept (is_other name.now) tables.now) }
-{
-    let mut made = Vec::new(alloc);
-    for table in tables {
-        push_kept(alloc, &mut made, *name != table.output, table)?;
-    }
-    Ok(Sequence::from_vec(made))
-}
-
-// The latches of other signals.
-#[tactic(auto, using(crate::proofs::Kept::filter_more), unfolding(circuit_laws::specs::Edits::latches_kept))]
-pub(crate) fn other_latches(
-    alloc: Global,
-    latches: &[Latch],
-    name: &Name,
-) -> Result<Latches, AllocError>
-    ensures { IfOk result (λ made. made ≡ latches_kept (is_other name.now) latches.now) }
-{
-    let mut made = Vec::new(alloc);
-    for latch in latches {
-        push_kept(alloc, &mut made, *name != latch.output, latch)?;
-    }
-    Ok(Sequence::from_vec(made))
 }
 
 // The tables of signals that are among some.

@@ -11,8 +11,8 @@ use indexmap::IndexMap;
 use sis_base::Copied;
 use std::alloc::{AllocError, Global};
 
-// Notes the place of a name, in place of one that was noted before.
-fn note_place(
+/// Notes the place of a name, in place of one that was noted before; an error only for want of memory.
+pub fn note_place(
     places: &mut IndexMap<Name, usize>,
     name: Name,
     place: usize,
@@ -64,8 +64,8 @@ fn noted_place(places: &IndexMap<Name, usize>, name: &Name) -> Option<usize>
     places.get(name).copied()
 }
 
-// The table of a signal.
-pub(crate) fn table_of<'a>(
+/// The table of a signal.
+pub fn table_of<'a>(
     places: &IndexMap<Name, usize>,
     tables: &'a [Table],
     name: &Name,

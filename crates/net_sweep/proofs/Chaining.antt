@@ -68,20 +68,26 @@ lighter (next ∷ rest) from to sound h =
 pub no_heavier : (from to : Circuit) → IsSound from → HasLed from to → weight to ≤ weight from
 no_heavier from to sound h = lighter h.between from to sound h.leads
 
--- a step of the other rules, and then steps of those that change tables
-pub next_led : (from to next : Circuit) (o : Option Circuit) → HasLed from to → table_step to ≡ None → o ≡ option_or (latch_rule to) (need_rule to) → o ≡ Some next → HasLed from next
-next_led from to next o h none is some = one_more from to next h (other_step_is to (Some next) none (sym some ∙ is))
+-- a step of the last rule, and then steps of the others
+last_step_is : (circuit : Circuit) (next : Option Circuit) → table_step circuit ≡ None → latch_rule circuit ≡ None → next ≡ need_rule circuit → sweep_step circuit ≡ next
+last_step_is circuit next none unfixed n = other_step_is circuit next none (n ∙ sym (ap (λ (o : Option Circuit). option_or o (need_rule circuit)) unfixed))
 
-pub next_falls : (from to next end : Circuit) (o : Option Circuit) → HasLed from to → table_step to ≡ None → o ≡ option_or (latch_rule to) (need_rule to) → o ≡ Some next → HasLed next end → weight end < weight to
-next_falls from to next end o h none is some more =
-    let one : weight next < weight to = step_falls to next h.sound (other_step_is to (Some next) none (sym some ∙ is)) in
-    let rest : weight end ≤ weight next = no_heavier next end (next_led from to next o h none is some).sound more in
+pub next_led : (from to next : Circuit) (o : Option Circuit) → HasLed from to → table_step to ≡ None → latch_rule to ≡ None → o ≡ need_rule to → o ≡ Some next → HasLed from next
+next_led from to next o h none unfixed is some = one_more from to next h (last_step_is to (Some next) none unfixed (sym some ∙ is))
+
+pub next_falls : (from to next end : Circuit) (o : Option Circuit) → HasLed from to → table_step to ≡ None → latch_rule to ≡ None → o ≡ need_rule to → o ≡ Some next → HasLed next end → weight end < weight to
+next_falls from to next end o h none unfixed is some more =
+    let one : weight next < weight to = step_falls to next h.sound (last_step_is to (Some next) none unfixed (sym some ∙ is)) in
+    let rest : weight end ≤ weight next = no_heavier next end (next_led from to next o h none unfixed is some).sound more in
     omega (arith, one, rest)
 
-pub all_finished : (from to : Circuit) (o : Option Circuit) → HasLed from to → table_step to ≡ None → o ≡ option_or (latch_rule to) (need_rule to) → o ≡ None → Chain sweep_step from to
-all_finished from to o h none is some = at_end from to h (other_step_is to None none (sym some ∙ is))
+pub all_finished : (from to : Circuit) (o : Option Circuit) → HasLed from to → table_step to ≡ None → latch_rule to ≡ None → o ≡ need_rule to → o ≡ None → Chain sweep_step from to
+all_finished from to o h none unfixed is some = at_end from to h (last_step_is to None none unfixed (sym some ∙ is))
 
 -- the end of a chain, however the circuits at its ends are called
+pub all_chained : (old circuit end new : Circuit) → circuit ≡ old → Chain sweep_step circuit end → new ≡ end → Chain sweep_step old new
+all_chained old circuit end new e chain n = subst (λ (c : Circuit). Chain sweep_step old c) (sym n) (subst (λ (c : Circuit). Chain sweep_step c end) e chain)
+
 pub all_kept : (old circuit end new : Circuit) → circuit ≡ old → IsSound old → Chain sweep_step circuit end → new ≡ end → IsKept old new
 all_kept old circuit end new e sound chain n =
     subst (λ (c : Circuit). IsKept old c) (sym n) (chain_kept old end sound (subst (λ (c : Circuit). Chain sweep_step c end) e chain))

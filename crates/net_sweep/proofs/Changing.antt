@@ -1,6 +1,6 @@
 -- What rules change: tables at some places, and nothing that no table read before is read after.
 use Rattle.std.proofs.Common.{◌≡◌, ℕ, zero, suc, ◌+◌, ◌<◌, ◌≤◌, ◌==◌, Bool, true, false, not, ◌||◌, if◌then◌else◌, Option, Some, None, is_some, List, [], ◌∷◌, ◌++◌, take, length, map, set, get_or, find, slice_get, bytes_eq, inl, inr, ◌⊎◌, refl, sym, ap, ◌∙◌, subst, arith}
-use Rattle.std.specs.Prelude.{Result, OnOk}
+use Rattle.std.specs.Prelude.{Result, IfOk, OnOk}
 use Rattle.std.specs.declared.result.Result.TheVariants.{Ok, Err}
 use Rattle.std.specs.List.{AllByRecursion}
 use Rattle.std.specs.Option.{option_map, option_map_or, option_or}
@@ -9,7 +9,7 @@ use Rattle.std.proofs.lemmas.Bool.{false≢true, and_parts, eqb-true, eqb-false}
 use Rattle.std.proofs.lemmas.Option.{same_Some, slice_get-map}
 use Rattle.std.proofs.lemmas.List.Folds.{list_any-append, list_any_more}
 use Rattle.circuit_model.specs.Names.{has, all_different}
-use Rattle.circuit_model.specs.Soundness.{table_inputs, IsShaped, IsSound}
+use Rattle.circuit_model.specs.Soundness.{outputs_of, table_inputs, IsShaped}
 use Rattle.circuit_model.specs.declared.circuit.Table.{Table}
 use Rattle.circuit_model.specs.declared.circuit.Circuit.{Circuit}
 use Rattle.circuit_laws.specs.Edits.{with_tables, with_replaced, replaced, constant_table}
@@ -18,13 +18,12 @@ use Rattle.circuit_laws.proofs.Places.{set_replaced, placed_driver}
 use Rattle.circuit_laws.proofs.Paths.{no_return}
 use Rattle.circuit_laws.proofs.Ranks.{leads_one}
 use Rattle.net_core.proofs.Lookups.{get_set_same, get_set_other}
-use Rattle.net_core.proofs.Removals.{tables_differ}
 use Rattle.table_tidy.specs.Tidy.{tidied}
 use Rattle.sweep_rules.specs.Points.{written_bit}
 use Rattle.sweep_rules.specs.Rules.{tidy_rule, constant_rule, put_rule, bypass_rule, unwritten_bit, only_input, is_inverter, at_bit, rewired}
 use Rattle.sweep_rules.proofs.Points.{only_is}
 use Rattle.table_tidy.proofs.Tidied.{tidied_reads, tidied_output}
-use Rattle.sweep_rules.proofs.Turned.{at_either, at_reads, at_shaped, rewired_either, rewired_reads, rewired_shaped}
+use Rattle.sweep_rules.proofs.Turned.{at_either, at_output, at_reads, at_shaped, rewired_either, rewired_output, rewired_reads, rewired_shaped}
 use Rattle.sweep_rules.proofs.Sizes.{at_without, rewired_without}
 use Rattle.net_sweep.specs.declared.marks.Rule.{Rule}
 use Rattle.net_sweep.specs.declared.marks.Rule.TheVariants.{Tidy, Constant, Put, Bypass}
@@ -32,7 +31,7 @@ use Rattle.net_sweep.specs.declared.turns.Change.{Change}
 use Rattle.net_sweep.specs.declared.turns.Change.TheVariants.{Bit, Input}
 use Rattle.table_tidy.specs.Tidy.{IsWide}
 use Rattle.net_sweep.specs.Turns.{IsFirst}
-use Rattle.net_sweep.specs.Settled.{passes, rule_turn, table_step, IsNext, changed_by, is_apart, is_in, listed, AreListed, AreMarkedBy, AreMarked, AreSameBut}
+use Rattle.net_sweep.specs.Settled.{passes, rule_turn, table_step, IsNext, changed_by, is_apart, is_in, listed, AreListed, AreMarkedBy, AreMarked, AreSameBut, AreSound}
 use Rattle.net_sweep.proofs.Marking.{read_by, reads_at}
 
 -- the next step of the rules that change tables
@@ -186,7 +185,7 @@ changed_reads name (Input to inverts) table x h = rewired_reads name to inverts 
 
 -- items at places
 
-unmapped : {X Y : Type 0} (f : X → Y) (items : List X) (place : ℕ) (y : Y) → slice_get (map f items) place ≡ Some y → (x : X) × (slice_get items place ≡ Some x) × (f x ≡ y)
+pub unmapped : {X Y : Type 0} (f : X → Y) (items : List X) (place : ℕ) (y : Y) → slice_get (map f items) place ≡ Some y → (x : X) × (slice_get items place ≡ Some x) × (f x ≡ y)
 unmapped f [] place y at = let z : None ≡ Some y = at in absurd cc
 unmapped f (x ∷ items) zero y at = (x, refl, same_Some (f x) y at)
 unmapped f (x ∷ items) (suc place) y at = unmapped f items place y at
@@ -250,7 +249,7 @@ pub record IsPartly (turn : Table → Table) (done : List ℕ) (old new : Circui
 pub partly_none : (turn : Table → Table) (old : Circuit) → IsPartly turn [] old old
 partly_none turn old = record { same = refl; each = λ place. refl }
 
-pub partly_more : (name : List ℕ) (change : Change) (done more : List ℕ) (place : ℕ) (old now new : Circuit) → IsSound old → is_apart name change ≡ true → IsPartly (changed_by name change) done old now
+pub partly_more : (name : List ℕ) (change : Change) (done more : List ℕ) (place : ℕ) (old now new : Circuit) → AreSound old.tables → is_apart name change ≡ true → IsPartly (changed_by name change) done old now
     → new ≡ with_tables now new.tables
     → ((other : ℕ) → slice_get new.tables other ≡ (if place == other then option_map (changed_by name change) (slice_get now.tables other) else slice_get now.tables other))
     → ((other : ℕ) → is_in more other ≡ (is_in done other || (place == other))) → IsPartly (changed_by name change) more old new
@@ -285,7 +284,7 @@ partly_all name change places old new h all =
     by place true e = refl
     by place false e = sym (map_same_but name change places old.tables all place e)
 
-pub partly_wide : (name : List ℕ) (change : Change) (done : List ℕ) (old new : Circuit) → IsSound old → IsPartly (changed_by name change) done old new → AllByRecursion IsWide new.tables
+pub partly_wide : (name : List ℕ) (change : Change) (done : List ℕ) (old new : Circuit) → AreSound old.tables → IsPartly (changed_by name change) done old new → AllByRecursion IsWide new.tables
 partly_wide name change done old new sound h =
     all_from_places IsWide new.tables (λ place table at. by place table (is_in done place) (slice_get old.tables place) refl (sym at ∙ h.each place))
   where
@@ -309,7 +308,7 @@ is_in_back xs ys place h = list_any-append (λ other. other == place) xs ys ∙ 
     or_true false = refl
 
 -- the list of the signal goes; where another one comes in its place, its readers have been put to those of that one
-pub map_listed : (name : List ℕ) (change : Change) (places : List ℕ) (lists new : List ℕ → Option (List ℕ)) (circuit : Circuit) → IsSound circuit → is_apart name change ≡ true
+pub map_listed : (name : List ℕ) (change : Change) (places : List ℕ) (lists new : List ℕ → Option (List ℕ)) (circuit : Circuit) → AreSound circuit.tables → is_apart name change ≡ true
     → places ≡ listed (lists name) → AreListed lists circuit.tables
     → ((other : List ℕ) (place : ℕ) → bytes_eq name other ≡ false → is_in (listed (lists other)) place ≡ true → is_in (listed (new other)) place ≡ true)
     → ((other : List ℕ) (place : ℕ) → IsComing change other → is_in places place ≡ true → is_in (listed (new other)) place ≡ true)
@@ -348,17 +347,17 @@ list_has to places lists new h other place same is =
 
 -- what each rule makes
 
-tidied_set : (circuit : Circuit) (place : ℕ) (table : Table) → IsSound circuit → slice_get circuit.tables place ≡ Some table → rule_turn Tidy circuit table ≡ with_tables circuit (set circuit.tables place (tidied table))
+tidied_set : (circuit : Circuit) (place : ℕ) (table : Table) → AreSound circuit.tables → slice_get circuit.tables place ≡ Some table → rule_turn Tidy circuit table ≡ with_tables circuit (set circuit.tables place (tidied table))
 unfolding with_replaced
 tidied_set circuit place table sound at =
-    ap (with_tables circuit) (sym (set_replaced circuit.tables place table (tidied table) (tables_differ circuit sound) at (sym (tidied_output table))))
+    ap (with_tables circuit) (sym (set_replaced circuit.tables place table (tidied table) sound.differ at (sym (tidied_output table))))
 
-constant_set : (circuit : Circuit) (place : ℕ) (table : Table) (bit : Bool) → IsSound circuit → slice_get circuit.tables place ≡ Some table → unwritten_bit table ≡ Some bit
+constant_set : (circuit : Circuit) (place : ℕ) (table : Table) (bit : Bool) → AreSound circuit.tables → slice_get circuit.tables place ≡ Some table → unwritten_bit table ≡ Some bit
     → rule_turn Constant circuit table ≡ with_tables circuit (set circuit.tables place (constant_table table.output bit))
 unfolding with_replaced
 constant_set circuit place table bit sound at is =
     ap (λ (o : Option Bool). option_map_or (λ b. with_tables circuit (replaced circuit.tables (constant_table table.output b))) o circuit) is
-    ∙ ap (with_tables circuit) (sym (set_replaced circuit.tables place table (constant_table table.output bit) (tables_differ circuit sound) at refl))
+    ∙ ap (with_tables circuit) (sym (set_replaced circuit.tables place table (constant_table table.output bit) sound.differ at refl))
 
 constant_same : (circuit : Circuit) (table : Table) → unwritten_bit table ≡ None → rule_turn Constant circuit table ≡ circuit
 constant_same circuit table is = ap (λ (o : Option Bool). option_map_or (λ b. with_replaced circuit (constant_table table.output b)) o circuit) is
@@ -381,17 +380,17 @@ reads_input : (table : Table) (input : List ℕ) → only_input table.inputs ≡
 reads_input table input is = subst (λ (names : List (List ℕ)). has names input ≡ true) (sym (only_is table.inputs input is)) (has_head input [])
 
 -- a table does not read its own signal
-pub input_apart : (circuit : Circuit) (place : ℕ) (table : Table) (input : List ℕ) → IsSound circuit → slice_get circuit.tables place ≡ Some table → only_input table.inputs ≡ Some input → bytes_eq table.output input ≡ false
+pub input_apart : (circuit : Circuit) (place : ℕ) (table : Table) (input : List ℕ) → AreSound circuit.tables → slice_get circuit.tables place ≡ Some table → only_input table.inputs ≡ Some input → bytes_eq table.output input ≡ false
 input_apart circuit place table input sound at is =
     name_not table.output input (λ same.
-    no_return circuit.tables sound.acyclic table.output 0 (leads_one circuit.tables table.output table.output table (placed_driver circuit.tables place table (tables_differ circuit sound) at)
+    no_return circuit.tables sound.acyclic table.output 0 (leads_one circuit.tables table.output table.output table (placed_driver circuit.tables place table sound.differ at)
     (subst (λ (x : List ℕ). has table.inputs x ≡ true) (sym same) (reads_input table input is))))
 
 -- tables read no more after a rule has been applied
 Narrows : Circuit → Circuit → Type 0
 Narrows old new = (name : List ℕ) → has (table_inputs new.tables) name ≡ true → has (table_inputs old.tables) name ≡ true
 
-pub turn_reads : (rule : Rule) (circuit : Circuit) (place : ℕ) (table : Table) → IsSound circuit → slice_get circuit.tables place ≡ Some table
+pub turn_reads : (rule : Rule) (circuit : Circuit) (place : ℕ) (table : Table) → AreSound circuit.tables → slice_get circuit.tables place ≡ Some table
     → (name : List ℕ) → has (table_inputs (rule_turn rule circuit table).tables) name ≡ true → has (table_inputs circuit.tables) name ≡ true
 unfolding Narrows
 turn_reads Tidy circuit place table sound at =
@@ -415,8 +414,71 @@ turn_reads Bypass circuit place table sound at = cases (only_input table.inputs)
         subst (Narrows circuit) (sym (bypass_map circuit table input e))
         (map_reads table.output (Input input (is_inverter table)) circuit.tables (λ x is. subst (λ (n : List ℕ). has (table_inputs circuit.tables) n ≡ true) (sym is) (reads_at circuit.tables place table input at (reads_input table input e))))
 
+-- and have the names that they had
+set_names : (tables : List Table) (place : ℕ) (old made : Table) → slice_get tables place ≡ Some old → made.output ≡ old.output → outputs_of (set tables place made) ≡ outputs_of tables
+set_names [] place old made at same = let z : None ≡ Some old = at in absurd cc
+set_names (first ∷ tables) zero old made at same = ap (λ (n : List ℕ). n ∷ outputs_of tables) (same ∙ ap (λ (t : Table). t.output) (sym (same_Some first old at)))
+set_names (first ∷ tables) (suc place) old made at same = ap (λ (ns : List (List ℕ)). first.output ∷ ns) (set_names tables place old made at same)
+
+changed_output : (name : List ℕ) (change : Change) (table : Table) → (changed_by name change table).output ≡ table.output
+changed_output name (Bit bit) table = at_output name bit table
+changed_output name (Input to inverts) table = rewired_output name to inverts table
+
+map_names : (name : List ℕ) (change : Change) (tables : List Table) → outputs_of (map (changed_by name change) tables) ≡ outputs_of tables
+map_names name change [] = refl
+map_names name change (table ∷ tables) =
+    ap (λ (n : List ℕ). n ∷ outputs_of (map (changed_by name change) tables)) (changed_output name change table) ∙ ap (λ (ns : List (List ℕ)). table.output ∷ ns) (map_names name change tables)
+
+-- the names of the tables stay
+Names : Circuit → Circuit → Type 0
+Names old new = outputs_of new.tables ≡ outputs_of old.tables
+
+pub turn_names : (rule : Rule) (circuit : Circuit) (place : ℕ) (table : Table) → AreSound circuit.tables → slice_get circuit.tables place ≡ Some table
+    → outputs_of (rule_turn rule circuit table).tables ≡ outputs_of circuit.tables
+unfolding Names
+turn_names Tidy circuit place table sound at =
+    subst (Names circuit) (sym (tidied_set circuit place table sound at)) (set_names circuit.tables place table (tidied table) at (tidied_output table))
+turn_names Constant circuit place table sound at = cases (unwritten_bit table) refl
+  where
+    cases : (o : Option Bool) → unwritten_bit table ≡ o → Names circuit (rule_turn Constant circuit table)
+    cases None e = subst (Names circuit) (sym (constant_same circuit table e)) refl
+    cases (Some bit) e = subst (Names circuit) (sym (constant_set circuit place table bit sound at e)) (set_names circuit.tables place table (constant_table table.output bit) at refl)
+turn_names Put circuit place table sound at = cases (written_bit table) refl
+  where
+    cases : (o : Option Bool) → written_bit table ≡ o → Names circuit (rule_turn Put circuit table)
+    cases None e = subst (Names circuit) (sym (put_same circuit table e)) refl
+    cases (Some bit) e = subst (Names circuit) (sym (put_map circuit table bit e)) (map_names table.output (Bit bit) circuit.tables)
+turn_names Bypass circuit place table sound at = cases (only_input table.inputs) refl
+  where
+    cases : (o : Option (List ℕ)) → only_input table.inputs ≡ o → Names circuit (rule_turn Bypass circuit table)
+    cases None e = subst (Names circuit) (sym (bypass_same circuit table e)) refl
+    cases (Some input) e = subst (Names circuit) (sym (bypass_map circuit table input e)) (map_names table.output (Input input (is_inverter table)) circuit.tables)
+
+-- and the don't-care part stays
+Cares : Circuit → Circuit → Type 0
+Cares old new = new.dont_care ≡ old.dont_care
+
+pub turn_cares : (rule : Rule) (circuit : Circuit) (table : Table) → (rule_turn rule circuit table).dont_care ≡ circuit.dont_care
+unfolding with_replaced Cares
+turn_cares Tidy circuit table = refl
+turn_cares Constant circuit table = cases (unwritten_bit table) refl
+  where
+    cases : (o : Option Bool) → unwritten_bit table ≡ o → Cares circuit (rule_turn Constant circuit table)
+    cases None e = subst (Cares circuit) (sym (constant_same circuit table e)) refl
+    cases (Some bit) e = ap (λ (o : Option Bool). (option_map_or (λ b. with_replaced circuit (constant_table table.output b)) o circuit).dont_care) e
+turn_cares Put circuit table = cases (written_bit table) refl
+  where
+    cases : (o : Option Bool) → written_bit table ≡ o → Cares circuit (rule_turn Put circuit table)
+    cases None e = subst (Cares circuit) (sym (put_same circuit table e)) refl
+    cases (Some bit) e = subst (Cares circuit) (sym (put_map circuit table bit e)) refl
+turn_cares Bypass circuit table = cases (only_input table.inputs) refl
+  where
+    cases : (o : Option (List ℕ)) → only_input table.inputs ≡ o → Cares circuit (rule_turn Bypass circuit table)
+    cases None e = subst (Cares circuit) (sym (bypass_same circuit table e)) refl
+    cases (Some input) e = subst (Cares circuit) (sym (bypass_map circuit table input e)) refl
+
 -- where tables read no more, a rule applies to a table only if it did before
-still_passes : (rule : Rule) (old new : List Table) (table : Table) → ((name : List ℕ) → has (table_inputs new) name ≡ true → has (table_inputs old) name ≡ true) → passes rule new table ≡ true → passes rule old table ≡ true
+pub still_passes : (rule : Rule) (old new : List Table) (table : Table) → ((name : List ℕ) → has (table_inputs new) name ≡ true → has (table_inputs old) name ≡ true) → passes rule new table ≡ true → passes rule old table ≡ true
 still_passes Tidy old new table less h = h
 still_passes Constant old new table less h = h
 still_passes Put old new table less h =
@@ -436,12 +498,12 @@ marked_again old new places before after all same less put kept rule place table
 
 -- one turn
 
-pub tidy_turned : (circuit new : Circuit) (place : ℕ) (here made : Table) → IsSound circuit → slice_get circuit.tables place ≡ Some here → made ≡ tidied here → new ≡ with_tables circuit (set circuit.tables place made)
+pub tidy_turned : (circuit new : Circuit) (place : ℕ) (here made : Table) → AreSound circuit.tables → slice_get circuit.tables place ≡ Some here → made ≡ tidied here → new ≡ with_tables circuit (set circuit.tables place made)
     → (table : Table) → slice_get circuit.tables place ≡ Some table → new ≡ rule_turn Tidy circuit table
 tidy_turned circuit new place here made sound at is n table there =
     n ∙ (ap (λ (t : Table). with_tables circuit (set circuit.tables place t)) (is ∙ ap tidied (same_Some here table (sym at ∙ there))) ∙ sym (tidied_set circuit place table sound there))
 
-pub constant_turned : (circuit new : Circuit) (place : ℕ) (here made : Table) (bit : Bool) → IsSound circuit → slice_get circuit.tables place ≡ Some here → unwritten_bit here ≡ Some bit → made ≡ constant_table here.output bit
+pub constant_turned : (circuit new : Circuit) (place : ℕ) (here made : Table) (bit : Bool) → AreSound circuit.tables → slice_get circuit.tables place ≡ Some here → unwritten_bit here ≡ Some bit → made ≡ constant_table here.output bit
     → new ≡ with_tables circuit (set circuit.tables place made) → (table : Table) → slice_get circuit.tables place ≡ Some table → new ≡ rule_turn Constant circuit table
 constant_turned circuit new place here made bit sound at has_bit is n table there =
     let same : here ≡ table = same_Some here table (sym at ∙ there) in
@@ -473,16 +535,16 @@ mapped_others circuit new name change places lists taken all n =
     subst (λ (c : Circuit). AreSameBut places circuit.tables c.tables) (sym n)
     (mapped_same_but name change places circuit.tables (λ place table at reads. subst (λ (ps : List ℕ). is_in ps place ≡ true) (sym taken) (all place table name at reads)))
 
-pub put_listed : (circuit new : Circuit) (name : List ℕ) (bit : Bool) (places : List ℕ) (lists after : List ℕ → Option (List ℕ)) → IsSound circuit → places ≡ listed (lists name) → AreListed lists circuit.tables
+pub put_listed : (circuit new : Circuit) (name : List ℕ) (bit : Bool) (places : List ℕ) (lists after : List ℕ → Option (List ℕ)) → AreSound circuit.tables → places ≡ listed (lists name) → AreListed lists circuit.tables
     → ((other : List ℕ) → after other ≡ (if bytes_eq name other then None else lists other)) → new ≡ with_tables circuit (map (changed_by name (Bit bit)) circuit.tables) → AreListed after new.tables
 put_listed circuit new name bit places lists after sound taken all rest n =
     subst (λ (c : Circuit). AreListed after c.tables) (sym n) (map_listed name (Bit bit) places lists after circuit sound refl taken all (list_taken name lists after rest) (λ other place never. absurd never))
 
-pub is_apart_input : (circuit : Circuit) (place : ℕ) (here : Table) (input to name : List ℕ) (inverts : Bool) → IsSound circuit → slice_get circuit.tables place ≡ Some here → only_input here.inputs ≡ Some input → to ≡ input
+pub is_apart_input : (circuit : Circuit) (place : ℕ) (here : Table) (input to name : List ℕ) (inverts : Bool) → AreSound circuit.tables → slice_get circuit.tables place ≡ Some here → only_input here.inputs ≡ Some input → to ≡ input
     → name ≡ here.output → is_apart name (Input to inverts) ≡ true
 is_apart_input circuit place here input to name inverts sound at single t is = rw (t, is, input_apart circuit place here input sound at single) refl
 
-pub bypass_listed : (circuit new : Circuit) (name input to : List ℕ) (inverts : Bool) (places more : List ℕ) (lists mid after : List ℕ → Option (List ℕ)) → IsSound circuit → is_apart name (Input to inverts) ≡ true → to ≡ input
+pub bypass_listed : (circuit new : Circuit) (name input to : List ℕ) (inverts : Bool) (places more : List ℕ) (lists mid after : List ℕ → Option (List ℕ)) → AreSound circuit.tables → is_apart name (Input to inverts) ≡ true → to ≡ input
     → places ≡ listed (lists name) → more ≡ places → AreListed lists circuit.tables → ((other : List ℕ) → mid other ≡ (if bytes_eq name other then None else lists other))
     → ((other : List ℕ) → listed (after other) ≡ (if bytes_eq input other then listed (mid other) ++ more else listed (mid other)))
     → new ≡ with_tables circuit (map (changed_by name (Input to inverts)) circuit.tables) → AreListed after new.tables
@@ -493,13 +555,13 @@ bypass_listed circuit new name input to inverts places more lists mid after soun
     (λ other place come h. list_has input more mid after grows other place (come ∙ t) (subst (λ (ps : List ℕ). is_in ps place ≡ true) (sym m) h)))
 
 -- where one table is replaced the readers stay listed
-pub tidy_listed : (circuit new : Circuit) (place : ℕ) (lists : List ℕ → Option (List ℕ)) → IsSound circuit → place < length circuit.tables → AreListed lists circuit.tables
+pub tidy_listed : (circuit new : Circuit) (place : ℕ) (lists : List ℕ → Option (List ℕ)) → AreSound circuit.tables → place < length circuit.tables → AreListed lists circuit.tables
     → ((table : Table) → slice_get circuit.tables place ≡ Some table → new ≡ rule_turn Tidy circuit table) → AreListed lists new.tables
 tidy_listed circuit new place lists sound lt all turned =
     let (table, at) = there circuit.tables place lt in
     subst (λ (c : Circuit). AreListed lists c.tables) (sym (turned table at ∙ tidied_set circuit place table sound at)) (set_listed lists circuit.tables place table (tidied table) at (λ name h. tidied_reads table name h) all)
 
-pub constant_listed : (circuit new : Circuit) (place : ℕ) (lists : List ℕ → Option (List ℕ)) → IsSound circuit → place < length circuit.tables → AreListed lists circuit.tables
+pub constant_listed : (circuit new : Circuit) (place : ℕ) (lists : List ℕ → Option (List ℕ)) → AreSound circuit.tables → place < length circuit.tables → AreListed lists circuit.tables
     → ((table : Table) → slice_get circuit.tables place ≡ Some table → new ≡ rule_turn Constant circuit table) → AreListed lists new.tables
 constant_listed circuit new place lists sound lt all turned = let (table, at) = there circuit.tables place lt in cases table at (unwritten_bit table) refl
   where
@@ -509,7 +571,7 @@ constant_listed circuit new place lists sound lt all turned = let (table, at) = 
         subst (λ (c : Circuit). AreListed lists c.tables) (sym (turned table at ∙ constant_set circuit place table bit sound at e))
         (set_listed lists circuit.tables place table (constant_table table.output bit) at (λ name h. absurd (false≢true h)) all)
 
-pub turn_marked : (rule : Rule) (circuit new : Circuit) (place : ℕ) (places now : List ℕ) (before after : Rule → ℕ → Bool) → IsSound circuit → place < length circuit.tables → AreMarked before circuit.tables
+pub turn_marked : (rule : Rule) (circuit new : Circuit) (place : ℕ) (places now : List ℕ) (before after : Rule → ℕ → Bool) → AreSound circuit.tables → place < length circuit.tables → AreMarked before circuit.tables
     → ((table : Table) → slice_get circuit.tables place ≡ Some table → new ≡ rule_turn rule circuit table) → AreSameBut places circuit.tables new.tables → now ≡ places
     → ((r : Rule) (i : ℕ) → is_in now i ≡ true → after r i ≡ true) → ((r : Rule) (i : ℕ) → before r i ≡ true → after r i ≡ true) → AreMarked after new.tables
 turn_marked rule circuit new place places now before after sound lt all turned others same put kept =
@@ -547,3 +609,7 @@ on_ok (Err e) f h = tt
 pub on_ok_both : {T E : Type 0} (r : Result T E) {A B C : Type 0} → (A → B → C) → OnOk r A → OnOk r B → OnOk r C
 on_ok_both (Ok x) f h k = f h k
 on_ok_both (Err e) f h k = tt
+
+pub on_value : {T E : Type 0} (r : Result T E) {P Q : T → Type 0} → ((x : T) → P x → Q x) → IfOk r P → IfOk r Q
+on_value (Ok x) f h = f x h
+on_value (Err e) f h = tt

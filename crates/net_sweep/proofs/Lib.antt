@@ -4,4 +4,6 @@ pub mod Finds
 pub mod Chaining
 pub mod Marking
 pub mod Changing
-pub mod Settling
+pub mod Latching
+pub mod Stepping
+pub mod Waking

@@ -41,46 +41,46 @@ passing test None h = absurd (false≢true h)
 passing test (Some x) h = (x, refl, h)
 
 -- the least of the marked places is the first where the test is passed
-pub least_first : (test : Table → Bool) (marked : ℕ → Bool) (tables : List Table) (place : ℕ) → AreMarkedBy test marked tables → ((i : ℕ) → marked i ≡ true → place ≤ i)
-    → option_map_or test (slice_get tables place) false ≡ true → IsFirst test tables (Some place)
-least_first test marked tables place all least passes =
-    let (table, at, is) = passing test (slice_get tables place) passes in (
-      within tables place table at,
-      table,
+pub least_first : {X : Type 0} (test : X → Bool) (marked : ℕ → Bool) (items : List X) (place : ℕ) → AreMarkedBy test marked items → ((i : ℕ) → marked i ≡ true → place ≤ i)
+    → option_map_or test (slice_get items place) false ≡ true → IsFirst test items (Some place)
+least_first test marked items place all least passes =
+    let (item, at, is) = passing test (slice_get items place) passes in (
+      within items place item at,
+      item,
       at,
-      find_is test tables place table at is (λ i t lt here. not_true (test t) (λ h.
+      find_is test items place item at is (λ i t lt here. not_true (test t) (λ h.
           let le : place ≤ i = least i (all i t here h) in absurd (omega (arith, lt, le)))),
     )
 
-pub none_first : (test : Table → Bool) (marked : ℕ → Bool) (tables : List Table) → AreMarkedBy test marked tables → ((i : ℕ) → marked i ≡ false) → find test tables ≡ None
-none_first test marked tables all none = find_nothing test tables (λ i t here. not_true (test t) (λ h. false≢true (sym (none i) ∙ all i t here h)))
+pub none_first : {X : Type 0} (test : X → Bool) (marked : ℕ → Bool) (items : List X) → AreMarkedBy test marked items → ((i : ℕ) → marked i ≡ false) → find test items ≡ None
+none_first test marked items all none = find_nothing test items (λ i t here. not_true (test t) (λ h. false≢true (sym (none i) ∙ all i t here h)))
 
-pub none_first_from : (test : Table → Bool) (marked : ℕ → Bool) (tables : List Table) (o : Option ℕ) → AreMarkedBy test marked tables → o ≡ None → IfNone o ((i : ℕ) → marked i ≡ false) → find test tables ≡ None
-none_first_from test marked tables o all is none = none_first test marked tables all (subst (λ (p : Option ℕ). IfNone p ((i : ℕ) → marked i ≡ false)) is none)
+pub none_first_from : {X : Type 0} (test : X → Bool) (marked : ℕ → Bool) (items : List X) (o : Option ℕ) → AreMarkedBy test marked items → o ≡ None → IfNone o ((i : ℕ) → marked i ≡ false) → find test items ≡ None
+none_first_from test marked items o all is none = none_first test marked items all (subst (λ (p : Option ℕ). IfNone p ((i : ℕ) → marked i ≡ false)) is none)
 
-pub none_marked_from : (test : Table → Bool) (marked other : ℕ → Bool) (tables : List Table) (o : Option ℕ) → AreMarkedBy test marked tables → o ≡ None → IfNone o ((i : ℕ) → marked i ≡ false) → AreMarkedBy test other tables
-none_marked_from test marked other tables o all is none place table at passes =
+pub none_marked_from : {X : Type 0} (test : X → Bool) (marked other : ℕ → Bool) (items : List X) (o : Option ℕ) → AreMarkedBy test marked items → o ≡ None → IfNone o ((i : ℕ) → marked i ≡ false) → AreMarkedBy test other items
+none_marked_from test marked other items o all is none place item at passes =
     let nowhere : (i : ℕ) → marked i ≡ false = subst (λ (p : Option ℕ). IfNone p ((i : ℕ) → marked i ≡ false)) is none in
-    absurd (false≢true (sym (nowhere place) ∙ all place table at passes))
+    absurd (false≢true (sym (nowhere place) ∙ all place item at passes))
 
 -- a place where the test fails need not be marked
-pub marked_less : (test : Table → Bool) (marked rest : ℕ → Bool) (tables : List Table) (place : ℕ) → AreMarkedBy test marked tables
-    → ((i : ℕ) → rest i ≡ (not (place == i) && marked i)) → option_map_or test (slice_get tables place) false ≡ false → AreMarkedBy test rest tables
-marked_less test marked rest tables place all less fails i table at passes = cases (place == i) refl
+pub marked_less : {X : Type 0} (test : X → Bool) (marked rest : ℕ → Bool) (items : List X) (place : ℕ) → AreMarkedBy test marked items
+    → ((i : ℕ) → rest i ≡ (not (place == i) && marked i)) → option_map_or test (slice_get items place) false ≡ false → AreMarkedBy test rest items
+marked_less {X} test marked rest items place all less fails i item at passes = cases (place == i) refl
   where
     cases : (b : Bool) → (place == i) ≡ b → rest i ≡ true
     cases true e =
-        absurd (false≢true (sym fails ∙ (ap (λ (o : Option Table). option_map_or test o false) (subst (λ (n : ℕ). slice_get tables n ≡ Some table) (sym (eqb-true place i e)) at) ∙ passes)))
-    cases false e = less i ∙ (ap (λ (b : Bool). not b && marked i) e ∙ all i table at passes)
+        absurd (false≢true (sym fails ∙ (ap (λ (o : Option X). option_map_or test o false) (subst (λ (n : ℕ). slice_get items n ≡ Some item) (sym (eqb-true place i e)) at) ∙ passes)))
+    cases false e = less i ∙ (ap (λ (b : Bool). not b && marked i) e ∙ all i item at passes)
 
 -- a place that is put back is marked again
-pub marked_back : (test : Table → Bool) (marked rest new : ℕ → Bool) (tables : List Table) (place : ℕ) → AreMarkedBy test marked tables
-    → ((i : ℕ) → rest i ≡ (not (place == i) && marked i)) → ((i : ℕ) → new i ≡ (place == i || rest i)) → AreMarkedBy test new tables
-marked_back test marked rest new tables place all less more i table at passes = cases (place == i) refl
+pub marked_back : {X : Type 0} (test : X → Bool) (marked rest new : ℕ → Bool) (items : List X) (place : ℕ) → AreMarkedBy test marked items
+    → ((i : ℕ) → rest i ≡ (not (place == i) && marked i)) → ((i : ℕ) → new i ≡ (place == i || rest i)) → AreMarkedBy test new items
+marked_back test marked rest new items place all less more i item at passes = cases (place == i) refl
   where
     cases : (b : Bool) → (place == i) ≡ b → new i ≡ true
     cases true e = more i ∙ ap (λ (b : Bool). b || rest i) e
-    cases false e = more i ∙ (ap (λ (b : Bool). b || rest i) e ∙ (less i ∙ (ap (λ (b : Bool). not b && marked i) e ∙ all i table at passes)))
+    cases false e = more i ∙ (ap (λ (b : Bool). b || rest i) e ∙ (less i ∙ (ap (λ (b : Bool). not b && marked i) e ∙ all i item at passes)))
 
 -- what tables read, place by place
 pub read_by : (tables : List Table) (name : List ℕ) → has (table_inputs tables) name ≡ true → (place : ℕ) × (table : Table) × (slice_get tables place ≡ Some table) × (has table.inputs name ≡ true)
@@ -165,7 +165,7 @@ listed_none reader before = record { put = λ name h. absurd (false≢true h); k
 has_more : (inputs : List (List ℕ)) (i : ℕ) (input name : List ℕ) → i < length inputs → input ≡ get_or inputs i input → has (take (i + 1) inputs) name ≡ (has (take i inputs) name || bytes_eq name input)
 has_more inputs i input name lt is = list_any_more (λ other. bytes_eq name other) inputs i input lt ∙ ap (λ (n : List ℕ). has (take i inputs) name || bytes_eq name n) (sym is)
 
-listed_kept : (input : List ℕ) (reader : ℕ) (now after : List ℕ → Option (List ℕ))
+pub listed_kept : (input : List ℕ) (reader : ℕ) (now after : List ℕ → Option (List ℕ))
     → ((other : List ℕ) → listed (after other) ≡ (if bytes_eq input other then listed (now other) ++ reader ∷ [] else listed (now other)))
     → (name : List ℕ) (place : ℕ) → is_in (listed (now name)) place ≡ true → is_in (listed (after name)) place ≡ true
 listed_kept input reader now after more name place h = ap (λ (ps : List ℕ). is_in ps place) (more name) ∙ by (bytes_eq input name)
@@ -196,7 +196,7 @@ listed_more reader inputs i input before now after lt is h more = record {
     by name false e false f k = absurd (false≢true k)
 
 -- a table more
-taken_cases : {X : Type 0} (items : List X) (i : ℕ) (item : X) (place : ℕ) (x : X) → i < length items → item ≡ get_or items i item → slice_get (take (suc i) items) place ≡ Some x
+pub taken_cases : {X : Type 0} (items : List X) (i : ℕ) (item : X) (place : ℕ) (x : X) → i < length items → item ≡ get_or items i item → slice_get (take (suc i) items) place ≡ Some x
     → (slice_get (take i items) place ≡ Some x) ⊎ ((place ≡ i) × (x ≡ item))
 taken_cases [] i item place x lt is at = absurd (omega (arith, lt))
 taken_cases (first ∷ items) zero item zero x lt is at = inr (refl, sym (same_Some first x at) ∙ sym is)

@@ -3,11 +3,11 @@
 -- Source: the SIS manual (UCB/ERL M92/41), `sweep`.
 use Rattle.std.specs.Prelude.{◌≡◌, ℕ, ◌==◌, ◌&&◌, Bool, true, false, not, Option, Some, None, is_some, List, [], slice_get, bytes_eq}
 use Rattle.std.specs.Option.{option_or}
-use Rattle.std.specs.List.{list_any}
+use Rattle.std.specs.List.{list_any, AllByRecursion}
 use Rattle.std.specs.Ordering.{nat_cmp}
 use Rattle.std.specs.BTreeSet.{contains}
-use Rattle.circuit_model.specs.Names.{has}
-use Rattle.circuit_model.specs.Soundness.{table_inputs, IsSound}
+use Rattle.circuit_model.specs.Names.{has, all_different}
+use Rattle.circuit_model.specs.Soundness.{outputs_of, table_inputs, IsShaped, IsAcyclic, IsSound}
 use Rattle.circuit_model.specs.declared.circuit.Table.{Table}
 use Rattle.circuit_model.specs.declared.circuit.Circuit.{Circuit}
 use Rattle.circuit_laws.specs.Edits.{with_replaced}
@@ -20,6 +20,14 @@ use Rattle.net_sweep.specs.declared.marks.Rule.TheVariants.{Tidy, Constant, Put,
 use Rattle.net_sweep.specs.declared.marks.Candidates.{Candidates}
 use Rattle.net_sweep.specs.declared.turns.Change.{Change}
 use Rattle.net_sweep.specs.declared.turns.Change.TheVariants.{Bit, Input}
+
+-- tables as a sound circuit has them: each signal has one, rows are as wide as the inputs, each input stands once, and no
+-- table is reached from itself
+pub record AreSound (tables : List Table) : Type 0 where
+  pub differ : all_different (outputs_of tables) ≡ true
+  pub shaped : AllByRecursion IsShaped tables
+  pub table_inputs_once : AllByRecursion (λ (table : Table). all_different table.inputs ≡ true) tables
+  pub acyclic : IsAcyclic tables
 
 -- whether a rule applies to a table among others
 abbrev pub passes : Rule → List Table → Table → Bool
@@ -67,9 +75,9 @@ listed (Some places) = places
 abbrev pub AreListed : (List ℕ → Option (List ℕ)) → List Table → Type 0
 AreListed lists tables = (place : ℕ) (table : Table) (name : List ℕ) → slice_get tables place ≡ Some table → has table.inputs name ≡ true → is_in (listed (lists name)) place ≡ true
 
--- each place of a table that passes a test is marked
-abbrev pub AreMarkedBy : (Table → Bool) → (ℕ → Bool) → List Table → Type 0
-AreMarkedBy test marked tables = (place : ℕ) (table : Table) → slice_get tables place ≡ Some table → test table ≡ true → marked place ≡ true
+-- each place of an item that passes a test is marked
+abbrev pub AreMarkedBy : {X : Type 0} → (X → Bool) → (ℕ → Bool) → List X → Type 0
+AreMarkedBy {X} test marked items = (place : ℕ) (item : X) → slice_get items place ≡ Some item → test item ≡ true → marked place ≡ true
 
 -- each place where a rule applies is marked for the rule
 abbrev pub AreMarked : (Rule → ℕ → Bool) → List Table → Type 0

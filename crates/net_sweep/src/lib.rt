@@ -2,14 +2,20 @@
 //! bit become constants, and what is not needed goes.
 //!
 //! Source: the SIS manual (UCB/ERL M92/41), `sweep`. What a step is stands in sweep_rules. Here steps are taken until none
-//! applies: of the first four rules at places that wait in ordered sets (`marks`, `turns`), of the last two by net_needed.
+//! applies: of the first four rules at places of tables that wait in ordered sets (`marks`, `turns`), of the fifth at
+//! places of latches that wait likewise (`latches`, `fixing`), all of them in place; of the last one by net_needed, in one
+//! pass over the circuit, behind which the first five are asked again.
 //! Promised: the chain of steps, to its end (`sweep`); an error, only for want of memory, changes nothing.
 #![tactic(auto)]
 
 mod constants;
 mod counting;
+mod fixing;
+mod latches;
 mod marks;
 mod rows;
+mod standing;
+mod steps;
 mod sweeping;
 mod turns;
 

@@ -143,7 +143,7 @@ pub(crate) fn add_readers(
 }
 
 // Puts a reader behind the last of a signal.
-fn add_reader(
+pub(crate) fn add_reader(
     alloc: Global,
     readers: &mut IndexMap<Name, Places>,
     name: &Name,

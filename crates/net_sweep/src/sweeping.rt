@@ -3,21 +3,21 @@
 ghost use Rattle.std.specs.Prelude.{◌≡◌, ◌-◌, not, None, count_by, length, IfOk, OnOk, OnErr};
 ghost use Rattle.circuit_model.specs.Names.{has};
 ghost use Rattle.circuit_model.specs.Soundness.{IsSound, outputs_of};
-ghost use Rattle.std.specs.Option.{option_or};
 ghost use Rattle.circuit_laws.specs.Chains.{Chain};
 ghost use Rattle.sweep_rules.specs.Keeping.{IsKept};
-ghost use Rattle.sweep_rules.specs.Rules.{latch_rule, need_rule, sweep_step};
+ghost use Rattle.sweep_rules.specs.Rules.{latch_rule, sweep_step};
 ghost use Rattle.sweep_rules.specs.Sweeping.{IsSwept, tables_gone, latches_gone};
 ghost use Rattle.net_sweep.specs.Settled.{table_step, HasLed};
 ghost use Rattle.net_sweep.specs.declared.sweeping.SweepFault.TheVariants.{Memory};
 
 use crate::counting::{count_undriven, outputs};
 use crate::marks::{all_marked, all_readers};
-use crate::turns::{next_turn, turn};
+use crate::standing::{standing_of, with_standing};
+use crate::steps::{next_step, take_step};
 use circuit_model::{Circuit, Name};
 use cube_cover::Row;
 use net_core::Network;
-use net_needed::{latch_step, need_step};
+use net_needed::need_step;
 use std::alloc::{AllocError, Global};
 
 /// How many tables and latches a sweep took away; a latch that became a table counts as a latch alone.
@@ -41,30 +41,28 @@ impl From<AllocError> for SweepFault {
     }
 }
 
-// The step of the first of the last two rules that applies.
-fn step_from_latches(alloc: Global, circuit: &Circuit) -> Result<Option<Circuit>, AllocError>
-    requires { IsSound circuit.now }
-    ensures { IfOk result (λ next. next ≡ option_or (latch_rule circuit.now) (need_rule circuit.now)) }
-{
-    match latch_step(alloc, circuit)? {
-        Some(next) => Ok(Some(next)),
-        None => need_step(alloc, circuit),
-    }
-}
-
-// The circuit where no rule applies any more that changes tables.
+// The circuit where none of the first five rules applies any more.
 fn settled<R: Row>(alloc: Global, circuit: Circuit) -> Result<Circuit, AllocError>
     requires { IsSound circuit }
     ensures led { IfOk result (λ end. HasLed circuit end) }
-    ensures settled { IfOk result (λ end. table_step end ≡ None) }
+    ensures tables { IfOk result (λ end. table_step end ≡ None) }
+    ensures latches { IfOk result (λ end. latch_rule end ≡ None) }
 {
     let mut end = circuit;
+    let mut standing = standing_of(alloc, &end)?;
     let mut readers = all_readers(alloc, end.tables.as_slice())?;
     let mut candidates = all_marked(alloc, end.tables.len())?;
-    while let Some((rule, place)) = next_turn::<R>(alloc, &end, &readers, &mut candidates)? {
-        turn::<R>(alloc, rule, place, &mut end, &mut readers, &mut candidates)?;
+    while let Some(step) = next_step::<R>(alloc, &end, &readers, &mut candidates, &mut standing)? {
+        take_step::<R>(
+            alloc,
+            step,
+            &mut end,
+            &mut readers,
+            &mut candidates,
+            &mut standing,
+        )?;
     }
-    Ok(end)
+    with_standing(alloc, end, &standing)
 }
 
 // The circuit where no step applies any more.
@@ -74,7 +72,7 @@ fn finished<R: Row>(alloc: Global, circuit: Circuit) -> Result<Circuit, AllocErr
     ensures sound { IfOk result (λ end. IsSound end) }
 {
     let mut end = settled::<R>(alloc, circuit)?;
-    while let Some(next) = step_from_latches(alloc, &end)? {
+    while let Some(next) = need_step(alloc, &end)? {
         end = settled::<R>(alloc, next)?;
     }
     Ok(end)

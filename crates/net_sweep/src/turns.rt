@@ -7,7 +7,7 @@ ghost use Rattle.std.specs.List.{AllByRecursion};
 ghost use Rattle.std.specs.Option.{option_map, option_map_or};
 ghost use Rattle.indexmap.specs.IndexMap.{get};
 ghost use Rattle.circuit_model.specs.Names.{has};
-ghost use Rattle.circuit_model.specs.Soundness.{table_inputs, IsSound};
+ghost use Rattle.circuit_model.specs.Soundness.{outputs_of, table_inputs};
 ghost use Rattle.circuit_model.specs.declared.circuit.Table.{Table as TheTable};
 ghost use Rattle.circuit_laws.specs.Edits.{with_tables as tables_in};
 ghost use Rattle.net_core.specs.Tables.{HasCharacters};
@@ -16,7 +16,7 @@ ghost use Rattle.net_sweep.specs.declared.marks.Rule.TheVariants.{Tidy, Constant
 ghost use Rattle.table_tidy.specs.Tidy.{IsWide};
 ghost use Rattle.sweep_rules.specs.Rules.{only_input as input_alone};
 ghost use Rattle.net_sweep.specs.Turns.{IsFirst};
-ghost use Rattle.net_sweep.specs.Settled.{passes, rule_turn, IsNext, changed_by, is_apart, is_in, listed, marked_in, AreListed, AreMarkedBy, AreMarked, AreSameBut};
+ghost use Rattle.net_sweep.specs.Settled.{passes, rule_turn, IsNext, changed_by, is_apart, is_in, listed, marked_in, AreListed, AreMarkedBy, AreMarked, AreSameBut, AreSound};
 
 use crate::constants::unwritten_bit;
 use crate::marks::{
@@ -143,7 +143,7 @@ fn first_place<R: Row>(
     readers: &IndexMap<Name, Places>,
     marked: &mut BTreeSet<usize>,
 ) -> Result<Option<usize>, AllocError>
-    requires sound { IsSound circuit.now }
+    requires sound { AreSound circuit.now.tables }
     requires listed { AreListed (get bytes_eq readers.now) circuit.now.tables }
     requires marked { AreMarkedBy (passes rule circuit.now.tables) (contains nat_cmp marked.old) circuit.now.tables }
     ensures first { IfOk result (λ place. IsFirst (passes rule circuit.now.tables) circuit.now.tables place) }
@@ -165,7 +165,7 @@ pub(crate) fn next_turn<R: Row>(
     readers: &IndexMap<Name, Places>,
     candidates: &mut Candidates,
 ) -> Result<Option<(Rule, usize)>, AllocError>
-    requires sound { IsSound circuit.now }
+    requires sound { AreSound circuit.now.tables }
     requires listed { AreListed (get bytes_eq readers.now) circuit.now.tables }
     requires marked { AreMarked (marked_in candidates.old) circuit.now.tables }
     ensures next { IfOk result (λ turn. IsNext circuit.now turn) }
@@ -248,7 +248,7 @@ fn one_place(alloc: Global, place: usize) -> Result<Places, AllocError>
 
 // Tidies the table at a place.
 fn tidy_at(alloc: Global, circuit: &mut Circuit, place: usize) -> Result<Places, AllocError>
-    requires sound { IsSound circuit.old }
+    requires sound { AreSound circuit.old.tables }
     requires within { place < length circuit.old.tables }
     ensures turned { OnOk result ((table : TheTable) → slice_get circuit.old.tables place ≡ Some table → circuit.new ≡ rule_turn Tidy circuit.old table) }
     ensures others { IfOk result (λ places. AreSameBut places circuit.old.tables circuit.new.tables) }
@@ -267,7 +267,7 @@ fn write_at<R: Row>(
     circuit: &mut Circuit,
     place: usize,
 ) -> Result<Places, AllocError>
-    requires sound { IsSound circuit.old }
+    requires sound { AreSound circuit.old.tables }
     requires within { place < length circuit.old.tables }
     ensures turned { OnOk result ((table : TheTable) → slice_get circuit.old.tables place ≡ Some table → circuit.new ≡ rule_turn Constant circuit.old table) }
     ensures others { IfOk result (λ places. AreSameBut places circuit.old.tables circuit.new.tables) }
@@ -326,7 +326,7 @@ fn change_all(
     name: &Name,
     change: &Change,
 ) -> Result<(), AllocError>
-    requires sound { IsSound circuit.old }
+    requires sound { AreSound circuit.old.tables }
     requires apart { is_apart name.now change.now ≡ true }
     requires readers { (place : ℕ) (table : TheTable) → slice_get circuit.old.tables place ≡ Some table → has table.inputs name.now ≡ true → is_in places.now place ≡ true }
     ensures { OnOk result (circuit.new ≡ tables_in circuit.old (map (changed_by name.now change.now) circuit.old.tables)) }
@@ -344,7 +344,7 @@ fn put_at(
     readers: &mut IndexMap<Name, Places>,
     place: usize,
 ) -> Result<Places, AllocError>
-    requires sound { IsSound circuit.old }
+    requires sound { AreSound circuit.old.tables }
     requires within { place < length circuit.old.tables }
     requires listed { AreListed (get bytes_eq readers.old) circuit.old.tables }
     ensures turned { OnOk result ((table : TheTable) → slice_get circuit.old.tables place ≡ Some table → circuit.new ≡ rule_turn Put circuit.old table) }
@@ -370,7 +370,7 @@ fn bypass_at(
     readers: &mut IndexMap<Name, Places>,
     place: usize,
 ) -> Result<Places, AllocError>
-    requires sound { IsSound circuit.old }
+    requires sound { AreSound circuit.old.tables }
     requires within { place < length circuit.old.tables }
     requires listed { AreListed (get bytes_eq readers.old) circuit.old.tables }
     ensures turned { OnOk result ((table : TheTable) → slice_get circuit.old.tables place ≡ Some table → circuit.new ≡ rule_turn Bypass circuit.old table) }
@@ -400,7 +400,7 @@ fn apply<R: Row>(
     readers: &mut IndexMap<Name, Places>,
     place: usize,
 ) -> Result<Places, AllocError>
-    requires sound { IsSound circuit.old }
+    requires sound { AreSound circuit.old.tables }
     requires within { place < length circuit.old.tables }
     requires listed { AreListed (get bytes_eq readers.old) circuit.old.tables }
     ensures turned { OnOk result ((table : TheTable) → slice_get circuit.old.tables place ≡ Some table → circuit.new ≡ rule_turn rule circuit.old table) }
@@ -415,7 +415,7 @@ fn apply<R: Row>(
     }
 }
 
-// Applies a rule at a place, and marks the tables that it changed.
+// Applies a rule at a place, marks the tables that it changed, and tells their places.
 pub(crate) fn turn<R: Row>(
     alloc: Global,
     rule: Rule,
@@ -423,15 +423,17 @@ pub(crate) fn turn<R: Row>(
     circuit: &mut Circuit,
     readers: &mut IndexMap<Name, Places>,
     candidates: &mut Candidates,
-) -> Result<(), AllocError>
-    requires sound { IsSound circuit.old }
+) -> Result<Places, AllocError>
+    requires sound { AreSound circuit.old.tables }
     requires within { place < length circuit.old.tables }
     requires listed { AreListed (get bytes_eq readers.old) circuit.old.tables }
     requires marked { AreMarked (marked_in candidates.old) circuit.old.tables }
     ensures turned { OnOk result ((table : TheTable) → slice_get circuit.old.tables place ≡ Some table → circuit.new ≡ rule_turn rule circuit.old table) }
+    ensures others { IfOk result (λ places. AreSameBut places circuit.old.tables circuit.new.tables) }
     ensures listed { OnOk result (AreListed (get bytes_eq readers.new) circuit.new.tables) }
     ensures marked { OnOk result (AreMarked (marked_in candidates.new) circuit.new.tables) }
 {
     let places = apply::<R>(alloc, rule, circuit, readers, place)?;
-    mark_all(candidates, places.as_slice())
+    mark_all(candidates, places.as_slice())?;
+    Ok(places)
 }

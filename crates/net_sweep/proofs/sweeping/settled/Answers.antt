@@ -1,45 +1,57 @@
-use Rattle.std.proofs.Common.{bytes_eq}
+use Rattle.std.proofs.Common.{None, subst, bytes_eq}
 use Rattle.indexmap.specs.IndexMap.{get}
+use Rattle.net_needed.proofs.Taking.{tables_differ}
 use Rattle.net_sweep.specs.Settled.{marked_in}
-use Rattle.net_sweep.proofs.Settling.{settling_none, settling_more, settling_falls, next_within, settled_end}
+use Rattle.net_sweep.specs.Latches.{left_at, with_latches, IsNextStep}
+use Rattle.net_sweep.proofs.Changing.{on_value}
+use Rattle.net_sweep.proofs.Latching.{sound_tables}
+use Rattle.net_sweep.proofs.Stepping.{settling_none, settling_more, settling_falls, none_next, settled_led, settled_tables, settled_latches}
 use Rattle.net_sweep.proofs.sweeping.settled.Goals as goal
+
+pub standing_of-requires : goal.standing_of-requires
+standing_of-requires g c = tables_differ c.args.circuit c.requires
 
 pub loop-candidates-init : goal.loop-candidates-init
 loop-candidates-init g c =
-    settling_none c.args.circuit c.as_slice.result.now c.len.result (get bytes_eq c.in_ok-readers.readers) (marked_in c.in_ok-candidates.candidates) c.requires c.as_slice.ensures c.len.ensures c.in_ok-readers.ensures c.in_ok-candidates.ensures
+    settling_none c.args.circuit _ c.as_slice.result.now c.len.result (get bytes_eq c.in_ok-readers.readers) (marked_in c.in_ok-candidates.candidates) c.requires c.in_ok-standing.ensures.ready c.in_ok-standing.ensures.left
+    c.as_slice.ensures c.len.ensures c.in_ok-readers.ensures c.in_ok-candidates.ensures
+
+pub next_step-requires-clause-sound : goal.next_step-requires-clause-sound
+next_step-requires-clause-sound g c = sound_tables (with_latches c.loop-candidates.end (left_at c.loop-candidates.standing.slots.items)) c.loop-candidates.invariant.led.sound
+
+pub next_step-requires-clause-listed : goal.next_step-requires-clause-listed
+next_step-requires-clause-listed g c = c.loop-candidates.invariant.listed
+
+pub next_step-requires-clause-marked : goal.next_step-requires-clause-marked
+next_step-requires-clause-marked g c = c.loop-candidates.invariant.marked
+
+pub next_step-requires-clause-ready : goal.next_step-requires-clause-ready
+next_step-requires-clause-ready g c = c.loop-candidates.invariant.ready
 
 pub loop-candidates-preserved : goal.loop-candidates-preserved
 loop-candidates-preserved g c =
-    settling_more c.args.circuit c.loop-candidates.end c.turn.new.circuit c.in_ok-rule.field-0 c.in-Some.rule c.in-Some.place (get bytes_eq c.loop-candidates.readers) (get bytes_eq c.turn.new.readers)
-    (marked_in c.loop-candidates.candidates) (marked_in c.turn.new.candidates) c.loop-candidates.invariant c.in_ok-rule.ensures.next c.in-Some.is c.in_ok-turn.ensures.turned c.in_ok-turn.ensures.listed c.in_ok-turn.ensures.marked
+    settling_more c.args.circuit c.loop-candidates.end c.take_step.new.circuit c.loop-candidates.standing c.next_step.new.standing c.take_step.new.standing (get bytes_eq c.loop-candidates.readers) (get bytes_eq c.take_step.new.readers)
+    (marked_in c.loop-candidates.candidates) (marked_in c.take_step.new.candidates) c.loop-candidates.invariant c.in_ok-step.ensures.slots c.in_ok-take_step.ensures.stepped c.in_ok-take_step.ensures.listed
+    c.in_ok-take_step.ensures.marked c.in_ok-take_step.ensures.ready
 
 pub loop-candidates-smaller : goal.loop-candidates-smaller
 loop-candidates-smaller g c =
-    settling_falls c.args.circuit c.loop-candidates.end c.turn.new.circuit c.in_ok-rule.field-0 c.in-Some.rule c.in-Some.place c.loop-candidates.invariant.led c.in_ok-rule.ensures.next c.in-Some.is c.in_ok-turn.ensures.turned
+    settling_falls c.args.circuit c.loop-candidates.end c.take_step.new.circuit c.loop-candidates.standing.slots.items c.next_step.new.standing.slots.items c.take_step.new.standing.slots.items
+    c.loop-candidates.invariant.led c.in_ok-step.ensures.slots c.in_ok-take_step.ensures.stepped
 
 pub returns-clause-led : goal.returns-clause-led
-returns-clause-led g c = c.loop-candidates.invariant.led
+returns-clause-led g c =
+    on_value c.with_standing.result
+    (λ end is. settled_led c.args.circuit c.loop-candidates.end end c.loop-candidates.standing.slots.items c.next_step.new.standing.slots.items c.loop-candidates.invariant.led c.in_ok-step.ensures.slots is) c.with_standing.ensures
 
-pub returns-clause-settled : goal.returns-clause-settled
-returns-clause-settled g c = settled_end c.loop-candidates.end c.in_ok-rule.field-0 c.in_ok-rule.ensures.next c.in_default.is
+pub returns-clause-tables : goal.returns-clause-tables
+returns-clause-tables g c =
+    on_value c.with_standing.result
+    (λ end is. settled_tables c.loop-candidates.end end c.next_step.new.standing.slots.items
+    (none_next c.loop-candidates.end c.loop-candidates.standing.slots.items c.next_step.new.standing.slots.items c.in_ok-step.field-0 c.in_ok-step.ensures.next c.in_default.is c.in_ok-step.ensures.slots) is) c.with_standing.ensures
 
-pub next_turn-requires-clause-sound : goal.next_turn-requires-clause-sound
-next_turn-requires-clause-sound g c = c.loop-candidates.invariant.led.sound
-
-pub next_turn-requires-clause-listed : goal.next_turn-requires-clause-listed
-next_turn-requires-clause-listed g c = c.loop-candidates.invariant.listed
-
-pub next_turn-requires-clause-marked : goal.next_turn-requires-clause-marked
-next_turn-requires-clause-marked g c = c.loop-candidates.invariant.marked
-
-pub turn-requires-clause-sound : goal.turn-requires-clause-sound
-turn-requires-clause-sound g c = c.loop-candidates.invariant.led.sound
-
-pub turn-requires-clause-within : goal.turn-requires-clause-within
-turn-requires-clause-within g c = next_within c.loop-candidates.end c.in_ok-rule.field-0 c.in-Some.rule c.in-Some.place c.in_ok-rule.ensures.next c.in-Some.is
-
-pub turn-requires-clause-listed : goal.turn-requires-clause-listed
-turn-requires-clause-listed g c = c.loop-candidates.invariant.listed
-
-pub turn-requires-clause-marked : goal.turn-requires-clause-marked
-turn-requires-clause-marked g c = c.in_ok-rule.ensures.marked
+pub returns-clause-latches : goal.returns-clause-latches
+returns-clause-latches g c =
+    on_value c.with_standing.result
+    (λ end is. settled_latches c.loop-candidates.end end c.next_step.new.standing.slots.items
+    (none_next c.loop-candidates.end c.loop-candidates.standing.slots.items c.next_step.new.standing.slots.items c.in_ok-step.field-0 c.in_ok-step.ensures.next c.in_default.is c.in_ok-step.ensures.slots) is) c.with_standing.ensures

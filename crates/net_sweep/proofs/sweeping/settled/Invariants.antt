@@ -2,11 +2,12 @@ use Rattle.std.proofs.Common.{bytes_eq}
 use Rattle.indexmap.specs.IndexMap.{get}
 use Rattle.sweep_rules.proofs.Weight.{weight}
 use Rattle.net_sweep.specs.Settled.{marked_in}
-use Rattle.net_sweep.proofs.Settling.{IsSettling}
+use Rattle.net_sweep.specs.Latches.{left_at, with_latches}
+use Rattle.net_sweep.proofs.Stepping.{IsSettling}
 use Rattle.net_sweep.proofs.sweeping.settled.Given as goal
 
 abbrev pub invariant-loop-candidates : goal.invariant-loop-candidates
-invariant-loop-candidates g l = IsSettling l.fn.circuit l.end (get bytes_eq l.readers) (marked_in l.candidates)
+invariant-loop-candidates g l = IsSettling l.fn.circuit l.end l.standing (get bytes_eq l.readers) (marked_in l.candidates)
 
 abbrev pub decreases-loop-candidates : goal.decreases-loop-candidates
-decreases-loop-candidates g l = weight l.end
+decreases-loop-candidates g l = weight (with_latches l.end (left_at l.standing.slots.items))

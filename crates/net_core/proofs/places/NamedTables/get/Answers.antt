@@ -2,9 +2,7 @@ use Rattle.std.proofs.Common.{◌≡◌, ℕ, List, Some, ap, ◌∙◌, sym, by
 use Rattle.std.specs.List.{slice_get}
 use Rattle.std.proofs.lemmas.Option.{same_Some}
 use Rattle.indexmap.specs.IndexMap.{get}
-use Rattle.circuit_model.specs.Names.{has}
 use Rattle.circuit_model.specs.Values.{driver}
-use Rattle.circuit_model.specs.Soundness.{outputs_of}
 use Rattle.circuit_model.specs.declared.circuit.Table.{Table as Written}
 use Rattle.net_core.specs.Tables.{named}
 use Rattle.net_core.specs.Places.{present}

@@ -1,0 +1,70 @@
+-- Latches that are taken out of a circuit and stand at places that stay, so that one of them goes without a move of the
+-- others; and what is kept to see soon which of them always has one bit.
+-- Source: De Micheli, "Synthesis and Optimization of Digital Circuits", chapter 9 (removal of registers that hold a
+-- constant); the SIS manual (UCB/ERL M92/41), `sweep`.
+use Rattle.std.specs.Prelude.{◌≡◌, ℕ, Bool, true, false, Option, Some, None, is_some, List, [], ◌∷◌, find, slice_get, bytes_eq}
+use Rattle.std.specs.Ordering.{nat_cmp}
+use Rattle.std.specs.BTreeSet.{contains}
+use Rattle.indexmap.specs.IndexMap.{get}
+use Rattle.circuit_model.specs.Names.{has}
+use Rattle.circuit_model.specs.Soundness.{outputs_of}
+use Rattle.circuit_model.specs.declared.circuit.Latch.{Latch}
+use Rattle.circuit_model.specs.declared.circuit.Circuit.{Circuit}
+use Rattle.circuit_laws.specs.Edits.{timing_with}
+use Rattle.sweep_rules.specs.Needed.{dont_care_reads}
+use Rattle.sweep_rules.specs.Rules.{fixed_bit, latch_rule}
+use Rattle.net_sweep.specs.Settled.{is_in, listed, table_step, IsNext, AreMarkedBy}
+use Rattle.net_sweep.specs.declared.latches.Standing.{Standing}
+use Rattle.net_sweep.specs.declared.steps.Step.{Step}
+use Rattle.net_sweep.specs.declared.steps.Step.TheVariants.{Turn, Fix}
+
+-- the latches that are left at some places, in order
+unfoldable pub left_at : List (Option Latch) → List Latch
+left_at [] = []
+left_at (None ∷ slots) = left_at slots
+left_at (Some latch ∷ slots) = latch ∷ left_at slots
+
+-- the circuit with these latches; there is timing only where one stands
+abbrev pub with_latches : Circuit → List Latch → Circuit
+with_latches circuit latches = record circuit { latches = latches; timing = timing_with latches circuit.timing }
+
+-- the bit that the latch at a place always has, if one is left there and has one
+abbrev pub slot_bit : Circuit → Option Latch → Option Bool
+slot_bit circuit None = None
+slot_bit circuit (Some latch) = fixed_bit circuit latch
+
+abbrev pub is_fixed : Circuit → Option Latch → Bool
+is_fixed circuit slot = is_some (slot_bit circuit slot)
+
+-- the place and the bit of the first latch that always has one bit, if there is one
+abbrev pub IsFirstFixed : Circuit → List (Option Latch) → Option (ℕ × Bool) → Type 0
+IsFirstFixed circuit slots None = find (is_fixed circuit) slots ≡ None
+IsFirstFixed circuit slots (Some (place, bit)) =
+    (latch : Latch) × (slice_get slots place ≡ Some (Some latch)) × (fixed_bit circuit latch ≡ Some bit) × (find (is_fixed circuit) slots ≡ Some (Some latch))
+
+-- each name leads to its place, and to no other one
+pub record IsPlaced (places : List ℕ → Option ℕ) (names : List (List ℕ)) : Type 0 where
+  pub placed : (place : ℕ) (name : List ℕ) → slice_get names place ≡ Some name → places name ≡ Some place
+  pub only : (name : List ℕ) (place : ℕ) → places name ≡ Some place → slice_get names place ≡ Some name
+
+-- each latch is listed under its input
+abbrev pub AreFed : (List ℕ → Option (List ℕ)) → List (Option Latch) → Type 0
+AreFed lists slots = (place : ℕ) (latch : Latch) → slice_get slots place ≡ Some (Some latch) → is_in (listed (lists latch.input)) place ≡ true
+
+-- what stands beside a circuit tells of it: the names of its tables lead to their places, what is read is what its
+-- don't-care part reads, the latches are listed under their inputs, and each that always has one bit waits
+pub record IsBeside (slots : List (Option Latch)) (lists : List ℕ → Option (List ℕ)) (places : List ℕ → Option ℕ) (leaves : List (List ℕ)) (marked : ℕ → Bool) (circuit : Circuit) : Type 0 where
+  pub placed : IsPlaced places (outputs_of circuit.tables)
+  pub read : (name : List ℕ) → has leaves name ≡ dont_care_reads circuit name
+  pub fed : AreFed lists slots
+  pub waiting : AreMarkedBy (is_fixed circuit) marked slots
+
+abbrev pub IsReady : Standing → Circuit → Type 0
+IsReady standing circuit =
+    IsBeside standing.slots.items (get bytes_eq standing.fed) (get bytes_eq standing.tables) standing.read.keys (contains nat_cmp standing.waiting) circuit
+
+-- the next step of the first five rules, if there is one
+abbrev pub IsNextStep : Circuit → List (Option Latch) → Option Step → Type 0
+IsNextStep circuit slots None = (table_step circuit ≡ None) × (find (is_fixed circuit) slots ≡ None)
+IsNextStep circuit slots (Some (Turn rule place)) = IsNext circuit (Some (rule, place))
+IsNextStep circuit slots (Some (Fix place bit)) = (table_step circuit ≡ None) × IsFirstFixed circuit slots (Some (place, bit))

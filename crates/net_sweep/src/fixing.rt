@@ -1,0 +1,134 @@
+//! A latch that always has one bit becomes the constant table of its name, last; and latches whose input has become a
+//! constant wait to be tried.
+
+ghost use Rattle.std.specs.Prelude.{◌≡◌, ℕ, Bool, true, Some, None, is_some, List, length, slice_get, slice_set, bytes_eq, OnOk};
+ghost use Rattle.std.specs.Ordering.{nat_cmp};
+ghost use Rattle.std.specs.BTreeSet.{contains};
+ghost use Rattle.indexmap.specs.IndexMap.{get};
+ghost use Rattle.circuit_model.specs.declared.circuit.Latch.{Latch as TheLatch};
+ghost use Rattle.circuit_model.specs.declared.circuit.Table.{Table as TheTable};
+ghost use Rattle.circuit_laws.specs.Edits.{with_added, constant_table as table_of_bit};
+ghost use Rattle.circuit_model.specs.Soundness.{IsSound};
+ghost use Rattle.sweep_rules.specs.Points.{written_bit as bit_written};
+ghost use Rattle.net_sweep.specs.Settled.{is_in, listed, marked_in, AreMarked};
+ghost use Rattle.net_sweep.specs.Latches.{left_at, with_latches, IsReady};
+
+use crate::latches::Standing;
+use crate::marks::{Candidates, Places, mark, put_place};
+use circuit_model::{Circuit, Latch, Name, Table};
+use indexmap::IndexMap;
+use net_needed::{constant_table, note_place, written_bit};
+use sis_base::Copied;
+use std::alloc::{AllocError, Global};
+use std::collections::BTreeSet;
+use std::mem;
+
+// Takes the latch at a place away.
+fn take_latch(slots: &mut Vec<Option<Latch>>, place: usize) -> Latch
+    requires { (latch : TheLatch) × (slice_get slots.old.items place ≡ Some (Some latch)) }
+    ensures taken { slice_get slots.old.items place ≡ Some (Some result) }
+    ensures left { slots.new.items ≡ slice_set slots.old.items place None }
+{
+    match mem::replace(&mut slots[place], None) {
+        Some(latch) => latch,
+        None => unreachable!(),
+    }
+}
+
+// Puts a table behind the last.
+#[tactic(auto, unfolding(circuit_laws::specs::Edits::with_added))]
+fn add_table(circuit: &mut Circuit, table: Table) -> Result<(), AllocError>
+    ensures { OnOk result (circuit.new ≡ with_added circuit.old table) }
+{
+    circuit.tables.push(table)?;
+    Ok(())
+}
+
+// Puts places in.
+fn put_places(set: &mut BTreeSet<usize>, places: &[usize]) -> Result<(), AllocError>
+    ensures put { OnOk result ((place : ℕ) → is_in places.now place ≡ true → contains nat_cmp set.new place ≡ true) }
+    ensures kept { OnOk result ((place : ℕ) → contains nat_cmp set.old place ≡ true → contains nat_cmp set.new place ≡ true) }
+{
+    for place in places {
+        put_place(set, *place)?;
+    }
+    Ok(())
+}
+
+// The latches that read a signal wait.
+pub(crate) fn wake(
+    fed: &IndexMap<Name, Places>,
+    waiting: &mut BTreeSet<usize>,
+    name: &Name,
+) -> Result<(), AllocError>
+    ensures put { OnOk result ((place : ℕ) → is_in (listed (get bytes_eq fed.now name.now)) place ≡ true → contains nat_cmp waiting.new place ≡ true) }
+    ensures kept { OnOk result ((place : ℕ) → contains nat_cmp waiting.old place ≡ true → contains nat_cmp waiting.new place ≡ true) }
+{
+    match fed.get(name) {
+        None => Ok(()),
+        Some(places) => put_places(waiting, places.as_slice()),
+    }
+}
+
+// The latches that read the table at a place, if there is one, wait where it is written as a constant.
+fn wake_at(
+    tables: &[Table],
+    place: usize,
+    fed: &IndexMap<Name, Places>,
+    waiting: &mut BTreeSet<usize>,
+) -> Result<(), AllocError>
+    ensures put { OnOk result ((table : TheTable) (latch : ℕ) → slice_get tables.now place ≡ Some table → is_some (bit_written table) ≡ true → is_in (listed (get bytes_eq fed.now table.output)) latch ≡ true → contains nat_cmp waiting.new latch ≡ true) }
+    ensures kept { OnOk result ((latch : ℕ) → contains nat_cmp waiting.old latch ≡ true → contains nat_cmp waiting.new latch ≡ true) }
+{
+    match tables.get(place) {
+        None => Ok(()),
+        Some(table) => {
+            if written_bit(table).is_none() {
+                return Ok(());
+            }
+            wake(fed, waiting, &table.output)
+        }
+    }
+}
+
+// The latches that read the tables at some places wait where these are written as constants.
+pub(crate) fn wake_all(
+    tables: &[Table],
+    places: &[usize],
+    fed: &IndexMap<Name, Places>,
+    waiting: &mut BTreeSet<usize>,
+) -> Result<(), AllocError>
+    ensures put { OnOk result ((place : ℕ) (table : TheTable) (latch : ℕ) → is_in places.now place ≡ true → slice_get tables.now place ≡ Some table → is_some (bit_written table) ≡ true → is_in (listed (get bytes_eq fed.now table.output)) latch ≡ true → contains nat_cmp waiting.new latch ≡ true) }
+    ensures kept { OnOk result ((latch : ℕ) → contains nat_cmp waiting.old latch ≡ true → contains nat_cmp waiting.new latch ≡ true) }
+{
+    for place in places {
+        wake_at(tables, *place, fed, waiting)?;
+    }
+    Ok(())
+}
+
+// The latch at a place becomes the constant table of its name, last.
+pub(crate) fn fix(
+    alloc: Global,
+    place: usize,
+    bit: bool,
+    circuit: &mut Circuit,
+    candidates: &mut Candidates,
+    standing: &mut Standing,
+) -> Result<(), AllocError>
+    requires sound { IsSound (with_latches circuit.old (left_at standing.old.slots.items)) }
+    requires there { (latch : TheLatch) × (slice_get standing.old.slots.items place ≡ Some (Some latch)) }
+    requires ready { IsReady standing.old circuit.old }
+    requires marked { AreMarked (marked_in candidates.old) circuit.old.tables }
+    ensures fixed { OnOk result ((latch : TheLatch) → slice_get standing.old.slots.items place ≡ Some (Some latch) → circuit.new ≡ with_added circuit.old (table_of_bit latch.output bit)) }
+    ensures slots { OnOk result (standing.new.slots.items ≡ slice_set standing.old.slots.items place None) }
+    ensures ready { OnOk result (IsReady standing.new circuit.new) }
+    ensures marked { OnOk result (AreMarked (marked_in candidates.new) circuit.new.tables) }
+{
+    let name = take_latch(&mut standing.slots, place).output;
+    let last = circuit.tables.len();
+    add_table(circuit, constant_table(alloc, name.copy(alloc)?, bit)?)?;
+    mark(candidates, last)?;
+    note_place(&mut standing.tables, name.copy(alloc)?, last)?;
+    wake(&standing.fed, &mut standing.waiting, &name)
+}

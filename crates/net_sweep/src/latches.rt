@@ -1,0 +1,162 @@
+//! Latches at places that stay, and which of them always has one bit.
+//!
+//! Source: De Micheli, "Synthesis and Optimization of Digital Circuits", chapter 9 (removal of registers that hold a
+//! constant); the SIS manual (UCB/ERL M92/41), `sweep`.
+
+ghost use Rattle.std.specs.Prelude.{◌≡◌, ℕ, true, None, List, slice_get, bytes_eq, IfOk, OnOk};
+ghost use Rattle.std.specs.Option.{option_map_or};
+ghost use Rattle.std.specs.Ordering.{nat_cmp};
+ghost use Rattle.std.specs.BTreeSet.{contains};
+ghost use Rattle.indexmap.specs.IndexMap.{get};
+ghost use Rattle.circuit_model.specs.Names.{has, all_different};
+ghost use Rattle.circuit_model.specs.Soundness.{outputs_of};
+ghost use Rattle.circuit_model.specs.Values.{driver};
+ghost use Rattle.net_needed.specs.Places.{LeadsToTables};
+ghost use Rattle.sweep_rules.specs.Points.{written_bit as bit_written};
+ghost use Rattle.sweep_rules.specs.Needed.{dont_care_reads};
+ghost use Rattle.sweep_rules.specs.Rules.{starts_at as may_start_at, fixed_bit as bit_fixed};
+ghost use Rattle.net_sweep.specs.Settled.{AreMarkedBy};
+ghost use Rattle.net_sweep.specs.Latches.{slot_bit as bit_of_slot, is_fixed, IsFirstFixed, IsReady};
+
+use crate::marks::{Places, put_place, take_least};
+use circuit_model::{Circuit, Latch, Name, Table};
+use indexmap::{IndexMap, IndexSet};
+use net_needed::{is_among, table_of, written_bit};
+use std::alloc::AllocError;
+use std::collections::BTreeSet;
+
+/// Latches at the places where they began, and what tells soon which of them always has one bit: the places of the
+/// latches that read each signal, where the tables stand, the leaves that the don't-care part reads, and the places that
+/// wait to be tried.
+#[derive(Drop)]
+pub(crate) struct Standing {
+    pub(crate) slots: Vec<Option<Latch>>,
+    pub(crate) fed: IndexMap<Name, Places>,
+    pub(crate) tables: IndexMap<Name, usize>,
+    pub(crate) read: IndexSet<Name>,
+    pub(crate) waiting: BTreeSet<usize>,
+}
+
+// The constant that the table of a signal is written as.
+fn driven_bit(places: &IndexMap<Name, usize>, tables: &[Table], name: &Name) -> Option<bool>
+    requires { LeadsToTables (get bytes_eq places.now) tables.now }
+    ensures { result ≡ option_map_or bit_written (driver tables.now name.now) None }
+{
+    match table_of(places, tables, name) {
+        None => None,
+        Some(table) => written_bit(table),
+    }
+}
+
+// Whether a latch of this init may be taken to start at a bit.
+fn starts_at(init: u8, bit: bool) -> bool
+    ensures { result ≡ may_start_at init bit }
+{
+    if bit {
+        return init == 1 || init == 2;
+    }
+    init == 0 || init == 2
+}
+
+// The bit that a latch always has.
+#[tactic(auto, unfolding(sweep_rules::specs::Rules::fixed_bit))]
+fn fixed_bit(
+    circuit: &Circuit,
+    places: &IndexMap<Name, usize>,
+    read: &IndexSet<Name>,
+    latch: &Latch,
+) -> Option<bool>
+    requires placed { LeadsToTables (get bytes_eq places.now) circuit.now.tables }
+    requires read { (name : List ℕ) → has read.now.keys name ≡ dont_care_reads circuit.now name }
+    ensures { result ≡ bit_fixed circuit.now latch.now }
+{
+    let is_read = is_among(read, &latch.output);
+    match driven_bit(places, circuit.tables.as_slice(), &latch.input) {
+        None => None,
+        Some(bit) => {
+            if starts_at(latch.init, bit) && !is_read {
+                Some(bit)
+            } else {
+                None
+            }
+        }
+    }
+}
+
+// The bit that the latch at a place always has, if one is left there.
+fn slot_bit(
+    circuit: &Circuit,
+    places: &IndexMap<Name, usize>,
+    read: &IndexSet<Name>,
+    slot: &Option<Latch>,
+) -> Option<bool>
+    requires placed { LeadsToTables (get bytes_eq places.now) circuit.now.tables }
+    requires read { (name : List ℕ) → has read.now.keys name ≡ dont_care_reads circuit.now name }
+    ensures { result ≡ bit_of_slot circuit.now slot.now }
+{
+    match slot {
+        None => None,
+        Some(latch) => fixed_bit(circuit, places, read, latch),
+    }
+}
+
+// The bit that the latch at a place always has, if the place is one and a latch is left there.
+fn bit_at(
+    circuit: &Circuit,
+    places: &IndexMap<Name, usize>,
+    read: &IndexSet<Name>,
+    slots: &[Option<Latch>],
+    place: usize,
+) -> Option<bool>
+    requires placed { LeadsToTables (get bytes_eq places.now) circuit.now.tables }
+    requires read { (name : List ℕ) → has read.now.keys name ≡ dont_care_reads circuit.now name }
+    ensures { result ≡ option_map_or (bit_of_slot circuit.now) (slice_get slots.now place) None }
+{
+    match slots.get(place) {
+        None => None,
+        Some(slot) => slot_bit(circuit, places, read, slot),
+    }
+}
+
+// The place of the first latch that always has one bit, with the bit; the place stays among those that wait.
+fn first_fixed(
+    circuit: &Circuit,
+    places: &IndexMap<Name, usize>,
+    read: &IndexSet<Name>,
+    slots: &[Option<Latch>],
+    waiting: &mut BTreeSet<usize>,
+) -> Result<Option<(usize, bool)>, AllocError>
+    requires placed { LeadsToTables (get bytes_eq places.now) circuit.now.tables }
+    requires read { (name : List ℕ) → has read.now.keys name ≡ dont_care_reads circuit.now name }
+    requires waiting { AreMarkedBy (is_fixed circuit.now) (contains nat_cmp waiting.old) slots.now }
+    ensures first { IfOk result (λ first. IsFirstFixed circuit.now slots.now first) }
+    ensures waiting { OnOk result (AreMarkedBy (is_fixed circuit.now) (contains nat_cmp waiting.new) slots.now) }
+{
+    while let Some(place) = take_least(waiting) {
+        if let Some(bit) = bit_at(circuit, places, read, slots, place) {
+            put_place(waiting, place)?;
+            return Ok(Some((place, bit)));
+        }
+    }
+    Ok(None)
+}
+
+// The place of the first latch that always has one bit, with the bit.
+pub(crate) fn next_fixed(
+    circuit: &Circuit,
+    standing: &mut Standing,
+) -> Result<Option<(usize, bool)>, AllocError>
+    requires differ { all_different (outputs_of circuit.now.tables) ≡ true }
+    requires ready { IsReady standing.old circuit.now }
+    ensures first { IfOk result (λ first. IsFirstFixed circuit.now standing.old.slots.items first) }
+    ensures slots { OnOk result (standing.new.slots.items ≡ standing.old.slots.items) }
+    ensures ready { OnOk result (IsReady standing.new circuit.now) }
+{
+    first_fixed(
+        circuit,
+        &standing.tables,
+        &standing.read,
+        standing.slots.as_slice(),
+        &mut standing.waiting,
+    )
+}
