@@ -1,5 +1,5 @@
 -- What is read keeps the bounds in which literals are counted.
-use Rattle.std.proofs.Common.{◌<◌, ◌≤◌, ◌^◌, ◌+◌, List, [], ◌∷◌, length, arith}
+use Rattle.std.proofs.Common.{List, [], ◌∷◌, arith}
 use Rattle.std.specs.List.{AllByRecursion}
 use Rattle.circuit_model.specs.Counts.{IsSmallTable, IsWithinLimits}
 use Rattle.circuit_model.specs.declared.circuit.Table.{Table}

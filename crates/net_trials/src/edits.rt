@@ -8,7 +8,7 @@ ghost use Rattle.circuit_laws.specs.Edits.{is_other, constant_table};
 ghost use Rattle.circuit_laws.specs.Kept.{IsClosed};
 ghost use Rattle.net_core.specs.Tables.{named, IsOverInputs};
 
-use crate::tests::{circuit, name, network, text_of};
+use crate::tests::{name, network, text_of};
 use circuit_model::{Circuit, Latch, Name, Names, Table as Written};
 use cube_cover::{Cover, PlainRow};
 use net_core::{AddFault, Network, Table};
