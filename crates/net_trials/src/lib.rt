@@ -6,4 +6,8 @@
 #![tactic(auto)]
 
 #[cfg(test)]
+mod edits;
+#[cfg(test)]
+mod tables;
+#[cfg(test)]
 mod tests;

@@ -1,7 +1,9 @@
 //! Networks of files, and what calls of theirs answer and leave.
 
 ghost use Rattle.std.specs.Prelude.{IfOk};
+ghost use Rattle.circuit_model.specs.Counts.{IsWithinLimits};
 ghost use Rattle.circuit_model.specs.Soundness.{IsSound};
+ghost use Rattle.net_core.specs.Reads.{HasBounds};
 
 use blif_read::read;
 use blif_write::{latches_text, tables_text};
@@ -14,12 +16,12 @@ use std::alloc::{AllocError, Global};
 use std::test::Fail;
 
 /// A name, from its text.
-fn name(alloc: Global, text: &str) -> Result<Name, AllocError> {
+pub(crate) fn name(alloc: Global, text: &str) -> Result<Name, AllocError> {
     Ok(Sequence::from_vec(text.as_bytes().to_vec(alloc)?))
 }
 
 /// Names, from their texts.
-fn names(alloc: Global, texts: &[&str]) -> Result<Names, AllocError> {
+pub(crate) fn names(alloc: Global, texts: &[&str]) -> Result<Names, AllocError> {
     let mut made = Sequence::new(alloc);
     for text in texts {
         made.push(name(alloc, text)?)?;
@@ -28,8 +30,9 @@ fn names(alloc: Global, texts: &[&str]) -> Result<Names, AllocError> {
 }
 
 /// The circuit of a text; a text that is none's is told as want of memory is.
-fn circuit(alloc: Global, text: &str) -> Result<Circuit, AllocError>
-    ensures { IfOk result (λ circuit. IsSound circuit) }
+pub(crate) fn circuit(alloc: Global, text: &str) -> Result<Circuit, AllocError>
+    ensures sound { IfOk result (λ circuit. IsSound circuit) }
+    ensures limits { IfOk result (λ circuit. IsWithinLimits circuit) }
 {
     match read(alloc, text.as_bytes()) {
         Ok(circuit) => Ok(circuit),
@@ -38,13 +41,16 @@ fn circuit(alloc: Global, text: &str) -> Result<Circuit, AllocError>
 }
 
 /// The network of a text.
-fn network(alloc: Global, text: &str) -> Result<Network<PlainRow>, AllocError> {
+#[tactic(auto, using(crate::proofs::Bounds::bounds_read))]
+pub(crate) fn network(alloc: Global, text: &str) -> Result<Network<PlainRow>, AllocError>
+    ensures { IfOk result (λ network. HasBounds network) }
+{
     let circuit = circuit(alloc, text)?;
     Network::from_circuit(alloc, &circuit)
 }
 
 /// The text of a network's latches and tables.
-fn text_of(alloc: Global, network: &Network<PlainRow>) -> Result<Vec<u8>, AllocError> {
+pub(crate) fn text_of(alloc: Global, network: &Network<PlainRow>) -> Result<Vec<u8>, AllocError> {
     let circuit = network.to_circuit(alloc)?;
     let mut text = latches_text(alloc, &circuit.timing, circuit.latches.as_slice())?;
     let tables = tables_text(alloc, circuit.tables.as_slice())?;
