@@ -1,7 +1,7 @@
 //! Small circuits, each with what its need leaves of it, worked out by hand.
 //!
 //! Names are of one character. A latch is written as its input and its output, a table as its output and its inputs.
-//! What is left is written as the outputs of the latches and of the tables; `-` where all is needed.
+//! What is left is written as the outputs of the latches and those of the tables.
 
 ghost use Rattle.std.specs.Prelude.{◌≡◌, IfOk};
 ghost use Rattle.circuit_model.specs.Names.{all_different};
@@ -117,67 +117,60 @@ fn needed(alloc: Global, circuit: &Circuit) -> Result<Option<Circuit>, AllocErro
     need_step(alloc, circuit)
 }
 
-/// The outputs of the latches and the tables that a need leaves.
-fn left(alloc: Global, next: Option<Circuit>) -> Result<Names, AllocError> {
+/// The names of what a need leaves: the outputs of the latches and of the tables; none where all is needed.
+fn left(alloc: Global, next: &Option<Circuit>) -> Result<(Names, Names), AllocError> {
     match next {
-        None => names(alloc, "-".as_bytes()),
+        None => Ok((Sequence::new(alloc), Sequence::new(alloc))),
         Some(circuit) => {
-            let mut left = held(alloc, circuit.latches.as_slice())?;
-            for table in circuit.tables.as_slice() {
-                left.push(table.output.copy(alloc)?)?;
-            }
-            Ok(left)
+            let latches = held(alloc, circuit.latches.as_slice())?;
+            Ok((latches, outputs(alloc, circuit.tables.as_slice())?))
         }
     }
 }
 
-/// Whether the need of the circuit of these parts leaves just this of it.
-fn leaves(
+/// The circuit of these parts.
+fn circuit(
     alloc: Global,
     outputs: &str,
     latches: &[&str],
     tables: &[&str],
     dont_care: &[&str],
-    wanted: &str,
-) -> Result<bool, AllocError> {
-    let circuit = Circuit {
+) -> Result<Circuit, AllocError> {
+    Ok(Circuit {
         name: Sequence::new(alloc),
-        inputs: names(alloc, "abt".as_bytes())?,
+        inputs: Sequence::new(alloc),
         outputs: names(alloc, outputs.as_bytes())?,
         clocks: Sequence::new(alloc),
         timing: None,
         latches: latches_of(alloc, latches)?,
         tables: tables_of(alloc, tables)?,
         dont_care: tables_of(alloc, dont_care)?,
-    };
-    let made = left(alloc, needed(alloc, &circuit)?)?;
-    Ok(made == names(alloc, wanted.as_bytes())?)
+    })
+}
+
+/// Whether the need of a circuit leaves just these latches and tables.
+fn leaves(
+    alloc: Global,
+    circuit: &Circuit,
+    latches: &str,
+    tables: &str,
+) -> Result<bool, AllocError> {
+    let next = needed(alloc, circuit)?;
+    let wanted = (
+        names(alloc, latches.as_bytes())?,
+        names(alloc, tables.as_bytes())?,
+    );
+    Ok(left(alloc, &next)? == wanted)
 }
 
 #[test]
-fn tables_that_lead_to_no_output_go(rt: HostRuntime) -> Result<(), Fail> {
+fn what_leads_nowhere_goes(rt: HostRuntime) -> Result<(), Fail> {
     let alloc = rt.alloc();
-    let all = leaves(alloc, "y", &[], &["xa", "yxb"], &[], "-")?;
-    let none = leaves(alloc, "", &[], &["uv", "vw", "wa"], &[], "")?;
-    let chain = leaves(alloc, "y", &[], &["wa", "vw", "za", "yv"], &[], "wvy")?;
-    assert!(rt; all && none && chain);
-    Ok(())
-}
-
-#[test]
-fn latches_that_lead_to_no_output_go(rt: HostRuntime) -> Result<(), Fail> {
-    let alloc = rt.alloc();
-    let itself = leaves(alloc, "y", &["rq"], &["ya", "rqa"], &[], "y")?;
-    let shown = leaves(alloc, "q", &["rq", "za"], &["rp", "pb", "zq"], &[], "qrp")?;
-    assert!(rt; itself && shown);
-    Ok(())
-}
-
-#[test]
-fn what_the_dont_care_part_reads_stays(rt: HostRuntime) -> Result<(), Fail> {
-    let alloc = rt.alloc();
-    let read = leaves(alloc, "y", &["rq"], &["ya", "raq", "za"], &["yqb"], "qyr")?;
-    let own = leaves(alloc, "y", &["rq"], &["ya", "ra"], &["qb", "yq"], "y")?;
-    assert!(rt; read && own);
+    // a table that no output reads, and a latch and a table that need each other alone
+    let first = circuit(alloc, "y", &["rq"], &["rqa", "yv", "va", "za"], &[])?;
+    assert!(rt; leaves(alloc, &first, "", "yv")?);
+    // a latch that the don't-care part reads, where no table of the part has its name
+    let second = circuit(alloc, "y", &["rq", "ap"], &["ya", "rb"], &["zqp", "pa"])?;
+    assert!(rt; leaves(alloc, &second, "q", "yr")?);
     Ok(())
 }
