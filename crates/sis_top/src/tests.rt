@@ -16,6 +16,7 @@ enum Failing {
 }
 
 /// What a call leaves: its status, the output, the error output and the files.
+#[derive(Drop)]
 struct Left {
     status: Status,
     out: MemSink,
