@@ -308,12 +308,12 @@ is_in_back xs ys place h = list_any-append (λ other. other == place) xs ys ∙ 
     or_true false = refl
 
 -- the list of the signal goes; where another one comes in its place, its readers have been put to those of that one
-pub map_listed : (name : List ℕ) (change : Change) (places : List ℕ) (lists new : List ℕ → Option (List ℕ)) (circuit : Circuit) → AreSound circuit.tables → is_apart name change ≡ true
-    → places ≡ listed (lists name) → AreListed lists circuit.tables
+pub map_listed : (name : List ℕ) (change : Change) (lists new : List ℕ → Option (List ℕ)) (circuit : Circuit) → AreSound circuit.tables → is_apart name change ≡ true
+    → AreListed lists circuit.tables
     → ((other : List ℕ) (place : ℕ) → bytes_eq name other ≡ false → is_in (listed (lists other)) place ≡ true → is_in (listed (new other)) place ≡ true)
-    → ((other : List ℕ) (place : ℕ) → IsComing change other → is_in places place ≡ true → is_in (listed (new other)) place ≡ true)
+    → ((other : List ℕ) (place : ℕ) (table : Table) → IsComing change other → slice_get circuit.tables place ≡ Some table → has table.inputs name ≡ true → is_in (listed (new other)) place ≡ true)
     → AreListed new (map (changed_by name change) circuit.tables)
-map_listed name change places lists new circuit sound apart taken all others coming place made x at reads =
+map_listed name change lists new circuit sound apart all others coming place made x at reads =
     let (table, here, is) = unmapped (changed_by name change) circuit.tables place made at in
     let reads_too : has (changed_by name change table).inputs x ≡ true = subst (λ (t : Table). has t.inputs x ≡ true) (sym is) reads in
     let once : all_different table.inputs ≡ true = all_at (λ (t : Table). all_different t.inputs ≡ true) circuit.tables place table sound.table_inputs_once here in
@@ -321,7 +321,7 @@ map_listed name change places lists new circuit sound apart taken all others com
     false≢true (sym (changed_without name change table apart once) ∙ subst (λ (n : List ℕ). has (changed_by name change table).inputs n ≡ true) (sym same) reads_too)) in
     elim (changed_reads name change table x reads_too) as (λ _. is_in (listed (new x)) place ≡ true) [
       | inl old ↦ others x place other (all place table x here old)
-      | inr come ↦ coming x place come.0 (subst (λ (ps : List ℕ). is_in ps place ≡ true) (sym taken) (all place table name here come.1))
+      | inr come ↦ coming x place table come.0 here come.1
     ]
 
 -- the list of a signal is taken out
@@ -529,30 +529,31 @@ bypass_turned circuit new place here input to name inverts at single t i is n ta
     ∙ (ap (λ (ch : Change). with_tables circuit (map (changed_by table.output ch) circuit.tables)) change
     ∙ sym (bypass_map circuit table input (ap (λ (t : Table). only_input t.inputs) (sym same) ∙ single))))
 
-pub mapped_others : (circuit new : Circuit) (name : List ℕ) (change : Change) (places : List ℕ) (lists : List ℕ → Option (List ℕ)) → places ≡ listed (lists name) → AreListed lists circuit.tables
+pub mapped_others : (circuit new : Circuit) (name : List ℕ) (change : Change) (places : List ℕ)
+    → ((place : ℕ) (table : Table) → slice_get circuit.tables place ≡ Some table → has table.inputs name ≡ true → is_in places place ≡ true)
     → new ≡ with_tables circuit (map (changed_by name change) circuit.tables) → AreSameBut places circuit.tables new.tables
-mapped_others circuit new name change places lists taken all n =
-    subst (λ (c : Circuit). AreSameBut places circuit.tables c.tables) (sym n)
-    (mapped_same_but name change places circuit.tables (λ place table at reads. subst (λ (ps : List ℕ). is_in ps place ≡ true) (sym taken) (all place table name at reads)))
+mapped_others circuit new name change places readers n =
+    subst (λ (c : Circuit). AreSameBut places circuit.tables c.tables) (sym n) (mapped_same_but name change places circuit.tables readers)
 
-pub put_listed : (circuit new : Circuit) (name : List ℕ) (bit : Bool) (places : List ℕ) (lists after : List ℕ → Option (List ℕ)) → AreSound circuit.tables → places ≡ listed (lists name) → AreListed lists circuit.tables
+pub put_listed : (circuit new : Circuit) (name : List ℕ) (bit : Bool) (lists after : List ℕ → Option (List ℕ)) → AreSound circuit.tables → AreListed lists circuit.tables
     → ((other : List ℕ) → after other ≡ (if bytes_eq name other then None else lists other)) → new ≡ with_tables circuit (map (changed_by name (Bit bit)) circuit.tables) → AreListed after new.tables
-put_listed circuit new name bit places lists after sound taken all rest n =
-    subst (λ (c : Circuit). AreListed after c.tables) (sym n) (map_listed name (Bit bit) places lists after circuit sound refl taken all (list_taken name lists after rest) (λ other place never. absurd never))
+put_listed circuit new name bit lists after sound all rest n =
+    subst (λ (c : Circuit). AreListed after c.tables) (sym n) (map_listed name (Bit bit) lists after circuit sound refl all (list_taken name lists after rest) (λ other place table never at reads. absurd never))
 
 pub is_apart_input : (circuit : Circuit) (place : ℕ) (here : Table) (input to name : List ℕ) (inverts : Bool) → AreSound circuit.tables → slice_get circuit.tables place ≡ Some here → only_input here.inputs ≡ Some input → to ≡ input
     → name ≡ here.output → is_apart name (Input to inverts) ≡ true
 is_apart_input circuit place here input to name inverts sound at single t is = rw (t, is, input_apart circuit place here input sound at single) refl
 
-pub bypass_listed : (circuit new : Circuit) (name input to : List ℕ) (inverts : Bool) (places more : List ℕ) (lists mid after : List ℕ → Option (List ℕ)) → AreSound circuit.tables → is_apart name (Input to inverts) ≡ true → to ≡ input
-    → places ≡ listed (lists name) → more ≡ places → AreListed lists circuit.tables → ((other : List ℕ) → mid other ≡ (if bytes_eq name other then None else lists other))
+pub bypass_listed : (circuit new : Circuit) (name input to : List ℕ) (inverts : Bool) (changed more : List ℕ) (lists mid after : List ℕ → Option (List ℕ)) → AreSound circuit.tables → is_apart name (Input to inverts) ≡ true → to ≡ input
+    → ((place : ℕ) (table : Table) → slice_get circuit.tables place ≡ Some table → has table.inputs name ≡ true → is_in changed place ≡ true) → more ≡ changed → AreListed lists circuit.tables
+    → ((other : List ℕ) → mid other ≡ (if bytes_eq name other then None else lists other))
     → ((other : List ℕ) → listed (after other) ≡ (if bytes_eq input other then listed (mid other) ++ more else listed (mid other)))
     → new ≡ with_tables circuit (map (changed_by name (Input to inverts)) circuit.tables) → AreListed after new.tables
-bypass_listed circuit new name input to inverts places more lists mid after sound apart t taken m all rest grows n =
+bypass_listed circuit new name input to inverts changed more lists mid after sound apart t readers m all rest grows n =
     subst (λ (c : Circuit). AreListed after c.tables) (sym n)
-    (map_listed name (Input to inverts) places lists after circuit sound apart taken all
+    (map_listed name (Input to inverts) lists after circuit sound apart all
     (λ other place not h. list_more input more mid after grows other place (list_taken name lists mid rest other place not h))
-    (λ other place come h. list_has input more mid after grows other place (come ∙ t) (subst (λ (ps : List ℕ). is_in ps place ≡ true) (sym m) h)))
+    (λ other place table come at reads. list_has input more mid after grows other place (come ∙ t) (subst (λ (ps : List ℕ). is_in ps place ≡ true) (sym m) (readers place table at reads))))
 
 -- where one table is replaced the readers stay listed
 pub tidy_listed : (circuit new : Circuit) (place : ℕ) (lists : List ℕ → Option (List ℕ)) → AreSound circuit.tables → place < length circuit.tables → AreListed lists circuit.tables
@@ -600,6 +601,38 @@ pub partly_ended : (name : List ℕ) (change : Change) (places : List ℕ) (i : 
     → new ≡ with_tables old (map (changed_by name change) old.tables)
 partly_ended name change places i old new le h all =
     partly_all name change places old new (subst (λ (ps : List ℕ). IsPartly (changed_by name change) ps old new) (take_all i places le) h) all
+
+-- the places of the tables that read a signal are noted
+abbrev pub AreNoted : List ℕ → List ℕ → List ℕ → List Table → Type 0
+AreNoted name done noted tables = (place : ℕ) (table : Table) → is_in done place ≡ true → slice_get tables place ≡ Some table → has table.inputs name ≡ true → is_in noted place ≡ true
+
+pub noted_none : (name noted : List ℕ) (tables : List Table) → AreNoted name [] noted tables
+noted_none name noted tables place table h at reads = absurd (false≢true h)
+
+pub noted_more : (turn : Table → Table) (name done more noted after : List ℕ) (place : ℕ) (is_read : Bool) (old now : Circuit) → IsPartly turn done old now → AreNoted name done noted old.tables
+    → is_read ≡ option_map_or (λ (table : Table). has table.inputs name) (slice_get now.tables place) false → after ≡ noted ++ (if is_read then place ∷ [] else [])
+    → ((other : ℕ) → is_in more other ≡ (is_in done other || (place == other))) → AreNoted name more after old.tables
+noted_more turn name done more noted after place is_read old now h all read grows_to grows other table within at reads =
+    ap (λ (ps : List ℕ). is_in ps other) grows_to ∙ by (is_in done other) refl (place == other) refl (sym (grows other) ∙ within)
+  where
+    reads_now : is_in done other ≡ false → place ≡ other → is_read ≡ true
+    reads_now new same =
+        read ∙ (ap (λ (n : ℕ). option_map_or (λ (t : Table). has t.inputs name) (slice_get now.tables n) false) same
+        ∙ (ap (λ (o : Option Table). option_map_or (λ (t : Table). has t.inputs name) o false)
+        (h.each other ∙ (ap (λ (b : Bool). if b then option_map turn (slice_get old.tables other) else slice_get old.tables other) new ∙ at)) ∙ reads))
+
+    by : (a : Bool) → is_in done other ≡ a → (b : Bool) → (place == other) ≡ b → (a || b) ≡ true → is_in (noted ++ (if is_read then place ∷ [] else [])) other ≡ true
+    by true e b f k = is_in_front noted (if is_read then place ∷ [] else []) other (all other table e at reads)
+    by false e true f k =
+        is_in_back noted (if is_read then place ∷ [] else []) other
+        (ap (λ (r : Bool). is_in (if r then place ∷ [] else []) other) (reads_now e (eqb-true place other f)) ∙ ap (λ (b : Bool). b || false) f)
+    by false e false f k = absurd (false≢true k)
+
+pub all_noted : (name places : List ℕ) (i : ℕ) (noted : List ℕ) (tables : List Table) → length places ≤ i → AreNoted name (take i places) noted tables
+    → ((place : ℕ) (table : Table) → slice_get tables place ≡ Some table → has table.inputs name ≡ true → is_in places place ≡ true)
+    → (place : ℕ) (table : Table) → slice_get tables place ≡ Some table → has table.inputs name ≡ true → is_in noted place ≡ true
+all_noted name places i noted tables le h readers place table at reads =
+    h place table (subst (λ (ps : List ℕ). is_in ps place ≡ true) (sym (take_all i places le)) (readers place table at reads)) at reads
 
 -- what holds where a call went well
 pub on_ok : {T E : Type 0} (r : Result T E) {A B : Type 0} → (A → B) → OnOk r A → OnOk r B

@@ -318,23 +318,37 @@ fn change_at(
     }
 }
 
-// Changes each table that reads a signal; all of them are among the places.
+// Notes a place where the table there was read.
+fn note_read(places: &mut Places, is_read: bool, place: usize) -> Result<(), AllocError>
+    ensures { OnOk result (places.new ≡ places.old ++ (if is_read then place ∷ [] else [])) }
+{
+    if is_read {
+        places.push(place)?;
+    }
+    Ok(())
+}
+
+// Changes each table that reads a signal, and tells their places; all of them are among those that are given.
 fn change_all(
     alloc: Global,
     circuit: &mut Circuit,
     places: &[usize],
     name: &Name,
     change: &Change,
-) -> Result<(), AllocError>
+) -> Result<Places, AllocError>
     requires sound { AreSound circuit.old.tables }
     requires apart { is_apart name.now change.now ≡ true }
     requires readers { (place : ℕ) (table : TheTable) → slice_get circuit.old.tables place ≡ Some table → has table.inputs name.now ≡ true → is_in places.now place ≡ true }
-    ensures { OnOk result (circuit.new ≡ tables_in circuit.old (map (changed_by name.now change.now) circuit.old.tables)) }
+    ensures changed { OnOk result (circuit.new ≡ tables_in circuit.old (map (changed_by name.now change.now) circuit.old.tables)) }
+    ensures readers { IfOk result (λ readers. (place : ℕ) (table : TheTable) → slice_get circuit.old.tables place ≡ Some table → has table.inputs name.now ≡ true → is_in readers place ≡ true) }
 {
+    let mut readers = Sequence::new(alloc);
     for place in places {
+        let is_read = is_reading(circuit, *place, name);
         change_at(alloc, circuit, *place, name, change)?;
+        note_read(&mut readers, is_read, *place)?;
     }
-    Ok(())
+    Ok(readers)
 }
 
 // Puts the constant at a place into the tables that read it.
@@ -357,8 +371,8 @@ fn put_at(
         Some(bit) => {
             let name = table.output.copy(alloc)?;
             let places = take_list(alloc, readers, &name);
-            change_all(alloc, circuit, places.as_slice(), &name, &Change::Bit(bit))?;
-            Ok(places)
+            let changed = change_all(alloc, circuit, places.as_slice(), &name, &Change::Bit(bit))?;
+            Ok(changed)
         }
     }
 }
@@ -385,9 +399,9 @@ fn bypass_at(
             let to = input.copy(alloc)?;
             let change = Change::Input(to, is_inverter(table));
             let places = take_list(alloc, readers, &name);
-            change_all(alloc, circuit, places.as_slice(), &name, &change)?;
-            add_readers(alloc, readers, &input, places.as_slice())?;
-            Ok(places)
+            let changed = change_all(alloc, circuit, places.as_slice(), &name, &change)?;
+            add_readers(alloc, readers, &input, changed.as_slice())?;
+            Ok(changed)
         }
     }
 }
