@@ -1,30 +1,28 @@
 -- Latches at places: where the tables stand, which latches always have one bit, and what the step does that fixes one.
-use Rattle.std.proofs.Common.{◌≡◌, ℕ, zero, suc, ◌+◌, ◌<◌, ◌≤◌, Bool, true, false, not, ◌&&◌, ◌||◌, ◌==◌, cond, if◌then◌else◌, Option, Some, None, is_some, List, [], ◌∷◌, ◌++◌, take, length, map, set, get_or, find, slice_get, bytes_eq, inl, inr, ◌⊎◌, refl, sym, ap, ◌∙◌, subst, arith}
-use Rattle.std.specs.Option.{option_map, option_map_or, option_or}
+use Rattle.std.proofs.Common.{◌≡◌, ℕ, zero, suc, ◌<◌, ◌≤◌, Bool, true, false, not, ◌&&◌, ◌||◌, ◌==◌, cond, if◌then◌else◌, Option, Some, None, is_some, List, [], ◌∷◌, ◌++◌, length, map, set, find, slice_get, bytes_eq, inl, inr, refl, sym, ap, ◌∙◌, subst, arith}
+use Rattle.std.specs.Option.{option_map_or}
 use Rattle.std.proofs.lemmas.Bool.{false≢true, eqb-true, eqb-false}
-use Rattle.std.proofs.lemmas.Option.{same_Some, slice_get-map}
+use Rattle.std.proofs.lemmas.Option.{same_Some}
 use Rattle.circuit_model.specs.Names.{has, all_different}
 use Rattle.circuit_model.specs.Values.{driver}
-use Rattle.circuit_model.specs.Soundness.{outputs_of, table_inputs, given, IsSound}
+use Rattle.circuit_model.specs.Soundness.{outputs_of, table_inputs, IsSound}
 use Rattle.circuit_model.specs.declared.circuit.Table.{Table}
 use Rattle.circuit_model.specs.declared.circuit.Latch.{Latch}
 use Rattle.circuit_model.specs.declared.circuit.Circuit.{Circuit}
-use Rattle.circuit_laws.specs.Edits.{constant_table, with_added, with_fixed, with_kept, with_replaced, with_tables, latches_kept, is_other, timing_with}
-use Rattle.circuit_laws.proofs.Names.{same_name, name_is, name_not, name_itself, has_head, different_head, different_tail, different_apart}
-use Rattle.circuit_laws.proofs.Drivers.{driver_name, driver_output, driver_none}
+use Rattle.circuit_laws.specs.Edits.{constant_table, with_added, latches_kept, is_other}
+use Rattle.circuit_laws.proofs.Names.{same_name, name_is, name_not, has_head, different_head, different_tail}
+use Rattle.circuit_laws.proofs.Drivers.{driver_name, driver_none}
 use Rattle.circuit_laws.proofs.Paths.{driver_added_other}
-use Rattle.circuit_laws.proofs.Places.{placed_driver, tables_stay, latches_stay}
+use Rattle.circuit_laws.proofs.Places.{placed_driver, latches_stay}
 use Rattle.net_core.proofs.Lookups.{get_set_same, get_set_other, get_push_at, get_push_left, get_push_cases}
 use Rattle.net_needed.specs.Places.{item_at, LeadsToTables}
-use Rattle.net_needed.proofs.Taking.{tables_differ, latches_differ}
+use Rattle.net_needed.proofs.Taking.{tables_differ}
 use Rattle.sweep_rules.specs.Points.{written_bit}
 use Rattle.sweep_rules.specs.Needed.{dont_care_reads}
-use Rattle.sweep_rules.specs.Rules.{tidy_rule, constant_rule, put_rule, bypass_rule, latch_rule, unwritten_bit, only_input, fixed_bit, with_latch_fixed, bit_from_start, starts_at, sweep_step}
+use Rattle.sweep_rules.specs.Rules.{fixed_bit, bit_from_start, starts_at}
 use Rattle.net_sweep.specs.declared.marks.Rule.{Rule}
-use Rattle.net_sweep.specs.declared.marks.Rule.TheVariants.{Tidy, Constant, Put, Bypass}
-use Rattle.net_sweep.specs.Settled.{passes, rule_turn, table_step, is_in, listed, AreListed, AreMarkedBy, AreMarked, AreSameBut, AreSound}
+use Rattle.net_sweep.specs.Settled.{rule_turn, is_in, listed, AreListed, AreMarkedBy, AreMarked, AreSameBut, AreSound}
 use Rattle.net_sweep.specs.Latches.{left_at, slot_bit, is_fixed, IsFirstFixed, IsPlaced, AreFed, IsBeside}
-use Rattle.net_sweep.proofs.Chaining.{table_step_is, other_step_is}
 use Rattle.net_sweep.proofs.Marking.{least_first, read_by, reads_at}
 use Rattle.net_sweep.proofs.Changing.{there, still_passes, turn_names, turn_cares}
 

@@ -1,9 +1,8 @@
 -- Steps of the first five rules, seen at the circuit with the latches that are left.
-use Rattle.std.proofs.Common.{◌≡◌, ℕ, ◌<◌, Bool, true, false, Option, Some, None, is_some, List, [], ◌∷◌, ◌++◌, length, map, set, find, slice_get, bytes_eq, refl, sym, ap, ◌∙◌, subst}
+use Rattle.std.proofs.Common.{◌≡◌, ℕ, ◌<◌, Bool, true, false, Option, Some, None, is_some, List, [], ◌∷◌, ◌++◌, length, map, set, find, slice_get, refl, sym, ap, ◌∙◌, subst}
 use Rattle.std.specs.Option.{option_map, option_map_or, option_or}
-use Rattle.std.proofs.lemmas.Bool.{false≢true}
-use Rattle.std.proofs.lemmas.Option.{same_Some, slice_get_within}
-use Rattle.circuit_model.specs.Names.{has, all_different}
+use Rattle.std.proofs.lemmas.Option.{slice_get_within}
+use Rattle.circuit_model.specs.Names.{has}
 use Rattle.circuit_model.specs.Runs.{latch_outputs}
 use Rattle.circuit_model.specs.Soundness.{outputs_of, given, IsSound}
 use Rattle.circuit_model.specs.declared.circuit.Table.{Table}
@@ -13,7 +12,7 @@ use Rattle.circuit_model.specs.declared.circuit.Circuit.{Circuit}
 use Rattle.circuit_laws.specs.Edits.{constant_table, with_added, with_fixed, with_kept, with_replaced, with_tables, tables_kept, latches_kept, is_other, timing_with}
 use Rattle.circuit_laws.proofs.Names.{has_not, different_apart}
 use Rattle.circuit_laws.proofs.Places.{tables_stay}
-use Rattle.net_needed.proofs.Taking.{tables_differ, latches_differ}
+use Rattle.net_needed.proofs.Taking.{latches_differ}
 use Rattle.sweep_rules.specs.Points.{written_bit}
 use Rattle.sweep_rules.specs.Rules.{tidy_rule, constant_rule, put_rule, bypass_rule, latch_rule, need_rule, unwritten_bit, only_input, fixed_bit, at_bit, rewired, is_inverter, with_latch_fixed, sweep_step}
 use Rattle.sweep_rules.proofs.Falling.{step_falls}
@@ -24,7 +23,7 @@ use Rattle.net_sweep.specs.declared.latches.Standing.{Standing}
 use Rattle.net_sweep.specs.declared.steps.Step.{Step}
 use Rattle.net_sweep.specs.declared.steps.Step.TheVariants.{Turn, Fix}
 use Rattle.net_sweep.specs.Settled.{passes, rule_turn, table_step, IsNext, HasLed, AreListed, AreMarked}
-use Rattle.net_sweep.specs.Latches.{left_at, with_latches, is_fixed, IsFirstFixed, IsNextStep, IsReady}
+use Rattle.net_sweep.specs.Latches.{left_at, with_latches, IsFirstFixed, IsNextStep, IsReady}
 use Rattle.net_sweep.proofs.Chaining.{not_yet, one_more, table_step_is, other_step_is}
 use Rattle.net_sweep.proofs.Latching.{fixed_same, found_left, none_left, left_has, left_cleared}
 

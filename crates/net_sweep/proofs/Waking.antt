@@ -1,8 +1,8 @@
 -- Places that wait, latches that are listed under their inputs, and tables that are placed, one after the other.
-use Rattle.std.proofs.Common.{◌≡◌, ℕ, zero, suc, ◌+◌, ◌<◌, ◌≤◌, ◌==◌, Bool, true, false, ◌||◌, if◌then◌else◌, Option, Some, None, is_some, List, [], ◌∷◌, ◌++◌, take, length, map, get_or, slice_get, bytes_eq, inl, inr, ◌⊎◌, refl, sym, ap, ◌∙◌, subst, arith}
+use Rattle.std.proofs.Common.{◌≡◌, ℕ, zero, suc, ◌+◌, ◌<◌, ◌≤◌, ◌==◌, Bool, true, false, ◌||◌, if◌then◌else◌, Option, Some, None, is_some, List, [], ◌∷◌, ◌++◌, take, length, map, get_or, slice_get, bytes_eq, inl, inr, refl, sym, ap, ◌∙◌, subst, arith}
 use Rattle.std.proofs.lemmas.List.{take_all, take_more}
 use Rattle.std.proofs.lemmas.Bool.{false≢true, eqb-true}
-use Rattle.std.proofs.lemmas.Option.{same_Some, slice_get_within}
+use Rattle.std.proofs.lemmas.Option.{slice_get_within}
 use Rattle.std.proofs.lemmas.List.Folds.{list_any_more}
 use Rattle.circuit_model.specs.Names.{has, all_different}
 use Rattle.circuit_model.specs.Soundness.{outputs_of}
@@ -16,7 +16,7 @@ use Rattle.net_sweep.specs.Settled.{is_in, listed, AreMarkedBy}
 use Rattle.net_sweep.specs.Latches.{left_at, is_fixed, IsPlaced, AreFed, IsBeside}
 use Rattle.net_sweep.proofs.Marking.{taken_cases, listed_none, listed_more, listed_kept}
 use Rattle.net_sweep.proofs.Changing.{unmapped}
-use Rattle.net_sweep.proofs.Latching.{placed_more, at_has}
+use Rattle.net_sweep.proofs.Latching.{placed_more}
 
 -- places are put in one by one
 pub record HasPut (places : List ℕ) (before after : ℕ → Bool) : Type 0 where

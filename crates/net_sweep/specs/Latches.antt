@@ -2,7 +2,7 @@
 -- others; and what is kept to see soon which of them always has one bit.
 -- Source: De Micheli, "Synthesis and Optimization of Digital Circuits", chapter 9 (removal of registers that hold a
 -- constant); the SIS manual (UCB/ERL M92/41), `sweep`.
-use Rattle.std.specs.Prelude.{◌≡◌, ℕ, Bool, true, false, Option, Some, None, is_some, List, [], ◌∷◌, find, slice_get, bytes_eq}
+use Rattle.std.specs.Prelude.{◌≡◌, ℕ, Bool, true, Option, Some, None, is_some, List, [], ◌∷◌, find, slice_get, bytes_eq}
 use Rattle.std.specs.Ordering.{nat_cmp}
 use Rattle.std.specs.BTreeSet.{contains}
 use Rattle.indexmap.specs.IndexMap.{get}
@@ -12,7 +12,7 @@ use Rattle.circuit_model.specs.declared.circuit.Latch.{Latch}
 use Rattle.circuit_model.specs.declared.circuit.Circuit.{Circuit}
 use Rattle.circuit_laws.specs.Edits.{timing_with}
 use Rattle.sweep_rules.specs.Needed.{dont_care_reads}
-use Rattle.sweep_rules.specs.Rules.{fixed_bit, latch_rule}
+use Rattle.sweep_rules.specs.Rules.{fixed_bit}
 use Rattle.net_sweep.specs.Settled.{is_in, listed, table_step, IsNext, AreMarkedBy}
 use Rattle.net_sweep.specs.declared.latches.Standing.{Standing}
 use Rattle.net_sweep.specs.declared.steps.Step.{Step}

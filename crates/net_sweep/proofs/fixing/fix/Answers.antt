@@ -1,4 +1,4 @@
-use Rattle.std.proofs.Common.{ℕ, List, true, bytes_eq, ap, ◌∙◌, sym, subst}
+use Rattle.std.proofs.Common.{bytes_eq}
 use Rattle.std.specs.Ordering.{nat_cmp}
 use Rattle.std.specs.BTreeSet.{contains}
 use Rattle.indexmap.specs.IndexMap.{get}

@@ -1,8 +1,8 @@
-use Rattle.std.proofs.Common.{None, subst, bytes_eq}
+use Rattle.std.proofs.Common.{bytes_eq}
 use Rattle.indexmap.specs.IndexMap.{get}
 use Rattle.net_needed.proofs.Taking.{tables_differ}
 use Rattle.net_sweep.specs.Settled.{marked_in}
-use Rattle.net_sweep.specs.Latches.{left_at, with_latches, IsNextStep}
+use Rattle.net_sweep.specs.Latches.{left_at, with_latches}
 use Rattle.net_sweep.proofs.Changing.{on_value}
 use Rattle.net_sweep.proofs.Latching.{sound_tables}
 use Rattle.net_sweep.proofs.Stepping.{settling_none, settling_more, settling_falls, none_next, settled_led, settled_tables, settled_latches}
