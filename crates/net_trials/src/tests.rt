@@ -7,7 +7,7 @@ ghost use Rattle.net_core.specs.Reads.{HasBounds};
 
 use blif_read::read;
 use blif_write::{latches_text, tables_text};
-use circuit_model::{Circuit, Name, Names};
+use circuit_model::{Bits, Circuit, Name, Names};
 use cube_cover::PlainRow;
 use net_core::Network;
 use net_sweep::{SweepFault, Swept, sweep};
@@ -67,7 +67,7 @@ fn swept(alloc: Global, text: &str) -> Result<(Result<Swept, SweepFault>, Vec<u8
 }
 
 /// A text, the text of its latches and tables when it is swept, and how many tables and latches went.
-const SWEPT: [(&str, &str, usize, usize); 10] = [
+const SWEPT: [(&str, &str, usize, usize); 16] = [
     // an inverter is put into its reader, whose literal turns over
     (
         ".inputs a b c\n.outputs y\n.names a b x\n11 1\n.names x n\n0 1\n.names n c y\n11 1\n",
@@ -138,6 +138,48 @@ const SWEPT: [(&str, &str, usize, usize); 10] = [
         1,
         1,
     ),
+    // a chain of latches of which each takes what the one before holds
+    (
+        ".outputs r\n.latch b q 0\n.latch d r 2\n.names k\n.names k b\n1 1\n.names q d\n1 1\n",
+        ".names r\n",
+        3,
+        2,
+    ),
+    // the latch in front waits for the one behind it
+    (
+        ".outputs p q\n.latch q p 1\n.latch k q 1\n.latch k r 1\n.names p y\n1 1\n.names k\n1\n.names r z\n1 1\n",
+        ".names q\n1\n.names p\n1\n",
+        3,
+        3,
+    ),
+    // a latch that starts at the other bit
+    (
+        ".outputs q\n.latch k q 0\n.names k\n1\n",
+        ".latch k q 0\n.names k\n1\n",
+        0,
+        0,
+    ),
+    // a latch that takes an input, and one that takes itself
+    (
+        ".inputs a\n.outputs q r\n.latch a q 1\n.latch r r 0\n",
+        ".latch a q 1\n.latch r r 0\n",
+        0,
+        0,
+    ),
+    // a latch whose input is found to be constant
+    (
+        ".inputs a\n.outputs q\n.latch x q 0\n.names a n\n0 1\n.names a n x\n11 1\n",
+        ".names q\n",
+        2,
+        1,
+    ),
+    // latches one behind the other, of which an output shows the last
+    (
+        ".inputs a t\n.outputs q\n.latch r s 1\n.latch p q 0\n.latch s p 2\n.latch t o 1\n.names a r\n1 1\n",
+        ".latch r s 1\n.latch p q 0\n.latch s p 2\n.names a r\n1 1\n",
+        0,
+        1,
+    ),
 ];
 
 #[test]
@@ -187,5 +229,38 @@ fn lists_tables(rt: HostRuntime) -> Result<(), Fail> {
     let text =
         ".inputs a b c\n.outputs w z\n.names c x z\n1- 1\n-0 1\n.names x c w\n11 0\n.names a b c x\n1-0 1\n010 1\n";
     assert_eq!(rt; readers(alloc, text, "x")?, names(alloc, &["z", "w"])?);
+    Ok(())
+}
+
+/// Rows of input bits.
+fn bits(alloc: Global, rows: &[&[bool]]) -> Result<Sequence<Bits>, AllocError> {
+    let mut made = Sequence::new(alloc);
+    for row in rows {
+        made.push(Sequence::from_vec(row.to_vec(alloc)?))?;
+    }
+    Ok(made)
+}
+
+/// What the outputs of a text's circuit without latches show over rows of input bits.
+fn shown(alloc: Global, text: &str, rows: &[&[bool]]) -> Result<String, AllocError> {
+    let circuit = circuit(alloc, text)?;
+    let rows = bits(alloc, rows)?;
+    let shown = circuit.simulate(alloc, &[], rows.as_slice());
+    format!(in alloc; "{shown:?}")
+}
+
+#[test]
+fn rows_of_phase_0_are_the_off_set(rt: HostRuntime) -> Result<(), Fail> {
+    let rows: [&[bool]; 4] = [
+        &[false, false],
+        &[false, true],
+        &[true, false],
+        &[true, true],
+    ];
+    let nand = ".inputs a b\n.outputs y\n.names a b y\n11 0\n";
+    assert_eq!(rt;
+        shown(rt.alloc(), nand, rows.as_slice())?.as_str(),
+        "Ok([[One], [One], [One], [Zero]])"
+    );
     Ok(())
 }
