@@ -1,5 +1,5 @@
 -- The bounds of the circuits that are held.
-use Rattle.std.proofs.Common.{ℕ, ◌+◌, ◌-◌, ◌<◌, ◌≤◌, ◌^◌, List, [], ◌∷◌, length, arith}
+use Rattle.std.proofs.Common.{◌-◌, ◌≤◌, ◌^◌, List, [], ◌∷◌, length, arith}
 use Rattle.std.specs.List.{AllByRecursion}
 use Rattle.circuit_model.specs.Counts.{IsSmallTable, IsWithinLimits}
 use Rattle.circuit_model.specs.declared.circuit.Table.{Table}

@@ -23,7 +23,7 @@ use Rattle.sis_script.specs.declared.command.Op.{Op}
 use Rattle.sis_script.specs.declared.command.Op.TheVariants.{Echo, Quit, ReadBlif, WriteBlif, PrintStats, Print, PrintLatch, Sweep, Undo, Bad}
 use Rattle.sis_session.specs.Keeping.{RefinesSpec, IsRefined, IsWritten}
 use Rattle.sis_session.specs.State.{Held, changed, exchanged, nothing_held}
-use Rattle.sis_session.specs.Outcome.{MAX_BYTES, Effect, Outcome, Does, Refuses, changes, replies, takes, read_by, read_outcome, quit_outcome, stats_outcome, print_outcome, named_outcome, latch_outcome, SweepsTo, undo_outcome, write_outcome, sent_to}
+use Rattle.sis_session.specs.Outcome.{MAX_BYTES, Effect, Does, Refuses, changes, replies, takes, read_by, read_outcome, quit_outcome, stats_outcome, print_outcome, named_outcome, latch_outcome, SweepsTo, undo_outcome, write_outcome, sent_to}
 use Rattle.sis_session.specs.Step.{Step}
 use Rattle.sis_session.specs.declared.refusal.Refusal.TheVariants as refusal
 

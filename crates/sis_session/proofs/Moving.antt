@@ -1,5 +1,5 @@
 -- What a command does to what is held, whatever becomes of files and output.
-use Rattle.std.proofs.Common.{◌≡◌, ℕ, zero, suc, ◌+◌, ◌<◌, ◌≤◌, false, List, [], ◌∷◌, length, refl, sym, subst, ◌∙◌, ap, inl, inr, arith, cond, true}
+use Rattle.std.proofs.Common.{◌≡◌, ℕ, zero, suc, ◌<◌, ◌≤◌, false, List, [], ◌∷◌, length, refl, sym, subst, ◌∙◌, ap, inl, inr, arith, cond, true}
 use Rattle.std.specs.Prelude.{◌⊎◌, IsTrue, Result, Ok, Err, Option, Some, None, if◌then◌else◌}
 use Rattle.std.specs.FinMap.{empty, get-empty, get-insert}
 use Rattle.std.proofs.lemmas.Bool.{le-leb, lt-leb}

@@ -1,5 +1,5 @@
 -- A command has one outcome.
-use Rattle.std.proofs.Common.{◌≡◌, ℕ, List, [], ◌∷◌, sym, ap, subst, ◌∙◌}
+use Rattle.std.proofs.Common.{◌≡◌, List, [], ◌∷◌, sym, ap, subst, ◌∙◌}
 use Rattle.std.specs.Prelude.{Option, Some, None}
 use Rattle.sis_outside.specs.Files.{Files}
 use Rattle.circuit_model.specs.declared.circuit.Circuit.{Circuit}

@@ -14,7 +14,7 @@ use Rattle.blif_read.specs.declared.fault.ReadFault.{ReadFault}
 use Rattle.blif_read.specs.declared.fault.ReadFault.TheVariants as reading
 use Rattle.sis_script.specs.declared.command.Op.{Op}
 use Rattle.sis_session.specs.State.{Held, just_read, exchanged}
-use Rattle.sis_session.specs.Outcome.{MAX_BYTES, Call, Save, Put, Effect, Outcome, Does, Refuses, put_of, replies, if_loaded}
+use Rattle.sis_session.specs.Outcome.{MAX_BYTES, Call, Save, Put, Effect, Outcome, Does, Refuses, replies, if_loaded}
 use Rattle.sis_session.specs.Step.{Step, loads}
 use Rattle.sis_session.specs.declared.refusal.Next.{Next}
 use Rattle.sis_session.specs.declared.refusal.Next.TheVariants.{Go}

@@ -1,7 +1,7 @@
 -- How one command ends: it is refused, or it is done with an effect.
 -- Source: the SIS manual (UCB/ERL M92/41), the commands one by one; the order of refusals is the project's own: a
 -- command's words, then the parts that it needs, then names, then the file that it loads, then what is read of it.
-use Rattle.std.specs.Prelude.{◌≡◌, ℕ, Bool, Option, Some, None, Result, Ok, Err, List, [], ◌∷◌, length, nat_le, flat_map, map, if◌then◌else◌}
+use Rattle.std.specs.Prelude.{◌≡◌, ℕ, Option, Some, None, Result, Ok, Err, List, [], ◌∷◌, length, nat_le, flat_map, map, if◌then◌else◌}
 use Rattle.sis_base.specs.Written.{lines_text}
 use Rattle.sis_text.specs.Entries.{entries_of}
 use Rattle.circuit_model.specs.Text.{text_of, table_lines, latch_line}

@@ -9,7 +9,7 @@ use Rattle.sis_script.specs.declared.command.Command.{Command}
 use Rattle.sis_session.proofs.Effects.{refined_step, refined_nothing, written_step}
 use Rattle.sis_session.specs.Outcome.{Effect, Outcome, Does, Refuses}
 use Rattle.sis_session.specs.Step.{Step}
-use Rattle.sis_top.specs.Run.{Place, Machine, Advances, MayAdvance, AdvancesBy, Reaches, MayReach, Runs, place_after, after, history_with, start}
+use Rattle.sis_top.specs.Run.{Place, Machine, Advances, MayAdvance, AdvancesBy, Reaches, MayReach, Runs, after, history_with, start}
 use Rattle.sis_top.specs.Source.{Seen, script_commands}
 use Rattle.sis_top.specs.Headline.{Counts, EndsAt, Writes, IsFaithful, IsRefinedAt, begun}
 use Rattle.sis_top.specs.declared.status.Status.{Status}

@@ -1,17 +1,14 @@
 -- The history of what was written only grows, and has each circuit that was written.
-use Rattle.std.proofs.Common.{◌≡◌, ℕ, zero, suc, Bool, true, false, List, [], ◌∷◌, ◌++◌, refl, sym, ap, subst, ◌∙◌}
+use Rattle.std.proofs.Common.{◌≡◌, ℕ, zero, suc, Bool, List, [], ◌∷◌, ◌++◌, refl, sym, ap, subst, ◌∙◌}
 use Rattle.std.proofs.lemmas.List.{append_assoc, append-nil}
-use Rattle.std.specs.Prelude.{Option, Some, None, if◌then◌else◌}
+use Rattle.std.specs.Prelude.{Option, Some, None}
 use Rattle.circuit_model.specs.Text.{text_of}
 use Rattle.circuit_model.specs.declared.circuit.Circuit.{Circuit}
-use Rattle.sis_script.specs.declared.command.Op.{Op}
 use Rattle.sis_script.specs.declared.command.Op.TheVariants.{WriteBlif}
 use Rattle.sis_script.specs.declared.command.Command.{Command}
-use Rattle.sis_session.specs.State.{Held}
-use Rattle.sis_session.specs.Outcome.{Call, Effect, Outcome, Does, Refuses, changes, write_outcome, sent_to}
-use Rattle.sis_session.specs.Step.{Step}
+use Rattle.sis_session.specs.Outcome.{Call, Outcome, Does, Refuses, write_outcome, sent_to}
 use Rattle.sis_top.specs.Headline.{IsRemembered}
-use Rattle.sis_top.specs.Run.{Writing, Place, Machine, Advances, AdvancesBy, Reaches, Runs, after, place_after, history_with}
+use Rattle.sis_top.specs.Run.{Writing, Place, Machine, Advances, AdvancesBy, Reaches, Runs, after, history_with}
 
 -- a history with more behind it
 abbrev Grows : List Writing → List Writing → Type 0

@@ -3,7 +3,6 @@ use Rattle.std.proofs.Common.{◌≡◌, ℕ, zero, suc, Bool, List, [], ◌∷�
 use Rattle.sis_script.specs.declared.command.Command.{Command}
 use Rattle.sis_session.proofs.Once.{steps_once}
 use Rattle.sis_session.specs.Outcome.{Outcome}
-use Rattle.sis_session.specs.Step.{Step}
 use Rattle.sis_top.specs.Run.{Place, Machine, Advances, AdvancesBy, Reaches, Runs, after}
 
 -- a machine advances to one machine, and to none where no command is left
