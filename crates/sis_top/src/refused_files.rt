@@ -89,7 +89,7 @@ const FILES: [(&str, &str, usize, &str, &str); 38] = [
     (".names a y\n1 1\n11 0\n", "", 0, "", "line 3: bad row"),
     (".names y\n", "1\n", 32767, "11\n", "line 32769: bad row"),
     (".names y\n", "1\n", 32767, "0\n", "line 32769: mixed phase"),
-    (".latch n n ", "n", 1024, "\n", "line 1: bad latch"),
+    (".latch ", "n", 1024, " q 4\n", "line 1: bad latch"),
     (".inputs\n.model ", "n", 1024, "\n", "line 2: second model"),
     (
         "",
