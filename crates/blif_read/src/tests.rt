@@ -242,7 +242,7 @@ const LONG_TEXTS: [(&str, &str, usize, &str, &str); 15] = [
     (".model b ", "n", 1024, "\n", "arity 1"),
     (".end\n.outputs ", "n", 1024, "\n", "word 2"),
     (".latch n ", "n", 1024, " 3\n", "long 1024"),
-    (".latch n n ", "n", 1024, "\n", "latch 1"),
+    (".latch ", "n", 1024, " q 4\n", "latch 1"),
     (".inputs a\n.names", " a", 1000, " y\n", "ok"),
     (".inputs a\n.names", " a", 1001, " y\n", "inputs 1001"),
     ("", ".latch n n\n", 65536, "", "tables 65536"),

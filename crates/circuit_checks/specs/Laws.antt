@@ -1,4 +1,7 @@
 -- What the checks say about names and tables where they find nothing, and that they find nothing where it holds.
+-- Source: BLIF appendix of the SIS report (UCB/ERL M92/41): each signal has one driver and the tables of a model form no
+-- cycle; that a walk over a finite graph finds each cycle is Tarjan's "Depth-First Search and Linear Graph Algorithms"
+-- (SIAM Journal on Computing, 1972).
 use Rattle.std.specs.Prelude.{◌≡◌, ◌↔◌, ℕ, suc, true, None, List, ◌++◌}
 use Rattle.std.specs.List.{AllByRecursion}
 use Rattle.circuit_model.specs.Names.{has, all_different}

@@ -20,7 +20,7 @@ literals_of_row row = count_by is_literal row
 unfoldable pub literals_of_table : Table → ℕ
 literals_of_table table = sum_by literals_of_row table.rows
 
--- the literals in all rows of all tables outside the don't-care part
+-- how many literals the circuit's own tables have in all; those of the don't-care part count for nothing
 unfoldable pub literals_of : Circuit → ℕ
 literals_of circuit = sum_by literals_of_table circuit.tables
 

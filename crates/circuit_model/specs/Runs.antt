@@ -1,7 +1,8 @@
 -- A circuit as a machine: its steps, its start states, its runs, and when one circuit refines another.
 -- Source: BLIF appendix of the SIS report (UCB/ERL M92/41), `.latch` and `.exdc`; De Micheli, "Synthesis and
 -- Optimization of Digital Circuits", chapter 9 (synchronous circuits as finite-state machines).
--- A leaf is an input or a latch output. A state has a bit for each latch, an input row one for each input.
+-- Leaves are what tables take from outside them: the inputs and what the latches hold. A row gives the inputs' bits, a
+-- state those of the latches, each in the order of its list.
 use Rattle.std.specs.Prelude.{◌≡◌, ℕ, zero, suc, Bool, true, false, Option, Some, None, List, [], ◌∷◌, map, length, bytes_eq, if◌then◌else◌}
 use Rattle.std.specs.List.{AllZip, AllByRecursion}
 use Rattle.std.specs.Option.{option_or}
@@ -28,7 +29,7 @@ leaves_of circuit state row name = option_or (bit_of circuit.inputs row name) (b
 unfoldable pub value_in : Circuit → List Bool → List Bool → List ℕ → Bool
 value_in circuit state row signal = signal_value circuit.tables (leaves_of circuit state row) signal
 
--- an output is free where its don't-care table is 1
+-- whether the don't-care part leaves an output open here: it has a table of that name, and this table is 1
 unfoldable pub is_free : Circuit → List Bool → List Bool → List ℕ → Bool
 is_free circuit state row output = is_free_under circuit.dont_care (leaves_of circuit state row) output
 
@@ -75,8 +76,8 @@ MeetsAll asked shown = AllZip (AllZip Meets) asked shown
 abbrev pub IsInputRow : Circuit → List Bool → Type 0
 IsInputRow circuit row = length row ≡ length circuit.inputs
 
--- a circuit refines another one: the ports have the same names in the same order, and for each start of the
--- circuit there is a start of the other such that, for every list of input rows, its run meets the other's
+-- the second circuit may stand for the first, which was asked for: it has the first one's ports, in order, and wherever
+-- it starts, the first has a start from which no list of input rows leads it to a run that the second does not meet
 pub record Refines (asked circuit : Circuit) : Type 0 where
   pub inputs : asked.inputs ≡ circuit.inputs
   pub outputs : asked.outputs ≡ circuit.outputs

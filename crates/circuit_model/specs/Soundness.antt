@@ -60,17 +60,15 @@ unfoldable pub IsAcyclic : List Table → Type 0
 IsAcyclic tables =
     (signal : List ℕ) (steps : ℕ) → Leads tables (suc steps) signal signal → ⊥
 
--- each row has one character for each input, and a table without rows has phase 1
+-- rows are as long as the list of inputs; without rows only phase 1 is written
 abbrev pub IsShaped : Table → Type 0
 IsShaped table = AllByRecursion (λ (row : List Tri). length row ≡ length table.inputs) table.rows × (table.rows ≡ [] → table.phase ≡ true)
 
--- A circuit is sound where: its names are words; no port list names a signal twice; each signal has at most one
--- driver, and exactly one where a table, latch or output reads it; each init is at most 3; there is timing only
--- where a latch stands; each table's rows have one character for each input, and its phase is 1 where there are no
--- rows; each own table has each input once; no table is reached from itself; no table or latch drives the control,
--- and it is not named `NIL`, which means none; in the don't-care part no two tables have one output, each name
--- that is read is one of the part's tables or a leaf, no table is reached from itself, and rows and phases are as
--- above.
+-- What a circuit must meet to mean something. Names: all are words, and port lists repeat none. Drivers: nothing is driven
+-- twice, whatever a table, a latch or an output takes is driven, and signals do not lead back to themselves. Tables: all
+-- are shaped, and the circuit's own repeat no input. Latches: an init goes up to 3; timing goes with latches alone, and
+-- its control is driven by none of them and by no table, and is not `NIL`, the word for none. The don't-care part: as for
+-- tables, but that what it takes is its own or a leaf, and that it may repeat inputs.
 pub record IsSound (circuit : Circuit) : Type 0 where
   pub words : AllByRecursion (λ name. is_word name ≡ true) (all_names circuit)
   pub inputs_once : all_different circuit.inputs ≡ true

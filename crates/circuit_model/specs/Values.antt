@@ -14,7 +14,8 @@ literal_of Zero = Some false
 literal_of One = Some true
 literal_of Free = None
 
--- the value of a table where its inputs have these bits: the phase where some row matches, else the other bit
+-- what a table is worth at a point, which gives its inputs' bits in order: where a row takes the point in, the bit that
+-- is its phase
 unfoldable pub table_value : Table → List Bool → Bool
 table_value table point = value_by_phase table.phase (map (map literal_of) table.rows) point
 

@@ -6,3 +6,4 @@ pub mod Counting
 pub mod NewNames
 pub mod Tidied
 pub mod Sounds
+pub mod Bounds

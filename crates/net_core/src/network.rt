@@ -167,20 +167,22 @@ fn drop_timing(latches: &[Latch], timing: &mut Option<Timing>)
 }
 
 impl<R: Row> Network<R> {
-    /// The network of a sound circuit; an error only for want of memory.
-    pub fn from_circuit(alloc: Global, circuit: &Circuit) -> Result<Network<R>, AllocError>
-        requires { IsSound circuit.now }
-        ensures { IfOk result (λ network. network ≡ circuit.now) }
+    /// The network of a sound circuit, whose parts move over; the covers of its tables are made, and an error comes only
+    /// for want of memory for them.
+    pub fn from_circuit(alloc: Global, circuit: Circuit) -> Result<Network<R>, AllocError>
+        requires { IsSound circuit }
+        ensures { IfOk result (λ network. network ≡ circuit) }
     {
+        let tables = tables_from(alloc, circuit.tables.as_slice())?;
         Ok(Network {
-            name: circuit.name.copy(alloc)?,
-            inputs: circuit.inputs.copy(alloc)?,
-            outputs: circuit.outputs.copy(alloc)?,
-            clocks: circuit.clocks.copy(alloc)?,
-            timing: timing_copied(alloc, &circuit.timing)?,
-            latches: circuit.latches.copy(alloc)?.into_vec(),
-            tables: tables_from(alloc, circuit.tables.as_slice())?,
-            dont_care: circuit.dont_care.copy(alloc)?,
+            name: circuit.name,
+            inputs: circuit.inputs,
+            outputs: circuit.outputs,
+            clocks: circuit.clocks,
+            timing: circuit.timing,
+            latches: circuit.latches.into_vec(),
+            tables,
+            dont_care: circuit.dont_care,
         })
     }
 

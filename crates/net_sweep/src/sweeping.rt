@@ -104,8 +104,8 @@ pub fn sweep<R: Row>(alloc: Global, network: &mut Network<R>) -> Result<Swept, S
     let tables = outputs(alloc, circuit.tables.as_slice())?;
     let latches = circuit.latches.len();
     let end = finished::<R>(alloc, circuit)?;
-    let made = Network::from_circuit(alloc, &end)?;
     let swept = gone(alloc, tables.as_slice(), latches, &end)?;
+    let made = Network::from_circuit(alloc, end)?;
     *network = made;
     Ok(swept)
 }

@@ -2,7 +2,7 @@
 
 ghost use Rattle.std.specs.Prelude.{◌≡◌, ℕ, true, false, List, map};
 ghost use Rattle.circuit_model.specs.Names.{has};
-ghost use Rattle.circuit_model.specs.Soundness.{outputs_of, table_inputs, latch_inputs};
+ghost use Rattle.circuit_model.specs.Soundness.{outputs_of, table_inputs};
 ghost use Rattle.circuit_model.specs.declared.circuit.Latch.{Latch as TheLatch};
 ghost use Rattle.circuit_laws.specs.Edits.{is_other, constant_table};
 ghost use Rattle.circuit_laws.specs.Kept.{IsClosed};

@@ -41,12 +41,12 @@ pub(crate) fn circuit(alloc: Global, text: &str) -> Result<Circuit, AllocError>
 }
 
 /// The network of a text.
-#[tactic(auto, using(crate::proofs::Bounds::bounds_read))]
+#[tactic(auto, using(net_core::proofs::Bounds::bounds_read))]
 pub(crate) fn network(alloc: Global, text: &str) -> Result<Network<PlainRow>, AllocError>
     ensures { IfOk result (λ network. HasBounds network) }
 {
     let circuit = circuit(alloc, text)?;
-    Network::from_circuit(alloc, &circuit)
+    Network::from_circuit(alloc, circuit)
 }
 
 /// The text of a network's latches and tables.

@@ -23,7 +23,7 @@ unfoldable pub some_matches : List (List (Option Bool)) → List Bool → Bool
 some_matches [] point = false
 some_matches (row ∷ rows) point = matches row point || some_matches rows point
 
--- the phase where some row matches, else the other bit
+-- a phase, turned over unless a row matched
 abbrev pub phase_value : Bool → Bool → Bool
 phase_value true matched = matched
 phase_value false matched = not matched

@@ -1,6 +1,6 @@
 -- The commands of a script.
 -- Source: the SIS manual's command language (UCB/ERL M92/41): commands are parted by `;` and line ends, words by
--- blanks, and `#` begins a comment. There is no quoting. The words behind a command's name are judged from left to
+-- blanks, and `#` begins a comment. No quotes or escapes. The words behind a command's name are judged from left to
 -- right, and the first that is wrong counts; that a word lacks is found behind the last.
 use Rattle.std.specs.Prelude.{ℕ, Bool, false, not, ◌==◌, ◌&&◌, Option, Some, None, List, [], ◌∷◌, bytes_eq, codes, if◌then◌else◌}
 use Rattle.std.specs.Str.{is_utf8}

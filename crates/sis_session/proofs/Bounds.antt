@@ -1,7 +1,6 @@
 -- The bounds of the circuits that are held.
 use Rattle.std.proofs.Common.{◌-◌, ◌≤◌, ◌^◌, List, [], ◌∷◌, length, arith}
 use Rattle.std.specs.List.{AllByRecursion}
-use Rattle.circuit_model.specs.Counts.{IsSmallTable, IsWithinLimits}
 use Rattle.circuit_model.specs.declared.circuit.Table.{Table}
 use Rattle.circuit_model.specs.declared.circuit.Circuit.{Circuit}
 use Rattle.net_core.specs.Reads.{IsBounded, HasBounds}
@@ -9,14 +8,6 @@ use Rattle.circuit_laws.specs.Chains.{Chain}
 use Rattle.sweep_rules.specs.Keeping.{IsNoLarger}
 use Rattle.sweep_rules.specs.Rules.{sweep_step}
 use Rattle.sweep_rules.proofs.Larger.{chain_no_larger}
-
-small_bounded : (tables : List Table) → AllByRecursion IsSmallTable tables → AllByRecursion IsBounded tables
-small_bounded [] h = tt
-small_bounded (table ∷ tables) h = (record { rows = omega (arith, h.0.rows); inputs = omega (arith, h.0.inputs) }, small_bounded tables h.1)
-
--- what is read keeps the bounds
-pub bounds_read : (circuit : Circuit) → IsWithinLimits circuit → HasBounds circuit
-bounds_read circuit h = record { nodes = omega (arith, h.nodes); tables = small_bounded circuit.tables h.tables }
 
 -- rows and inputs that are few enough, as greatest numbers
 rows_within : (tables : List Table) → AllByRecursion IsBounded tables → AllByRecursion (λ (table : Table). length table.rows ≤ 2 ^ 29 - 1) tables

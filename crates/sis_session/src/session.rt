@@ -1,7 +1,7 @@
 //! The session: what is held between two commands, and one step of the command machine.
 //!
-//! Every answer but `Ok` leaves the session as it was: the new parts are built beside the old ones, then the
-//! call on the outside is made, then the parts change places by moves.
+//! Only `Ok` changes what is held. What a command makes is made first and told to the outside next; it is moved in last,
+//! when nothing can fail any more.
 
 ghost use Rattle.std.specs.Prelude.{◌≡◌, ℕ, List, IsTrue, IfOk, IfSome, OnErr, false, true, option_map};
 ghost use Rattle.sis_outside.specs.Files.{Files, file_at};
@@ -84,12 +84,12 @@ impl Session {
     }
 
     /// Reads bytes as the network; after an error the session is as before.
-    #[tactic(auto, using(crate::proofs::Bounds::bounds_read))]
+    #[tactic(auto, using(net_core::proofs::Bounds::bounds_read))]
     pub fn read(&mut self, alloc: Global, bytes: &[u8]) -> Result<(), ReadFault>
         ensures { HasRead bytes.now self.old result self.new }
     {
         let circuit = read(alloc, bytes)?;
-        self.network = Some(Network::from_circuit(alloc, &circuit)?);
+        self.network = Some(Network::from_circuit(alloc, circuit)?);
         self.kept = None;
         Ok(())
     }

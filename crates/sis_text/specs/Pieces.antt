@@ -1,4 +1,4 @@
--- The pieces of a script: physical lines without comments, parted at `;`; nothing is joined.
+-- How a script falls into pieces: at each line's end and at each `;`, a comment left out. No piece goes on behind a line's end.
 -- Source: the command scripts of the SIS report (UCB/ERL M92/41): commands are parted by `;` and line
 -- ends, `#` begins a comment.
 use Rattle.std.specs.Prelude.{ℕ, ◌+◌, true, List, [], ◌∷◌, ◌++◌, map}

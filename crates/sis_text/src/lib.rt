@@ -1,9 +1,9 @@
 //! Lines and words of a text, each word as a span of it, the pieces of a script, and words that are owned.
 //!
 //! `logical_lines` follows the Berkeley Logic Interchange Format (appendix of the SIS report, UCB/ERL
-//! M92/41): a physical line ends with byte 10 or the end of the text; the first `#` and all after it are
-//! cut, then carriage returns at the end; a `\` that is now last is cut and joins the next line; words are
-//! parted by tabs, carriage returns and spaces, and none runs across a join. `script_pieces` parts the
+//! M92/41): a `#` hides the rest of its physical line, carriage returns that then stand last are dropped, and a
+//! `\` behind which nothing is left makes one line of its own and the next. Spaces, tabs and carriage returns part
+//! words, and so does such a joint. `script_pieces` parts the
 //! physical lines of a command script at `;` and joins nothing. Lines and pieces without words are left out.
 //!
 //! Promised: just the spans of the definitions (`specs/Lines.antt`, `specs/Pieces.antt`), in order and

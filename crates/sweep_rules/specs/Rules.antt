@@ -56,7 +56,7 @@ unfoldable pub at_bit : List ℕ → Bool → Table → Table
 at_bit name bit table =
     if has table.inputs name then tidied (record table { rows = filter_map (row_at_bit name bit table.inputs) table.rows }) else table
 
--- a constant that tables read is put into them
+-- every reader of a written constant takes its bit in
 abbrev pub with_bit_put : Circuit → Table → Circuit
 with_bit_put circuit constant =
     option_map_or (λ bit. with_tables circuit (map (at_bit constant.output bit) circuit.tables)) (written_bit constant) circuit
@@ -137,7 +137,7 @@ latch_rule circuit = option_map (with_latch_fixed circuit) (find (λ (latch : La
 unfoldable pub need_rule : Circuit → Option Circuit
 need_rule circuit = if all_needed circuit then None else Some (only_needed circuit)
 
--- one step: the first rule that applies, at the first table or latch
+-- what sweep does next: rules are asked in this order, and each looks for the first table or latch that it fits
 unfoldable pub sweep_step : Circuit → Option Circuit
 sweep_step circuit =
     option_or (tidy_rule circuit) (option_or (constant_rule circuit) (option_or (put_rule circuit)
