@@ -115,7 +115,7 @@ tables_reach test name tables = list_any (λ (table : Table). test table.output 
 unfoldable pub latches_reach : (List ℕ → Bool) → List ℕ → List Latch → Bool
 latches_reach test name latches = list_any (λ (latch : Latch). test latch.output && bytes_eq latch.input name) latches
 
-within_more : (circuit : Circuit) (n : ℕ) (name : List ℕ)
+pub within_more : (circuit : Circuit) (n : ℕ) (name : List ℕ)
     → needed_within circuit (suc n) name ≡ ((needed_within circuit n name || tables_reach (needed_within circuit n) name circuit.tables) || latches_reach (needed_within circuit n) name circuit.latches)
 unfolding needed_within tables_reach latches_reach
 within_more circuit n name = by (needed_within circuit n name) (list_any (λ (table : Table). needed_within circuit n table.output && has table.inputs name) circuit.tables)

@@ -56,7 +56,7 @@ one_of true b c h = inl refl
 one_of false true c h = inr (inl refl)
 one_of false false c h = inr (inr h)
 
-within_least : (circuit : Circuit) (test : List ℕ → Bool) → IsClosed circuit test → (steps : ℕ) (name : List ℕ) → needed_within circuit steps name ≡ true → test name ≡ true
+pub within_least : (circuit : Circuit) (test : List ℕ → Bool) → IsClosed circuit test → (steps : ℕ) (name : List ℕ) → needed_within circuit steps name ≡ true → test name ≡ true
 unfolding needed_within tables_reach latches_reach
 within_least circuit test closed zero name h = roots_least circuit test closed name h
 within_least circuit test closed (suc steps) name h =

@@ -14,3 +14,9 @@ pub mod Weight
 pub mod Falling
 pub mod Larger
 pub mod Framed
+pub mod Emptied
+pub mod Beside
+pub mod Idling
+pub mod Remaining
+pub mod Ended
+pub mod Idle

@@ -57,7 +57,7 @@ pub all_put : (circuit : Circuit) → put_rule circuit ≡ None → AllByRecursi
 unfolding put_rule
 all_put circuit h = nothing_found (with_bit_put circuit) (λ (table : Table). is_some (written_bit table) && tables_read circuit table.output) circuit.tables h
 
-all_bypassed : (circuit : Circuit) → bypass_rule circuit ≡ None → AllByRecursion (λ (table : Table). (is_some (only_input table.inputs) && tables_read circuit table.output) ≡ false) circuit.tables
+pub all_bypassed : (circuit : Circuit) → bypass_rule circuit ≡ None → AllByRecursion (λ (table : Table). (is_some (only_input table.inputs) && tables_read circuit table.output) ≡ false) circuit.tables
 unfolding bypass_rule
 all_bypassed circuit h = nothing_found (with_bypass circuit) (λ (table : Table). is_some (only_input table.inputs) && tables_read circuit table.output) circuit.tables h
 

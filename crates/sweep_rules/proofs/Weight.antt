@@ -50,7 +50,7 @@ replaced_sizes (first ∷ tables) old new at = cases (bytes_eq new.output first.
     cases true e more = let same : size_of first ≡ size_of old = ap size_of (same_Some first old e) in omega arith
     cases false e more = let rest : sizes_of (replaced tables new) + size_of old ≡ sizes_of tables + size_of new = more e in omega arith
 
-replaced_reads : (tables : List Table) (old new : Table) → driver tables new.output ≡ Some old → ((name : List ℕ) → has new.inputs name ≡ true → has old.inputs name ≡ true)
+pub replaced_reads : (tables : List Table) (old new : Table) → driver tables new.output ≡ Some old → ((name : List ℕ) → has new.inputs name ≡ true → has old.inputs name ≡ true)
     → (name : List ℕ) → has (table_inputs (replaced tables new)) name ≡ true → has (table_inputs tables) name ≡ true
 unfolding driver replaced
 replaced_reads [] old new at within name h = absurd (none-some old at)
@@ -92,6 +92,16 @@ replaced_falls circuit old new at within less =
     let long : length (replaced circuit.tables new) ≡ length circuit.tables = replaced_long circuit.tables new in
     omega arith
 
+-- a table gives place to one that is no larger
+pub replaced_lighter : (circuit : Circuit) (old new : Table) → driver circuit.tables new.output ≡ Some old → ((name : List ℕ) → has new.inputs name ≡ true → has old.inputs name ≡ true)
+    → size_of new ≤ size_of old → weight (with_replaced circuit new) ≤ weight circuit
+unfolding weight with_replaced
+replaced_lighter circuit old new at within less =
+    let sizes : sizes_of (replaced circuit.tables new) + size_of old ≡ sizes_of circuit.tables + size_of new = replaced_sizes circuit.tables old new at in
+    let count : read_count (replaced circuit.tables new) ≤ read_count circuit.tables = replaced_count circuit.tables old new at within in
+    let long : length (replaced circuit.tables new) ≡ length circuit.tables = replaced_long circuit.tables new in
+    omega arith
+
 -- tables are mapped
 
 abbrev IsPlain : Table → Type 0
@@ -126,7 +136,7 @@ mapped_fewer turn name small smaller (table ∷ tables) all h =
           omega arith
     ]
 
-mapped_reads : (turn : Table → Table) (E : Type 0) (name : List ℕ) → ((table : Table) → has (turn table).inputs name ≡ true → (has table.inputs name ≡ true) ⊎ E)
+pub mapped_reads : (turn : Table → Table) (E : Type 0) (name : List ℕ) → ((table : Table) → has (turn table).inputs name ≡ true → (has table.inputs name ≡ true) ⊎ E)
     → (tables : List Table) → has (table_inputs (map turn tables)) name ≡ true → (has (table_inputs tables) name ≡ true) ⊎ E
 mapped_reads turn E name reads [] h = absurd (false≢true h)
 mapped_reads turn E name reads (table ∷ tables) h =
@@ -217,7 +227,7 @@ unfolding sizes_of
 sizes_added [] new = omega arith
 sizes_added (table ∷ tables) new = let rest : sizes_of (tables ++ new ∷ []) ≡ sizes_of tables + size_of new = sizes_added tables new in omega arith
 
-constant_reads : (tables : List Table) (name : List ℕ) (bit : Bool) (x : List ℕ) → has (table_inputs (tables ++ constant_table name bit ∷ [])) x ≡ true → has (table_inputs tables) x ≡ true
+pub constant_reads : (tables : List Table) (name : List ℕ) (bit : Bool) (x : List ℕ) → has (table_inputs (tables ++ constant_table name bit ∷ [])) x ≡ true → has (table_inputs tables) x ≡ true
 constant_reads [] name bit x h = h
 constant_reads (table ∷ tables) name bit x h =
     elim (has_either table.inputs (table_inputs (tables ++ constant_table name bit ∷ [])) x h) as (λ _. has (table.inputs ++ table_inputs tables) x ≡ true) [
@@ -294,7 +304,7 @@ kept_sizes test (table ∷ tables) = cases (test table.output) (kept_sizes test 
     cases true h = omega arith
     cases false h = omega arith
 
-kept_reads : (test : List ℕ → Bool) (tables : List Table) (name : List ℕ) → has (table_inputs (tables_kept test tables)) name ≡ true → has (table_inputs tables) name ≡ true
+pub kept_reads : (test : List ℕ → Bool) (tables : List Table) (name : List ℕ) → has (table_inputs (tables_kept test tables)) name ≡ true → has (table_inputs tables) name ≡ true
 unfolding tables_kept
 kept_reads test [] name h = h
 kept_reads test (table ∷ tables) name h = cases (test table.output) h (kept_reads test tables name)

@@ -3,3 +3,4 @@ pub mod Rules
 pub mod Needed
 pub mod Sweeping
 pub mod Keeping
+pub mod Idle

@@ -5,6 +5,7 @@ ghost use Rattle.circuit_model.specs.Soundness.{IsSound};
 ghost use Rattle.circuit_model.specs.declared.circuit.Circuit.{Circuit as TheCircuit};
 ghost use Rattle.circuit_laws.specs.Chains.{Chain};
 ghost use Rattle.circuit_laws.specs.Kept.{IsClosed};
+ghost use Rattle.sweep_rules.specs.Idle.{IsIdle, with_emptied};
 ghost use Rattle.sweep_rules.specs.Keeping.{IsKept, KeepsFrame, IsNoLarger};
 ghost use Rattle.sweep_rules.specs.Needed.{is_needed};
 ghost use Rattle.sweep_rules.specs.Rules.{sweep_step};
@@ -34,4 +35,11 @@ pub fn needed_is_closed()
     ensures closed { (circuit : TheCircuit) → IsClosed circuit (is_needed circuit) }
     ensures least { (circuit : TheCircuit) (test : List ℕ → Bool) → IsClosed circuit test → (name : List ℕ)
         → is_needed circuit name ≡ true → test name ≡ true }
+{}
+
+/// A table that nothing takes may be emptied before any step: the chain from there ends where the chain from the circuit
+/// does.
+pub fn idle_tables_may_be_emptied()
+    ensures sound { (circuit : TheCircuit) (name : List ℕ) → IsSound circuit → IsIdle circuit name → IsSound (with_emptied circuit name) }
+    ensures ends { (circuit end : TheCircuit) (name : List ℕ) → IsSound circuit → IsIdle circuit name → Chain sweep_step (with_emptied circuit name) end → Chain sweep_step circuit end }
 {}
