@@ -1,4 +1,6 @@
 pub mod Points
 pub mod Products
+pub mod Numbered
 pub mod Splits
 pub mod Dashed
+pub mod Volumes

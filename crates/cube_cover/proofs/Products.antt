@@ -107,7 +107,7 @@ wider_bits (Some false) (Some false) h c k = k
 wider_bits (Some true) (Some false) h c k = cc
 wider_bits (Some false) (Some true) h c k = cc
 
-covers_at_point : (a b : List (Option Bool)) (p : List Bool) → length p ≡ length a → length a ≡ length b → all_wider a b ≡ true → matches b p ≡ true → matches a p ≡ true
+pub covers_at_point : (a b : List (Option Bool)) (p : List Bool) → length p ≡ length a → length a ≡ length b → all_wider a b ≡ true → matches b p ≡ true → matches a p ≡ true
 unfolding matches all_wider
 covers_at_point [] b p e d h k = refl
 covers_at_point (l ∷ ls) [] p e d h k = absurd (omega arith)
@@ -135,6 +135,15 @@ wider_from_covers (l ∷ ls) (m ∷ ms) e h =
 
 pub covers_answer : (a b : List (Option Bool)) → length a ≡ length b → (r : Bool) → r ≡ all_wider a b → IsTrue r ↔ Covers a b
 covers_answer a b e r h = (λ t p d k. covers_at_point a b p d e (sym h ∙ t) k, λ m. h ∙ wider_from_covers a b e m)
+
+-- a test that is exact for points is the test by places
+pub covers_by_places : (a b : List (Option Bool)) → length a ≡ length b → (r : Bool) → IsTrue r ↔ Covers a b → r ≡ all_wider a b
+covers_by_places a b e true h = sym (wider_from_covers a b e (h.0 refl))
+covers_by_places a b e false h = cases (all_wider a b) refl
+  where
+    cases : (t : Bool) → all_wider a b ≡ t → false ≡ t
+    cases true k = h.1 (λ p d m. covers_at_point a b p d e k m)
+    cases false k = refl
 
 -- rows of just the same points have the same places
 same_place : (l m : Option Bool) → is_wider l m ≡ true → is_wider m l ≡ true → l ≡ m

@@ -1,67 +1,11 @@
--- What decides whether a cover is a tautology: no row, a row of dashes, and the two cofactors at a place.
-use Rattle.std.proofs.Common.{◌≡◌, ℕ, ◌<◌, ◌≤◌, ◌+◌, zero, suc, Bool, true, false, ◌||◌, if◌then◌else◌, Option, Some, None, List, [], ◌∷◌, length, get_or, set, take, map, replicate, refl, sym, ap, ◌∙◌, subst, arith, IsTrue, ◌↔◌, add-one}
+-- What decides whether rows have each point of a given row: no row, a row that is as wide, and the halves at a dash.
+use Rattle.std.proofs.Common.{◌≡◌, ℕ, ◌<◌, ◌+◌, zero, suc, Bool, true, false, ◌||◌, if◌then◌else◌, Option, Some, None, List, [], ◌∷◌, length, get_or, set, map, replicate, refl, sym, ap, ◌∙◌, subst, arith, IsTrue, ◌↔◌}
 use Rattle.std.proofs.lemmas.List.{length-set, set-get_or, length-replicate}
 use Rattle.sis_base.specs.Rows.{agrees, matches, some_matches, HasWidth}
-use Rattle.cube_cover.specs.Covers.{Shape, cofactor_rows, IsTautology}
-use Rattle.cube_cover.specs.Places.{place_literals, row_literals, cover_literals, has_literal, not_dash, all_dashes, some_dashes}
-use Rattle.cube_cover.proofs.Points.{value-cofactor}
-
-pub some_dashes_at : {X : Type 0} (f : X → List (Option Bool)) (rows : List X) (i : ℕ) (row : X) → i < length rows → row ≡ get_or rows i row → all_dashes (f row) ≡ true → some_dashes (map f rows) ≡ true
-unfolding some_dashes
-some_dashes_at f [] i row lt e h = absurd (omega arith)
-some_dashes_at f (first ∷ rows) zero row lt e h = rw (sym (ap (λ x. all_dashes (f x)) e) ∙ h) refl
-some_dashes_at f (first ∷ rows) (suc i) row lt e h = cases (all_dashes (f first)) (some_dashes_at f rows i row (omega arith) e h)
-  where
-    cases : (t : Bool) → some_dashes (map f rows) ≡ true → (t || some_dashes (map f rows)) ≡ true
-    cases true rest = refl
-    cases false rest = rest
-
-has_literal_within : {X : Type 0} (f : X → List (Option Bool)) (rows : List X) (i : ℕ) (row : X) (place : ℕ) → i < length rows → row ≡ get_or rows i row → not_dash (get_or (f row) place None) ≡ true → has_literal place (map f (take (suc i) rows)) ≡ true
-unfolding has_literal
-has_literal_within f [] i row place lt e h = absurd (omega arith)
-has_literal_within f (first ∷ rows) zero row place lt e h = rw (sym (ap (λ x. not_dash (get_or (f x) place None)) e) ∙ h) refl
-has_literal_within f (first ∷ rows) (suc i) row place lt e h = cases (not_dash (get_or (f first) place None)) (has_literal_within f rows i row place (omega arith) e h)
-  where
-    cases : (t : Bool) → has_literal place (map f (take (suc i) rows)) ≡ true → (t || has_literal place (map f (take (suc i) rows))) ≡ true
-    cases true rest = refl
-    cases false rest = rest
-
-pub has_literal_at : {X : Type 0} (f : X → List (Option Bool)) (rows : List X) (i : ℕ) (row : X) (place : ℕ) → i < length rows → row ≡ get_or rows i row → not_dash (get_or (f row) place None) ≡ true → has_literal place (map f (take (i + 1) rows)) ≡ true
-has_literal_at f rows i row place lt e h = subst (λ (n : ℕ). has_literal place (map f (take n rows)) ≡ true) (sym (add-one i)) (has_literal_within f rows i row place lt e h)
-
--- a cofactor at a place with a literal has fewer literals
-literals-set : (row : List (Option Bool)) (i : ℕ) → row_literals (set row i None) + place_literals (get_or row i None) ≡ row_literals row
-unfolding row_literals
-literals-set [] i = refl
-literals-set (l ∷ ls) zero = omega arith
-literals-set (l ∷ ls) (suc i) = omega (arith, literals-set ls i)
-
-literals_of_dash : (l : Option Bool) → not_dash l ≡ true → place_literals l ≡ 1
-literals_of_dash None h = cc
-literals_of_dash (Some x) h = refl
-
-pub cofactor_at_most : (i : ℕ) (b : Bool) (rows : List (List (Option Bool))) → cover_literals (cofactor_rows i b rows) ≤ cover_literals rows
-unfolding cover_literals cofactor_rows
-cofactor_at_most i b [] = omega arith
-cofactor_at_most i b (row ∷ rows) = cases (agrees (get_or row i None) b) (cofactor_at_most i b rows)
-  where
-    cases : (t : Bool) → cover_literals (cofactor_rows i b rows) ≤ cover_literals rows
-        → cover_literals (if t then set row i None ∷ cofactor_rows i b rows else cofactor_rows i b rows) ≤ row_literals row + cover_literals rows
-    cases true rest = omega (arith, literals-set row i)
-    cases false rest = omega arith
-
-pub cofactor_fewer : (i : ℕ) (b : Bool) (rows : List (List (Option Bool))) → has_literal i rows ≡ true → cover_literals (cofactor_rows i b rows) < cover_literals rows
-unfolding cover_literals cofactor_rows has_literal
-cofactor_fewer i b [] h = cc
-cofactor_fewer i b (row ∷ rows) h = cases (agrees (get_or row i None) b) (not_dash (get_or row i None)) refl h (cofactor_at_most i b rows) (λ k. cofactor_fewer i b rows k)
-  where
-    cases : (t s : Bool) → not_dash (get_or row i None) ≡ s → (s || has_literal i rows) ≡ true → cover_literals (cofactor_rows i b rows) ≤ cover_literals rows
-        → (has_literal i rows ≡ true → cover_literals (cofactor_rows i b rows) < cover_literals rows)
-        → cover_literals (if t then set row i None ∷ cofactor_rows i b rows else cofactor_rows i b rows) < row_literals row + cover_literals rows
-    cases true true e h rest deep = omega (arith, literals-set row i, literals_of_dash (get_or row i None) e)
-    cases false true e h rest deep = omega (arith, literals-set row i, literals_of_dash (get_or row i None) e)
-    cases true false e h rest deep = omega (arith, literals-set row i, deep h)
-    cases false false e h rest deep = omega (arith, deep h)
+use Rattle.cube_cover.specs.Covers.{agreeing_rows, IsCovered, IsTautology}
+use Rattle.cube_cover.specs.Places.{all_dashes, some_dashes, no_dash, is_wider, all_wider, some_wider}
+use Rattle.cube_cover.proofs.Points.{and_left, and_right, and_both, matches-other}
+use Rattle.cube_cover.proofs.Products.{point_of, length-point_of, matches-point_of, covers_at_point}
 
 matches_dashes : (row : List (Option Bool)) (point : List Bool) → all_dashes row ≡ true → matches row point ≡ true
 unfolding matches all_dashes
@@ -83,34 +27,178 @@ matches_some_dashes (row ∷ rows) point h = cases (all_dashes row) refl h (λ k
         or_second true k = refl
         or_second false k = k
 
--- what the test answers: without a row, with a row of dashes, and from the two cofactors
-pub empty_answer : (s : Shape) → s.rows ≡ [] → IsTrue false ↔ IsTautology s
+or_second : (t s : Bool) → s ≡ true → (t || s) ≡ true
+or_second true s h = refl
+or_second false s h = h
+
+-- the row of dashes has each point, and so what is said of its points is said of all
+matches_replicate : (n : ℕ) (p : List Bool) → matches (replicate n None) p ≡ true
+unfolding matches
+matches_replicate zero p = refl
+matches_replicate (suc n) [] = refl
+matches_replicate (suc n) (b ∷ bs) = matches_replicate n bs
+
+pub whole_answer : (w : ℕ) (given : List (Option Bool)) (rows : List (List (Option Bool))) (a : Bool) → given ≡ replicate w None
+    → IsTrue a ↔ IsCovered given rows → IsTrue a ↔ IsTautology (record { width = w; rows = rows })
+whole_answer w given rows a e h =
+    let k : length given ≡ w = ap length e ∙ length-replicate w None in (
+      λ t p d. h.0 t p (d ∙ sym k) (ap (λ (x : List (Option Bool)). matches x p) e ∙ matches_replicate w p),
+      λ t. h.1 (λ p d m. t p (d ∙ k)),
+    )
+
+-- without a row
+pub empty_answer : (given : List (Option Bool)) (rows : List (List (Option Bool))) → rows ≡ [] → IsTrue false ↔ IsCovered given rows
 unfolding some_matches
-empty_answer s e =
-    (λ h. cc, λ h. sym (ap (λ (rows : List (List (Option Bool))). some_matches rows (replicate s.width false)) e) ∙ h (replicate s.width false) (length-replicate s.width false))
+empty_answer given rows e =
+    (λ h. cc, λ h. sym (ap (λ (x : List (List (Option Bool))). some_matches x (point_of given)) e) ∙ h (point_of given) (length-point_of given) (matches-point_of given))
 
-pub dashes_answer : (s : Shape) → some_dashes s.rows ≡ true → IsTrue true ↔ IsTautology s
-dashes_answer s h = (λ t p d. matches_some_dashes s.rows p h, λ k. refl)
+-- a row that is as wide as the given one
+pub some_wider_at : {X : Type 0} (f : X → List (Option Bool)) (given : List (Option Bool)) (rows : List X) (i : ℕ) (row : X) → i < length rows → row ≡ get_or rows i row → all_wider (f row) given ≡ true → some_wider given (map f rows) ≡ true
+unfolding some_wider
+some_wider_at f given [] i row lt e h = absurd (omega arith)
+some_wider_at f given (first ∷ rows) zero row lt e h = rw (sym (ap (λ x. all_wider (f x) given) e) ∙ h) refl
+some_wider_at f given (first ∷ rows) (suc i) row lt e h = or_second (all_wider (f first) given) _ (some_wider_at f given rows i row (omega arith) e h)
 
-pub half_point : (s : Shape) (i : ℕ) (b : Bool) → HasWidth s.width s.rows → i < s.width → IsTautology s → IsTautology (record { width = s.width; rows = cofactor_rows i b s.rows })
-half_point s i b w lt h p d = value-cofactor s.width s.rows p i b w lt d ∙ h (set p i b) (length-set p i b ∙ d)
-
-pub whole_point : (s : Shape) (i : ℕ) → HasWidth s.width s.rows → i < s.width → IsTautology (record { width = s.width; rows = cofactor_rows i false s.rows })
-    → IsTautology (record { width = s.width; rows = cofactor_rows i true s.rows }) → IsTautology s
-whole_point s i w lt low high p d = cases (get_or p i false) refl
+some_wider_point : (given : List (Option Bool)) (rows : List (List (Option Bool))) (p : List Bool) → HasWidth (length given) rows → length p ≡ length given → some_wider given rows ≡ true → matches given p ≡ true → some_matches rows p ≡ true
+unfolding some_matches some_wider HasWidth
+some_wider_point given [] p w d h m = cc
+some_wider_point given (row ∷ rows) p w d h m = cases (all_wider row given) refl h (λ k. some_wider_point given rows p w.1 d k m)
   where
-    cases : (b : Bool) → get_or p i false ≡ b → some_matches s.rows p ≡ true
-    cases false e = ap (some_matches s.rows) (sym (ap (set p i) (sym e) ∙ set-get_or p i false)) ∙ sym (value-cofactor s.width s.rows p i false w lt d) ∙ low p d
-    cases true e = ap (some_matches s.rows) (sym (ap (set p i) (sym e) ∙ set-get_or p i false)) ∙ sym (value-cofactor s.width s.rows p i true w lt d) ∙ high p d
+    cases : (t : Bool) → all_wider row given ≡ t → (t || some_wider given rows) ≡ true → (some_wider given rows ≡ true → some_matches rows p ≡ true) → (matches row p || some_matches rows p) ≡ true
+    cases true e h rest = rw (covers_at_point row given p (d ∙ sym w.0) w.0 e m) refl
+    cases false e h rest = or_second (matches row p) _ (rest h)
 
-pub low_answer : (s low : Shape) (i : ℕ) (a : Bool) → HasWidth s.width s.rows → i < s.width → low ≡ record { width = s.width; rows = cofactor_rows i false s.rows }
-    → IsTrue a ↔ IsTautology low → a ≡ false → IsTrue false ↔ IsTautology s
-low_answer s low i a w lt e h f =
-    (λ t. cc, λ k. sym f ∙ h.1 (subst (λ (x : Shape). IsTautology x) (sym e) (half_point s i false w lt k)))
+pub wider_answer : (given : List (Option Bool)) (rows : List (List (Option Bool))) → HasWidth (length given) rows → some_wider given rows ≡ true → IsTrue true ↔ IsCovered given rows
+wider_answer given rows w h = (λ t p d m. some_wider_point given rows p w d h m, λ k. refl)
 
-pub both_answer : (s low high : Shape) (i : ℕ) (a b : Bool) → HasWidth s.width s.rows → i < s.width → low ≡ record { width = s.width; rows = cofactor_rows i false s.rows }
-    → high ≡ record { width = s.width; rows = cofactor_rows i true s.rows } → IsTrue a ↔ IsTautology low → a ≡ true → IsTrue b ↔ IsTautology high → IsTrue b ↔ IsTautology s
-both_answer s low high i a b w lt e d h t k = (
-  λ u. whole_point s i w lt (subst (λ (x : Shape). IsTautology x) e (h.0 t)) (subst (λ (x : Shape). IsTautology x) d (k.0 u)),
-  λ u. k.1 (subst (λ (x : Shape). IsTautology x) (sym d) (half_point s i true w lt u)),
+-- a given row without a dash has one point
+full_wider : (row given : List (Option Bool)) → length row ≡ length given → no_dash given ≡ true → matches row (point_of given) ≡ true → all_wider row given ≡ true
+unfolding matches all_wider no_dash point_of
+full_wider [] given e n m = refl
+full_wider (l ∷ ls) [] e n m = refl
+full_wider (l ∷ ls) (None ∷ gs) e n m = cc
+full_wider (l ∷ ls) (Some x ∷ gs) e n m = and_both _ _ (bit l (and_left _ _ m)) (full_wider ls gs (omega arith) n (and_right (agrees l x) _ m))
+  where
+    bit : (l : Option Bool) → agrees l x ≡ true → is_wider l (Some x) ≡ true
+    bit None h = refl
+    bit (Some y) h = h
+
+full_some : (given : List (Option Bool)) (rows : List (List (Option Bool))) → HasWidth (length given) rows → no_dash given ≡ true → some_matches rows (point_of given) ≡ true → some_wider given rows ≡ true
+unfolding some_matches some_wider HasWidth
+full_some given [] w n h = cc
+full_some given (row ∷ rows) w n h = cases (matches row (point_of given)) refl h (λ k. full_some given rows w.1 n k)
+  where
+    cases : (t : Bool) → matches row (point_of given) ≡ t → (t || some_matches rows (point_of given)) ≡ true → (some_matches rows (point_of given) ≡ true → some_wider given rows ≡ true) → (all_wider row given || some_wider given rows) ≡ true
+    cases true e h rest = rw (full_wider row given w.0 n e) refl
+    cases false e h rest = or_second (all_wider row given) _ (rest h)
+
+pub full_answer : (given : List (Option Bool)) (rows : List (List (Option Bool))) (a : Bool) → HasWidth (length given) rows → no_dash given ≡ true → a ≡ some_wider given rows → IsTrue a ↔ IsCovered given rows
+full_answer given rows a w n e = (
+  λ t p d m. some_wider_point given rows p w d (sym e ∙ t) m,
+  λ k. e ∙ full_some given rows w n (k (point_of given) (length-point_of given) (matches-point_of given)),
 )
+
+-- the given row with a bit at a dash
+set_weaker : (given : List (Option Bool)) (i : ℕ) (b : Bool) (p : List Bool) → get_or given i None ≡ None → matches (set given i (Some b)) p ≡ true → matches given p ≡ true
+unfolding matches
+set_weaker [] i b p e m = refl
+set_weaker (g ∷ gs) i b [] e m = refl
+set_weaker (g ∷ gs) zero b (c ∷ cs) e m = rw e (and_right (agrees (Some b) c) (matches gs cs) m)
+set_weaker (g ∷ gs) (suc i) b (c ∷ cs) e m = and_both _ _ (and_left _ _ m) (set_weaker gs i b cs e (and_right (agrees g c) _ m))
+
+same_bit : (b c : Bool) → agrees (Some b) c ≡ true → b ≡ c
+same_bit true true h = refl
+same_bit false false h = refl
+same_bit true false h = cc
+same_bit false true h = cc
+
+agrees_same : (c : Bool) → agrees (Some c) c ≡ true
+agrees_same true = refl
+agrees_same false = refl
+
+set_there : (given : List (Option Bool)) (i : ℕ) (b : Bool) (p : List Bool) → i < length given → length p ≡ length given → matches (set given i (Some b)) p ≡ true → set p i b ≡ p
+unfolding matches
+set_there [] i b p lt d m = absurd (omega arith)
+set_there (g ∷ gs) i b [] lt d m = absurd (omega arith)
+set_there (g ∷ gs) zero b (c ∷ cs) lt d m = ap (λ (x : Bool). x ∷ cs) (same_bit b c (and_left _ _ m))
+set_there (g ∷ gs) (suc i) b (c ∷ cs) lt d m = ap (λ (x : List Bool). c ∷ x) (set_there gs i b cs (omega arith) (omega arith) (and_right (agrees g c) _ m))
+
+set_matches : (given : List (Option Bool)) (i : ℕ) (p : List Bool) → length p ≡ length given → matches given p ≡ true → matches (set given i (Some (get_or p i false))) p ≡ true
+unfolding matches
+set_matches [] i p d m = refl
+set_matches (g ∷ gs) i [] d m = absurd (omega arith)
+set_matches (g ∷ gs) zero (c ∷ cs) d m = and_both _ _ (agrees_same c) (and_right (agrees g c) _ m)
+set_matches (g ∷ gs) (suc i) (c ∷ cs) d m = and_both _ _ (and_left _ _ m) (set_matches gs i cs (omega arith) (and_right (agrees g c) _ m))
+
+-- the rows that agree with a bit, at the points that have it
+agreeing_value : (w : ℕ) (rows : List (List (Option Bool))) (p : List Bool) (i : ℕ) (b : Bool) → HasWidth w rows → i < w → length p ≡ w → set p i b ≡ p → some_matches (agreeing_rows i b rows) p ≡ some_matches rows p
+unfolding some_matches agreeing_rows HasWidth
+agreeing_value w [] p i b h lt d s = refl
+agreeing_value w (row ∷ rows) p i b h lt d s = cases (agrees (get_or row i None) b) refl (agreeing_value w rows p i b h.1 lt d s)
+  where
+    cases : (t : Bool) → agrees (get_or row i None) b ≡ t → some_matches (agreeing_rows i b rows) p ≡ some_matches rows p
+        → some_matches (if t then row ∷ agreeing_rows i b rows else agreeing_rows i b rows) p ≡ (matches row p || some_matches rows p)
+    cases true a rest = ap (λ (x : Bool). matches row p || x) rest
+    cases false a rest =
+        let no : matches row p ≡ false = ap (matches row) (sym s) ∙ matches-other row p i b (omega (arith, h.0)) (omega (arith, h.0)) a in
+        rw no rest
+
+pub HasWidth-agreeing : (w : ℕ) (rows : List (List (Option Bool))) (i : ℕ) (b : Bool) → HasWidth w rows → HasWidth w (agreeing_rows i b rows)
+unfolding agreeing_rows HasWidth
+HasWidth-agreeing w [] i b h = tt
+HasWidth-agreeing w (row ∷ rows) i b h = cases (agrees (get_or row i None) b) (HasWidth-agreeing w rows i b h.1)
+  where
+    cases : (t : Bool) → HasWidth w (agreeing_rows i b rows) → HasWidth w (if t then row ∷ agreeing_rows i b rows else agreeing_rows i b rows)
+    cases true rest = (h.0, rest)
+    cases false rest = rest
+
+-- where the given row has a literal, the rows that agree with it are enough
+pub agreeing_covered : (given : List (Option Bool)) (rows : List (List (Option Bool))) (i : ℕ) (b : Bool) → HasWidth (length given) rows → i < length given → get_or given i None ≡ Some b
+    → IsCovered given (agreeing_rows i b rows) ↔ IsCovered given rows
+agreeing_covered given rows i b w lt e =
+    let there : (p : List Bool) → length p ≡ length given → matches given p ≡ true → set p i b ≡ p = λ p d m. set_there given i b p lt d (ap (λ (x : List (Option Bool)). matches x p) (ap (set given i) (sym e) ∙ set-get_or given i None) ∙ m) in (
+      λ t p d m. sym (agreeing_value (length given) rows p i b w lt d (there p d m)) ∙ t p d m,
+      λ t p d m. agreeing_value (length given) rows p i b w lt d (there p d m) ∙ t p d m,
+    )
+
+-- the halves at a dash
+half_covered : (given : List (Option Bool)) (rows : List (List (Option Bool))) (i : ℕ) (b : Bool) → get_or given i None ≡ None → IsCovered given rows → IsCovered (set given i (Some b)) rows
+half_covered given rows i b e h p d m = h p (d ∙ length-set given i (Some b)) (set_weaker given i b p e m)
+
+whole_covered : (given : List (Option Bool)) (rows : List (List (Option Bool))) (i : ℕ) → IsCovered (set given i (Some false)) rows → IsCovered (set given i (Some true)) rows → IsCovered given rows
+whole_covered given rows i low high p d m = cases (get_or p i false) refl
+  where
+    at : (b : Bool) → IsCovered (set given i (Some b)) rows → get_or p i false ≡ b → some_matches rows p ≡ true
+    at b half e = half p (d ∙ sym (length-set given i (Some b))) (subst (λ (x : Bool). matches (set given i (Some x)) p ≡ true) e (set_matches given i p d m))
+
+    cases : (b : Bool) → get_or p i false ≡ b → some_matches rows p ≡ true
+    cases false e = at false low e
+    cases true e = at true high e
+
+pub low_answer : (given low : List (Option Bool)) (rows : List (List (Option Bool))) (i : ℕ) (a : Bool) → get_or given i None ≡ None
+    → low ≡ set given i (Some false) → IsTrue a ↔ IsCovered low rows → a ≡ false → IsTrue a ↔ IsCovered given rows
+low_answer given low rows i a n e h z =
+    (λ t. cc, λ k. h.1 (subst (λ (x : List (Option Bool)). IsCovered x rows) (sym e) (half_covered given rows i false n k)))
+
+pub both_answer : (given low high : List (Option Bool)) (rows : List (List (Option Bool))) (i : ℕ) (a b : Bool) → get_or given i None ≡ None
+    → low ≡ set given i (Some false) → high ≡ set given i (Some true)
+    → IsTrue a ↔ IsCovered low rows → a ≡ true → IsTrue b ↔ IsCovered high rows → IsTrue b ↔ IsCovered given rows
+both_answer given low high rows i a b n e c h t k = (
+  λ u. whole_covered given rows i (subst (λ (x : List (Option Bool)). IsCovered x rows) e (h.0 t)) (subst (λ (x : List (Option Bool)). IsCovered x rows) c (k.0 u)),
+  λ u. k.1 (subst (λ (x : List (Option Bool)). IsCovered x rows) (sym c) (half_covered given rows i true n u)),
+)
+
+-- a bit at a dash leaves fewer dashes
+abbrev pub dash_of : Option Bool → ℕ
+dash_of None = 1
+dash_of (Some literal) = 0
+
+unfoldable pub dash_count : List (Option Bool) → ℕ
+dash_count [] = 0
+dash_count (place ∷ places) = dash_of place + dash_count places
+
+pub fewer_dashes : (given : List (Option Bool)) (i : ℕ) (b : Bool) → i < length given → get_or given i None ≡ None → dash_count (set given i (Some b)) < dash_count given
+unfolding dash_count
+fewer_dashes [] i b lt e = absurd (omega arith)
+fewer_dashes (g ∷ gs) zero b lt e = rw e (omega arith)
+fewer_dashes (g ∷ gs) (suc i) b lt e = omega (arith, fewer_dashes gs i b (omega arith) e)

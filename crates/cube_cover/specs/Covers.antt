@@ -2,7 +2,7 @@
 -- Source: Brayton, Hachtel, McMullen, Sangiovanni-Vincentelli, "Logic Minimization Algorithms for VLSI
 -- Synthesis" (cubes, cofactors, tautology); De Micheli, "Synthesis and Optimization of Digital Circuits",
 -- chapter 7. Rows, points and matching are those of sis_base.
-use Rattle.std.specs.Prelude.{◌≡◌, ℕ, Bool, true, ◌&&◌, if◌then◌else◌, Option, Some, None, List, [], ◌∷◌, length, slice_index_or, slice_set}
+use Rattle.std.specs.Prelude.{◌≡◌, ℕ, Bool, true, ◌&&◌, if◌then◌else◌, Option, Some, None, List, [], ◌∷◌, length, map, slice_index_or, slice_set}
 use Rattle.sis_base.specs.Rows.{agrees, matches, some_matches, IsPoint}
 
 -- what contracts see of a cover: the number of inputs, and the rows in order
@@ -41,3 +41,18 @@ cofactor_rows place bit (row ∷ rows) =
 -- some row matches at each point
 abbrev pub IsTautology : Shape → Type 0
 IsTautology cover = (point : List Bool) → IsPoint cover.width point → some_matches cover.rows point ≡ true
+
+-- the rows that agree with a bit at a place, as they are
+unfoldable pub agreeing_rows : ℕ → Bool → List (List (Option Bool)) → List (List (Option Bool))
+agreeing_rows place bit [] = []
+agreeing_rows place bit (row ∷ rows) =
+    if agrees (slice_index_or row place None) bit then row ∷ agreeing_rows place bit rows else agreeing_rows place bit rows
+
+-- the rows of some numbers, counted from 0
+abbrev pub picked : List (List (Option Bool)) → List ℕ → List (List (Option Bool))
+picked rows numbers = map (λ number. slice_index_or rows number []) numbers
+
+-- some row matches at each point that a given row has
+abbrev pub IsCovered : List (Option Bool) → List (List (Option Bool)) → Type 0
+IsCovered given rows =
+    (point : List Bool) → IsPoint (length given) point → matches given point ≡ true → some_matches rows point ≡ true

@@ -1,20 +1,10 @@
--- What the search for a place to split on answers.
--- Source: Brayton et al., "Logic Minimization Algorithms for VLSI Synthesis" (the tautology test).
-use Rattle.std.specs.Prelude.{◌≡◌, ℕ, ◌<◌, ◌≤◌, ◌↔◌, Bool, true, Option, List, []}
-use Rattle.cube_cover.specs.Places.{has_literal, some_dashes, cover_literals}
+-- What rows are left of others where the search for a point that no row has may go on with them.
+-- Source: Brayton et al., "Logic Minimization Algorithms for VLSI Synthesis" (the tautology test, unate reduction).
+use Rattle.std.specs.Prelude.{◌↔◌, length, Bool, Option, List}
 use Rattle.sis_base.specs.Rows.{HasWidth}
-use Rattle.cube_cover.specs.Covers.{IsTautology}
-use Rattle.cube_cover.specs.declared.tautology.Found.{Found}
-use Rattle.cube_cover.specs.declared.tautology.Found.TheVariants.{NoRow, Dashes, Literal}
+use Rattle.cube_cover.specs.Covers.{IsCovered}
 
--- no row; a row of dashes; a place at which some row has a literal
-abbrev pub IsFound : ℕ → List (List (Option Bool)) → Found → Type 0
-IsFound width rows NoRow = rows ≡ []
-IsFound width rows Dashes = some_dashes rows ≡ true
-IsFound width rows (Literal place) = (place < width) × (has_literal place rows ≡ true)
-
--- rows that are left of others where the tautology test may go on with them
-pub record IsThinner (width : ℕ) (rows made : List (List (Option Bool))) : Type 0 where
-  pub widths : HasWidth width made
-  pub answer : IsTautology (record { width = width; rows = made }) ↔ IsTautology (record { width = width; rows = rows })
-  pub literals : cover_literals made ≤ cover_literals rows
+-- the rows made are of the same width, and have each point of the given row exactly where the rows have
+pub record IsThinner (given : List (Option Bool)) (rows made : List (List (Option Bool))) : Type 0 where
+  pub widths : HasWidth (length given) made
+  pub answer : IsCovered given made ↔ IsCovered given rows

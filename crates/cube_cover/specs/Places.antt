@@ -31,6 +31,11 @@ abbrev pub place_product : Option Bool → Option Bool → Option Bool
 place_product None other = other
 place_product (Some literal) other = Some literal
 
+-- some row is as wide as the given one at each place
+unfoldable pub some_wider : List (Option Bool) → List (List (Option Bool)) → Bool
+some_wider given [] = false
+some_wider given (row ∷ rows) = all_wider row given || some_wider given rows
+
 -- how many literals a row has, and the rows of a cover together
 abbrev pub place_literals : Option Bool → ℕ
 place_literals None = 0
@@ -48,6 +53,11 @@ cover_literals (row ∷ rows) = row_literals row + cover_literals rows
 abbrev pub not_dash : Option Bool → Bool
 not_dash None = false
 not_dash (Some literal) = true
+
+-- a row has a literal at each place
+unfoldable pub no_dash : List (Option Bool) → Bool
+no_dash [] = true
+no_dash (place ∷ places) = not_dash place && no_dash places
 
 -- some row has a literal at the place
 unfoldable pub has_literal : ℕ → List (List (Option Bool)) → Bool

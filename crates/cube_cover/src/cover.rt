@@ -125,7 +125,7 @@ pub(crate) fn rows_copied<R: Row>(alloc: Global, rows: &[R]) -> Result<Vec<R>, A
 }
 
 // Whether a place agrees with a bit.
-fn place_agrees(place: Option<bool>, bit: bool) -> bool
+pub(crate) fn place_agrees(place: Option<bool>, bit: bool) -> bool
     ensures { result ≡ agrees place bit }
 {
     match place {

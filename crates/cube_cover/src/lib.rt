@@ -9,13 +9,16 @@
 //! Conditions of the caller: places below the width, equal widths, and rows of a product that meet.
 #![tactic(auto)]
 
+mod counts;
 mod cover;
+mod picks;
 mod plain;
 mod row;
 mod tautology;
 #[cfg(test)]
 mod tests;
 mod thin;
+mod volume;
 
 pub use cover::Cover;
 pub use plain::PlainRow;

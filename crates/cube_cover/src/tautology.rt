@@ -1,14 +1,21 @@
-//! Whether a cover is matched by each point of its width.
+//! Whether each point of a cover's width is matched by some row.
+//!
+//! Source: Brayton et al., "Logic Minimization Algorithms for VLSI Synthesis" (the tautology test). The answer is exact.
+//! The rows stay where they are. The search goes down over the places: a given row has the literals of the places that
+//! were decided so far, and a list has the numbers of the rows that still count, so that a level holds one row and a
+//! number for each row that is left there.
 
-ghost use Rattle.std.specs.Prelude.{◌≡◌, ℕ, ◌<◌, ◌↔◌, Bool, true, Option, None, List, length, map, slice_index_or, MatchOption, IfOk, IsTrue};
+ghost use Rattle.std.specs.Prelude.{◌≡◌, ℕ, ◌<◌, ◌↔◌, Bool, true, Option, Some, None, List, length, map, slice_index_or, slice_set, MatchOption, IfOk, IsTrue};
 ghost use Rattle.sis_base.specs.Rows.{HasWidth};
-ghost use Rattle.cube_cover.specs.Covers.{IsTautology};
-ghost use Rattle.cube_cover.specs.Places.{all_dashes, not_dash, some_dashes};
-ghost use Rattle.cube_cover.specs.Found.{IsFound};
+ghost use Rattle.cube_cover.specs.Covers.{picked, IsCovered, IsTautology};
+ghost use Rattle.cube_cover.specs.Places.{some_wider, no_dash};
 
-use crate::cover::{Cover, rows_at, rows_copied};
+use crate::counts::{literals_of_rows, wish_of};
+use crate::cover::Cover;
+use crate::picks::{all_numbers, has_points};
 use crate::row::Row;
-use crate::thin::{split_place, thin};
+use crate::thin::thin;
+use crate::volume::is_too_small;
 use std::alloc::{AllocError, Global};
 
 impl<R: Row> Cover<R> {
@@ -16,80 +23,121 @@ impl<R: Row> Cover<R> {
     pub fn is_tautology(&self, alloc: Global) -> Result<bool, AllocError>
         ensures { IfOk result (λ answer. IsTrue answer ↔ IsTautology self.now) }
     {
-        let rows = rows_copied(alloc, self.rows())?;
-        tautology_of(alloc, self.width(), rows)
+        if is_too_small(self.rows()) {
+            Ok(false)
+        } else {
+            every_point(alloc, self.width(), self.rows())
+        }
     }
 }
 
-// What a cover offers to split on.
-#[derive(Clone, Copy)]
-enum Found {
-    NoRow,
-    Dashes,
-    Literal(usize),
+// Whether some row matches each point of the width.
+fn every_point<R: Row>(alloc: Global, width: usize, rows: &[R]) -> Result<bool, AllocError>
+    requires { HasWidth width (map R.places rows.now) }
+    ensures { IfOk result (λ answer. IsTrue answer ↔ IsTautology (record { width = width; rows = map R.places rows.now })) }
+{
+    let given: R = R::dashes(alloc, width)?;
+    let literals = literals_of_rows(alloc, rows)?;
+    let all = all_numbers(alloc, rows)?;
+    let answer = is_covered(alloc, &given, rows, literals.as_slice(), all.as_slice(), 0)?;
+    Ok(answer)
 }
 
-// The first literal of a row, if it has one.
-#[tactic(auto, unfolding(crate::specs::Places::all_dashes))]
-fn first_literal<R: Row>(row: &R) -> Option<usize>
-    ensures { MatchOption result (all_dashes (R.places row.now) ≡ true) (λ place. (place < length (R.places row.now)) × (not_dash (slice_index_or (R.places row.now) place None) ≡ true)) }
+// Whether the row at a place among some rows has each point of the given one.
+#[tactic(auto, using(crate::proofs::Points::width_read, crate::proofs::Splits::some_wider_at))]
+fn wished_has_points<R: Row>(given: &R, rows: &[R], numbers: &[usize], wish: Option<usize>) -> bool
+    requires { HasWidth (length (R.places given.now)) (picked (map R.places rows.now) numbers.now) }
+    ensures { IsTrue result → some_wider (R.places given.now) (picked (map R.places rows.now) numbers.now) ≡ true }
+{
+    match wish {
+        None => false,
+        Some(i) => {
+            if i >= numbers.len() {
+                return false;
+            }
+            has_points(given, rows, numbers[i])
+        }
+    }
+}
+
+// Whether one of some rows has each point of the given one.
+#[tactic(auto, using(crate::proofs::Points::width_read), unfolding(crate::specs::Places::some_wider))]
+fn some_has_points<R: Row>(given: &R, rows: &[R], numbers: &[usize]) -> bool
+    requires { HasWidth (length (R.places given.now)) (picked (map R.places rows.now) numbers.now) }
+    ensures { result ≡ some_wider (R.places given.now) (picked (map R.places rows.now) numbers.now) }
+{
+    for number in numbers {
+        if has_points(given, rows, *number) {
+            return true;
+        }
+    }
+    false
+}
+
+// The first dash of a row, if it has one.
+#[tactic(auto, unfolding(crate::specs::Places::no_dash))]
+fn first_dash<R: Row>(row: &R) -> Option<usize>
+    ensures { MatchOption result (no_dash (R.places row.now) ≡ true) (λ place. (place < length (R.places row.now)) × (slice_index_or (R.places row.now) place None ≡ None)) }
 {
     for place in 0..row.width() {
-        if row.at(place).is_some() {
+        if row.at(place).is_none() {
             return Some(place);
         }
     }
     None
 }
 
-// A row of dashes where there is one, else a place with a literal where there is a row.
-#[tactic(auto, using(crate::proofs::Points::width_read), unfolding(crate::specs::Places::some_dashes, crate::specs::Places::has_literal))]
-fn find_literal<R: Row>(width: usize, rows: &[R]) -> Found
-    requires { HasWidth width (map R.places rows.now) }
-    ensures { IsFound width (map R.places rows.now) result }
+// The place wished for where the row has a dash there, else its first dash, if it has one.
+fn dash_of<R: Row>(row: &R, wish: usize) -> Option<usize>
+    ensures { MatchOption result (no_dash (R.places row.now) ≡ true) (λ place. (place < length (R.places row.now)) × (slice_index_or (R.places row.now) place None ≡ None)) }
 {
-    let mut found = Found::NoRow;
-    for row in rows {
-        match first_literal(row) {
-            None => return Found::Dashes,
-            Some(place) => found = Found::Literal(place),
-        }
+    if wish < row.width() && row.at(wish).is_none() {
+        return Some(wish);
     }
-    found
+    first_dash(row)
 }
 
-// Whether there is a row of dashes.
-fn has_dashes<R: Row>(width: usize, rows: &[R]) -> bool
-    requires { HasWidth width (map R.places rows.now) }
-    ensures { IsTrue result → some_dashes (map R.places rows.now) ≡ true }
+// A copy of a row with a literal at a place.
+fn row_with<R: Row>(alloc: Global, row: &R, place: usize, bit: bool) -> Result<R, AllocError>
+    requires { place < length (R.places row.now) }
+    ensures { IfOk result (λ made. R.places made ≡ slice_set (R.places row.now) place (Some bit)) }
 {
-    match find_literal(width, rows) {
-        Found::Dashes => true,
-        _ => false,
-    }
+    let mut made = row.copy(alloc)?;
+    made.set(place, Some(bit));
+    Ok(made)
 }
 
-// Leaves out rows that do not count, and splits at a place until a row of dashes or no row decides.
-fn tautology_of<R: Row>(alloc: Global, width: usize, rows: Vec<R>) -> Result<bool, AllocError>
-    requires { HasWidth width (map R.places rows.items) }
-    ensures { IfOk result (λ answer. IsTrue answer ↔ IsTautology (record { width = width; rows = map R.places rows.items })) }
+// Whether some rows have each point of the given one, in which the place decided last has a literal: leaves out rows
+// that do not count, and splits at a dash until a row or the want of rows decides.
+fn is_covered<R: Row>(
+    alloc: Global,
+    given: &R,
+    rows: &[R],
+    literals: &[Vec<u32>],
+    numbers: &[usize],
+    last: usize,
+) -> Result<bool, AllocError>
+    requires { HasWidth (length (R.places given.now)) (picked (map R.places rows.now) numbers.now) }
+    ensures { IfOk result (λ answer. IsTrue answer ↔ IsCovered (R.places given.now) (picked (map R.places rows.now) numbers.now)) }
 {
-    if has_dashes(width, rows.as_slice()) {
+    let kept = thin(alloc, given, rows, literals, numbers, last)?;
+    if kept.len() == 0 {
+        return Ok(false);
+    }
+    let wish = wish_of(alloc, given, literals, kept.as_slice())?;
+    if wished_has_points(given, rows, kept.as_slice(), wish.row) {
         return Ok(true);
     }
-    let kept = thin(alloc, width, rows)?;
-    match find_literal(width, kept.as_slice()) {
-        Found::NoRow => Ok(false),
-        Found::Dashes => Ok(true),
-        Found::Literal(first) => {
-            let place = split_place(alloc, width, kept.as_slice(), first)?;
-            let low = rows_at(alloc, width, kept.as_slice(), place, false)?;
-            let low_answer = tautology_of(alloc, width, low)?;
+    match dash_of(given, wish.place) {
+        None => Ok(some_has_points(given, rows, kept.as_slice())),
+        Some(place) => {
+            let low = row_with(alloc, given, place, false)?;
+            let low_answer = is_covered(alloc, &low, rows, literals, kept.as_slice(), place)?;
             if !low_answer {
-                return Ok(false);
+                return Ok(low_answer);
             }
-            let high = rows_at(alloc, width, kept.as_slice(), place, true)?;
-            let high_answer = tautology_of(alloc, width, high)?;
+            let high = row_with(alloc, given, place, true)?;
+            let high_answer = is_covered(alloc, &high, rows, literals, kept.as_slice(), place)?;
             Ok(high_answer)
         }
     }

@@ -151,7 +151,9 @@ struct Whole {
     tautology: bool,
 }
 
-const WHOLES: [Whole; 8] = [
+// Beside worked cases: rows with less than all points, rows with as many as all points but not each, and three pigeons
+// in two holes (a pigeon that sits nowhere, or two in one hole).
+const WHOLES: [Whole; 11] = [
     Whole {
         width: 2,
         rows: &[b"1-", b"01", b"00"],
@@ -190,6 +192,24 @@ const WHOLES: [Whole; 8] = [
     Whole {
         width: 3,
         rows: &[b"111", b"---"],
+        tautology: true,
+    },
+    Whole {
+        width: 3,
+        rows: &[b"0--", b"1-1"],
+        tautology: false,
+    },
+    Whole {
+        width: 3,
+        rows: &[b"0--", b"1-1", b"-01", b"111"],
+        tautology: false,
+    },
+    Whole {
+        width: 6,
+        rows: &[
+            b"00----", b"--00--", b"----00", b"1-1---", b"1---1-", b"--1-1-", b"-1-1--", b"-1---1",
+            b"---1-1",
+        ],
         tautology: true,
     },
 ];

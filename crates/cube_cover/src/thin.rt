@@ -1,18 +1,25 @@
-//! Rows that no tautology needs: those with a literal that stands in one polarity only.
+//! Rows that no tautology needs: those that contradict what is given, and those with a literal that stands in one
+//! polarity only.
+//!
+//! Source: Brayton et al., "Logic Minimization Algorithms for VLSI Synthesis" (unate reduction). Promised: the rows that
+//! are left have each point of the given row exactly where all rows have.
 
-ghost use Rattle.std.specs.Prelude.{◌≡◌, ℕ, is_none, ◌+◌, ◌^◌, ◌<◌, ◌≤◌, Bool, true, false, Option, None, List, length, map, slice_index_or, IfOk};
+ghost use Rattle.std.specs.Prelude.{◌≡◌, ℕ, ◌+◌, ◌^◌, ◌<◌, ◌≤◌, Bool, true, false, Option, None, List, length, map, slice_index_or, IfOk};
 ghost use Rattle.sis_base.specs.Rows.{HasWidth};
-ghost use Rattle.cube_cover.specs.Places.{dashed_rows, rows_with, literal_count, has_literal};
+ghost use Rattle.cube_cover.specs.Covers.{picked};
+ghost use Rattle.cube_cover.specs.Places.{rows_with, literal_count};
 ghost use Rattle.cube_cover.specs.Found.{IsThinner};
 
+use crate::counts::counts_of;
+use crate::picks::{agreeing, dashed, is_dash, literal_at};
 use crate::row::Row;
 use std::alloc::{AllocError, Global};
 
-/// How many rows have the positive and the negative literal at a place.
+// How many rows have the positive and the negative literal at a place.
 #[derive(Clone, Copy)]
-pub struct Votes {
-    pub positive: usize,
-    pub negative: usize,
+struct Votes {
+    positive: usize,
+    negative: usize,
 }
 
 // One more vote, for the polarity of the literal.
@@ -36,171 +43,120 @@ fn more_votes(votes: Votes, place: Option<bool>) -> Votes
     }
 }
 
-/// Counts the literals at a place, by polarity.
-#[tactic(auto, using(crate::proofs::Points::width_read), unfolding(crate::specs::Places::rows_with))]
-pub fn votes_at<R: Row>(width: usize, rows: &[R], place: usize) -> Votes
-    requires widths { HasWidth width (map R.places rows.now) }
-    requires place { place < width }
-    ensures positive { result.positive ≡ rows_with place true (map R.places rows.now) }
-    ensures negative { result.negative ≡ rows_with place false (map R.places rows.now) }
-    ensures both { result.positive + result.negative ≤ length rows.now }
+// Counts the literals of some rows at a place, by polarity.
+#[tactic(auto, unfolding(crate::specs::Places::rows_with))]
+fn votes_at<R: Row>(rows: &[R], numbers: &[usize], place: usize) -> Votes
+    ensures positive { result.positive ≡ rows_with place true (picked (map R.places rows.now) numbers.now) }
+    ensures negative { result.negative ≡ rows_with place false (picked (map R.places rows.now) numbers.now) }
+    ensures both { result.positive + result.negative ≤ length numbers.now }
 {
     let mut votes = Votes {
         positive: 0,
         negative: 0,
     };
-    for row in rows {
-        votes = more_votes(votes, row.at(place));
+    for number in numbers {
+        votes = more_votes(votes, literal_at(rows, *number, place));
     }
     votes
 }
 
-// Whether a place is a dash.
-fn is_dash(place: Option<bool>) -> bool
-    ensures { result ≡ is_none place }
-{
-    place.is_none()
-}
-
-// The rows with a dash at a place.
-#[tactic(auto, using(crate::proofs::Points::width_read, crate::proofs::Dashed::dashed_keep, crate::proofs::Dashed::dashed_drop), unfolding(crate::specs::Places::dashed_rows))]
-fn without_literal<R: Row>(
+// The rows that go with the given row at a place where it has a literal, else all.
+#[tactic(auto, using(crate::proofs::Dashed::agreeing_thinner, crate::proofs::Dashed::thinner_same))]
+fn going<R: Row>(
     alloc: Global,
-    width: usize,
-    rows: Vec<R>,
+    given: &R,
+    rows: &[R],
+    numbers: &[usize],
     place: usize,
-) -> Result<Vec<R>, AllocError>
-    requires widths { HasWidth width (map R.places rows.items) }
-    requires place { place < width }
-    ensures { IfOk result (λ made. map R.places made.items ≡ dashed_rows place (map R.places rows.items)) }
+) -> Result<Vec<usize>, AllocError>
+    requires { HasWidth (length (R.places given.now)) (picked (map R.places rows.now) numbers.now) }
+    ensures { IfOk result (λ made. IsThinner (R.places given.now) (picked (map R.places rows.now) numbers.now) (picked (map R.places rows.now) made.items)) }
 {
-    let mut made = Vec::with_capacity(alloc, rows.len())?;
-    for row in rows {
-        if is_dash(row.at(place)) {
-            made.push(row)?;
+    if place < given.width() {
+        match given.at(place) {
+            None => (),
+            Some(bit) => {
+                let part = agreeing(alloc, rows, numbers, place, bit)?;
+                return Ok(part);
+            }
         }
     }
-    Ok(made)
+    let all = Vec::from_slice(alloc, numbers)?;
+    Ok(all)
 }
 
-// The rows without those that have the one literal of a place where only one polarity stands.
+// The rows without those that have the one literal of a place where only one polarity stands, and the given row a dash;
+// all rows where the counts do not say that it is so.
 #[tactic(auto, using(crate::proofs::Dashed::dashed_thinner, crate::proofs::Dashed::thinner_same))]
 fn thin_place<R: Row>(
     alloc: Global,
-    width: usize,
-    rows: Vec<R>,
+    given: &R,
+    rows: &[R],
+    numbers: Vec<usize>,
     place: usize,
-) -> Result<Vec<R>, AllocError>
-    requires widths { HasWidth width (map R.places rows.items) }
-    requires place { place < width }
-    ensures { IfOk result (λ made. IsThinner width (map R.places rows.items) (map R.places made.items)) }
+    is_one_sided: bool,
+) -> Result<Vec<usize>, AllocError>
+    requires widths { HasWidth (length (R.places given.now)) (picked (map R.places rows.now) numbers.items) }
+    requires place { place < length (R.places given.now) }
+    ensures { IfOk result (λ made. IsThinner (R.places given.now) (picked (map R.places rows.now) numbers.items) (picked (map R.places rows.now) made.items)) }
 {
-    let votes = votes_at(width, rows.as_slice(), place);
-    if votes.positive == 0 {
-        let kept = without_literal(alloc, width, rows, place)?;
-        return Ok(kept);
+    if is_one_sided && is_dash(given.at(place)) {
+        let votes = votes_at(rows, numbers.as_slice(), place);
+        if votes.positive == 0 {
+            let kept = dashed(alloc, rows, numbers.as_slice(), place)?;
+            return Ok(kept);
+        }
+        if votes.negative == 0 {
+            let kept = dashed(alloc, rows, numbers.as_slice(), place)?;
+            return Ok(kept);
+        }
     }
-    if votes.negative == 0 {
-        let kept = without_literal(alloc, width, rows, place)?;
-        return Ok(kept);
-    }
-    Ok(rows)
+    Ok(numbers)
 }
 
-/// Goes over the places, and leaves out the rows with a literal that stands in one polarity only.
+// Goes over the places once, and leaves out the rows with a literal where the counts say that only one polarity stands.
 #[tactic(auto, using(crate::proofs::Dashed::thinner_more, crate::proofs::Dashed::thinner_same))]
-pub fn thin<R: Row>(alloc: Global, width: usize, rows: Vec<R>) -> Result<Vec<R>, AllocError>
-    requires { HasWidth width (map R.places rows.items) }
-    ensures { IfOk result (λ made. IsThinner width (map R.places rows.items) (map R.places made.items)) }
+fn thin_once<R: Row>(
+    alloc: Global,
+    given: &R,
+    rows: &[R],
+    literals: &[Vec<u32>],
+    numbers: Vec<usize>,
+) -> Result<Vec<usize>, AllocError>
+    requires { HasWidth (length (R.places given.now)) (picked (map R.places rows.now) numbers.items) }
+    ensures { IfOk result (λ made. IsThinner (R.places given.now) (picked (map R.places rows.now) numbers.items) (picked (map R.places rows.now) made.items)) }
 {
-    let mut kept = rows;
-    for place in 0..width {
-        kept = thin_place(alloc, width, kept, place)?;
+    let counts = counts_of(alloc, given, rows, literals, numbers.as_slice())?;
+    let mut kept = numbers;
+    for place in 0..given.width() {
+        let is_one_sided = counts.is_one_sided(place);
+        kept = thin_place(alloc, given, rows, kept, place, is_one_sided)?;
     }
     Ok(kept)
 }
 
-// How many literals a row has.
-fn literals_of<R: Row>(row: &R) -> usize {
-    let mut count: usize = 0;
-    for place in 0..row.width() {
-        if row.at(place).is_some() {
-            count = count.saturating_add(1);
-        }
-    }
-    count
-}
-
-// Counts a row's literals in, each at its place.
-fn count_in<R: Row>(row: &R, counts: &mut [usize]) {
-    for place in 0..row.width() {
-        if place < counts.len() && row.at(place).is_some() {
-            counts[place] = counts[place].saturating_add(1);
-        }
-    }
-}
-
-// Sets all counts to 0.
-fn clear(counts: &mut [usize]) {
-    for count in counts.iter_mut() {
-        *count = 0;
-    }
-}
-
-// Counts the literals of the rows with the fewest literals, each at its place.
-fn count_short<R: Row>(rows: &[R], counts: &mut [usize]) {
-    let mut least = usize::MAX;
-    for row in rows {
-        let literals = literals_of(row);
-        if literals < least {
-            least = literals;
-            clear(counts);
-        }
-        if literals == least {
-            count_in(row, counts);
-        }
-    }
-}
-
-// Where the greatest count stands first.
-fn greatest_at(counts: &[usize]) -> usize {
-    let mut best = 0;
-    let mut most = 0;
-    for (place, count) in counts.iter().enumerate() {
-        if *count > most {
-            best = place;
-            most = *count;
-        }
-    }
-    best
-}
-
-/// A place with a literal: where most literals of the shortest rows stand, since the halves there decide
-/// soonest; `first` where that place has none. An error only for want of memory.
-#[tactic(auto, using(crate::proofs::Dashed::has_literal_counted))]
-pub fn split_place<R: Row>(
+/// Those of some rows that still count: which go with the given row at the place decided last, and have no literal of
+/// which only one polarity stands; an error only for want of memory. Each round but the last empties a place, so that
+/// there are no more of them than places.
+#[tactic(auto, using(crate::proofs::Dashed::thinner_more, crate::proofs::Dashed::thinner_same))]
+pub fn thin<R: Row>(
     alloc: Global,
-    width: usize,
+    given: &R,
     rows: &[R],
-    first: usize,
-) -> Result<usize, AllocError>
-    requires widths { HasWidth width (map R.places rows.now) }
-    requires place { first < width }
-    requires literal { has_literal first (map R.places rows.now) ≡ true }
-    ensures place { IfOk result (λ place. place < width) }
-    ensures literal { IfOk result (λ place. has_literal place (map R.places rows.now) ≡ true) }
+    literals: &[Vec<u32>],
+    numbers: &[usize],
+    last: usize,
+) -> Result<Vec<usize>, AllocError>
+    requires { HasWidth (length (R.places given.now)) (picked (map R.places rows.now) numbers.now) }
+    ensures { IfOk result (λ made. IsThinner (R.places given.now) (picked (map R.places rows.now) numbers.now) (picked (map R.places rows.now) made.items)) }
 {
-    let mut counts = vec![in alloc; 0; width]?;
-    count_short(rows, counts.as_mut_slice());
-    let place = greatest_at(counts.as_slice());
-    if place < width {
-        let votes = votes_at(width, rows, place);
-        if votes.positive > 0 {
-            return Ok(place);
-        }
-        if votes.negative > 0 {
-            return Ok(place);
+    let mut kept = going(alloc, given, rows, numbers, last)?;
+    for _round in 0..given.width() {
+        let before = kept.len();
+        kept = thin_once(alloc, given, rows, literals, kept)?;
+        if kept.len() == before {
+            return Ok(kept);
         }
     }
-    Ok(first)
+    Ok(kept)
 }

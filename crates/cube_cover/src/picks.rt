@@ -1,0 +1,102 @@
+//! Rows by their numbers: lists of numbers, counted from 0, stand for the rows of a table, which stay where they are.
+//! Promised: each call's exact meaning for the rows of the numbers; a number past the rows stands for a row without places.
+
+ghost use Rattle.std.specs.Prelude.{◌≡◌, Bool, Option, None, List, [], length, map, slice_index_or, IfOk, is_none};
+ghost use Rattle.cube_cover.specs.Covers.{agreeing_rows, picked};
+ghost use Rattle.cube_cover.specs.Places.{dashed_rows, all_wider};
+
+use crate::cover::place_agrees;
+use crate::row::Row;
+use std::alloc::{AllocError, Global};
+
+// Whether a row has each point of another.
+#[tactic(auto, using(crate::proofs::Products::covers_by_places))]
+fn is_as_wide<R: Row>(row: &R, other: &R) -> bool
+    requires { length (R.places row.now) ≡ length (R.places other.now) }
+    ensures { result ≡ all_wider (R.places row.now) (R.places other.now) }
+{
+    row.contains(other)
+}
+
+/// What stands at a place of the row of a number; a dash where there is no such row or place.
+#[tactic(auto, using(crate::proofs::Numbered::pick_is, crate::proofs::Numbered::pick_past))]
+pub fn literal_at<R: Row>(rows: &[R], number: usize, place: usize) -> Option<bool>
+    ensures { result ≡ slice_index_or (slice_index_or (map R.places rows.now) number []) place None }
+{
+    if number >= rows.len() {
+        return None;
+    }
+    if place >= rows[number].width() {
+        return None;
+    }
+    rows[number].at(place)
+}
+
+/// Whether the row of a number has each point of the given one; a row that is not there has.
+#[tactic(auto, using(crate::proofs::Numbered::pick_is, crate::proofs::Numbered::pick_past), unfolding(crate::specs::Places::all_wider))]
+pub fn has_points<R: Row>(given: &R, rows: &[R], number: usize) -> bool
+    requires { length (slice_index_or (map R.places rows.now) number []) ≡ length (R.places given.now) }
+    ensures { result ≡ all_wider (slice_index_or (map R.places rows.now) number []) (R.places given.now) }
+{
+    if number >= rows.len() {
+        return true;
+    }
+    is_as_wide(&rows[number], given)
+}
+
+/// Whether a place is a dash.
+pub fn is_dash(place: Option<bool>) -> bool
+    ensures { result ≡ is_none place }
+{
+    place.is_none()
+}
+
+/// The numbers of all rows; an error only for want of memory.
+pub fn all_numbers<R: Row>(alloc: Global, rows: &[R]) -> Result<Vec<usize>, AllocError>
+    ensures { IfOk result (λ made. picked (map R.places rows.now) made.items ≡ map R.places rows.now) }
+{
+    let mut made = Vec::with_capacity(alloc, rows.len())?;
+    for number in 0..rows.len() {
+        made.push(number)?;
+    }
+    Ok(made)
+}
+
+/// Those of some rows that agree with a bit at a place; an error only for want of memory.
+#[tactic(auto, unfolding(crate::specs::Covers::agreeing_rows))]
+pub fn agreeing<R: Row>(
+    alloc: Global,
+    rows: &[R],
+    numbers: &[usize],
+    place: usize,
+    bit: bool,
+) -> Result<Vec<usize>, AllocError>
+    ensures { IfOk result (λ made. picked (map R.places rows.now) made.items ≡ agreeing_rows place bit (picked (map R.places rows.now) numbers.now)) }
+{
+    let mut made = Vec::new(alloc);
+    for number in numbers {
+        if place_agrees(literal_at(rows, *number, place), bit) {
+            made.push(*number)?;
+        }
+    }
+    Ok(made)
+}
+
+/// Those of some rows that have a dash at a place; an error only for want of memory.
+#[tactic(auto, unfolding(crate::specs::Places::dashed_rows))]
+pub fn dashed<R: Row>(
+    alloc: Global,
+    rows: &[R],
+    numbers: &[usize],
+    place: usize,
+) -> Result<Vec<usize>, AllocError>
+    ensures { IfOk result (λ made. picked (map R.places rows.now) made.items ≡ dashed_rows place (picked (map R.places rows.now) numbers.now)) }
+{
+    let mut made = Vec::new(alloc);
+    for number in numbers {
+        if is_dash(literal_at(rows, *number, place)) {
+            made.push(*number)?;
+        }
+    }
+    Ok(made)
+}
