@@ -1,38 +1,71 @@
 -- Steps one after the other.
-use Rattle.std.proofs.Common.{◌≡◌, ℕ, ◌<◌, ◌≤◌, ◌-◌, not, length, count_by, Option, Some, None, List, [], ◌∷◌, ◌++◌, refl, sym, ap, ◌∙◌, subst, arith}
+use Rattle.std.proofs.Common.{◌≡◌, ℕ, ◌<◌, ◌≤◌, ◌-◌, not, length, count_by, Option, Some, None, List, [], ◌∷◌, ◌++◌, false, inl, inr, refl, sym, ap, ◌∙◌, subst, arith}
 use Rattle.std.specs.Option.{option_or}
 use Rattle.circuit_model.specs.Names.{has}
 use Rattle.circuit_model.specs.Soundness.{IsSound, outputs_of}
 use Rattle.circuit_model.specs.declared.circuit.Table.{Table}
 use Rattle.circuit_model.specs.declared.circuit.Circuit.{Circuit}
-use Rattle.circuit_laws.specs.Chains.{Leads, Chain}
+use Rattle.circuit_laws.specs.Chains.{Chain}
+use Rattle.circuit_laws.specs.Edits.{constant_table}
+use Rattle.circuit_laws.proofs.Drivers.{output_driver}
+use Rattle.std.proofs.lemmas.Bool.{false≢true}
 use Rattle.sweep_rules.specs.Rules.{tidy_rule, constant_rule, put_rule, bypass_rule, latch_rule, need_rule, sweep_step}
 use Rattle.sweep_rules.specs.Keeping.{IsKept}
 use Rattle.sweep_rules.specs.Sweeping.{IsSwept, tables_gone, latches_gone}
 use Rattle.sweep_rules.proofs.Chaining.{step_kept, chain_kept, chain_swept}
 use Rattle.sweep_rules.proofs.Falling.{step_falls}
-use Rattle.sweep_rules.proofs.Weight.{weight}
-use Rattle.net_sweep.specs.Settled.{table_step, HasLed}
+use Rattle.sweep_rules.proofs.Weight.{weight, replaced_lighter}
+use Rattle.net_sweep.specs.Settled.{table_step, IsTurn, Goes, HasLed}
+use Rattle.sweep_rules.specs.Idle.{IsIdle, with_emptied}
+use Rattle.sweep_rules.proofs.Idle.{emptied_sound, emptied_ends}
 
-leads_more : {N : Type 0} (step : N → Option N) (between : List N) (from to next : N) → Leads step between from to → step to ≡ Some next → Leads step (between ++ next ∷ []) from next
-leads_more step [] from to next h e = (ap step h ∙ e, refl)
-leads_more step (first ∷ between) from to next h e = (h.0, leads_more step between first to next h.1 e)
+goes_more : (between : List Circuit) (from to next : Circuit) → Goes between from to → IsTurn to next → Goes (between ++ next ∷ []) from next
+goes_more [] from to next h turn = (subst (λ (c : Circuit). IsTurn c next) (sym h) turn, refl)
+goes_more (first ∷ between) from to next h turn = (h.0, goes_more between first to next h.1 turn)
 
-leads_through : {N : Type 0} (step : N → Option N) (between others : List N) (from to end : N) → Leads step between from to → Leads step others to end → Leads step (between ++ others) from end
-leads_through {N} step [] others from to end h k = subst (λ (n : N). Leads step others n end) (sym h) k
-leads_through step (first ∷ between) others from to end h k = (h.0, leads_through step between others first to end h.1 k)
+goes_through : (between others : List Circuit) (from to end : Circuit) → Goes between from to → Goes others to end → Goes (between ++ others) from end
+goes_through [] others from to end h k = subst (λ (c : Circuit). Goes others c end) (sym h) k
+goes_through (first ∷ between) others from to end h k = (h.0, goes_through between others first to end h.1 k)
+
+turn_sound : (from to : Circuit) → IsSound from → IsTurn from to → IsSound to
+turn_sound from to sound turn =
+    elim turn as (λ _. IsSound to) [
+      | inl step ↦ (step_kept from to sound step).sound
+      | inr emptied ↦ (let (name, idle, is) = emptied in subst IsSound (sym is) (emptied_sound from name sound idle))
+    ]
+
+-- a turn changes no chain's end
+turn_ends : (from to end : Circuit) → IsSound from → IsTurn from to → Chain sweep_step to end → Chain sweep_step from end
+turn_ends from to end sound turn chain =
+    elim turn as (λ _. Chain sweep_step from end) [
+      | inl step ↦ record { between = to ∷ chain.between; leads = (step, chain.leads); finished = chain.finished }
+      | inr emptied ↦ (let (name, idle, is) = emptied in emptied_ends from end name sound idle (subst (λ (c : Circuit). Chain sweep_step c end) is chain))
+    ]
+
+goes_ends : (between : List Circuit) (from to end : Circuit) → IsSound from → Goes between from to → Chain sweep_step to end → Chain sweep_step from end
+goes_ends [] from to end sound h chain = subst (λ (c : Circuit). Chain sweep_step c end) (sym h) chain
+goes_ends (first ∷ between) from to end sound h chain =
+    turn_ends from first end sound h.0 (goes_ends between first to end (turn_sound from first sound h.0) h.1 chain)
 
 pub not_yet : (from : Circuit) → IsSound from → HasLed from from
-not_yet from h = record { between = []; leads = refl; sound = h }
+not_yet from h = record { between = []; goes = refl; sound = h }
 
 pub one_more : (from to next : Circuit) → HasLed from to → sweep_step to ≡ Some next → HasLed from next
-one_more from to next h e = record { between = h.between ++ next ∷ []; leads = leads_more sweep_step h.between from to next h.leads e; sound = (step_kept to next h.sound e).sound }
+one_more from to next h e = record { between = h.between ++ next ∷ []; goes = goes_more h.between from to next h.goes (inl e); sound = (step_kept to next h.sound e).sound }
+
+-- a table is emptied
+pub one_emptied : (circuit : Circuit) (name : List ℕ) → IsSound circuit → IsIdle circuit name → HasLed circuit (with_emptied circuit name)
+one_emptied circuit name sound idle = record {
+  between = with_emptied circuit name ∷ [];
+  goes = (inr (name, idle, refl), refl);
+  sound = emptied_sound circuit name sound idle;
+}
 
 pub led_through : (from to end : Circuit) → HasLed from to → HasLed to end → HasLed from end
-led_through from to end h k = record { between = h.between ++ k.between; leads = leads_through sweep_step h.between k.between from to end h.leads k.leads; sound = k.sound }
+led_through from to end h k = record { between = h.between ++ k.between; goes = goes_through h.between k.between from to end h.goes k.goes; sound = k.sound }
 
-pub at_end : (from to : Circuit) → HasLed from to → sweep_step to ≡ None → Chain sweep_step from to
-at_end from to h e = record { between = h.between; leads = h.leads; finished = e }
+pub at_end : (from to : Circuit) → IsSound from → HasLed from to → sweep_step to ≡ None → Chain sweep_step from to
+at_end from to sound h e = goes_ends h.between from to to sound h.goes (record { between = []; leads = refl; finished = e })
 
 -- a step of the rules that change tables is a step; where they do not apply the other rules decide
 pub table_step_is : (circuit next : Circuit) → table_step circuit ≡ Some next → sweep_step circuit ≡ Some next
@@ -57,16 +90,31 @@ other_step_is circuit next h n = by (tidy_rule circuit) (constant_rule circuit) 
     by None None None (Some x) e k m = let z : Some x ≡ None = k in absurd cc
     by None None None None e k m = m
 
--- steps make a sound circuit no heavier
-lighter : (between : List Circuit) (from to : Circuit) → IsSound from → Leads sweep_step between from to → weight to ≤ weight from
+-- turns make a sound circuit no heavier
+emptied_lighter : (circuit : Circuit) (name : List ℕ) → IsSound circuit → IsIdle circuit name → weight (with_emptied circuit name) ≤ weight circuit
+emptied_lighter circuit name sound idle =
+    let (table, drives) = output_driver circuit.tables name idle.driven in
+    replaced_lighter circuit table (constant_table name false) drives (λ other reads. absurd (false≢true reads)) (omega arith)
+
+turn_lighter : (from to : Circuit) → IsSound from → IsTurn from to → weight to ≤ weight from
+turn_lighter from to sound turn =
+    elim turn as (λ _. weight to ≤ weight from) [
+      | inl step ↦ (let one : weight to < weight from = step_falls from to sound step in omega (arith, one))
+      | inr emptied ↦ (let (name, idle, is) = emptied in
+          let one : weight (with_emptied from name) ≤ weight from = emptied_lighter from name sound idle in
+          let same : weight to ≡ weight (with_emptied from name) = ap weight is in
+          omega (arith, one, same))
+    ]
+
+lighter : (between : List Circuit) (from to : Circuit) → IsSound from → Goes between from to → weight to ≤ weight from
 lighter [] from to sound h = let e : weight from ≡ weight to = ap weight h in omega (arith, e)
 lighter (next ∷ rest) from to sound h =
-    let one : weight next < weight from = step_falls from next sound h.0 in
-    let more : weight to ≤ weight next = lighter rest next to (step_kept from next sound h.0).sound h.1 in
+    let one : weight next ≤ weight from = turn_lighter from next sound h.0 in
+    let more : weight to ≤ weight next = lighter rest next to (turn_sound from next sound h.0) h.1 in
     omega (arith, one, more)
 
 pub no_heavier : (from to : Circuit) → IsSound from → HasLed from to → weight to ≤ weight from
-no_heavier from to sound h = lighter h.between from to sound h.leads
+no_heavier from to sound h = lighter h.between from to sound h.goes
 
 -- a step of the last rule, and then steps of the others
 last_step_is : (circuit : Circuit) (next : Option Circuit) → table_step circuit ≡ None → latch_rule circuit ≡ None → next ≡ need_rule circuit → sweep_step circuit ≡ next
@@ -81,8 +129,8 @@ next_falls from to next end o h none unfixed is some more =
     let rest : weight end ≤ weight next = no_heavier next end (next_led from to next o h none unfixed is some).sound more in
     omega (arith, one, rest)
 
-pub all_finished : (from to : Circuit) (o : Option Circuit) → HasLed from to → table_step to ≡ None → latch_rule to ≡ None → o ≡ need_rule to → o ≡ None → Chain sweep_step from to
-all_finished from to o h none unfixed is some = at_end from to h (last_step_is to None none unfixed (sym some ∙ is))
+pub all_finished : (from to : Circuit) (o : Option Circuit) → IsSound from → HasLed from to → table_step to ≡ None → latch_rule to ≡ None → o ≡ need_rule to → o ≡ None → Chain sweep_step from to
+all_finished from to o sound h none unfixed is some = at_end from to sound h (last_step_is to None none unfixed (sym some ∙ is))
 
 -- the end of a chain, however the circuits at its ends are called
 pub all_chained : (old circuit end new : Circuit) → circuit ≡ old → Chain sweep_step circuit end → new ≡ end → Chain sweep_step old new

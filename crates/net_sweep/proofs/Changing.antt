@@ -1,5 +1,5 @@
 -- What rules change: tables at some places, and nothing that no table read before is read after.
-use Rattle.std.proofs.Common.{◌≡◌, ℕ, zero, suc, ◌+◌, ◌<◌, ◌≤◌, ◌==◌, Bool, true, false, not, ◌||◌, if◌then◌else◌, Option, Some, None, is_some, List, [], ◌∷◌, ◌++◌, take, length, map, set, get_or, find, slice_get, bytes_eq, inl, inr, ◌⊎◌, refl, sym, ap, ◌∙◌, subst, arith}
+use Rattle.std.proofs.Common.{◌≡◌, ℕ, zero, suc, ◌+◌, ◌<◌, ◌≤◌, ◌==◌, Bool, true, false, not, ◌||◌, if◌then◌else◌, Option, Some, None, is_some, List, [], ◌∷◌, take, length, map, set, get_or, find, slice_get, bytes_eq, inl, inr, ◌⊎◌, refl, sym, ap, ◌∙◌, subst, arith}
 use Rattle.std.specs.Prelude.{Result, IfOk, OnOk}
 use Rattle.std.specs.declared.result.Result.TheVariants.{Ok, Err}
 use Rattle.std.specs.List.{AllByRecursion}
@@ -7,13 +7,13 @@ use Rattle.std.specs.Option.{option_map, option_map_or, option_or}
 use Rattle.std.proofs.lemmas.List.{take_all}
 use Rattle.std.proofs.lemmas.Bool.{false≢true, and_parts, eqb-true, eqb-false}
 use Rattle.std.proofs.lemmas.Option.{same_Some, slice_get-map}
-use Rattle.std.proofs.lemmas.List.Folds.{list_any-append, list_any_more}
+use Rattle.std.proofs.lemmas.List.Folds.{list_any_more}
 use Rattle.circuit_model.specs.Names.{has, all_different}
 use Rattle.circuit_model.specs.Soundness.{outputs_of, table_inputs, IsShaped}
 use Rattle.circuit_model.specs.declared.circuit.Table.{Table}
 use Rattle.circuit_model.specs.declared.circuit.Circuit.{Circuit}
 use Rattle.circuit_laws.specs.Edits.{with_tables, with_replaced, replaced, constant_table}
-use Rattle.circuit_laws.proofs.Names.{has_head, name_itself, name_not}
+use Rattle.circuit_laws.proofs.Names.{has_head, name_not}
 use Rattle.circuit_laws.proofs.Places.{set_replaced, placed_driver}
 use Rattle.circuit_laws.proofs.Paths.{no_return}
 use Rattle.circuit_laws.proofs.Ranks.{leads_one}
@@ -31,7 +31,8 @@ use Rattle.net_sweep.specs.declared.turns.Change.{Change}
 use Rattle.net_sweep.specs.declared.turns.Change.TheVariants.{Bit, Input}
 use Rattle.table_tidy.specs.Tidy.{IsWide}
 use Rattle.net_sweep.specs.Turns.{IsFirst}
-use Rattle.net_sweep.specs.Settled.{passes, rule_turn, table_step, IsNext, changed_by, is_apart, is_in, listed, AreListed, AreMarkedBy, AreMarked, AreSameBut, AreSound}
+use Rattle.net_sweep.specs.Settled.{passes, rule_turn, table_step, IsNext, changed_by, is_apart, AreMarkedBy, AreMarked, AreSameBut, AreSound}
+use Rattle.net_readers.specs.Readers.{is_in, AreReaders}
 use Rattle.net_sweep.proofs.Marking.{read_by, reads_at}
 
 -- the next step of the rules that change tables
@@ -127,7 +128,7 @@ same_but_one tables place made i none = cases (place == i) refl none
     cases false e h = get_set_other tables place i made (λ same. eqb-false place i e (sym same))
 
 -- the table at a place of the new list: the new one, or the old one there
-at_set : (P : Table → Type 0) (tables : List Table) (place : ℕ) (old made : Table) (i : ℕ) (table : Table) → slice_get tables place ≡ Some old → slice_get (set tables place made) i ≡ Some table
+pub at_set : (P : Table → Type 0) (tables : List Table) (place : ℕ) (old made : Table) (i : ℕ) (table : Table) → slice_get tables place ≡ Some old → slice_get (set tables place made) i ≡ Some table
     → (i ≡ place → P made) → (slice_get tables i ≡ Some table → P table) → P table
 at_set P tables place old made i table at here new same = cases (place == i) refl
   where
@@ -143,12 +144,6 @@ set_reads tables place old made at less name h =
     let (i, table, here, reads) = read_by (set tables place made) name h in
     at_set (λ (t : Table). has t.inputs name ≡ true → has (table_inputs tables) name ≡ true) tables place old made i table at here
     (λ z k. reads_at tables place old name at (less name k)) (λ there k. reads_at tables i table name there k) reads
-
-pub set_listed : (lists : List ℕ → Option (List ℕ)) (tables : List Table) (place : ℕ) (old made : Table) → slice_get tables place ≡ Some old → ((name : List ℕ) → has made.inputs name ≡ true → has old.inputs name ≡ true)
-    → AreListed lists tables → AreListed lists (set tables place made)
-set_listed lists tables place old made at less all i table name here reads =
-    at_set (λ (t : Table). has t.inputs name ≡ true → is_in (listed (lists name)) i ≡ true) tables place old made i table at here
-    (λ z k. all i old name (subst (λ (n : ℕ). slice_get tables n ≡ Some old) (sym z) at) (less name k)) (λ there k. all i table name there k) reads
 
 -- a table in which a signal has a bit or gives place to another one
 
@@ -295,56 +290,6 @@ partly_wide name change done old new sound h =
         subst IsWide (sym (same_Some table (changed_by name change t) is)) (changed_shaped name change t (all_at IsShaped old.tables place t sound.shaped e)).0
     by place table false (Some t) e is = subst IsWide (sym (same_Some table t is)) (all_at IsShaped old.tables place t sound.shaped e).0
 
--- the readers afterwards
-
-is_in_front : (xs ys : List ℕ) (place : ℕ) → is_in xs place ≡ true → is_in (xs ++ ys) place ≡ true
-is_in_front xs ys place h = list_any-append (λ other. other == place) xs ys ∙ ap (λ (b : Bool). b || is_in ys place) h
-
-is_in_back : (xs ys : List ℕ) (place : ℕ) → is_in ys place ≡ true → is_in (xs ++ ys) place ≡ true
-is_in_back xs ys place h = list_any-append (λ other. other == place) xs ys ∙ (ap (λ (b : Bool). is_in xs place || b) h ∙ or_true (is_in xs place))
-  where
-    or_true : (b : Bool) → (b || true) ≡ true
-    or_true true = refl
-    or_true false = refl
-
--- the list of the signal goes; where another one comes in its place, its readers have been put to those of that one
-pub map_listed : (name : List ℕ) (change : Change) (lists new : List ℕ → Option (List ℕ)) (circuit : Circuit) → AreSound circuit.tables → is_apart name change ≡ true
-    → AreListed lists circuit.tables
-    → ((other : List ℕ) (place : ℕ) → bytes_eq name other ≡ false → is_in (listed (lists other)) place ≡ true → is_in (listed (new other)) place ≡ true)
-    → ((other : List ℕ) (place : ℕ) (table : Table) → IsComing change other → slice_get circuit.tables place ≡ Some table → has table.inputs name ≡ true → is_in (listed (new other)) place ≡ true)
-    → AreListed new (map (changed_by name change) circuit.tables)
-map_listed name change lists new circuit sound apart all others coming place made x at reads =
-    let (table, here, is) = unmapped (changed_by name change) circuit.tables place made at in
-    let reads_too : has (changed_by name change table).inputs x ≡ true = subst (λ (t : Table). has t.inputs x ≡ true) (sym is) reads in
-    let once : all_different table.inputs ≡ true = all_at (λ (t : Table). all_different t.inputs ≡ true) circuit.tables place table sound.table_inputs_once here in
-    let other : bytes_eq name x ≡ false = name_not name x (λ same.
-    false≢true (sym (changed_without name change table apart once) ∙ subst (λ (n : List ℕ). has (changed_by name change table).inputs n ≡ true) (sym same) reads_too)) in
-    elim (changed_reads name change table x reads_too) as (λ _. is_in (listed (new x)) place ≡ true) [
-      | inl old ↦ others x place other (all place table x here old)
-      | inr come ↦ coming x place table come.0 here come.1
-    ]
-
--- the list of a signal is taken out
-pub list_taken : (name : List ℕ) (lists new : List ℕ → Option (List ℕ)) → ((other : List ℕ) → new other ≡ (if bytes_eq name other then None else lists other))
-    → (other : List ℕ) (place : ℕ) → bytes_eq name other ≡ false → is_in (listed (lists other)) place ≡ true → is_in (listed (new other)) place ≡ true
-list_taken name lists new h other place apart is =
-    ap (λ (o : Option (List ℕ)). is_in (listed o) place) (h other ∙ ap (λ (b : Bool). if b then None else lists other) apart) ∙ is
-
--- places are put behind the last of a signal's list
-pub list_more : (to places : List ℕ) (lists new : List ℕ → Option (List ℕ)) → ((other : List ℕ) → listed (new other) ≡ (if bytes_eq to other then listed (lists other) ++ places else listed (lists other)))
-    → (other : List ℕ) (place : ℕ) → is_in (listed (lists other)) place ≡ true → is_in (listed (new other)) place ≡ true
-list_more to places lists new h other place is = ap (λ (ps : List ℕ). is_in ps place) (h other) ∙ by (bytes_eq to other)
-  where
-    by : (b : Bool) → is_in (if b then listed (lists other) ++ places else listed (lists other)) place ≡ true
-    by true = is_in_front (listed (lists other)) places place is
-    by false = is
-
-pub list_has : (to places : List ℕ) (lists new : List ℕ → Option (List ℕ)) → ((other : List ℕ) → listed (new other) ≡ (if bytes_eq to other then listed (lists other) ++ places else listed (lists other)))
-    → (other : List ℕ) (place : ℕ) → other ≡ to → is_in places place ≡ true → is_in (listed (new other)) place ≡ true
-list_has to places lists new h other place same is =
-    ap (λ (ps : List ℕ). is_in ps place) (h other ∙ ap (λ (b : Bool). if b then listed (lists other) ++ places else listed (lists other)) (ap (λ (n : List ℕ). bytes_eq to n) same ∙ name_itself to))
-    ∙ is_in_back (listed (lists other)) places place is
-
 -- what each rule makes
 
 tidied_set : (circuit : Circuit) (place : ℕ) (table : Table) → AreSound circuit.tables → slice_get circuit.tables place ≡ Some table → rule_turn Tidy circuit table ≡ with_tables circuit (set circuit.tables place (tidied table))
@@ -415,7 +360,7 @@ turn_reads Bypass circuit place table sound at = cases (only_input table.inputs)
         (map_reads table.output (Input input (is_inverter table)) circuit.tables (λ x is. subst (λ (n : List ℕ). has (table_inputs circuit.tables) n ≡ true) (sym is) (reads_at circuit.tables place table input at (reads_input table input e))))
 
 -- and have the names that they had
-set_names : (tables : List Table) (place : ℕ) (old made : Table) → slice_get tables place ≡ Some old → made.output ≡ old.output → outputs_of (set tables place made) ≡ outputs_of tables
+pub set_names : (tables : List Table) (place : ℕ) (old made : Table) → slice_get tables place ≡ Some old → made.output ≡ old.output → outputs_of (set tables place made) ≡ outputs_of tables
 set_names [] place old made at same = let z : None ≡ Some old = at in absurd cc
 set_names (first ∷ tables) zero old made at same = ap (λ (n : List ℕ). n ∷ outputs_of tables) (same ∙ ap (λ (t : Table). t.output) (sym (same_Some first old at)))
 set_names (first ∷ tables) (suc place) old made at same = ap (λ (ns : List (List ℕ)). first.output ∷ ns) (set_names tables place old made at same)
@@ -477,6 +422,29 @@ turn_cares Bypass circuit table = cases (only_input table.inputs) refl
     cases None e = subst (Cares circuit) (sym (bypass_same circuit table e)) refl
     cases (Some input) e = subst (Cares circuit) (sym (bypass_map circuit table input e)) refl
 
+-- and the outputs stay
+Ports : Circuit → Circuit → Type 0
+Ports old new = new.outputs ≡ old.outputs
+
+pub turn_outputs : (rule : Rule) (circuit : Circuit) (table : Table) → (rule_turn rule circuit table).outputs ≡ circuit.outputs
+unfolding with_replaced Ports
+turn_outputs Tidy circuit table = refl
+turn_outputs Constant circuit table = cases (unwritten_bit table) refl
+  where
+    cases : (o : Option Bool) → unwritten_bit table ≡ o → Ports circuit (rule_turn Constant circuit table)
+    cases None e = subst (Ports circuit) (sym (constant_same circuit table e)) refl
+    cases (Some bit) e = ap (λ (o : Option Bool). (option_map_or (λ b. with_replaced circuit (constant_table table.output b)) o circuit).outputs) e
+turn_outputs Put circuit table = cases (written_bit table) refl
+  where
+    cases : (o : Option Bool) → written_bit table ≡ o → Ports circuit (rule_turn Put circuit table)
+    cases None e = subst (Ports circuit) (sym (put_same circuit table e)) refl
+    cases (Some bit) e = subst (Ports circuit) (sym (put_map circuit table bit e)) refl
+turn_outputs Bypass circuit table = cases (only_input table.inputs) refl
+  where
+    cases : (o : Option (List ℕ)) → only_input table.inputs ≡ o → Ports circuit (rule_turn Bypass circuit table)
+    cases None e = subst (Ports circuit) (sym (bypass_same circuit table e)) refl
+    cases (Some input) e = subst (Ports circuit) (sym (bypass_map circuit table input e)) refl
+
 -- where tables read no more, a rule applies to a table only if it did before
 pub still_passes : (rule : Rule) (old new : List Table) (table : Table) → ((name : List ℕ) → has (table_inputs new) name ≡ true → has (table_inputs old) name ≡ true) → passes rule new table ≡ true → passes rule old table ≡ true
 still_passes Tidy old new table less h = h
@@ -535,42 +503,9 @@ pub mapped_others : (circuit new : Circuit) (name : List ℕ) (change : Change) 
 mapped_others circuit new name change places readers n =
     subst (λ (c : Circuit). AreSameBut places circuit.tables c.tables) (sym n) (mapped_same_but name change places circuit.tables readers)
 
-pub put_listed : (circuit new : Circuit) (name : List ℕ) (bit : Bool) (lists after : List ℕ → Option (List ℕ)) → AreSound circuit.tables → AreListed lists circuit.tables
-    → ((other : List ℕ) → after other ≡ (if bytes_eq name other then None else lists other)) → new ≡ with_tables circuit (map (changed_by name (Bit bit)) circuit.tables) → AreListed after new.tables
-put_listed circuit new name bit lists after sound all rest n =
-    subst (λ (c : Circuit). AreListed after c.tables) (sym n) (map_listed name (Bit bit) lists after circuit sound refl all (list_taken name lists after rest) (λ other place table never at reads. absurd never))
-
 pub is_apart_input : (circuit : Circuit) (place : ℕ) (here : Table) (input to name : List ℕ) (inverts : Bool) → AreSound circuit.tables → slice_get circuit.tables place ≡ Some here → only_input here.inputs ≡ Some input → to ≡ input
     → name ≡ here.output → is_apart name (Input to inverts) ≡ true
 is_apart_input circuit place here input to name inverts sound at single t is = rw (t, is, input_apart circuit place here input sound at single) refl
-
-pub bypass_listed : (circuit new : Circuit) (name input to : List ℕ) (inverts : Bool) (changed more : List ℕ) (lists mid after : List ℕ → Option (List ℕ)) → AreSound circuit.tables → is_apart name (Input to inverts) ≡ true → to ≡ input
-    → ((place : ℕ) (table : Table) → slice_get circuit.tables place ≡ Some table → has table.inputs name ≡ true → is_in changed place ≡ true) → more ≡ changed → AreListed lists circuit.tables
-    → ((other : List ℕ) → mid other ≡ (if bytes_eq name other then None else lists other))
-    → ((other : List ℕ) → listed (after other) ≡ (if bytes_eq input other then listed (mid other) ++ more else listed (mid other)))
-    → new ≡ with_tables circuit (map (changed_by name (Input to inverts)) circuit.tables) → AreListed after new.tables
-bypass_listed circuit new name input to inverts changed more lists mid after sound apart t readers m all rest grows n =
-    subst (λ (c : Circuit). AreListed after c.tables) (sym n)
-    (map_listed name (Input to inverts) lists after circuit sound apart all
-    (λ other place not h. list_more input more mid after grows other place (list_taken name lists mid rest other place not h))
-    (λ other place table come at reads. list_has input more mid after grows other place (come ∙ t) (subst (λ (ps : List ℕ). is_in ps place ≡ true) (sym m) (readers place table at reads))))
-
--- where one table is replaced the readers stay listed
-pub tidy_listed : (circuit new : Circuit) (place : ℕ) (lists : List ℕ → Option (List ℕ)) → AreSound circuit.tables → place < length circuit.tables → AreListed lists circuit.tables
-    → ((table : Table) → slice_get circuit.tables place ≡ Some table → new ≡ rule_turn Tidy circuit table) → AreListed lists new.tables
-tidy_listed circuit new place lists sound lt all turned =
-    let (table, at) = there circuit.tables place lt in
-    subst (λ (c : Circuit). AreListed lists c.tables) (sym (turned table at ∙ tidied_set circuit place table sound at)) (set_listed lists circuit.tables place table (tidied table) at (λ name h. tidied_reads table name h) all)
-
-pub constant_listed : (circuit new : Circuit) (place : ℕ) (lists : List ℕ → Option (List ℕ)) → AreSound circuit.tables → place < length circuit.tables → AreListed lists circuit.tables
-    → ((table : Table) → slice_get circuit.tables place ≡ Some table → new ≡ rule_turn Constant circuit table) → AreListed lists new.tables
-constant_listed circuit new place lists sound lt all turned = let (table, at) = there circuit.tables place lt in cases table at (unwritten_bit table) refl
-  where
-    cases : (table : Table) → slice_get circuit.tables place ≡ Some table → (o : Option Bool) → unwritten_bit table ≡ o → AreListed lists new.tables
-    cases table at None e = subst (λ (c : Circuit). AreListed lists c.tables) (sym (turned table at ∙ constant_same circuit table e)) all
-    cases table at (Some bit) e =
-        subst (λ (c : Circuit). AreListed lists c.tables) (sym (turned table at ∙ constant_set circuit place table bit sound at e))
-        (set_listed lists circuit.tables place table (constant_table table.output bit) at (λ name h. absurd (false≢true h)) all)
 
 pub turn_marked : (rule : Rule) (circuit new : Circuit) (place : ℕ) (places now : List ℕ) (before after : Rule → ℕ → Bool) → AreSound circuit.tables → place < length circuit.tables → AreMarked before circuit.tables
     → ((table : Table) → slice_get circuit.tables place ≡ Some table → new ≡ rule_turn rule circuit table) → AreSameBut places circuit.tables new.tables → now ≡ places
@@ -602,37 +537,11 @@ pub partly_ended : (name : List ℕ) (change : Change) (places : List ℕ) (i : 
 partly_ended name change places i old new le h all =
     partly_all name change places old new (subst (λ (ps : List ℕ). IsPartly (changed_by name change) ps old new) (take_all i places le) h) all
 
--- the places of the tables that read a signal are noted
-abbrev pub AreNoted : List ℕ → List ℕ → List ℕ → List Table → Type 0
-AreNoted name done noted tables = (place : ℕ) (table : Table) → is_in done place ≡ true → slice_get tables place ≡ Some table → has table.inputs name ≡ true → is_in noted place ≡ true
-
-pub noted_none : (name noted : List ℕ) (tables : List Table) → AreNoted name [] noted tables
-noted_none name noted tables place table h at reads = absurd (false≢true h)
-
-pub noted_more : (turn : Table → Table) (name done more noted after : List ℕ) (place : ℕ) (is_read : Bool) (old now : Circuit) → IsPartly turn done old now → AreNoted name done noted old.tables
-    → is_read ≡ option_map_or (λ (table : Table). has table.inputs name) (slice_get now.tables place) false → after ≡ noted ++ (if is_read then place ∷ [] else [])
-    → ((other : ℕ) → is_in more other ≡ (is_in done other || (place == other))) → AreNoted name more after old.tables
-noted_more turn name done more noted after place is_read old now h all read grows_to grows other table within at reads =
-    ap (λ (ps : List ℕ). is_in ps other) grows_to ∙ by (is_in done other) refl (place == other) refl (sym (grows other) ∙ within)
-  where
-    reads_now : is_in done other ≡ false → place ≡ other → is_read ≡ true
-    reads_now new same =
-        read ∙ (ap (λ (n : ℕ). option_map_or (λ (t : Table). has t.inputs name) (slice_get now.tables n) false) same
-        ∙ (ap (λ (o : Option Table). option_map_or (λ (t : Table). has t.inputs name) o false)
-        (h.each other ∙ (ap (λ (b : Bool). if b then option_map turn (slice_get old.tables other) else slice_get old.tables other) new ∙ at)) ∙ reads))
-
-    by : (a : Bool) → is_in done other ≡ a → (b : Bool) → (place == other) ≡ b → (a || b) ≡ true → is_in (noted ++ (if is_read then place ∷ [] else [])) other ≡ true
-    by true e b f k = is_in_front noted (if is_read then place ∷ [] else []) other (all other table e at reads)
-    by false e true f k =
-        is_in_back noted (if is_read then place ∷ [] else []) other
-        (ap (λ (r : Bool). is_in (if r then place ∷ [] else []) other) (reads_now e (eqb-true place other f)) ∙ ap (λ (b : Bool). b || false) f)
-    by false e false f k = absurd (false≢true k)
-
-pub all_noted : (name places : List ℕ) (i : ℕ) (noted : List ℕ) (tables : List Table) → length places ≤ i → AreNoted name (take i places) noted tables
-    → ((place : ℕ) (table : Table) → slice_get tables place ≡ Some table → has table.inputs name ≡ true → is_in places place ≡ true)
-    → (place : ℕ) (table : Table) → slice_get tables place ≡ Some table → has table.inputs name ≡ true → is_in noted place ≡ true
-all_noted name places i noted tables le h readers place table at reads =
-    h place table (subst (λ (ps : List ℕ). is_in ps place ≡ true) (sym (take_all i places le)) (readers place table at reads)) at reads
+-- a reader is told
+pub reads_told : (told : List ℕ → ℕ → Bool) (tables : List Table) (name : List ℕ) (places : List ℕ) → AreReaders told tables → ((place : ℕ) → told name place ≡ true → is_in places place ≡ true)
+    → (place : ℕ) (table : Table) → slice_get tables place ≡ Some table → has table.inputs name ≡ true → is_in places place ≡ true
+reads_told told tables name places all within place table at reads =
+    within place (all name place ∙ (ap (λ (o : Option Table). option_map_or (λ (t : Table). has t.inputs name) o false) at ∙ reads))
 
 -- what holds where a call went well
 pub on_ok : {T E : Type 0} (r : Result T E) {A B : Type 0} → (A → B) → OnOk r A → OnOk r B

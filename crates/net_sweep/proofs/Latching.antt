@@ -21,10 +21,12 @@ use Rattle.sweep_rules.specs.Points.{written_bit}
 use Rattle.sweep_rules.specs.Needed.{dont_care_reads}
 use Rattle.sweep_rules.specs.Rules.{fixed_bit, bit_from_start, starts_at}
 use Rattle.net_sweep.specs.declared.marks.Rule.{Rule}
-use Rattle.net_sweep.specs.Settled.{rule_turn, is_in, listed, AreListed, AreMarkedBy, AreMarked, AreSameBut, AreSound}
+use Rattle.net_sweep.specs.Settled.{rule_turn, listed, AreMarkedBy, AreMarked, AreSameBut, AreSound}
+use Rattle.net_readers.specs.Readers.{is_in, AreReaders}
+use Rattle.net_readers.proofs.Sets.{readers_last}
 use Rattle.net_sweep.specs.Latches.{left_at, slot_bit, is_fixed, IsFirstFixed, IsPlaced, AreFed, IsBeside}
 use Rattle.net_sweep.proofs.Marking.{least_first, read_by, reads_at}
-use Rattle.net_sweep.proofs.Changing.{there, still_passes, turn_names, turn_cares}
+use Rattle.net_sweep.proofs.Changing.{there, still_passes, turn_names, turn_cares, turn_outputs}
 
 -- tables of a sound circuit
 pub sound_tables : (circuit : Circuit) → IsSound circuit → AreSound circuit.tables
@@ -176,6 +178,10 @@ unfolding with_added
 placed_added circuit latch bit before after h new put =
     subst (IsPlaced after) (sym (names_added circuit.tables (constant_table latch.output bit))) (placed_more before after (outputs_of circuit.tables) latch.output h new put)
 
+added_ports : (circuit : Circuit) (table : Table) → (with_added circuit table).outputs ≡ circuit.outputs
+unfolding with_added
+added_ports circuit table = refl
+
 added_cares : (circuit : Circuit) (table : Table) (name : List ℕ) → dont_care_reads (with_added circuit table) name ≡ dont_care_reads circuit name
 unfolding with_added
 added_cares circuit table name = cares_same circuit (record circuit { tables = circuit.tables ++ table ∷ [] }) name refl
@@ -223,13 +229,6 @@ added_reads tables name bit read h =
     let (place, table, at, reads) = read_by (tables ++ constant_table name bit ∷ []) read h in
     elim (get_push_cases tables (constant_table name bit) table place at) as (λ _. has (table_inputs tables) read ≡ true) [
       | inl old ↦ reads_at tables place table read old reads
-      | inr last ↦ absurd (false≢true (subst (λ (t : Table). has t.inputs read ≡ true) (sym last.1) reads))
-    ]
-
-pub listed_added : (lists : List ℕ → Option (List ℕ)) (tables : List Table) (name : List ℕ) (bit : Bool) → AreListed lists tables → AreListed lists (tables ++ constant_table name bit ∷ [])
-listed_added lists tables name bit all place table read at reads =
-    elim (get_push_cases tables (constant_table name bit) table place at) as (λ _. is_in (listed (lists read)) place ≡ true) [
-      | inl old ↦ all place table read old reads
       | inr last ↦ absurd (false≢true (subst (λ (t : Table). has t.inputs read ≡ true) (sym last.1) reads))
     ]
 
@@ -316,10 +315,12 @@ pub turned_beside : (rule : Rule) (circuit new : Circuit) (place : ℕ) (slots :
 turned_beside rule circuit new place slots fed places read before after changed now now_tables sound lt h turned same is ts put kept =
     let (table, at) = there circuit.tables place lt in
     let names : outputs_of new.tables ≡ outputs_of circuit.tables = ap (λ (c : Circuit). outputs_of c.tables) (turned table at) ∙ turn_names rule circuit place table sound at in
-    let cares : new.dont_care ≡ circuit.dont_care = ap (λ (c : Circuit). c.dont_care) (turned table at) ∙ turn_cares rule circuit table in record {
+    let cares : new.dont_care ≡ circuit.dont_care = ap (λ (c : Circuit). c.dont_care) (turned table at) ∙ turn_cares rule circuit table in
+    let ports : new.outputs ≡ circuit.outputs = ap (λ (c : Circuit). c.outputs) (turned table at) ∙ turn_outputs rule circuit table in record {
       placed = subst (IsPlaced places) (sym names) h.placed;
       read = λ name. h.read name ∙ sym (cares_same circuit new name cares);
       fed = h.fed;
+      asked = λ name asks. h.asked name (ap (λ (names : List (List ℕ)). has names name) (sym ports) ∙ asks);
       waiting = waiting_turned slots fed places circuit new changed before after sound.differ h.placed names cares same h.fed h.waiting
           (λ i t latch k at_new. put i t latch (subst (λ (ps : List ℕ). is_in ps i ≡ true) (sym is) k) (ap (λ (xs : List Table). slice_get xs i) ts ∙ at_new)) kept;
     }
@@ -337,6 +338,7 @@ fixed_beside circuit new place last latch bit output key table slots slots_after
           (λ other. put_place other ∙ (ap (λ (name : List ℕ). if bytes_eq name other then Some last else places other) k ∙ ap (λ (p : ℕ). if bytes_eq latch.output other then Some p else places other) (l ∙ sym (names_long circuit.tables))));
       read = λ name. h.read name ∙ sym (added_cares circuit (constant_table latch.output bit) name);
       fed = fed_cleared fed slots place latch at h.fed;
+      asked = λ name asks. h.asked name (ap (λ (names : List (List ℕ)). has names name) (sym (added_ports circuit (constant_table latch.output bit))) ∙ asks);
       waiting = waiting_fixed slots fed circuit place latch bit before after at h.fed h.waiting put kept;
     })
 
@@ -347,11 +349,10 @@ fixed_marked circuit new last name output bit table before after o t n l all put
     subst (λ (c : Circuit). AreMarked after c.tables) (sym (n ∙ ap (with_added circuit) t))
     (marked_added before after circuit.tables output bit all (λ rule place. put rule place ∙ ap (λ (p : ℕ). p == place || before rule place) l))
 
-pub fixed_listed : (circuit new : Circuit) (latch : Latch) (bit : Bool) (lists : List ℕ → Option (List ℕ)) → new ≡ with_added circuit (constant_table latch.output bit) → AreListed lists circuit.tables → AreListed lists new.tables
+pub fixed_readers : (circuit new : Circuit) (latch : Latch) (bit : Bool) (told : List ℕ → ℕ → Bool) → new ≡ with_added circuit (constant_table latch.output bit) → AreReaders told circuit.tables → AreReaders told new.tables
 unfolding with_added
-fixed_listed circuit new latch bit lists n all = subst (λ (c : Circuit). AreListed lists c.tables) (sym n) (listed_added lists circuit.tables latch.output bit all)
+fixed_readers circuit new latch bit told n all = subst (λ (c : Circuit). AreReaders told c.tables) (sym n) (readers_last told circuit.tables (constant_table latch.output bit) refl all)
 
--- the least of the waiting places whose latch always has one bit is the first
 pub first_is_fixed : (circuit : Circuit) (slots : List (Option Latch)) (waiting : ℕ → Bool) (place : ℕ) (bit : Bool) → AreMarkedBy (is_fixed circuit) waiting slots → ((i : ℕ) → waiting i ≡ true → place ≤ i)
     → option_map_or (slot_bit circuit) (slice_get slots place) None ≡ Some bit → IsFirstFixed circuit slots (Some (place, bit))
 first_is_fixed circuit slots waiting place bit all least has_bit = by (slice_get slots place) refl has_bit

@@ -7,3 +7,4 @@ pub mod Changing
 pub mod Latching
 pub mod Stepping
 pub mod Waking
+pub mod Emptying

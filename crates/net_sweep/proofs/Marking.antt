@@ -2,17 +2,17 @@
 use Rattle.std.proofs.Common.{◌≡◌, ℕ, zero, suc, ◌+◌, ◌<◌, ◌≤◌, ◌==◌, Bool, true, false, not, ◌&&◌, ◌||◌, cond, if◌then◌else◌, Option, Some, None, List, [], ◌∷◌, ◌++◌, take, length, get_or, find, slice_get, bytes_eq, inl, inr, ◌⊎◌, refl, sym, ap, ◌∙◌, subst, arith}
 use Rattle.std.specs.Option.{option_map_or}
 use Rattle.std.specs.Prelude.{IfNone}
-use Rattle.std.proofs.lemmas.List.{take_all}
 use Rattle.std.proofs.lemmas.Bool.{false≢true, eqb-true, eq-eqb}
 use Rattle.std.proofs.lemmas.Option.{same_Some}
 use Rattle.std.proofs.lemmas.List.Folds.{list_any-append, list_any_more}
 use Rattle.circuit_model.specs.Names.{has}
 use Rattle.circuit_model.specs.Soundness.{table_inputs}
 use Rattle.circuit_model.specs.declared.circuit.Table.{Table}
-use Rattle.circuit_laws.proofs.Names.{has_either, has_front, has_back, has_not, name_itself, same_name}
+use Rattle.circuit_laws.proofs.Names.{has_either, has_front, has_back, name_itself, same_name}
 use Rattle.net_sweep.specs.Turns.{IsFirst}
 use Rattle.net_sweep.specs.declared.marks.Rule.{Rule}
-use Rattle.net_sweep.specs.Settled.{is_in, listed, AreMarkedBy, AreListed}
+use Rattle.net_sweep.specs.Settled.{listed, AreMarkedBy}
+use Rattle.net_readers.specs.Readers.{is_in}
 use Rattle.net_sweep.proofs.Finds.{within}
 
 -- the search for the first item that passes a test
@@ -97,35 +97,6 @@ reads_at (first ∷ tables) zero table name at h =
     has_front first.inputs (table_inputs tables) name (subst (λ (t : Table). has t.inputs name ≡ true) (sym (same_Some first table at)) h)
 reads_at (first ∷ tables) (suc place) table name at h = has_back first.inputs (table_inputs tables) name (reads_at tables place table name at h)
 
--- a table that reads is found
-pub read_here : (tables : List Table) (place : ℕ) (name : List ℕ) → option_map_or (λ (table : Table). has table.inputs name) (slice_get tables place) false ≡ true → has (table_inputs tables) name ≡ true
-read_here tables place name h =
-    let (table, at, reads) = passing (λ (t : Table). has t.inputs name) (slice_get tables place) h in reads_at tables place table name at reads
-
--- no table reads where none of the listed ones does
-pub read_nowhere : (tables : List Table) (places : List ℕ) (name : List ℕ) → ((place : ℕ) (table : Table) → slice_get tables place ≡ Some table → has table.inputs name ≡ true → is_in places place ≡ true)
-    → ((place : ℕ) → is_in places place ≡ true → option_map_or (λ (table : Table). has table.inputs name) (slice_get tables place) false ≡ false) → has (table_inputs tables) name ≡ false
-read_nowhere tables places name all none =
-    has_not (table_inputs tables) name (λ h.
-    let (place, table, at, reads) = read_by tables name h in
-    false≢true (sym (none place (all place table at reads)) ∙ (ap (λ (o : Option Table). option_map_or (λ (t : Table). has t.inputs name) o false) at ∙ reads)))
-
-pub read_nowhere_among : (tables : List Table) (places : List ℕ) (i : ℕ) (name : List ℕ) → length places ≤ i
-    → ((place : ℕ) (table : Table) → slice_get tables place ≡ Some table → has table.inputs name ≡ true → is_in places place ≡ true)
-    → ((place : ℕ) → is_in (take i places) place ≡ true → option_map_or (λ (table : Table). has table.inputs name) (slice_get tables place) false ≡ false) → has (table_inputs tables) name ≡ false
-read_nowhere_among tables places i name le all none =
-    read_nowhere tables places name all (λ place h. none place (subst (λ (ps : List ℕ). is_in ps place ≡ true) (sym (take_all i places le)) h))
-
--- the empty list or the one that is there is the signal's
-pub no_list : (lists : List ℕ → Option (List ℕ)) (tables : List Table) (name : List ℕ) → AreListed lists tables → lists name ≡ None
-    → (place : ℕ) (table : Table) → slice_get tables place ≡ Some table → has table.inputs name ≡ true → is_in [] place ≡ true
-no_list lists tables name all none place table at reads = ap (λ (o : Option (List ℕ)). is_in (listed o) place) (sym none) ∙ all place table name at reads
-
-pub the_list : (lists : List ℕ → Option (List ℕ)) (places now : List ℕ) (tables : List Table) (name : List ℕ) → AreListed lists tables → lists name ≡ Some places → now ≡ places
-    → (place : ℕ) (table : Table) → slice_get tables place ≡ Some table → has table.inputs name ≡ true → is_in now place ≡ true
-the_list lists places now tables name all some same place table at reads =
-    ap (λ (ps : List ℕ). is_in ps place) same ∙ (ap (λ (o : Option (List ℕ)). is_in (listed o) place) (sym some) ∙ all place table name at reads)
-
 -- places are marked one by one
 pub record HasMarked (places : List ℕ) (before after : Rule → ℕ → Bool) : Type 0 where
   pub put : (rule : Rule) (place : ℕ) → is_in places place ≡ true → after rule place ≡ true
@@ -154,7 +125,7 @@ marked_more places i put d before now after lt is h more = record {
     by rule place false e true f k = more rule place ∙ ap (λ (c : Bool). c || now rule place) f
     by rule place false e false f k = absurd (false≢true k)
 
--- a table is listed for one input after the other
+-- a place is listed for one signal after the other
 pub record HasListed (reader : ℕ) (inputs : List (List ℕ)) (before after : List ℕ → Option (List ℕ)) : Type 0 where
   pub put : (name : List ℕ) → has inputs name ≡ true → is_in (listed (after name)) reader ≡ true
   pub kept : (name : List ℕ) (place : ℕ) → is_in (listed (before name)) place ≡ true → is_in (listed (after name)) place ≡ true
@@ -162,7 +133,7 @@ pub record HasListed (reader : ℕ) (inputs : List (List ℕ)) (before after : L
 pub listed_none : (reader : ℕ) (before : List ℕ → Option (List ℕ)) → HasListed reader [] before before
 listed_none reader before = record { put = λ name h. absurd (false≢true h); kept = λ name place h. h }
 
-has_more : (inputs : List (List ℕ)) (i : ℕ) (input name : List ℕ) → i < length inputs → input ≡ get_or inputs i input → has (take (i + 1) inputs) name ≡ (has (take i inputs) name || bytes_eq name input)
+pub has_more : (inputs : List (List ℕ)) (i : ℕ) (input name : List ℕ) → i < length inputs → input ≡ get_or inputs i input → has (take (i + 1) inputs) name ≡ (has (take i inputs) name || bytes_eq name input)
 has_more inputs i input name lt is = list_any_more (λ other. bytes_eq name other) inputs i input lt ∙ ap (λ (n : List ℕ). has (take i inputs) name || bytes_eq name n) (sym is)
 
 pub listed_kept : (input : List ℕ) (reader : ℕ) (now after : List ℕ → Option (List ℕ))
@@ -207,16 +178,3 @@ taken_cases (first ∷ items) (suc i) item (suc place) x lt is at =
       | inl h ↦ inl h
       | inr h ↦ inr (ap suc h.0, h.1)
     ]
-
-pub tables_listed : (tables : List Table) (i : ℕ) (table : Table) (now after : List ℕ → Option (List ℕ)) → i < length tables → table ≡ get_or tables i table → AreListed now (take i tables)
-    → ((name : List ℕ) → has table.inputs name ≡ true → is_in (listed (after name)) i ≡ true)
-    → ((name : List ℕ) (place : ℕ) → is_in (listed (now name)) place ≡ true → is_in (listed (after name)) place ≡ true) → AreListed after (take (i + 1) tables)
-tables_listed tables i table now after lt is all put kept place other name at reads =
-    let next : i + 1 ≡ suc i = omega arith in
-    elim (taken_cases tables i table place other lt is (subst (λ (n : ℕ). slice_get (take n tables) place ≡ Some other) next at)) as (λ _. is_in (listed (after name)) place ≡ true) [
-      | inl old ↦ kept name place (all place other name old reads)
-      | inr new ↦ subst (λ (p : ℕ). is_in (listed (after name)) p ≡ true) (sym new.0) (put name (subst (λ (t : Table). has t.inputs name ≡ true) new.1 reads))
-    ]
-
-pub none_listed : (lists : List ℕ → Option (List ℕ)) → AreListed lists []
-none_listed lists place table name at reads = let z : None ≡ Some table = at in absurd cc

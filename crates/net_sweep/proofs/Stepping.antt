@@ -1,5 +1,5 @@
 -- Steps of the first five rules, seen at the circuit with the latches that are left.
-use Rattle.std.proofs.Common.{◌≡◌, ℕ, ◌<◌, Bool, true, false, Option, Some, None, is_some, List, [], ◌∷◌, ◌++◌, length, map, set, find, slice_get, refl, sym, ap, ◌∙◌, subst}
+use Rattle.std.proofs.Common.{◌≡◌, ℕ, ◌<◌, ◌≤◌, Bool, true, false, Option, Some, None, is_some, List, [], ◌∷◌, ◌++◌, length, map, set, find, slice_get, refl, sym, ap, ◌∙◌, subst, arith}
 use Rattle.std.specs.Option.{option_map, option_map_or, option_or}
 use Rattle.std.proofs.lemmas.Option.{slice_get_within}
 use Rattle.circuit_model.specs.Names.{has}
@@ -22,9 +22,10 @@ use Rattle.net_sweep.specs.declared.marks.Rule.TheVariants.{Tidy, Constant, Put,
 use Rattle.net_sweep.specs.declared.latches.Standing.{Standing}
 use Rattle.net_sweep.specs.declared.steps.Step.{Step}
 use Rattle.net_sweep.specs.declared.steps.Step.TheVariants.{Turn, Fix}
-use Rattle.net_sweep.specs.Settled.{passes, rule_turn, table_step, IsNext, HasLed, AreListed, AreMarked}
+use Rattle.net_sweep.specs.Settled.{passes, rule_turn, table_step, IsNext, HasLed, AreMarked}
+use Rattle.net_readers.specs.Readers.{AreReaders}
 use Rattle.net_sweep.specs.Latches.{left_at, with_latches, IsFirstFixed, IsNextStep, IsReady}
-use Rattle.net_sweep.proofs.Chaining.{not_yet, one_more, table_step_is, other_step_is}
+use Rattle.net_sweep.proofs.Chaining.{not_yet, one_more, led_through, no_heavier, table_step_is, other_step_is}
 use Rattle.net_sweep.proofs.Latching.{fixed_same, found_left, none_left, left_has, left_cleared}
 
 -- a rule that changes tables leaves latches and timing
@@ -163,9 +164,9 @@ fix_stepped circuit new slots after place bit sound next fixed cleared =
 
 -- steps one after the other
 
-pub record IsSettling (from to : Circuit) (standing : Standing) (lists : List ℕ → Option (List ℕ)) (marks : Rule → ℕ → Bool) : Type 0 where
+pub record IsSettling (from to : Circuit) (standing : Standing) (readers : List ℕ → ℕ → Bool) (marks : Rule → ℕ → Bool) : Type 0 where
   pub led : HasLed from (with_latches to (left_at standing.slots.items))
-  pub listed : AreListed lists to.tables
+  pub listed : AreReaders readers to.tables
   pub marked : AreMarked marks to.tables
   pub ready : IsReady standing to
 
@@ -179,31 +180,49 @@ whole_again circuit sound = ap (λ (timing : Option Timing). record circuit { ti
 begun : (circuit : Circuit) (slots : List (Option Latch)) → IsSound circuit → left_at slots ≡ circuit.latches → HasLed circuit (with_latches circuit (left_at slots))
 begun circuit slots sound left = subst (HasLed circuit) (sym (ap (with_latches circuit) left ∙ whole_again circuit sound)) (not_yet circuit sound)
 
-pub settling_none : (circuit : Circuit) (standing : Standing) (now : List Table) (count : ℕ) (lists : List ℕ → Option (List ℕ)) (marks : Rule → ℕ → Bool) → IsSound circuit → IsReady standing circuit → left_at standing.slots.items ≡ circuit.latches
-    → now ≡ circuit.tables → count ≡ length circuit.tables → AreListed lists now → ((rule : Rule) (place : ℕ) → place < count → marks rule place ≡ true) → IsSettling circuit circuit standing lists marks
-settling_none circuit standing now count lists marks sound ready left same long all every = record {
+pub settling_none : (circuit : Circuit) (standing : Standing) (now : List Table) (count : ℕ) (readers : List ℕ → ℕ → Bool) (marks : Rule → ℕ → Bool) → IsSound circuit → IsReady standing circuit → left_at standing.slots.items ≡ circuit.latches
+    → now ≡ circuit.tables → count ≡ length circuit.tables → AreReaders readers now → ((rule : Rule) (place : ℕ) → place < count → marks rule place ≡ true) → IsSettling circuit circuit standing readers marks
+settling_none circuit standing now count readers marks sound ready left same long all every = record {
   led = begun circuit standing.slots.items sound left;
-  listed = subst (λ (ts : List Table). AreListed lists ts) same all;
+  listed = subst (λ (ts : List Table). AreReaders readers ts) same all;
   marked = λ rule place table at passed. every rule place (subst (λ (n : ℕ). place < n) (sym long) (slice_get_within circuit.tables place table at));
   ready = ready;
 }
 
-pub settling_more : (from to new : Circuit) (standing mid after : Standing) (lists lists_after : List ℕ → Option (List ℕ)) (marks marks_after : Rule → ℕ → Bool) → IsSettling from to standing lists marks
-    → mid.slots.items ≡ standing.slots.items → sweep_step (with_latches to (left_at mid.slots.items)) ≡ Some (with_latches new (left_at after.slots.items))
-    → AreListed lists_after new.tables → AreMarked marks_after new.tables → IsReady after new → IsSettling from new after lists_after marks_after
-settling_more from to new standing mid after lists lists_after marks marks_after h same step listed marked ready = record {
-  led = one_more from (with_latches to (left_at standing.slots.items)) (with_latches new (left_at after.slots.items)) h.led
-      (subst (λ (slots : List (Option Latch)). sweep_step (with_latches to (left_at slots)) ≡ Some (with_latches new (left_at after.slots.items))) same step);
+-- a step, and then the table at which it was taken is emptied where nothing takes it
+pub settling_more : (from to mid_circuit new : Circuit) (standing mid after : Standing) (readers readers_after : List ℕ → ℕ → Bool) (marks marks_after : Rule → ℕ → Bool) → IsSettling from to standing readers marks
+    → mid.slots.items ≡ standing.slots.items → sweep_step (with_latches to (left_at mid.slots.items)) ≡ Some (with_latches mid_circuit (left_at after.slots.items))
+    → HasLed (with_latches mid_circuit (left_at after.slots.items)) (with_latches new (left_at after.slots.items))
+    → AreReaders readers_after new.tables → AreMarked marks_after new.tables → IsReady after new → IsSettling from new after readers_after marks_after
+settling_more from to mid_circuit new standing mid after readers readers_after marks marks_after h same step emptied listed marked ready = record {
+  led = led_through from (with_latches mid_circuit (left_at after.slots.items)) (with_latches new (left_at after.slots.items))
+      (one_more from (with_latches to (left_at standing.slots.items)) (with_latches mid_circuit (left_at after.slots.items)) h.led
+      (subst (λ (slots : List (Option Latch)). sweep_step (with_latches to (left_at slots)) ≡ Some (with_latches mid_circuit (left_at after.slots.items))) same step)) emptied;
   listed = listed;
   marked = marked;
   ready = ready;
 }
 
-pub settling_falls : (from to new : Circuit) (slots mid after : List (Option Latch)) → HasLed from (with_latches to (left_at slots)) → mid ≡ slots → sweep_step (with_latches to (left_at mid)) ≡ Some (with_latches new (left_at after))
-    → weight (with_latches new (left_at after)) < weight (with_latches to (left_at slots))
-settling_falls from to new slots mid after led same step =
-    step_falls (with_latches to (left_at slots)) (with_latches new (left_at after)) led.sound
-    (subst (λ (ss : List (Option Latch)). sweep_step (with_latches to (left_at ss)) ≡ Some (with_latches new (left_at after))) same step)
+stepped_sound : (from to mid_circuit : Circuit) (slots mid after : List (Option Latch)) → HasLed from (with_latches to (left_at slots)) → mid ≡ slots → sweep_step (with_latches to (left_at mid)) ≡ Some (with_latches mid_circuit (left_at after))
+    → HasLed from (with_latches mid_circuit (left_at after))
+stepped_sound from to mid_circuit slots mid after led same step =
+    one_more from (with_latches to (left_at slots)) (with_latches mid_circuit (left_at after)) led
+    (subst (λ (ss : List (Option Latch)). sweep_step (with_latches to (left_at ss)) ≡ Some (with_latches mid_circuit (left_at after))) same step)
+
+-- the circuit behind a step is sound
+pub behind_sound : (from to mid_circuit : Circuit) (slots mid after : List (Option Latch)) → HasLed from (with_latches to (left_at slots)) → mid ≡ slots → sweep_step (with_latches to (left_at mid)) ≡ Some (with_latches mid_circuit (left_at after))
+    → IsSound (with_latches mid_circuit (left_at after))
+behind_sound from to mid_circuit slots mid after led same step = (stepped_sound from to mid_circuit slots mid after led same step).sound
+
+pub settling_falls : (from to mid_circuit new : Circuit) (slots mid after : List (Option Latch)) → HasLed from (with_latches to (left_at slots)) → mid ≡ slots → sweep_step (with_latches to (left_at mid)) ≡ Some (with_latches mid_circuit (left_at after))
+    → HasLed (with_latches mid_circuit (left_at after)) (with_latches new (left_at after)) → weight (with_latches new (left_at after)) < weight (with_latches to (left_at slots))
+settling_falls from to mid_circuit new slots mid after led same step emptied =
+    let one : weight (with_latches mid_circuit (left_at after)) < weight (with_latches to (left_at slots)) =
+    step_falls (with_latches to (left_at slots)) (with_latches mid_circuit (left_at after)) led.sound
+    (subst (λ (ss : List (Option Latch)). sweep_step (with_latches to (left_at ss)) ≡ Some (with_latches mid_circuit (left_at after))) same step) in
+    let rest : weight (with_latches new (left_at after)) ≤ weight (with_latches mid_circuit (left_at after)) =
+    no_heavier (with_latches mid_circuit (left_at after)) (with_latches new (left_at after)) (behind_sound from to mid_circuit slots mid after led same step) emptied in
+    omega (arith, one, rest)
 
 -- the step that comes next, once more for the latches as they are handed on
 pub still_next : (circuit : Circuit) (slots mid : List (Option Latch)) (o : Option Step) (step : Step) → IsNextStep circuit slots o → o ≡ Some step → mid ≡ slots → IsNextStep circuit mid (Some step)

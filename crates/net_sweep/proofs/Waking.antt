@@ -12,9 +12,10 @@ use Rattle.circuit_model.specs.declared.circuit.Circuit.{Circuit}
 use Rattle.circuit_laws.proofs.Names.{same_name, has_head, different_head, different_tail}
 use Rattle.sweep_rules.specs.Points.{written_bit}
 use Rattle.sweep_rules.specs.Needed.{dont_care_reads}
-use Rattle.net_sweep.specs.Settled.{is_in, listed, AreMarkedBy}
+use Rattle.net_sweep.specs.Settled.{listed, AreMarkedBy}
+use Rattle.net_readers.specs.Readers.{is_in}
 use Rattle.net_sweep.specs.Latches.{left_at, is_fixed, IsPlaced, AreFed, IsBeside}
-use Rattle.net_sweep.proofs.Marking.{taken_cases, listed_none, listed_more, listed_kept}
+use Rattle.net_sweep.proofs.Marking.{has_more, taken_cases, listed_none, listed_more, listed_kept}
 use Rattle.net_sweep.proofs.Changing.{unmapped}
 use Rattle.net_sweep.proofs.Latching.{placed_more}
 
@@ -98,6 +99,28 @@ under_more latches i latch now after lt is all more place other at =
 pub all_under : (latches : List Latch) (i : ℕ) (lists : List ℕ → Option (List ℕ)) → length latches ≤ i → AreUnder lists (take i latches) → AreUnder lists latches
 all_under latches i lists le h = subst (AreUnder lists) (take_all i latches le) h
 
+pub under_listed : (latches : List Latch) (now after : List ℕ → Option (List ℕ)) → AreUnder now latches → ((name : List ℕ) → listed (after name) ≡ listed (now name)) → AreUnder after latches
+under_listed latches now after h same place latch at = ap (λ (ps : List ℕ). is_in ps place) (same latch.input) ∙ h place latch at
+
+-- outputs have lists
+abbrev pub HasNoted : (List ℕ → Option (List ℕ)) → List (List ℕ) → Type 0
+HasNoted lists outputs = (name : List ℕ) → has outputs name ≡ true → is_some (lists name) ≡ true
+
+pub noted_none : (lists : List ℕ → Option (List ℕ)) → HasNoted lists []
+noted_none lists name h = absurd (false≢true h)
+
+pub noted_more : (outputs : List (List ℕ)) (i : ℕ) (output : List ℕ) (now after : List ℕ → Option (List ℕ)) → i < length outputs → output ≡ get_or outputs i output → HasNoted now (take i outputs)
+    → is_some (after output) ≡ true → ((name : List ℕ) → is_some (now name) ≡ true → is_some (after name) ≡ true) → HasNoted after (take (i + 1) outputs)
+noted_more outputs i output now after lt is h here kept name asks = by (has (take i outputs) name) refl (bytes_eq name output) refl (sym (has_more outputs i output name lt is) ∙ asks)
+  where
+    by : (a : Bool) → has (take i outputs) name ≡ a → (b : Bool) → bytes_eq name output ≡ b → (a || b) ≡ true → is_some (after name) ≡ true
+    by true e b f k = kept name (h name e)
+    by false e true f k = subst (λ (n : List ℕ). is_some (after n) ≡ true) (sym (same_name name output f)) here
+    by false e false f k = absurd (false≢true k)
+
+pub all_noted : (outputs : List (List ℕ)) (i : ℕ) (lists : List ℕ → Option (List ℕ)) → length outputs ≤ i → HasNoted lists (take i outputs) → HasNoted lists outputs
+all_noted outputs i lists le h = subst (HasNoted lists) (take_all i outputs le) h
+
 pub under_slots : (lists : List ℕ → Option (List ℕ)) (latches : List Latch) → AreUnder lists latches → AreFed lists (map Some latches)
 under_slots lists latches h place latch at =
     let (found, there, is) = unmapped Some latches place (Some latch) at in
@@ -178,12 +201,13 @@ all_placed places tables i le h = subst (λ (ts : List Table). IsPlaced places (
 
 -- what stands beside a circuit at first
 pub begun_beside : (circuit : Circuit) (latches : List Latch) (tables : List Table) (slots : List (Option Latch)) (fed : List ℕ → Option (List ℕ)) (places : List ℕ → Option ℕ) (read : List (List ℕ)) (marked : ℕ → Bool) (count : ℕ)
-    → tables ≡ circuit.tables → count ≡ length latches → slots ≡ map Some latches → AreUnder fed latches → IsPlaced places (outputs_of tables) → ((name : List ℕ) → has read name ≡ dont_care_reads circuit name)
+    → tables ≡ circuit.tables → count ≡ length latches → slots ≡ map Some latches → AreUnder fed latches → HasNoted fed circuit.outputs → IsPlaced places (outputs_of tables) → ((name : List ℕ) → has read name ≡ dont_care_reads circuit name)
     → ((place : ℕ) → place < count → marked place ≡ true) → IsBeside slots fed places read marked circuit
-begun_beside circuit latches tables slots fed places read marked count ts many s under placed reads all =
+begun_beside circuit latches tables slots fed places read marked count ts many s under noted placed reads all =
     subst (λ (ss : List (Option Latch)). IsBeside ss fed places read marked circuit) (sym s) record {
       placed = subst (λ (xs : List Table). IsPlaced places (outputs_of xs)) ts placed;
       read = reads;
       fed = under_slots fed latches under;
+      asked = noted;
       waiting = waiting_all circuit latches marked (λ place lt. all place (subst (λ (n : ℕ). place < n) (sym many) lt));
     }

@@ -13,7 +13,8 @@ use Rattle.circuit_model.specs.declared.circuit.Circuit.{Circuit}
 use Rattle.circuit_laws.specs.Edits.{timing_with}
 use Rattle.sweep_rules.specs.Needed.{dont_care_reads}
 use Rattle.sweep_rules.specs.Rules.{fixed_bit}
-use Rattle.net_sweep.specs.Settled.{is_in, listed, table_step, IsNext, AreMarkedBy}
+use Rattle.net_sweep.specs.Settled.{listed, table_step, IsNext, AreMarkedBy}
+use Rattle.net_readers.specs.Readers.{is_in}
 use Rattle.net_sweep.specs.declared.latches.Standing.{Standing}
 use Rattle.net_sweep.specs.declared.steps.Step.{Step}
 use Rattle.net_sweep.specs.declared.steps.Step.TheVariants.{Turn, Fix}
@@ -52,11 +53,13 @@ abbrev pub AreFed : (List ℕ → Option (List ℕ)) → List (Option Latch) →
 AreFed lists slots = (place : ℕ) (latch : Latch) → slice_get slots place ≡ Some (Some latch) → is_in (listed (lists latch.input)) place ≡ true
 
 -- what stands beside a circuit tells of it: the names of its tables lead to their places, what is read is what its
--- don't-care part reads, the latches are listed under their inputs, and each that always has one bit waits
+-- don't-care part reads, the latches are listed under their inputs, each output has a list, and each latch that always has
+-- one bit waits
 pub record IsBeside (slots : List (Option Latch)) (lists : List ℕ → Option (List ℕ)) (places : List ℕ → Option ℕ) (leaves : List (List ℕ)) (marked : ℕ → Bool) (circuit : Circuit) : Type 0 where
   pub placed : IsPlaced places (outputs_of circuit.tables)
   pub read : (name : List ℕ) → has leaves name ≡ dont_care_reads circuit name
   pub fed : AreFed lists slots
+  pub asked : (name : List ℕ) → has circuit.outputs name ≡ true → is_some (lists name) ≡ true
   pub waiting : AreMarkedBy (is_fixed circuit) marked slots
 
 abbrev pub IsReady : Standing → Circuit → Type 0

@@ -1,9 +1,9 @@
 -- The first four rules of sweep, which change tables and leave their number, their outputs and their places; and what is
--- kept to see soon where one of them applies: the readers of each signal, and places where a rule may apply.
+-- kept to see soon where one of them applies: places where a rule may apply.
 -- Source: the SIS manual (UCB/ERL M92/41), `sweep`.
-use Rattle.std.specs.Prelude.{◌≡◌, ℕ, ◌==◌, ◌&&◌, Bool, true, false, not, Option, Some, None, is_some, List, [], slice_get, bytes_eq}
+use Rattle.std.specs.Prelude.{◌≡◌, ℕ, ◌&&◌, Bool, true, false, not, Option, Some, None, is_some, List, [], ◌∷◌, ◌⊎◌, slice_get, bytes_eq}
 use Rattle.std.specs.Option.{option_or}
-use Rattle.std.specs.List.{list_any, AllByRecursion}
+use Rattle.std.specs.List.{AllByRecursion}
 use Rattle.std.specs.Ordering.{nat_cmp}
 use Rattle.std.specs.BTreeSet.{contains}
 use Rattle.circuit_model.specs.Names.{has, all_different}
@@ -13,8 +13,9 @@ use Rattle.circuit_model.specs.declared.circuit.Circuit.{Circuit}
 use Rattle.circuit_laws.specs.Edits.{with_replaced}
 use Rattle.table_tidy.specs.Tidy.{is_tidy, tidied}
 use Rattle.sweep_rules.specs.Points.{written_bit}
-use Rattle.circuit_laws.specs.Chains.{Leads}
 use Rattle.sweep_rules.specs.Rules.{tidy_rule, constant_rule, put_rule, bypass_rule, with_constant, with_bit_put, with_bypass, unwritten_bit, only_input, at_bit, rewired, sweep_step}
+use Rattle.sweep_rules.specs.Idle.{IsIdle, with_emptied}
+use Rattle.net_readers.specs.Readers.{is_in}
 use Rattle.net_sweep.specs.declared.marks.Rule.{Rule}
 use Rattle.net_sweep.specs.declared.marks.Rule.TheVariants.{Tidy, Constant, Put, Bypass}
 use Rattle.net_sweep.specs.declared.marks.Candidates.{Candidates}
@@ -62,18 +63,10 @@ abbrev pub is_apart : List ℕ → Change → Bool
 is_apart name (Bit bit) = true
 is_apart name (Input to inverts) = not (bytes_eq name to)
 
--- whether a place is among some places
-abbrev pub is_in : List ℕ → ℕ → Bool
-is_in places place = list_any (λ other. other == place) places
-
 -- the places that are listed, none where there is no list
 abbrev pub listed : Option (List ℕ) → List ℕ
 listed None = []
 listed (Some places) = places
-
--- each reader of each signal is in the signal's list
-abbrev pub AreListed : (List ℕ → Option (List ℕ)) → List Table → Type 0
-AreListed lists tables = (place : ℕ) (table : Table) (name : List ℕ) → slice_get tables place ≡ Some table → has table.inputs name ≡ true → is_in (listed (lists name)) place ≡ true
 
 -- each place of an item that passes a test is marked
 abbrev pub AreMarkedBy : {X : Type 0} → (X → Bool) → (ℕ → Bool) → List X → Type 0
@@ -94,8 +87,17 @@ marked_in candidates Bypass place = contains nat_cmp candidates.singles place
 abbrev pub AreSameBut : List ℕ → List Table → List Table → Type 0
 AreSameBut places old new = (place : ℕ) → is_in places place ≡ false → slice_get new place ≡ slice_get old place
 
--- steps have led from one circuit to another one, which is sound
+-- a step of sweep; or a table that nothing takes is emptied, which changes no chain's end
+abbrev pub IsTurn : Circuit → Circuit → Type 0
+IsTurn from to = (sweep_step from ≡ Some to) ⊎ ((name : List ℕ) × IsIdle from name × (to ≡ with_emptied from name))
+
+-- turns lead from one circuit to another one, over some between them
+abbrev pub Goes : List Circuit → Circuit → Circuit → Type 0
+Goes [] from to = from ≡ to
+Goes (next ∷ rest) from to = IsTurn from next × Goes rest next to
+
+-- turns have led from one circuit to another one, which is sound
 pub record HasLed (from to : Circuit) : Type 0 where
   pub between : List Circuit
-  pub leads : Leads sweep_step between from to
+  pub goes : Goes between from to
   pub sound : IsSound to

@@ -10,14 +10,16 @@ ghost use Rattle.circuit_model.specs.declared.circuit.Table.{Table as TheTable};
 ghost use Rattle.circuit_laws.specs.Edits.{with_added, constant_table as table_of_bit};
 ghost use Rattle.circuit_model.specs.Soundness.{IsSound};
 ghost use Rattle.sweep_rules.specs.Points.{written_bit as bit_written};
-ghost use Rattle.net_sweep.specs.Settled.{is_in, listed, marked_in, AreMarked};
+ghost use Rattle.net_sweep.specs.Settled.{listed, marked_in, AreMarked};
+ghost use Rattle.net_readers.specs.Readers.{is_in};
 ghost use Rattle.net_sweep.specs.Latches.{left_at, with_latches, IsReady};
 
 use crate::latches::Standing;
-use crate::marks::{Candidates, Places, mark, put_place};
+use crate::marks::{Candidates, mark, put_place};
 use circuit_model::{Circuit, Latch, Name, Table};
 use indexmap::IndexMap;
 use net_needed::{constant_table, note_place, written_bit};
+use net_readers::Places;
 use sis_base::Copied;
 use std::alloc::{AllocError, Global};
 use std::collections::BTreeSet;

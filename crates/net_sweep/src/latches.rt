@@ -18,16 +18,17 @@ ghost use Rattle.sweep_rules.specs.Rules.{starts_at as may_start_at, fixed_bit a
 ghost use Rattle.net_sweep.specs.Settled.{AreMarkedBy};
 ghost use Rattle.net_sweep.specs.Latches.{slot_bit as bit_of_slot, is_fixed, IsFirstFixed, IsReady};
 
-use crate::marks::{Places, put_place, take_least};
+use crate::marks::{put_place, take_least};
 use circuit_model::{Circuit, Latch, Name, Table};
 use indexmap::{IndexMap, IndexSet};
 use net_needed::{is_among, table_of, written_bit};
+use net_readers::Places;
 use std::alloc::AllocError;
 use std::collections::BTreeSet;
 
 /// Latches at the places where they began, and what tells soon which of them always has one bit: the places of the
-/// latches that read each signal, where the tables stand, the leaves that the don't-care part reads, and the places that
-/// wait to be tried.
+/// latches that read each signal (an output has a list too, be it empty), where the tables stand, the leaves that the
+/// don't-care part reads, and the places that wait to be tried.
 #[derive(Drop)]
 pub(crate) struct Standing {
     pub(crate) slots: Vec<Option<Latch>>,

@@ -11,12 +11,14 @@
 mod constants;
 mod counting;
 mod fixing;
+mod idle;
 mod latches;
 mod marks;
 mod rows;
 mod standing;
 mod steps;
 mod sweeping;
+mod tables;
 mod turns;
 
 pub use sweeping::{SweepFault, Swept, sweep};

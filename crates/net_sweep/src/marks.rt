@@ -1,17 +1,18 @@
-//! Where rules of sweep may apply: candidates for each rule, and the readers of each signal.
+//! Where rules of sweep may apply: candidates for each rule; and lists of places by name.
 //!
-//! Both hold too much rather than too little: what they hold is tried again before it counts.
+//! Candidates are too many rather than too few: each is tried again before it counts.
 
 ghost use Rattle.std.specs.Prelude.{◌≡◌, ℕ, ◌+◌, ◌≤◌, ◌<◌, ◌==◌, ◌&&◌, ◌||◌, not, Bool, true, false, Option, Some, None, List, [], ◌∷◌, ◌++◌, is_some, bytes_eq, length, if◌then◌else◌, IfOk, OnOk, IfSome, IfNone};
 ghost use Rattle.std.specs.Ordering.{nat_cmp};
 ghost use Rattle.std.specs.BTreeSet.{contains, btree_set_len};
 ghost use Rattle.indexmap.specs.IndexMap.{get};
-ghost use Rattle.circuit_model.specs.Names.{has};
 ghost use Rattle.net_sweep.specs.declared.marks.Rule.{Rule as TheRule};
-ghost use Rattle.net_sweep.specs.Settled.{is_in, listed, marked_in, AreListed};
+ghost use Rattle.net_sweep.specs.Settled.{listed, marked_in};
+ghost use Rattle.net_readers.specs.Readers.{is_in};
 
-use circuit_model::{Name, Table};
+use circuit_model::Name;
 use indexmap::IndexMap;
+use net_readers::Places;
 use sis_base::{Copied, Sequence};
 use std::alloc::{AllocError, Global};
 use std::collections::BTreeSet;
@@ -33,9 +34,6 @@ pub(crate) struct Candidates {
     pub(crate) constants: BTreeSet<usize>,
     pub(crate) singles: BTreeSet<usize>,
 }
-
-/// Places of tables.
-pub(crate) type Places = Sequence<usize>;
 
 // Takes the least place out.
 pub(crate) fn take_least(set: &mut BTreeSet<usize>) -> Option<usize>
@@ -117,31 +115,6 @@ pub(crate) fn put_list(
     Ok(())
 }
 
-// Puts places behind the last.
-fn push_all(places: &mut Places, more: &[usize]) -> Result<(), AllocError>
-    ensures { OnOk result (places.new ≡ places.old ++ more.now) }
-{
-    for place in more {
-        places.push(*place)?;
-    }
-    Ok(())
-}
-
-// Puts readers behind the last of a signal.
-pub(crate) fn add_readers(
-    alloc: Global,
-    readers: &mut IndexMap<Name, Places>,
-    name: &Name,
-    more: &[usize],
-) -> Result<(), AllocError>
-    ensures { OnOk result ((other : List ℕ) → listed (get bytes_eq readers.new other) ≡ (if bytes_eq name.now other then listed (get bytes_eq readers.old other) ++ more.now else listed (get bytes_eq readers.old other))) }
-{
-    let key = name.copy(alloc)?;
-    let mut places = take_list(alloc, readers, name);
-    push_all(&mut places, more)?;
-    put_list(readers, key, places)
-}
-
 // Puts a reader behind the last of a signal.
 pub(crate) fn add_reader(
     alloc: Global,
@@ -155,34 +128,4 @@ pub(crate) fn add_reader(
     let mut places = take_list(alloc, readers, name);
     places.push(reader)?;
     put_list(readers, key, places)
-}
-
-// Lists a table among the readers of what it reads.
-fn list_table(
-    alloc: Global,
-    readers: &mut IndexMap<Name, Places>,
-    inputs: &[Name],
-    reader: usize,
-) -> Result<(), AllocError>
-    ensures put { OnOk result ((name : List ℕ) → has inputs.now name ≡ true → is_in (listed (get bytes_eq readers.new name)) reader ≡ true) }
-    ensures kept { OnOk result ((name : List ℕ) (place : ℕ) → is_in (listed (get bytes_eq readers.old name)) place ≡ true → is_in (listed (get bytes_eq readers.new name)) place ≡ true) }
-{
-    for input in inputs {
-        add_reader(alloc, readers, input, reader)?;
-    }
-    Ok(())
-}
-
-// The readers of each signal.
-pub(crate) fn all_readers(
-    alloc: Global,
-    tables: &[Table],
-) -> Result<IndexMap<Name, Places>, AllocError>
-    ensures { IfOk result (λ readers. AreListed (get bytes_eq readers) tables.now) }
-{
-    let mut readers = IndexMap::new(alloc);
-    for (place, table) in tables.iter().enumerate() {
-        list_table(alloc, &mut readers, table.inputs.as_slice(), place)?;
-    }
-    Ok(readers)
 }

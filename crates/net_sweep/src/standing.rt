@@ -1,21 +1,23 @@
 //! Latches are taken out of a circuit, each to a place of its own, and put back.
 
-ghost use Rattle.std.specs.Prelude.{◌≡◌, ℕ, ◌<◌, true, Some, List, [], ◌∷◌, ◌++◌, length, map, slice_get, bytes_eq, IfOk, OnOk};
+ghost use Rattle.std.specs.Prelude.{◌≡◌, ℕ, ◌<◌, true, Some, is_some, List, [], ◌∷◌, ◌++◌, length, map, slice_get, bytes_eq, IfOk, OnOk};
 ghost use Rattle.std.specs.Ordering.{nat_cmp};
 ghost use Rattle.std.specs.BTreeSet.{contains};
 ghost use Rattle.indexmap.specs.IndexMap.{get};
-ghost use Rattle.circuit_model.specs.Names.{all_different};
+ghost use Rattle.circuit_model.specs.Names.{has, all_different};
 ghost use Rattle.circuit_model.specs.Soundness.{outputs_of};
 ghost use Rattle.circuit_model.specs.declared.circuit.Latch.{Latch as TheLatch};
 ghost use Rattle.circuit_laws.specs.Edits.{timing_with};
-ghost use Rattle.net_sweep.specs.Settled.{is_in, listed};
+ghost use Rattle.net_sweep.specs.Settled.{listed};
+ghost use Rattle.net_readers.specs.Readers.{is_in};
 ghost use Rattle.net_sweep.specs.Latches.{left_at, with_latches, IsPlaced, IsReady};
 
 use crate::latches::Standing;
-use crate::marks::{Places, add_reader, put_place};
+use crate::marks::{add_reader, put_list, put_place};
 use circuit_model::{Circuit, Latch, Latches, Name, Table, Timing};
 use indexmap::IndexMap;
 use net_needed::{leaves_read, note_place};
+use net_readers::Places;
 use sis_base::{Copied, Sequence};
 use std::alloc::{AllocError, Global};
 use std::collections::BTreeSet;
@@ -32,12 +34,44 @@ fn slots_of(alloc: Global, latches: &[Latch]) -> Result<Vec<Option<Latch>>, Allo
 }
 
 // The places of the latches that read each signal.
-fn fed_by(alloc: Global, latches: &[Latch]) -> Result<IndexMap<Name, Places>, AllocError>
+fn fed_latches(alloc: Global, latches: &[Latch]) -> Result<IndexMap<Name, Places>, AllocError>
     ensures { IfOk result (λ lists. (place : ℕ) (latch : TheLatch) → slice_get latches.now place ≡ Some latch → is_in (listed (get bytes_eq lists latch.input)) place ≡ true) }
 {
     let mut lists = IndexMap::new(alloc);
     for (place, latch) in latches.iter().enumerate() {
         add_reader(alloc, &mut lists, &latch.input, place)?;
+    }
+    Ok(lists)
+}
+
+// An output has a list, an empty one where no latch reads it.
+fn note_output(
+    alloc: Global,
+    lists: &mut IndexMap<Name, Places>,
+    output: &Name,
+) -> Result<(), AllocError>
+    ensures noted { OnOk result (is_some (get bytes_eq lists.new output.now) ≡ true) }
+    ensures listed { OnOk result ((name : List ℕ) → listed (get bytes_eq lists.new name) ≡ listed (get bytes_eq lists.old name)) }
+    ensures kept { OnOk result ((name : List ℕ) → is_some (get bytes_eq lists.old name) ≡ true → is_some (get bytes_eq lists.new name) ≡ true) }
+{
+    if lists.get(output).is_some() {
+        return Ok(());
+    }
+    put_list(lists, output.copy(alloc)?, Sequence::new(alloc))
+}
+
+// The places of the latches that read each signal; each output has a list.
+fn fed_by(
+    alloc: Global,
+    latches: &[Latch],
+    outputs: &[Name],
+) -> Result<IndexMap<Name, Places>, AllocError>
+    ensures latches { IfOk result (λ lists. (place : ℕ) (latch : TheLatch) → slice_get latches.now place ≡ Some latch → is_in (listed (get bytes_eq lists latch.input)) place ≡ true) }
+    ensures outputs { IfOk result (λ lists. (name : List ℕ) → has outputs.now name ≡ true → is_some (get bytes_eq lists name) ≡ true) }
+{
+    let mut lists = fed_latches(alloc, latches)?;
+    for output in outputs {
+        note_output(alloc, &mut lists, output)?;
     }
     Ok(lists)
 }
@@ -73,7 +107,7 @@ pub(crate) fn standing_of(alloc: Global, circuit: &Circuit) -> Result<Standing, 
 {
     let latches = circuit.latches.as_slice();
     let slots = slots_of(alloc, latches)?;
-    let fed = fed_by(alloc, latches)?;
+    let fed = fed_by(alloc, latches, circuit.outputs.as_slice())?;
     let tables = table_places(alloc, circuit.tables.as_slice())?;
     let read = leaves_read(alloc, circuit)?;
     let waiting = all_places(alloc, latches.len())?;

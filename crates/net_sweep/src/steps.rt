@@ -1,20 +1,22 @@
 //! The steps of the first five rules: the rules that change tables, and then the one that makes a latch a table.
 
-ghost use Rattle.std.specs.Prelude.{◌≡◌, ℕ, ◌<◌, Some, slice_get, bytes_eq, length, IfOk, OnOk};
-ghost use Rattle.indexmap.specs.IndexMap.{get};
+ghost use Rattle.std.specs.Prelude.{◌≡◌, ℕ, Bool, ◌<◌, Some, slice_get, length, IfOk, OnOk};
 ghost use Rattle.circuit_model.specs.Soundness.{IsSound};
 ghost use Rattle.circuit_model.specs.declared.circuit.Table.{Table as TheTable};
 ghost use Rattle.sweep_rules.specs.Rules.{sweep_step};
-ghost use Rattle.net_sweep.specs.Settled.{rule_turn, marked_in, AreListed, AreMarked, AreSound};
+ghost use Rattle.net_sweep.specs.declared.marks.Rule.{Rule as TheRule};
+ghost use Rattle.net_sweep.specs.Settled.{rule_turn, marked_in, AreMarked, AreSound, HasLed};
+ghost use Rattle.net_readers.specs.Readers.{told, AreReaders};
 ghost use Rattle.net_sweep.specs.Latches.{left_at, with_latches, IsReady, IsNextStep};
 
 use crate::fixing::{fix, wake_all};
+use crate::idle::empty_untaken;
 use crate::latches::{Standing, next_fixed};
-use crate::marks::{Candidates, Places, Rule};
+use crate::marks::{Candidates, Rule};
 use crate::turns::{next_turn, turn};
-use circuit_model::{Circuit, Name};
+use circuit_model::Circuit;
 use cube_cover::Row;
-use indexmap::IndexMap;
+use net_readers::Readers;
 use std::alloc::{AllocError, Global};
 
 /// A step: a rule is applied at the place of a table, or the latch at a place is fixed at a bit.
@@ -28,12 +30,12 @@ pub(crate) enum Step {
 pub(crate) fn next_step<R: Row>(
     alloc: Global,
     circuit: &Circuit,
-    readers: &IndexMap<Name, Places>,
+    readers: &Readers,
     candidates: &mut Candidates,
     standing: &mut Standing,
 ) -> Result<Option<Step>, AllocError>
     requires sound { AreSound circuit.now.tables }
-    requires listed { AreListed (get bytes_eq readers.now) circuit.now.tables }
+    requires listed { AreReaders (told readers.now) circuit.now.tables }
     requires marked { AreMarked (marked_in candidates.old) circuit.now.tables }
     requires ready { IsReady standing.old circuit.now }
     ensures next { IfOk result (λ step. IsNextStep circuit.now standing.old.slots.items step) }
@@ -56,17 +58,17 @@ fn turn_tables<R: Row>(
     rule: Rule,
     place: usize,
     circuit: &mut Circuit,
-    readers: &mut IndexMap<Name, Places>,
+    readers: &mut Readers,
     candidates: &mut Candidates,
     standing: &mut Standing,
 ) -> Result<(), AllocError>
     requires sound { AreSound circuit.old.tables }
     requires within { place < length circuit.old.tables }
-    requires listed { AreListed (get bytes_eq readers.old) circuit.old.tables }
+    requires listed { AreReaders (told readers.old) circuit.old.tables }
     requires marked { AreMarked (marked_in candidates.old) circuit.old.tables }
     requires ready { IsReady standing.old circuit.old }
     ensures turned { OnOk result ((table : TheTable) → slice_get circuit.old.tables place ≡ Some table → circuit.new ≡ rule_turn rule circuit.old table) }
-    ensures listed { OnOk result (AreListed (get bytes_eq readers.new) circuit.new.tables) }
+    ensures listed { OnOk result (AreReaders (told readers.new) circuit.new.tables) }
     ensures marked { OnOk result (AreMarked (marked_in candidates.new) circuit.new.tables) }
     ensures slots { OnOk result (standing.new.slots.items ≡ standing.old.slots.items) }
     ensures ready { OnOk result (IsReady standing.new circuit.new) }
@@ -85,17 +87,17 @@ pub(crate) fn take_step<R: Row>(
     alloc: Global,
     step: Step,
     circuit: &mut Circuit,
-    readers: &mut IndexMap<Name, Places>,
+    readers: &mut Readers,
     candidates: &mut Candidates,
     standing: &mut Standing,
 ) -> Result<(), AllocError>
     requires sound { IsSound (with_latches circuit.old (left_at standing.old.slots.items)) }
-    requires listed { AreListed (get bytes_eq readers.old) circuit.old.tables }
+    requires listed { AreReaders (told readers.old) circuit.old.tables }
     requires marked { AreMarked (marked_in candidates.old) circuit.old.tables }
     requires ready { IsReady standing.old circuit.old }
     requires next { IsNextStep circuit.old standing.old.slots.items (Some step) }
     ensures stepped { OnOk result (sweep_step (with_latches circuit.old (left_at standing.old.slots.items)) ≡ Some (with_latches circuit.new (left_at standing.new.slots.items))) }
-    ensures listed { OnOk result (AreListed (get bytes_eq readers.new) circuit.new.tables) }
+    ensures listed { OnOk result (AreReaders (told readers.new) circuit.new.tables) }
     ensures marked { OnOk result (AreMarked (marked_in candidates.new) circuit.new.tables) }
     ensures ready { OnOk result (IsReady standing.new circuit.new) }
 {
@@ -104,5 +106,27 @@ pub(crate) fn take_step<R: Row>(
             turn_tables::<R>(alloc, rule, place, circuit, readers, candidates, standing)
         }
         Step::Fix(place, bit) => fix(alloc, place, bit, circuit, candidates, standing),
+    }
+}
+
+// The table at which the step was taken is emptied where nothing takes its signal any more.
+pub(crate) fn empty_turned(
+    alloc: Global,
+    step: Step,
+    circuit: &mut Circuit,
+    readers: &mut Readers,
+    standing: &Standing,
+) -> Result<(), AllocError>
+    requires sound { IsSound (with_latches circuit.old (left_at standing.now.slots.items)) }
+    requires listed { AreReaders (told readers.old) circuit.old.tables }
+    requires ready { IsReady standing.now circuit.old }
+    ensures led { OnOk result (HasLed (with_latches circuit.old (left_at standing.now.slots.items)) (with_latches circuit.new (left_at standing.now.slots.items))) }
+    ensures listed { OnOk result (AreReaders (told readers.new) circuit.new.tables) }
+    ensures marked { OnOk result ((marks : TheRule → ℕ → Bool) → AreMarked marks circuit.old.tables → AreMarked marks circuit.new.tables) }
+    ensures ready { OnOk result (IsReady standing.now circuit.new) }
+{
+    match step {
+        Step::Turn(_, place) => empty_untaken(alloc, place, circuit, readers, standing),
+        Step::Fix(_, _) => Ok(()),
     }
 }

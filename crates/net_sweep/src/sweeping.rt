@@ -11,13 +11,14 @@ ghost use Rattle.net_sweep.specs.Settled.{table_step, HasLed};
 ghost use Rattle.net_sweep.specs.declared.sweeping.SweepFault.TheVariants.{Memory};
 
 use crate::counting::{count_undriven, outputs};
-use crate::marks::{all_marked, all_readers};
+use crate::marks::all_marked;
 use crate::standing::{standing_of, with_standing};
-use crate::steps::{next_step, take_step};
+use crate::steps::{empty_turned, next_step, take_step};
 use circuit_model::{Circuit, Name};
 use cube_cover::Row;
 use net_core::Network;
 use net_needed::need_step;
+use net_readers::Readers;
 use std::alloc::{AllocError, Global};
 
 /// How many tables and latches a sweep took away; a latch that became a table counts as a latch alone.
@@ -50,7 +51,7 @@ fn settled<R: Row>(alloc: Global, circuit: Circuit) -> Result<Circuit, AllocErro
 {
     let mut end = circuit;
     let mut standing = standing_of(alloc, &end)?;
-    let mut readers = all_readers(alloc, end.tables.as_slice())?;
+    let mut readers = Readers::of_tables(alloc, end.tables.as_slice())?;
     let mut candidates = all_marked(alloc, end.tables.len())?;
     while let Some(step) = next_step::<R>(alloc, &end, &readers, &mut candidates, &mut standing)? {
         take_step::<R>(
@@ -61,6 +62,7 @@ fn settled<R: Row>(alloc: Global, circuit: Circuit) -> Result<Circuit, AllocErro
             &mut candidates,
             &mut standing,
         )?;
+        empty_turned(alloc, step, &mut end, &mut readers, &standing)?;
     }
     with_standing(alloc, end, &standing)
 }

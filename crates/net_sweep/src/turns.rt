@@ -5,7 +5,6 @@ ghost use Rattle.std.specs.Ordering.{nat_cmp};
 ghost use Rattle.std.specs.BTreeSet.{contains};
 ghost use Rattle.std.specs.List.{AllByRecursion};
 ghost use Rattle.std.specs.Option.{option_map, option_map_or};
-ghost use Rattle.indexmap.specs.IndexMap.{get};
 ghost use Rattle.circuit_model.specs.Names.{has};
 ghost use Rattle.circuit_model.specs.Soundness.{outputs_of, table_inputs};
 ghost use Rattle.circuit_model.specs.declared.circuit.Table.{Table as TheTable};
@@ -16,21 +15,20 @@ ghost use Rattle.net_sweep.specs.declared.marks.Rule.TheVariants.{Tidy, Constant
 ghost use Rattle.table_tidy.specs.Tidy.{IsWide};
 ghost use Rattle.sweep_rules.specs.Rules.{only_input as input_alone};
 ghost use Rattle.net_sweep.specs.Turns.{IsFirst};
-ghost use Rattle.net_sweep.specs.Settled.{passes, rule_turn, IsNext, changed_by, is_apart, is_in, listed, marked_in, AreListed, AreMarkedBy, AreMarked, AreSameBut, AreSound};
+ghost use Rattle.net_sweep.specs.Settled.{passes, rule_turn, IsNext, changed_by, is_apart, marked_in, AreMarkedBy, AreMarked, AreSameBut, AreSound};
+ghost use Rattle.net_readers.specs.Readers.{told, is_in, AreReaders};
 
 use crate::constants::unwritten_bit;
-use crate::marks::{
-    Candidates, Places, Rule, add_readers, mark_all, put_place, take_least, take_list,
-};
-use crate::rows::{at_bit, is_among, is_inverter, rewired};
+use crate::marks::{Candidates, Rule, mark_all, put_place, take_least};
+use crate::rows::{at_bit, is_inverter, rewired};
+use crate::tables::{set_table, table_at};
 use circuit_model::{Circuit, Name, Table};
 use cube_cover::Row;
-use indexmap::IndexMap;
 use net_needed::{constant_table, written_bit};
+use net_readers::{Places, Readers};
 use sis_base::{Copied, Sequence};
 use std::alloc::{AllocError, Global};
 use std::collections::BTreeSet;
-use std::mem;
 use table_tidy::{is_tidy_table, tidied_table};
 
 /// What readers of a signal take in its place: a bit, or another signal, turned over or not.
@@ -51,50 +49,16 @@ fn only_input(alloc: Global, inputs: &[Name]) -> Result<Option<Name>, AllocError
     Ok(Some(name))
 }
 
-// Whether the table at a place, if there is one, reads a signal.
-fn is_reading(circuit: &Circuit, place: usize, name: &Name) -> bool
-    ensures { result ≡ option_map_or (λ (table : TheTable). has table.inputs name.now) (slice_get circuit.now.tables place) false }
-{
-    match circuit.tables.as_slice().get(place) {
-        None => false,
-        Some(table) => is_among(&table.inputs, name),
-    }
-}
-
-// Whether some table reads a signal, told by its listed readers.
-fn is_read_at(circuit: &Circuit, places: &[usize], name: &Name) -> bool
-    requires { (place : ℕ) (table : TheTable) → slice_get circuit.now.tables place ≡ Some table → has table.inputs name.now ≡ true → is_in places.now place ≡ true }
-    ensures { result ≡ has (table_inputs circuit.now.tables) name.now }
-{
-    for place in places {
-        if is_reading(circuit, *place, name) {
-            return true;
-        }
-    }
-    false
-}
-
-// Whether some table reads a signal.
-fn is_read(circuit: &Circuit, readers: &IndexMap<Name, Places>, name: &Name) -> bool
-    requires { AreListed (get bytes_eq readers.now) circuit.now.tables }
-    ensures { result ≡ has (table_inputs circuit.now.tables) name.now }
-{
-    match readers.get(name) {
-        None => is_read_at(circuit, &[], name),
-        Some(places) => is_read_at(circuit, places.as_slice(), name),
-    }
-}
-
 // Whether a rule applies to a table.
 fn applies_to<R: Row>(
     alloc: Global,
     rule: Rule,
     circuit: &Circuit,
-    readers: &IndexMap<Name, Places>,
+    readers: &Readers,
     table: &Table,
 ) -> Result<bool, AllocError>
     requires wide { IsWide table.now }
-    requires listed { AreListed (get bytes_eq readers.now) circuit.now.tables }
+    requires listed { AreReaders (told readers.now) circuit.now.tables }
     ensures { IfOk result (λ answer. answer ≡ passes rule circuit.now.tables table.now) }
 {
     match rule {
@@ -108,11 +72,11 @@ fn applies_to<R: Row>(
         }
         Rule::Put => {
             let is_written = written_bit(table).is_some();
-            Ok(is_written && is_read(circuit, readers, &table.output))
+            Ok(is_written && readers.is_read(&table.output))
         }
         Rule::Bypass => {
             let is_single = table.inputs.len() == 1;
-            Ok(is_single && is_read(circuit, readers, &table.output))
+            Ok(is_single && readers.is_read(&table.output))
         }
     }
 }
@@ -122,11 +86,11 @@ fn applies_at<R: Row>(
     alloc: Global,
     rule: Rule,
     circuit: &Circuit,
-    readers: &IndexMap<Name, Places>,
+    readers: &Readers,
     place: usize,
 ) -> Result<bool, AllocError>
     requires wide { AllByRecursion IsWide circuit.now.tables }
-    requires listed { AreListed (get bytes_eq readers.now) circuit.now.tables }
+    requires listed { AreReaders (told readers.now) circuit.now.tables }
     ensures { IfOk result (λ answer. answer ≡ option_map_or (passes rule circuit.now.tables) (slice_get circuit.now.tables place) false) }
 {
     match circuit.tables.as_slice().get(place) {
@@ -140,11 +104,11 @@ fn first_place<R: Row>(
     alloc: Global,
     rule: Rule,
     circuit: &Circuit,
-    readers: &IndexMap<Name, Places>,
+    readers: &Readers,
     marked: &mut BTreeSet<usize>,
 ) -> Result<Option<usize>, AllocError>
     requires sound { AreSound circuit.now.tables }
-    requires listed { AreListed (get bytes_eq readers.now) circuit.now.tables }
+    requires listed { AreReaders (told readers.now) circuit.now.tables }
     requires marked { AreMarkedBy (passes rule circuit.now.tables) (contains nat_cmp marked.old) circuit.now.tables }
     ensures first { IfOk result (λ place. IsFirst (passes rule circuit.now.tables) circuit.now.tables place) }
     ensures marked { OnOk result (AreMarkedBy (passes rule circuit.now.tables) (contains nat_cmp marked.new) circuit.now.tables) }
@@ -162,11 +126,11 @@ fn first_place<R: Row>(
 pub(crate) fn next_turn<R: Row>(
     alloc: Global,
     circuit: &Circuit,
-    readers: &IndexMap<Name, Places>,
+    readers: &Readers,
     candidates: &mut Candidates,
 ) -> Result<Option<(Rule, usize)>, AllocError>
     requires sound { AreSound circuit.now.tables }
-    requires listed { AreListed (get bytes_eq readers.now) circuit.now.tables }
+    requires listed { AreReaders (told readers.now) circuit.now.tables }
     requires marked { AreMarked (marked_in candidates.old) circuit.now.tables }
     ensures next { IfOk result (λ turn. IsNext circuit.now turn) }
     ensures marked { OnOk result (AreMarked (marked_in candidates.new) circuit.now.tables) }
@@ -210,33 +174,6 @@ pub(crate) fn next_turn<R: Row>(
     Ok(None)
 }
 
-// Puts another table at a place.
-fn set_table(alloc: Global, circuit: &mut Circuit, place: usize, table: Table)
-    requires { place < length circuit.old.tables }
-    ensures { circuit.new ≡ tables_in circuit.old (slice_set circuit.old.tables place table) }
-{
-    let mut tables = mem::replace(&mut circuit.tables, Sequence::new(alloc)).into_vec();
-    tables[place] = table;
-    circuit.tables = Sequence::from_vec(tables);
-}
-
-// The table at a place.
-#[tactic(auto, using(crate::proofs::Finds::at_place))]
-fn item_at(tables: &[Table], place: usize) -> &Table
-    requires { place < length tables.now }
-    ensures { slice_get tables.now place ≡ Some result.now }
-{
-    &tables[place]
-}
-
-// The table at a place of a circuit.
-fn table_at(circuit: &Circuit, place: usize) -> &Table
-    requires { place < length circuit.now.tables }
-    ensures { slice_get circuit.now.tables place ≡ Some result.now }
-{
-    item_at(circuit.tables.as_slice(), place)
-}
-
 // The list of one place.
 fn one_place(alloc: Global, place: usize) -> Result<Places, AllocError>
     ensures { IfOk result (λ places. places ≡ place ∷ []) }
@@ -247,17 +184,24 @@ fn one_place(alloc: Global, place: usize) -> Result<Places, AllocError>
 }
 
 // Tidies the table at a place.
-fn tidy_at(alloc: Global, circuit: &mut Circuit, place: usize) -> Result<Places, AllocError>
+fn tidy_at(
+    alloc: Global,
+    circuit: &mut Circuit,
+    readers: &mut Readers,
+    place: usize,
+) -> Result<Places, AllocError>
     requires sound { AreSound circuit.old.tables }
     requires within { place < length circuit.old.tables }
+    requires listed { AreReaders (told readers.old) circuit.old.tables }
     ensures turned { OnOk result ((table : TheTable) → slice_get circuit.old.tables place ≡ Some table → circuit.new ≡ rule_turn Tidy circuit.old table) }
     ensures others { IfOk result (λ places. AreSameBut places circuit.old.tables circuit.new.tables) }
+    ensures listed { OnOk result (AreReaders (told readers.new) circuit.new.tables) }
 {
     let places = one_place(alloc, place)?;
     let table = table_at(circuit, place);
     let copy = table.copy(alloc)?;
     let tidied = tidied_table(alloc, copy)?;
-    set_table(alloc, circuit, place, tidied);
+    set_table(alloc, circuit, readers, place, tidied)?;
     Ok(places)
 }
 
@@ -265,12 +209,15 @@ fn tidy_at(alloc: Global, circuit: &mut Circuit, place: usize) -> Result<Places,
 fn write_at<R: Row>(
     alloc: Global,
     circuit: &mut Circuit,
+    readers: &mut Readers,
     place: usize,
 ) -> Result<Places, AllocError>
     requires sound { AreSound circuit.old.tables }
     requires within { place < length circuit.old.tables }
+    requires listed { AreReaders (told readers.old) circuit.old.tables }
     ensures turned { OnOk result ((table : TheTable) → slice_get circuit.old.tables place ≡ Some table → circuit.new ≡ rule_turn Constant circuit.old table) }
     ensures others { IfOk result (λ places. AreSameBut places circuit.old.tables circuit.new.tables) }
+    ensures listed { OnOk result (AreReaders (told readers.new) circuit.new.tables) }
 {
     let places = one_place(alloc, place)?;
     let table = table_at(circuit, place);
@@ -279,7 +226,7 @@ fn write_at<R: Row>(
         Some(bit) => {
             let output = table.output.copy(alloc)?;
             let constant = constant_table(alloc, output, bit)?;
-            set_table(alloc, circuit, place, constant);
+            set_table(alloc, circuit, readers, place, constant)?;
             Ok(places)
         }
     }
@@ -300,79 +247,88 @@ fn changed(alloc: Global, table: &Table, name: &Name, change: &Change) -> Result
 fn change_at(
     alloc: Global,
     circuit: &mut Circuit,
+    readers: &mut Readers,
     place: usize,
     name: &Name,
     change: &Change,
 ) -> Result<(), AllocError>
-    requires { AllByRecursion IsWide circuit.old.tables }
+    requires wide { AllByRecursion IsWide circuit.old.tables }
+    requires listed { AreReaders (told readers.old) circuit.old.tables }
     ensures same { OnOk result (circuit.new ≡ tables_in circuit.old circuit.new.tables) }
     ensures changed { OnOk result ((other : ℕ) → slice_get circuit.new.tables other ≡ (if place == other then option_map (changed_by name.now change.now) (slice_get circuit.old.tables other) else slice_get circuit.old.tables other)) }
+    ensures listed { OnOk result (AreReaders (told readers.new) circuit.new.tables) }
 {
     match circuit.tables.as_slice().get(place) {
         None => Ok(()),
         Some(table) => {
             let made = changed(alloc, table, name, change)?;
-            set_table(alloc, circuit, place, made);
-            Ok(())
+            set_table(alloc, circuit, readers, place, made)
         }
     }
 }
 
-// Notes a place where the table there was read.
-fn note_read(places: &mut Places, is_read: bool, place: usize) -> Result<(), AllocError>
-    ensures { OnOk result (places.new ≡ places.old ++ (if is_read then place ∷ [] else [])) }
+// Changes the tables at some places, all that read a signal among them.
+fn change_all(
+    alloc: Global,
+    circuit: &mut Circuit,
+    readers: &mut Readers,
+    places: &[usize],
+    name: &Name,
+    change: &Change,
+) -> Result<(), AllocError>
+    requires sound { AreSound circuit.old.tables }
+    requires apart { is_apart name.now change.now ≡ true }
+    requires listed { AreReaders (told readers.old) circuit.old.tables }
+    requires all { (place : ℕ) → told readers.old name.now place ≡ true → is_in places.now place ≡ true }
+    ensures changed { OnOk result (circuit.new ≡ tables_in circuit.old (map (changed_by name.now change.now) circuit.old.tables)) }
+    ensures listed { OnOk result (AreReaders (told readers.new) circuit.new.tables) }
 {
-    if is_read {
-        places.push(place)?;
+    for place in places {
+        change_at(alloc, circuit, readers, *place, name, change)?;
     }
     Ok(())
 }
 
-// Changes each table that reads a signal, and tells their places; all of them are among those that are given.
-fn change_all(
+// Changes each table that reads a signal, and tells their places.
+fn change_readers(
     alloc: Global,
     circuit: &mut Circuit,
-    places: &[usize],
+    readers: &mut Readers,
     name: &Name,
     change: &Change,
 ) -> Result<Places, AllocError>
     requires sound { AreSound circuit.old.tables }
     requires apart { is_apart name.now change.now ≡ true }
-    requires readers { (place : ℕ) (table : TheTable) → slice_get circuit.old.tables place ≡ Some table → has table.inputs name.now ≡ true → is_in places.now place ≡ true }
+    requires listed { AreReaders (told readers.old) circuit.old.tables }
     ensures changed { OnOk result (circuit.new ≡ tables_in circuit.old (map (changed_by name.now change.now) circuit.old.tables)) }
-    ensures readers { IfOk result (λ readers. (place : ℕ) (table : TheTable) → slice_get circuit.old.tables place ≡ Some table → has table.inputs name.now ≡ true → is_in readers place ≡ true) }
+    ensures others { IfOk result (λ places. AreSameBut places circuit.old.tables circuit.new.tables) }
+    ensures listed { OnOk result (AreReaders (told readers.new) circuit.new.tables) }
 {
-    let mut readers = Sequence::new(alloc);
-    for place in places {
-        let is_read = is_reading(circuit, *place, name);
-        change_at(alloc, circuit, *place, name, change)?;
-        note_read(&mut readers, is_read, *place)?;
-    }
-    Ok(readers)
+    let places = readers.places(alloc, name)?;
+    change_all(alloc, circuit, readers, places.as_slice(), name, change)?;
+    Ok(places)
 }
 
 // Puts the constant at a place into the tables that read it.
 fn put_at(
     alloc: Global,
     circuit: &mut Circuit,
-    readers: &mut IndexMap<Name, Places>,
+    readers: &mut Readers,
     place: usize,
 ) -> Result<Places, AllocError>
     requires sound { AreSound circuit.old.tables }
     requires within { place < length circuit.old.tables }
-    requires listed { AreListed (get bytes_eq readers.old) circuit.old.tables }
+    requires listed { AreReaders (told readers.old) circuit.old.tables }
     ensures turned { OnOk result ((table : TheTable) → slice_get circuit.old.tables place ≡ Some table → circuit.new ≡ rule_turn Put circuit.old table) }
     ensures others { IfOk result (λ places. AreSameBut places circuit.old.tables circuit.new.tables) }
-    ensures listed { OnOk result (AreListed (get bytes_eq readers.new) circuit.new.tables) }
+    ensures listed { OnOk result (AreReaders (told readers.new) circuit.new.tables) }
 {
     let table = table_at(circuit, place);
     match written_bit(table) {
         None => Ok(Sequence::new(alloc)),
         Some(bit) => {
             let name = table.output.copy(alloc)?;
-            let places = take_list(alloc, readers, &name);
-            let changed = change_all(alloc, circuit, places.as_slice(), &name, &Change::Bit(bit))?;
-            Ok(changed)
+            change_readers(alloc, circuit, readers, &name, &Change::Bit(bit))
         }
     }
 }
@@ -381,27 +337,23 @@ fn put_at(
 fn bypass_at(
     alloc: Global,
     circuit: &mut Circuit,
-    readers: &mut IndexMap<Name, Places>,
+    readers: &mut Readers,
     place: usize,
 ) -> Result<Places, AllocError>
     requires sound { AreSound circuit.old.tables }
     requires within { place < length circuit.old.tables }
-    requires listed { AreListed (get bytes_eq readers.old) circuit.old.tables }
+    requires listed { AreReaders (told readers.old) circuit.old.tables }
     ensures turned { OnOk result ((table : TheTable) → slice_get circuit.old.tables place ≡ Some table → circuit.new ≡ rule_turn Bypass circuit.old table) }
     ensures others { IfOk result (λ places. AreSameBut places circuit.old.tables circuit.new.tables) }
-    ensures listed { OnOk result (AreListed (get bytes_eq readers.new) circuit.new.tables) }
+    ensures listed { OnOk result (AreReaders (told readers.new) circuit.new.tables) }
 {
     let table = table_at(circuit, place);
     match only_input(alloc, table.inputs.as_slice())? {
         None => Ok(Sequence::new(alloc)),
         Some(input) => {
             let name = table.output.copy(alloc)?;
-            let to = input.copy(alloc)?;
-            let change = Change::Input(to, is_inverter(table));
-            let places = take_list(alloc, readers, &name);
-            let changed = change_all(alloc, circuit, places.as_slice(), &name, &change)?;
-            add_readers(alloc, readers, &input, changed.as_slice())?;
-            Ok(changed)
+            let change = Change::Input(input, is_inverter(table));
+            change_readers(alloc, circuit, readers, &name, &change)
         }
     }
 }
@@ -411,19 +363,19 @@ fn apply<R: Row>(
     alloc: Global,
     rule: Rule,
     circuit: &mut Circuit,
-    readers: &mut IndexMap<Name, Places>,
+    readers: &mut Readers,
     place: usize,
 ) -> Result<Places, AllocError>
     requires sound { AreSound circuit.old.tables }
     requires within { place < length circuit.old.tables }
-    requires listed { AreListed (get bytes_eq readers.old) circuit.old.tables }
+    requires listed { AreReaders (told readers.old) circuit.old.tables }
     ensures turned { OnOk result ((table : TheTable) → slice_get circuit.old.tables place ≡ Some table → circuit.new ≡ rule_turn rule circuit.old table) }
     ensures others { IfOk result (λ places. AreSameBut places circuit.old.tables circuit.new.tables) }
-    ensures listed { OnOk result (AreListed (get bytes_eq readers.new) circuit.new.tables) }
+    ensures listed { OnOk result (AreReaders (told readers.new) circuit.new.tables) }
 {
     match rule {
-        Rule::Tidy => tidy_at(alloc, circuit, place),
-        Rule::Constant => write_at::<R>(alloc, circuit, place),
+        Rule::Tidy => tidy_at(alloc, circuit, readers, place),
+        Rule::Constant => write_at::<R>(alloc, circuit, readers, place),
         Rule::Put => put_at(alloc, circuit, readers, place),
         Rule::Bypass => bypass_at(alloc, circuit, readers, place),
     }
@@ -435,16 +387,16 @@ pub(crate) fn turn<R: Row>(
     rule: Rule,
     place: usize,
     circuit: &mut Circuit,
-    readers: &mut IndexMap<Name, Places>,
+    readers: &mut Readers,
     candidates: &mut Candidates,
 ) -> Result<Places, AllocError>
     requires sound { AreSound circuit.old.tables }
     requires within { place < length circuit.old.tables }
-    requires listed { AreListed (get bytes_eq readers.old) circuit.old.tables }
+    requires listed { AreReaders (told readers.old) circuit.old.tables }
     requires marked { AreMarked (marked_in candidates.old) circuit.old.tables }
     ensures turned { OnOk result ((table : TheTable) → slice_get circuit.old.tables place ≡ Some table → circuit.new ≡ rule_turn rule circuit.old table) }
     ensures others { IfOk result (λ places. AreSameBut places circuit.old.tables circuit.new.tables) }
-    ensures listed { OnOk result (AreListed (get bytes_eq readers.new) circuit.new.tables) }
+    ensures listed { OnOk result (AreReaders (told readers.new) circuit.new.tables) }
     ensures marked { OnOk result (AreMarked (marked_in candidates.new) circuit.new.tables) }
 {
     let places = apply::<R>(alloc, rule, circuit, readers, place)?;

@@ -1,8 +1,7 @@
-use Rattle.std.proofs.Common.{bytes_eq}
-use Rattle.indexmap.specs.IndexMap.{get}
+use Rattle.net_readers.specs.Readers.{told}
 use Rattle.net_sweep.specs.Latches.{left_at, with_latches}
 use Rattle.net_sweep.proofs.Changing.{on_ok, on_ok_both}
-use Rattle.net_sweep.proofs.Latching.{sound_tables, fixed_listed}
+use Rattle.net_sweep.proofs.Latching.{sound_tables, fixed_readers}
 use Rattle.net_sweep.proofs.Stepping.{turn_next, turn_within, turn_stepped, fix_next, fix_there, fix_stepped}
 use Rattle.net_sweep.proofs.steps.take_step.Goals as goal
 
@@ -31,4 +30,4 @@ pub returns-in-Fix-clause-listed : goal.returns-in-Fix-clause-listed
 returns-in-Fix-clause-listed g c =
     let (latch, at) = fix_there c.args.circuit.now c.args.standing.now.slots.items c.in-Fix.place c.in-Fix.bit
     (fix_next c.args.circuit.now c.args.standing.now.slots.items c.args.step c.in-Fix.place c.in-Fix.bit c.requires.next c.in-Fix.is).1 in
-    on_ok c.fix.result (λ fixed. fixed_listed c.args.circuit.now c.fix.new.circuit latch c.in-Fix.bit (get bytes_eq c.args.readers.now) (fixed latch at) c.requires.listed) c.fix.ensures.fixed
+    on_ok c.fix.result (λ fixed. fixed_readers c.args.circuit.now c.fix.new.circuit latch c.in-Fix.bit (told c.args.readers.now) (fixed latch at) c.requires.listed) c.fix.ensures.fixed

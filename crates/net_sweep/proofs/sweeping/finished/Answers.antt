@@ -28,7 +28,7 @@ loop-end-smaller g c =
     next_falls c.args.circuit c.loop-end.end c.in-Some.next _ _ c.loop-end.invariant.0 c.loop-end.invariant.1 c.loop-end.invariant.2 c.in_ok-next.ensures c.in-Some.is c.in_ok-end-2.ensures.led
 
 pub returns-clause-chain : goal.returns-clause-chain
-returns-clause-chain g c = all_finished c.args.circuit c.loop-end.end _ c.loop-end.invariant.0 c.loop-end.invariant.1 c.loop-end.invariant.2 c.in_ok-next.ensures c.in_default.is
+returns-clause-chain g c = all_finished c.args.circuit c.loop-end.end _ c.requires c.loop-end.invariant.0 c.loop-end.invariant.1 c.loop-end.invariant.2 c.in_ok-next.ensures c.in_default.is
 
 pub returns-clause-sound : goal.returns-clause-sound
 returns-clause-sound g c = c.loop-end.invariant.0.sound

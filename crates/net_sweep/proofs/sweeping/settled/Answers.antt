@@ -1,11 +1,10 @@
-use Rattle.std.proofs.Common.{bytes_eq}
-use Rattle.indexmap.specs.IndexMap.{get}
+use Rattle.net_readers.specs.Readers.{told}
 use Rattle.net_needed.proofs.Taking.{tables_differ}
 use Rattle.net_sweep.specs.Settled.{marked_in}
 use Rattle.net_sweep.specs.Latches.{left_at, with_latches}
 use Rattle.net_sweep.proofs.Changing.{on_value}
 use Rattle.net_sweep.proofs.Latching.{sound_tables}
-use Rattle.net_sweep.proofs.Stepping.{settling_none, settling_more, settling_falls, none_next, settled_led, settled_tables, settled_latches}
+use Rattle.net_sweep.proofs.Stepping.{settling_none, settling_more, settling_falls, behind_sound, none_next, settled_led, settled_tables, settled_latches}
 use Rattle.net_sweep.proofs.sweeping.settled.Goals as goal
 
 pub standing_of-requires : goal.standing_of-requires
@@ -13,7 +12,7 @@ standing_of-requires g c = tables_differ c.args.circuit c.requires
 
 pub loop-candidates-init : goal.loop-candidates-init
 loop-candidates-init g c =
-    settling_none c.args.circuit _ c.as_slice.result.now c.len.result (get bytes_eq c.in_ok-readers.readers) (marked_in c.in_ok-candidates.candidates) c.requires c.in_ok-standing.ensures.ready c.in_ok-standing.ensures.left
+    settling_none c.args.circuit _ c.as_slice.result.now c.len.result (told c.in_ok-readers.readers) (marked_in c.in_ok-candidates.candidates) c.requires c.in_ok-standing.ensures.ready c.in_ok-standing.ensures.left
     c.as_slice.ensures c.len.ensures c.in_ok-readers.ensures c.in_ok-candidates.ensures
 
 pub next_step-requires-clause-sound : goal.next_step-requires-clause-sound
@@ -28,16 +27,21 @@ next_step-requires-clause-marked g c = c.loop-candidates.invariant.marked
 pub next_step-requires-clause-ready : goal.next_step-requires-clause-ready
 next_step-requires-clause-ready g c = c.loop-candidates.invariant.ready
 
+pub empty_turned-requires-clause-sound : goal.empty_turned-requires-clause-sound
+empty_turned-requires-clause-sound g c =
+    behind_sound c.args.circuit c.loop-candidates.end c.take_step.new.circuit c.loop-candidates.standing.slots.items c.next_step.new.standing.slots.items c.take_step.new.standing.slots.items
+    c.loop-candidates.invariant.led c.in_ok-step.ensures.slots c.in_ok-take_step.ensures.stepped
+
 pub loop-candidates-preserved : goal.loop-candidates-preserved
 loop-candidates-preserved g c =
-    settling_more c.args.circuit c.loop-candidates.end c.take_step.new.circuit c.loop-candidates.standing c.next_step.new.standing c.take_step.new.standing (get bytes_eq c.loop-candidates.readers) (get bytes_eq c.take_step.new.readers)
-    (marked_in c.loop-candidates.candidates) (marked_in c.take_step.new.candidates) c.loop-candidates.invariant c.in_ok-step.ensures.slots c.in_ok-take_step.ensures.stepped c.in_ok-take_step.ensures.listed
-    c.in_ok-take_step.ensures.marked c.in_ok-take_step.ensures.ready
+    settling_more c.args.circuit c.loop-candidates.end c.take_step.new.circuit c.empty_turned.new.circuit c.loop-candidates.standing c.next_step.new.standing c.take_step.new.standing (told c.loop-candidates.readers) (told c.empty_turned.new.readers)
+    (marked_in c.loop-candidates.candidates) (marked_in c.take_step.new.candidates) c.loop-candidates.invariant c.in_ok-step.ensures.slots c.in_ok-take_step.ensures.stepped c.in_ok-empty_turned.ensures.led c.in_ok-empty_turned.ensures.listed
+    (c.in_ok-empty_turned.ensures.marked (marked_in c.take_step.new.candidates) c.in_ok-take_step.ensures.marked) c.in_ok-empty_turned.ensures.ready
 
 pub loop-candidates-smaller : goal.loop-candidates-smaller
 loop-candidates-smaller g c =
-    settling_falls c.args.circuit c.loop-candidates.end c.take_step.new.circuit c.loop-candidates.standing.slots.items c.next_step.new.standing.slots.items c.take_step.new.standing.slots.items
-    c.loop-candidates.invariant.led c.in_ok-step.ensures.slots c.in_ok-take_step.ensures.stepped
+    settling_falls c.args.circuit c.loop-candidates.end c.take_step.new.circuit c.empty_turned.new.circuit c.loop-candidates.standing.slots.items c.next_step.new.standing.slots.items c.take_step.new.standing.slots.items
+    c.loop-candidates.invariant.led c.in_ok-step.ensures.slots c.in_ok-take_step.ensures.stepped c.in_ok-empty_turned.ensures.led
 
 pub returns-clause-led : goal.returns-clause-led
 returns-clause-led g c =

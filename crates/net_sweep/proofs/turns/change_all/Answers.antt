@@ -1,25 +1,29 @@
 use Rattle.std.proofs.Common.{refl}
+use Rattle.net_readers.specs.Readers.{told}
 use Rattle.net_sweep.specs.Settled.{changed_by}
-use Rattle.net_sweep.proofs.Changing.{partly_none, partly_more, partly_wide, partly_ended, noted_none, noted_more, all_noted, grown}
+use Rattle.net_sweep.proofs.Changing.{partly_none, partly_more, partly_wide, partly_ended, reads_told, grown}
 use Rattle.net_sweep.proofs.turns.change_all.Goals as goal
 
 pub loop-place-init : goal.loop-place-init
-loop-place-init c = (partly_none (changed_by c.args.name.now c.args.change.now) c.args.circuit.now, noted_none c.args.name.now _ c.args.circuit.now.tables)
+loop-place-init c = (partly_none (changed_by c.args.name.now c.args.change.now) c.args.circuit.now, c.requires.listed)
 
-pub change_at-requires : goal.change_at-requires
-change_at-requires c = partly_wide c.args.name.now c.args.change.now _ c.args.circuit.now c.loop-place.circuit c.requires.sound c.loop-place.invariant.0
+pub change_at-requires-clause-wide : goal.change_at-requires-clause-wide
+change_at-requires-clause-wide c = partly_wide c.args.name.now c.args.change.now _ c.args.circuit.now c.loop-place.circuit c.requires.sound c.loop-place.invariant.0
+
+pub change_at-requires-clause-listed : goal.change_at-requires-clause-listed
+change_at-requires-clause-listed c = c.loop-place.invariant.1
 
 pub loop-place-preserved : goal.loop-place-preserved
 loop-place-preserved c = (
   partly_more c.args.name.now c.args.change.now _ _ _ c.args.circuit.now c.loop-place.circuit c.change_at.new.circuit c.requires.sound c.requires.apart c.loop-place.invariant.0 c.in_ok-change_at.ensures.same c.in_ok-change_at.ensures.changed
       (grown c.args.places.now c.loop-place.place-index _ 0 c.loop-place-test.true refl),
-  noted_more (changed_by c.args.name.now c.args.change.now) c.args.name.now _ _ c.loop-place.readers _ _ c.is_reading-is_read.result c.args.circuit.now c.loop-place.circuit c.loop-place.invariant.0 c.loop-place.invariant.1
-      c.is_reading-is_read.ensures c.in_ok-note_read.ensures (grown c.args.places.now c.loop-place.place-index _ 0 c.loop-place-test.true refl),
+  c.in_ok-change_at.ensures.listed,
 )
 
 pub returns-clause-changed : goal.returns-clause-changed
 returns-clause-changed c =
-    partly_ended c.args.name.now c.args.change.now c.args.places.now c.loop-place.place-index c.args.circuit.now c.loop-place.circuit c.loop-place-test.false c.loop-place.invariant.0 c.requires.readers
+    partly_ended c.args.name.now c.args.change.now c.args.places.now c.loop-place.place-index c.args.circuit.now c.loop-place.circuit c.loop-place-test.false c.loop-place.invariant.0
+    (reads_told (told c.args.readers.now) c.args.circuit.now.tables c.args.name.now c.args.places.now c.requires.listed c.requires.all)
 
-pub returns-clause-readers : goal.returns-clause-readers
-returns-clause-readers c = all_noted c.args.name.now c.args.places.now c.loop-place.place-index c.loop-place.readers c.args.circuit.now.tables c.loop-place-test.false c.loop-place.invariant.1 c.requires.readers
+pub returns-clause-listed : goal.returns-clause-listed
+returns-clause-listed c = c.loop-place.invariant.1
