@@ -1,11 +1,10 @@
 //! Tables over covers, and what is left of them when they are made tidy.
 
-use crate::tests::{name, names};
+use crate::tests::{assert_same, name, names};
 use blif_write::table_text;
 use cube_cover::{Cover, PlainRow, Row};
 use net_core::{Table, tidy};
 use std::alloc::{AllocError, Global};
-use std::test::Fail;
 
 /// The place of a row that a byte of its text stands for.
 fn place(byte: u8) -> Option<bool> {
@@ -80,7 +79,7 @@ fn tidied_text(
 }
 
 /// The inputs, rows and phase of a table, and the text of its tidy table.
-const TIDIED: [(&[&str], &[&str], bool, &str); 7] = [
+const TIDIED: &[(&[&str], &[&str], bool, &str)] = &[
     // a row that stands twice
     (
         &["a", "b"],
@@ -108,21 +107,26 @@ const TIDIED: [(&[&str], &[&str], bool, &str); 7] = [
 ];
 
 #[test]
-fn tidies_tables(rt: HostRuntime) -> Result<(), Fail> {
-    let alloc = rt.alloc();
+fn tidies_tables(rt: HostRuntime) -> Result<(), AllocError> {
     for (inputs, rows, phase, expected) in TIDIED {
-        let text = tidied_text(alloc, inputs, rows, phase)?;
-        assert_eq!(rt; text.as_slice(), expected.as_bytes());
+        let text = tidied_text(rt.alloc(), inputs, rows, *phase)?;
+        assert_same(&rt, text.as_slice(), expected.as_bytes(), expected);
     }
     Ok(())
 }
 
+/// The text of a table's copy.
+fn copy_text(alloc: Global, table: &Table<PlainRow>) -> Result<Vec<u8>, AllocError> {
+    let copy = table.copy(alloc)?;
+    text_of(alloc, &copy)
+}
+
 #[test]
-fn copies_tables(rt: HostRuntime) -> Result<(), Fail> {
+fn copies_tables(rt: HostRuntime) -> Result<(), AllocError> {
     let alloc = rt.alloc();
     let table = table(alloc, &["a", "b"], &["1-", "01"], false)?;
-    let copy = table.copy(alloc)?;
-    let text = text_of(alloc, &copy)?;
-    assert_eq!(rt; text.as_slice(), b".names a b y\n1- 0\n01 0\n".as_slice());
+    let text = copy_text(alloc, &table)?;
+    let expected = ".names a b y\n1- 0\n01 0\n";
+    assert_same(&rt, text.as_slice(), expected.as_bytes(), expected);
     Ok(())
 }

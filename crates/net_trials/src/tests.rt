@@ -7,13 +7,24 @@ ghost use Rattle.net_core.specs.Reads.{HasBounds};
 
 use blif_read::read;
 use blif_write::{latches_text, tables_text};
-use circuit_model::{Bits, Circuit, Name, Names};
+use circuit_model::{Bits, Circuit, Name, Names, Table};
 use cube_cover::PlainRow;
 use net_core::Network;
 use net_sweep::{SweepFault, Swept, sweep};
 use sis_base::Sequence;
 use std::alloc::{AllocError, Global};
-use std::test::Fail;
+use std::fmt::Debug;
+use std::process::Abort;
+
+/// Asserts that two values are equal; the case is named where they are not.
+pub(crate) fn assert_same<T: Copy + PartialEq + Debug>(
+    rt: &impl Abort,
+    found: T,
+    expected: T,
+    case: &str,
+) {
+    assert_eq!(rt; found, expected, "{case}");
+}
 
 /// A name, from its text.
 pub(crate) fn name(alloc: Global, text: &str) -> Result<Name, AllocError> {
@@ -49,25 +60,58 @@ pub(crate) fn network(alloc: Global, text: &str) -> Result<Network<PlainRow>, Al
     Network::from_circuit(alloc, circuit)
 }
 
-/// The text of a network's latches and tables.
-pub(crate) fn text_of(alloc: Global, network: &Network<PlainRow>) -> Result<Vec<u8>, AllocError> {
-    let circuit = network.to_circuit(alloc)?;
+/// Puts the text of tables behind a text.
+fn put_tables(alloc: Global, text: &mut Vec<u8>, tables: &[Table]) -> Result<(), AllocError> {
+    let tables = tables_text(alloc, tables)?;
+    text.extend_from_slice(tables.as_slice())
+}
+
+/// The text of a circuit's latches and tables.
+fn circuit_text(alloc: Global, circuit: &Circuit) -> Result<Vec<u8>, AllocError> {
     let mut text = latches_text(alloc, &circuit.timing, circuit.latches.as_slice())?;
-    let tables = tables_text(alloc, circuit.tables.as_slice())?;
-    text.extend_from_slice(tables.as_slice())?;
+    put_tables(alloc, &mut text, circuit.tables.as_slice())?;
     Ok(text)
 }
 
-/// What a sweep of the network of a text answers, and the text that is left.
-fn swept(alloc: Global, text: &str) -> Result<(Result<Swept, SweepFault>, Vec<u8>), AllocError> {
+/// The text of a network's latches and tables.
+pub(crate) fn text_of(alloc: Global, network: &Network<PlainRow>) -> Result<Vec<u8>, AllocError> {
+    let circuit = network.to_circuit(alloc)?;
+    circuit_text(alloc, &circuit)
+}
+
+/// Asserts what the text of a network's latches and tables is; the case is named where it is not so.
+pub(crate) fn assert_text(
+    rt: &impl Abort,
+    alloc: Global,
+    network: &Network<PlainRow>,
+    expected: &str,
+    case: &str,
+) -> Result<(), AllocError> {
+    let text = text_of(alloc, network)?;
+    assert_same(rt, text.as_slice(), expected.as_bytes(), case);
+    Ok(())
+}
+
+/// Sweeps a network.
+fn swept(alloc: Global, network: &mut Network<PlainRow>) -> Result<Swept, SweepFault> {
+    sweep(alloc, network)
+}
+
+/// Asserts what a sweep of the network of a text answers, and the text that is left.
+fn assert_sweeps(
+    rt: &impl Abort,
+    alloc: Global,
+    text: &str,
+    expected: &str,
+    gone: Swept,
+) -> Result<(), AllocError> {
     let mut network = network(alloc, text)?;
-    let swept = sweep(alloc, &mut network);
-    let left = text_of(alloc, &network)?;
-    Ok((swept, left))
+    assert_same(rt, swept(alloc, &mut network), Ok(gone), text);
+    assert_text(rt, alloc, &network, expected, text)
 }
 
 /// A text, the text of its latches and tables when it is swept, and how many tables and latches went.
-const SWEPT: [(&str, &str, usize, usize); 16] = [
+const SWEPT: &[(&str, &str, usize, usize)] = &[
     // an inverter is put into its reader, whose literal turns over
     (
         ".inputs a b c\n.outputs y\n.names a b x\n11 1\n.names x n\n0 1\n.names n c y\n11 1\n",
@@ -115,6 +159,20 @@ const SWEPT: [(&str, &str, usize, usize); 16] = [
         ".inputs a\n.outputs y\n.names a y\n1 1\n",
         ".names a y\n1 1\n",
         0,
+        0,
+    ),
+    // a chain of buffers from its end to its start, with two readers
+    (
+        ".inputs a b\n.outputs y z\n.names t b y\n11 1\n.names t z\n0 1\n.names s t\n1 1\n.names r s\n0 1\n.names a r\n1 1\n",
+        ".names a b y\n01 1\n.names a z\n1 1\n",
+        3,
+        0,
+    ),
+    // a signal that no table reads any more is still an output, and a latch takes one
+    (
+        ".inputs a b\n.outputs y t q\n.latch u q 3\n.names t u y\n11 1\n.names p t\n1 1\n.names b u\n0 1\n.names a p\n0 1\n",
+        ".latch u q 3\n.names a b y\n00 1\n.names a t\n0 1\n.names b u\n0 1\n",
+        1,
         0,
     ),
     // a table that nothing needs
@@ -183,32 +241,47 @@ const SWEPT: [(&str, &str, usize, usize); 16] = [
 ];
 
 #[test]
-fn sweeps_networks(rt: HostRuntime) -> Result<(), Fail> {
-    let alloc = rt.alloc();
+fn sweeps_networks(rt: HostRuntime) -> Result<(), AllocError> {
     for (text, expected, tables, latches) in SWEPT {
-        let (swept, left) = swept(alloc, text)?;
-        assert_eq!(rt; swept, Ok(Swept { tables, latches }), "{text}");
-        assert_eq!(rt; left.as_slice(), expected.as_bytes(), "{text}");
+        let gone = Swept {
+            tables: *tables,
+            latches: *latches,
+        };
+        assert_sweeps(&rt, rt.alloc(), text, expected, gone)?;
     }
     Ok(())
+}
+
+/// The names of the tables of a network, in order, told by a copy.
+fn copy_order(alloc: Global, network: &Network<PlainRow>) -> Result<Names, AllocError> {
+    let copy = network.copy(alloc)?;
+    copy.order(alloc)
 }
 
 /// The names of the tables of a text's network, in order, told by a copy.
 fn ordered(alloc: Global, text: &str) -> Result<Names, AllocError> {
     let network = network(alloc, text)?;
-    let copy = network.copy(alloc)?;
-    copy.order(alloc)
+    copy_order(alloc, &network)
+}
+
+/// The readers of a signal in a network.
+fn network_readers(
+    alloc: Global,
+    network: &Network<PlainRow>,
+    signal: &str,
+) -> Result<Names, AllocError> {
+    let signal = name(alloc, signal)?;
+    network.readers(alloc, &signal)
 }
 
 /// The readers of a signal in a text's network.
 fn readers(alloc: Global, text: &str, signal: &str) -> Result<Names, AllocError> {
     let network = network(alloc, text)?;
-    let signal = name(alloc, signal)?;
-    network.readers(alloc, &signal)
+    network_readers(alloc, &network, signal)
 }
 
 /// A text, and the names of its tables in order.
-const ORDERS: [(&str, &[&str]); 2] = [
+const ORDERS: &[(&str, &[&str])] = &[
     (
         ".names x y\n1 1\n.names w x\n1 1\n.names w\n",
         &["w", "x", "y"],
@@ -220,16 +293,36 @@ const ORDERS: [(&str, &[&str]); 2] = [
     ),
 ];
 
+/// Asserts what names there are; the case is named where it is not so.
+fn assert_names(
+    rt: &impl Abort,
+    alloc: Global,
+    found: &Names,
+    expected: &[&str],
+    case: &str,
+) -> Result<(), AllocError> {
+    let expected = names(alloc, expected)?;
+    assert_same(rt, found, &expected, case);
+    Ok(())
+}
+
 #[test]
-fn lists_tables(rt: HostRuntime) -> Result<(), Fail> {
+fn lists_tables(rt: HostRuntime) -> Result<(), AllocError> {
     let alloc = rt.alloc();
     for (text, expected) in ORDERS {
-        assert_eq!(rt; ordered(alloc, text)?, names(alloc, expected)?, "{text}");
+        let found = ordered(alloc, text)?;
+        assert_names(&rt, alloc, &found, expected, text)?;
     }
+    Ok(())
+}
+
+#[test]
+fn lists_readers(rt: HostRuntime) -> Result<(), AllocError> {
+    let alloc = rt.alloc();
     let text =
         ".inputs a b c\n.outputs w z\n.names c x z\n1- 1\n-0 1\n.names x c w\n11 0\n.names a b c x\n1-0 1\n010 1\n";
-    assert_eq!(rt; readers(alloc, text, "x")?, names(alloc, &["z", "w"])?);
-    Ok(())
+    let found = readers(alloc, text, "x")?;
+    assert_names(&rt, alloc, &found, &["z", "w"], text)
 }
 
 /// Rows of input bits.
@@ -241,26 +334,36 @@ fn bits(alloc: Global, rows: &[&[bool]]) -> Result<Sequence<Bits>, AllocError> {
     Ok(made)
 }
 
-/// What the outputs of a text's circuit without latches show over rows of input bits.
-fn shown(alloc: Global, text: &str, rows: &[&[bool]]) -> Result<String, AllocError> {
-    let circuit = circuit(alloc, text)?;
-    let rows = bits(alloc, rows)?;
+/// What the outputs of a circuit without latches show over rows of input bits.
+fn shown_over(
+    alloc: Global,
+    circuit: &Circuit,
+    rows: &Sequence<Bits>,
+) -> Result<String, AllocError> {
     let shown = circuit.simulate(alloc, &[], rows.as_slice());
     format!(in alloc; "{shown:?}")
 }
 
+/// What the outputs of a text's circuit without latches show over rows of input bits.
+fn shown(alloc: Global, text: &str, rows: &[&[bool]]) -> Result<String, AllocError> {
+    let rows = bits(alloc, rows)?;
+    let circuit = circuit(alloc, text)?;
+    shown_over(alloc, &circuit, &rows)
+}
+
+/// All rows of two input bits.
+const ROWS: &[&[bool]] = &[
+    &[false, false],
+    &[false, true],
+    &[true, false],
+    &[true, true],
+];
+
 #[test]
-fn rows_of_phase_0_are_the_off_set(rt: HostRuntime) -> Result<(), Fail> {
-    let rows: [&[bool]; 4] = [
-        &[false, false],
-        &[false, true],
-        &[true, false],
-        &[true, true],
-    ];
+fn rows_of_phase_0_are_the_off_set(rt: HostRuntime) -> Result<(), AllocError> {
     let nand = ".inputs a b\n.outputs y\n.names a b y\n11 0\n";
-    assert_eq!(rt;
-        shown(rt.alloc(), nand, rows.as_slice())?.as_str(),
-        "Ok([[One], [One], [One], [Zero]])"
-    );
+    let shown = shown(rt.alloc(), nand, ROWS)?;
+    let expected = "Ok([[One], [One], [One], [Zero]])";
+    assert_same(&rt, shown.as_str(), expected, nand);
     Ok(())
 }

@@ -1,40 +1,55 @@
 //! Files that are refused, each with what is told of it; the session holds a circuit before, and goes on behind.
 
-use crate::tests::{PASS, STATS, words_of};
-use crate::{Status, run_sis};
-use sis_outside::{MemSink, MemSource, MemStore};
+use crate::Status;
+use crate::tests::{Left, Outside, PASS, STATS};
 use std::alloc::{AllocError, Global};
-use std::test::Fail;
-
-/// What a call leaves: its status, the output, the error output.
-type Left = (Status, MemSink, MemSink);
+use std::process::Abort;
 
 /// A call that reads a good file, then this one as the file `c`, and prints what it holds then.
-fn read_behind(alloc: Global, text: &str) -> Result<Left, Fail> {
-    let words = words_of(
+fn read_behind(alloc: Global, outside: &mut Outside, text: &str) -> Result<Status, AllocError> {
+    outside.store.put_file("a", PASS)?;
+    outside.store.put_file("c", text.as_bytes())?;
+    outside.call(
         alloc,
         &["-k", "-c", "read_blif a; read_blif c; print_stats"],
-    )?;
-    let mut store = MemStore::new(alloc);
-    store.put_file("a", PASS)?;
-    store.put_file("c", text.as_bytes())?;
-    let mut input = MemSource::new(alloc, b"")?;
-    let mut out = MemSink::new(alloc);
-    let mut err = MemSink::new(alloc);
-    let status = run_sis(
-        alloc,
-        words.as_slice(),
-        &mut store,
-        &mut input,
-        &mut out,
-        &mut err,
-    );
-    Ok((status, out, err))
+    )
+}
+
+/// Asserts what such a call leaves; the case is named where it is not so.
+fn assert_read(
+    rt: &impl Abort,
+    alloc: Global,
+    text: &str,
+    left: &Left,
+    case: &str,
+) -> Result<(), AllocError> {
+    let mut outside = Outside::new(alloc, b"")?;
+    let status = read_behind(alloc, &mut outside, text)?;
+    outside.assert_left(rt, status, left, &[case]);
+    Ok(())
 }
 
 /// The line that tells of the file.
 fn line(alloc: Global, fault: &str) -> Result<String, AllocError> {
     format!(in alloc; "sis: line 1: c: {fault}\n")
+}
+
+/// Asserts that such a call tells the fault of the file, and goes on with the circuit that it held.
+fn assert_refused(
+    rt: &impl Abort,
+    alloc: Global,
+    text: &str,
+    fault: &str,
+    case: &str,
+) -> Result<(), AllocError> {
+    let told = line(alloc, fault)?;
+    let left = Left {
+        status: Status::Refused,
+        out: STATS,
+        err: told.as_bytes(),
+        written: None,
+    };
+    assert_read(rt, alloc, text, &left, case)
 }
 
 /// A front, a part that stands so many times, and a rest.
@@ -55,7 +70,7 @@ fn repeated(
 }
 
 /// Files by front, repeated part, how often, and rest; each with its fault.
-const FILES: [(&str, &str, usize, &str, &str); 38] = [
+const FILES: &[(&str, &str, usize, &str, &str)] = &[
     // each fault of a line
     (".model m\n.subckt n\n", "", 0, "", "line 2: unknown word"),
     (".end\n.inputs a\n", "", 0, "", "line 2: unknown word"),
@@ -125,21 +140,17 @@ const FILES: [(&str, &str, usize, &str, &str); 38] = [
 ];
 
 #[test]
-fn refused_files_change_nothing(rt: HostRuntime) -> Result<(), Fail> {
+fn refused_files_change_nothing(rt: HostRuntime) -> Result<(), AllocError> {
     let alloc = rt.alloc();
     for (front, part, count, rest, fault) in FILES {
-        let text = repeated(alloc, front, part, count, rest)?;
-        let (status, out, err) = read_behind(alloc, text.as_str())?;
-        let told = line(alloc, fault)?;
-        assert_eq!(rt; err.written(), told.as_bytes(), "{front}");
-        assert_eq!(rt; out.written(), STATS, "{front}");
-        assert_eq!(rt; status, Status::Refused, "{front}");
+        let text = repeated(alloc, front, part, *count, rest)?;
+        assert_refused(&rt, alloc, text.as_str(), fault, front)?;
     }
     Ok(())
 }
 
 /// Parts of a file at which all that can be wrong with a whole file stands, and what mends each in turn.
-const PARTS: [(&str, &str, &str); 4] = [
+const PARTS: &[(&str, &str, &str)] = &[
     (
         ".model m\n.inputs a a\n",
         ".model m\n.inputs a b\n",
@@ -157,31 +168,25 @@ const PARTS: [(&str, &str, &str); 4] = [
 /// The file of which so many parts are mended.
 fn mended_file(alloc: Global, mended: usize) -> Result<String, AllocError> {
     let mut text = String::new(alloc);
-    for i in 0..PARTS.len() {
-        let (wrong, right, _) = PARTS[i];
+    for (i, (wrong, right, _)) in PARTS.iter().enumerate() {
         text.push_str(if i < mended { right } else { wrong })?;
     }
     Ok(text)
 }
 
 #[test]
-fn faults_of_a_whole_file_are_told_in_order(rt: HostRuntime) -> Result<(), Fail> {
+fn faults_of_a_whole_file_are_told_in_order(rt: HostRuntime) -> Result<(), AllocError> {
     let alloc = rt.alloc();
     for (mended, (_, _, fault)) in PARTS.iter().enumerate() {
         let text = mended_file(alloc, mended)?;
-        let (status, out, err) = read_behind(alloc, text.as_str())?;
-        let told = line(alloc, fault)?;
-        assert_eq!(rt; err.written(), told.as_bytes());
-        assert_eq!(rt; out.written(), STATS);
-        assert_eq!(rt; status, Status::Refused);
+        assert_refused(&rt, alloc, text.as_str(), fault, fault)?;
     }
     let text = mended_file(alloc, PARTS.len())?;
-    let (status, out, err) = read_behind(alloc, text.as_str())?;
-    assert_eq!(rt; err.written(), b"".as_slice());
-    assert_eq!(rt;
-        out.written(),
-        b"m pi=2 po=0 nodes=4 latches=0 lits=3 dc=0\n".as_slice()
-    );
-    assert_eq!(rt; status, Status::Done);
-    Ok(())
+    let left = Left {
+        status: Status::Done,
+        out: b"m pi=2 po=0 nodes=4 latches=0 lits=3 dc=0\n",
+        err: b"",
+        written: None,
+    };
+    assert_read(&rt, alloc, text.as_str(), &left, "all are mended")
 }

@@ -1,27 +1,36 @@
 use crate::{Status, run_sis};
 use sis_outside::{MemSink, MemSource, MemStore};
 use sis_text::Word;
-use std::alloc::Global;
+use std::alloc::{AllocError, Global};
+use std::fmt::Debug;
 use std::process::Abort;
-use std::test::Fail;
 
 /// Which call of an object fails, and after how many bytes.
 #[derive(Clone, Copy)]
 enum Failing {
     Nothing,
-    Store(u8, u8),
-    Input(u8, u8),
-    Out(u8, u8),
-    Err(u8, u8),
+    Store(usize, usize),
+    Input(usize, usize),
+    Out(usize, usize),
+    Err(usize, usize),
 }
 
-/// What a call leaves: its status, the output, the error output and the files.
+/// What a call sees of the outside.
 #[derive(Drop)]
-struct Left {
-    status: Status,
+pub(crate) struct Outside {
+    pub(crate) store: MemStore,
+    input: MemSource,
     out: MemSink,
     err: MemSink,
-    store: MemStore,
+}
+
+/// What a call is to leave: its status, the output, the error output and the file `b`.
+#[derive(Clone, Copy)]
+pub(crate) struct Left<'a> {
+    pub(crate) status: Status,
+    pub(crate) out: &'a [u8],
+    pub(crate) err: &'a [u8],
+    pub(crate) written: Option<&'a [u8]>,
 }
 
 pub(crate) const PASS: &[u8] = b".model a\n.inputs x\n.outputs x\n.end\n";
@@ -31,7 +40,7 @@ pub(crate) const STATS: &[u8] = b"a pi=1 po=1 nodes=0 latches=0 lits=0 dc=0\n";
 const USAGE: &[u8] = b"sis: usage: sis [-k] [-f FILE | -c TEXT]\n";
 
 /// The files of all cases.
-const FILES: [(&str, &[u8]); 12] = [
+const FILES: &[(&str, &[u8])] = &[
     ("a", PASS),
     (
         "k",
@@ -64,7 +73,63 @@ const FILES: [(&str, &[u8]); 12] = [
     ),
 ];
 
-pub(crate) fn words_of(alloc: Global, texts: &[&str]) -> Result<Vec<Word>, Fail> {
+/// Asserts that two values are equal; the case is named where they are not.
+fn assert_same<T: Copy + PartialEq + Debug>(rt: &impl Abort, found: T, expected: T, case: &[&str]) {
+    assert_eq!(rt; found, expected, "{case:?}");
+}
+
+impl Outside {
+    /// No file, this input, and no call that fails.
+    pub(crate) fn new(alloc: Global, input: &[u8]) -> Result<Self, AllocError> {
+        let input = MemSource::new(alloc, input)?;
+        Ok(Outside {
+            store: MemStore::new(alloc),
+            input,
+            out: MemSink::new(alloc),
+            err: MemSink::new(alloc),
+        })
+    }
+
+    /// Has a call fail.
+    fn fail(&mut self, failing: Failing) -> Result<(), AllocError> {
+        match failing {
+            Failing::Nothing => Ok(()),
+            Failing::Store(call, passes) => self.store.fail_at(call, passes),
+            Failing::Input(call, passes) => self.input.fail_at(call, passes),
+            Failing::Out(call, passes) => self.out.fail_at(call, passes),
+            Failing::Err(call, passes) => self.err.fail_at(call, passes),
+        }
+    }
+
+    /// Runs the program on words.
+    fn run(&mut self, alloc: Global, words: &[Word]) -> Status {
+        run_sis(
+            alloc,
+            words,
+            &mut self.store,
+            &mut self.input,
+            &mut self.out,
+            &mut self.err,
+        )
+    }
+
+    /// Runs the program on the words of these texts.
+    pub(crate) fn call(&mut self, alloc: Global, texts: &[&str]) -> Result<Status, AllocError> {
+        let words = words_of(alloc, texts)?;
+        Ok(self.run(alloc, words.as_slice()))
+    }
+
+    /// Asserts what a call left; the case is named where it is not so.
+    pub(crate) fn assert_left(&self, rt: &impl Abort, status: Status, left: &Left, case: &[&str]) {
+        assert_same(rt, status, left.status, case);
+        assert_same(rt, self.out.written(), left.out, case);
+        assert_same(rt, self.err.written(), left.err, case);
+        assert_same(rt, self.store.file("b"), left.written, case);
+    }
+}
+
+/// The words of texts.
+fn words_of(alloc: Global, texts: &[&str]) -> Result<Vec<Word>, AllocError> {
     let mut words = Vec::new(alloc);
     for text in texts {
         words.push(Word::new(alloc, text)?)?;
@@ -72,56 +137,54 @@ pub(crate) fn words_of(alloc: Global, texts: &[&str]) -> Result<Vec<Word>, Fail>
     Ok(words)
 }
 
-fn store_of(alloc: Global) -> Result<MemStore, Fail> {
-    let mut store = MemStore::new(alloc);
+/// Puts the files of all cases into a store.
+fn put_files(store: &mut MemStore) -> Result<(), AllocError> {
     for (name, bytes) in FILES {
         store.put_file(name, bytes)?;
     }
-    Ok(store)
-}
-
-/// What a call over the files leaves.
-fn left_by(alloc: Global, words: &[&str], input: &[u8], failing: Failing) -> Result<Left, Fail> {
-    let words = words_of(alloc, words)?;
-    let mut store = store_of(alloc)?;
-    let mut input = MemSource::new(alloc, input)?;
-    let mut out = MemSink::new(alloc);
-    let mut err = MemSink::new(alloc);
-    match failing {
-        Failing::Nothing => {}
-        Failing::Store(call, passes) => store.fail_at(usize::from(call), usize::from(passes))?,
-        Failing::Input(call, passes) => input.fail_at(usize::from(call), usize::from(passes))?,
-        Failing::Out(call, passes) => out.fail_at(usize::from(call), usize::from(passes))?,
-        Failing::Err(call, passes) => err.fail_at(usize::from(call), usize::from(passes))?,
-    }
-    let status = run_sis(
-        alloc,
-        words.as_slice(),
-        &mut store,
-        &mut input,
-        &mut out,
-        &mut err,
-    );
-    Ok(Left {
-        status,
-        out,
-        err,
-        store,
-    })
+    Ok(())
 }
 
 /// Whether all files that stood before a call are as they were.
 fn all_stay(store: &MemStore) -> bool {
     for (name, bytes) in FILES {
-        if store.file(name) != Some(bytes) {
+        if store.file(name) != Some(*bytes) {
             return false;
         }
     }
     true
 }
 
+/// Calls the program over the files.
+fn call_over_files(
+    alloc: Global,
+    outside: &mut Outside,
+    texts: &[&str],
+    failing: Failing,
+) -> Result<Status, AllocError> {
+    put_files(&mut outside.store)?;
+    outside.fail(failing)?;
+    outside.call(alloc, texts)
+}
+
+/// Calls the program over the files, and asserts what it leaves, and that all files that stood before are as they were.
+fn assert_call(
+    rt: &impl Abort,
+    alloc: Global,
+    texts: &[&str],
+    input: &[u8],
+    failing: Failing,
+    left: &Left,
+) -> Result<(), AllocError> {
+    let mut outside = Outside::new(alloc, input)?;
+    let status = call_over_files(alloc, &mut outside, texts, failing)?;
+    outside.assert_left(rt, status, left, texts);
+    assert_same(rt, all_stay(&outside.store), true, texts);
+    Ok(())
+}
+
 /// Words, input, and what is left on the output and in the file `b`, where all is done.
-const DONE: [(&[&str], &[u8], &[u8], Option<&[u8]>); 13] = [
+const DONE: &[(&[&str], &[u8], &[u8], Option<&[u8]>)] = &[
     (
         &["-c", "read_blif a; print_stats; write_blif"],
         b"",
@@ -189,20 +252,21 @@ const DONE: [(&[&str], &[u8], &[u8], Option<&[u8]>); 13] = [
 ];
 
 #[test]
-fn commands_are_done(rt: HostRuntime) -> Result<(), Fail> {
+fn commands_are_done(rt: HostRuntime) -> Result<(), AllocError> {
     for (words, input, out, written) in DONE {
-        let left = left_by(rt.alloc(), words, input, Failing::Nothing)?;
-        assert_eq!(rt; left.status, Status::Done);
-        assert_eq!(rt; left.out.written(), out);
-        assert_eq!(rt; left.err.written(), b"".as_slice());
-        assert_eq!(rt; left.store.file("b"), written);
-        assert!(rt; all_stay(&left.store));
+        let left = Left {
+            status: Status::Done,
+            out,
+            err: b"",
+            written: *written,
+        };
+        assert_call(&rt, rt.alloc(), words, input, Failing::Nothing, &left)?;
     }
     Ok(())
 }
 
 /// Words, and what is left on the output and on the error output, where a command is refused.
-const REFUSED: [(&[&str], &[u8], &[u8]); 24] = [
+const REFUSED: &[(&[&str], &[u8], &[u8])] = &[
     (
         &["-c", "read_blif f"],
         b"",
@@ -266,20 +330,21 @@ const REFUSED: [(&[&str], &[u8], &[u8]); 24] = [
 ];
 
 #[test]
-fn commands_are_refused(rt: HostRuntime) -> Result<(), Fail> {
+fn commands_are_refused(rt: HostRuntime) -> Result<(), AllocError> {
     for (words, out, err) in REFUSED {
-        let left = left_by(rt.alloc(), words, b"", Failing::Nothing)?;
-        assert_eq!(rt; left.status, Status::Refused);
-        assert_eq!(rt; left.out.written(), out);
-        assert_eq!(rt; left.err.written(), err);
-        assert_eq!(rt; left.store.file("b"), None);
-        assert!(rt; all_stay(&left.store));
+        let left = Left {
+            status: Status::Refused,
+            out,
+            err,
+            written: None,
+        };
+        assert_call(&rt, rt.alloc(), words, b"", Failing::Nothing, &left)?;
     }
     Ok(())
 }
 
 /// Words, what fails, the status, and what is left on the output, on the error output and in the file `b`.
-const CUT: [(&[&str], Failing, Status, &[u8], &[u8], Option<&[u8]>); 14] = [
+const CUT: &[(&[&str], Failing, Status, &[u8], &[u8], Option<&[u8]>)] = &[
     (
         &["-c", "read_blif a; write_blif b"],
         Failing::Store(1, 7),
@@ -374,14 +439,15 @@ const CUT: [(&[&str], Failing, Status, &[u8], &[u8], Option<&[u8]>); 14] = [
 ];
 
 #[test]
-fn faults_and_words(rt: HostRuntime) -> Result<(), Fail> {
+fn faults_and_words(rt: HostRuntime) -> Result<(), AllocError> {
     for (words, failing, status, out, err, written) in CUT {
-        let left = left_by(rt.alloc(), words, b"echo hi", failing)?;
-        assert_eq!(rt; left.status, status);
-        assert_eq!(rt; left.out.written(), out);
-        assert_eq!(rt; left.err.written(), err);
-        assert_eq!(rt; left.store.file("b"), written);
-        assert!(rt; all_stay(&left.store));
+        let left = Left {
+            status: *status,
+            out,
+            err,
+            written: *written,
+        };
+        assert_call(&rt, rt.alloc(), words, b"echo hi", *failing, &left)?;
     }
     Ok(())
 }
