@@ -67,8 +67,9 @@ IsShaped table = AllByRecursion (λ (row : List Tri). length row ≡ length tabl
 -- What a circuit must meet to mean something. Names: all are words, and port lists repeat none. Drivers: nothing is driven
 -- twice, whatever a table, a latch or an output takes is driven, and signals do not lead back to themselves. Tables: all
 -- are shaped, and the circuit's own repeat no input. Latches: an init goes up to 3; timing goes with latches alone, and
--- its control is driven by none of them and by no table, and is not `NIL`, the word for none. The don't-care part: as for
--- tables, but that what it takes is its own or a leaf, and that it may repeat inputs.
+-- its control is driven by none of them and by no table, and is not `NIL`, the word for none. The don't-care part: its
+-- tables are shaped, no two have one output, none leads back to itself, and what they take is an output of its own tables
+-- or a leaf; they may repeat inputs.
 pub record IsSound (circuit : Circuit) : Type 0 where
   pub words : AllByRecursion (λ name. is_word name ≡ true) (all_names circuit)
   pub inputs_once : all_different circuit.inputs ≡ true

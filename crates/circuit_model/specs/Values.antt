@@ -15,7 +15,7 @@ literal_of One = Some true
 literal_of Free = None
 
 -- what a table is worth at a point, which gives its inputs' bits in order: where a row takes the point in, the bit that
--- is its phase
+-- is its phase, and elsewhere the other bit
 unfoldable pub table_value : Table → List Bool → Bool
 table_value table point = value_by_phase table.phase (map (map literal_of) table.rows) point
 

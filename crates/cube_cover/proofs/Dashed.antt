@@ -4,7 +4,7 @@ use Rattle.std.proofs.lemmas.List.{set-get_or, length-set}
 use Rattle.sis_base.specs.Rows.{agrees, matches, some_matches, HasWidth}
 use Rattle.cube_cover.specs.Covers.{cofactor_rows, agreeing_rows, IsCovered}
 use Rattle.cube_cover.specs.Places.{literal_count, rows_with, dashed_rows}
-use Rattle.cube_cover.specs.Found.{IsThinner}
+use Rattle.cube_cover.specs.Thinner.{IsThinner}
 use Rattle.cube_cover.proofs.Points.{matches-cofactor, value-cofactor}
 use Rattle.cube_cover.proofs.Splits.{HasWidth-agreeing, agreeing_covered}
 

@@ -1,4 +1,4 @@
 pub mod Covers
 pub mod Places
 pub mod Volumes
-pub mod Found
+pub mod Thinner

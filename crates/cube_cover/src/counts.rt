@@ -22,7 +22,7 @@ pub struct Wish {
     pub place: usize,
 }
 
-// The places of a row's literals, in order.
+// The places of a row's literals, in order, as far as they are numbers of 32 bits.
 fn literals_of<R: Row>(alloc: Global, row: &R) -> Result<Vec<u32>, AllocError> {
     let mut literals = Vec::new(alloc);
     for place in 0..row.width() {
@@ -179,8 +179,8 @@ fn greatest_at(counts: &[usize]) -> usize {
     best
 }
 
-/// Which of some rows has no literal at an open place, or else the open place where most literals of the rows stand that have the
-/// fewest, since the halves there decide soonest; an error only for want of memory.
+/// Which of some rows has no literal at an open place; and an open place to split at, the one where the rows with the fewest
+/// open literals have most of them, since the halves there decide soonest; an error only for want of memory.
 pub fn wish_of<R: Row>(
     alloc: Global,
     given: &R,

@@ -1,4 +1,5 @@
-//! Rows by their numbers: lists of numbers, counted from 0, stand for the rows of a table, which stay where they are.
+//! Rows by their numbers: lists of numbers, counted from 0, stand for the rows of a cover, which stay where they are.
+//! Source: Brayton et al., "Logic Minimization Algorithms for VLSI Synthesis" (cubes and covers).
 //! Promised: each call's exact meaning for the rows of the numbers; a number past the rows stands for a row without places.
 
 ghost use Rattle.std.specs.Prelude.{◌≡◌, Bool, Option, None, List, [], length, map, slice_index_or, IfOk, is_none};

@@ -43,7 +43,7 @@ fn every_point<R: Row>(alloc: Global, width: usize, rows: &[R]) -> Result<bool, 
     Ok(answer)
 }
 
-// Whether the row at a place among some rows has each point of the given one.
+// Whether the row at a place among some rows, if one is named, has each point of the given one.
 #[tactic(auto, using(crate::proofs::Points::width_read, crate::proofs::Splits::some_wider_at))]
 fn wished_has_points<R: Row>(given: &R, rows: &[R], numbers: &[usize], wish: Option<usize>) -> bool
     requires { HasWidth (length (R.places given.now)) (picked (map R.places rows.now) numbers.now) }
@@ -107,8 +107,8 @@ fn row_with<R: Row>(alloc: Global, row: &R, place: usize, bit: bool) -> Result<R
     Ok(made)
 }
 
-// Whether some rows have each point of the given one, in which the place decided last has a literal: leaves out rows
-// that do not count, and splits at a dash until a row or the want of rows decides.
+// Whether some rows have each point of the given one; `last` is the place decided last, of which nothing is asked. Leaves
+// out rows that do not count, and splits at a dash until a row or the want of rows decides.
 fn is_covered<R: Row>(
     alloc: Global,
     given: &R,

@@ -151,8 +151,8 @@ struct Whole {
     tautology: bool,
 }
 
-// Beside worked cases: rows with less than all points, rows with as many as all points but not each, and three pigeons
-// in two holes (a pigeon that sits nowhere, or two in one hole).
+// Beside worked cases: rows with less than all points, rows with as many points as there are and more, but not each, and
+// three pigeons in two holes (a pigeon that sits nowhere, or two in one hole).
 const WHOLES: [Whole; 11] = [
     Whole {
         width: 2,

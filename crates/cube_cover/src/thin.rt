@@ -8,7 +8,7 @@ ghost use Rattle.std.specs.Prelude.{◌≡◌, ℕ, ◌+◌, ◌^◌, ◌<◌, �
 ghost use Rattle.sis_base.specs.Rows.{HasWidth};
 ghost use Rattle.cube_cover.specs.Covers.{picked};
 ghost use Rattle.cube_cover.specs.Places.{rows_with, literal_count};
-ghost use Rattle.cube_cover.specs.Found.{IsThinner};
+ghost use Rattle.cube_cover.specs.Thinner.{IsThinner};
 
 use crate::counts::counts_of;
 use crate::picks::{agreeing, dashed, is_dash, literal_at};
@@ -85,8 +85,8 @@ fn going<R: Row>(
     Ok(all)
 }
 
-// The rows without those that have the one literal of a place where only one polarity stands, and the given row a dash;
-// all rows where the counts do not say that it is so.
+// The rows with a dash at a place, where the given row has a dash there and the rows' literals are all of one polarity; else
+// all rows. It is looked at only where the counts say so.
 #[tactic(auto, using(crate::proofs::Dashed::dashed_thinner, crate::proofs::Dashed::thinner_same))]
 fn thin_place<R: Row>(
     alloc: Global,
@@ -135,9 +135,9 @@ fn thin_once<R: Row>(
     Ok(kept)
 }
 
-/// Those of some rows that still count: which go with the given row at the place decided last, and have no literal of
-/// which only one polarity stands; an error only for want of memory. Each round but the last empties a place, so that
-/// there are no more of them than places.
+/// Those of some rows that still count: which go with the given row at the place decided last, and have no literal at a
+/// dash of the given row where only one polarity stands; an error only for want of memory. Each round but the last empties
+/// a place, so that as many rounds as places are enough.
 #[tactic(auto, using(crate::proofs::Dashed::thinner_more, crate::proofs::Dashed::thinner_same))]
 pub fn thin<R: Row>(
     alloc: Global,

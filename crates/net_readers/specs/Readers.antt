@@ -32,8 +32,8 @@ in_set (Some set) place = contains nat_cmp set place
 abbrev pub told : Readers → List ℕ → ℕ → Bool
 told readers name place = in_set (get bytes_eq readers.sets name) place
 
--- of the signals that a table at a place read, those that it reads no more are told no more for the place; nothing else is
--- told that was not, and nothing changes for other places
+-- of the signals that a table at a place read, those that it reads no more are told no more for the place; nothing is told
+-- for it that was not told before, and nothing changes for other places
 pub record HasUntold (before now : List (List ℕ)) (place : ℕ) (old new : List ℕ → ℕ → Bool) : Type 0 where
   pub others : (name : List ℕ) (at : ℕ) → (place == at) ≡ false → new name at ≡ old name at
   pub gone : (name : List ℕ) → has before name ≡ true → has now name ≡ false → new name place ≡ false

@@ -1,9 +1,9 @@
-//! The readers of each signal: exact lists beside a circuit's tables, kept while tables give place to others.
+//! The readers of each signal: exact sets of places beside a circuit's tables, kept while tables give place to others.
 //!
 //! Source: Brayton, Rudell, Sangiovanni-Vincentelli and Wang, "MIS: A Multiple-Level Logic Optimization System" (1987), the
 //! fanout of a node. A table is known by its place. Promised: what is told is what the tables read, no more and no less
-//! (`specs/Readers`, `AreReaders`); a change of one table costs its own inputs and no walk over others. Each error is want
-//! of memory; behind it what is told counts for nothing.
+//! (`specs/Readers.antt`, `AreReaders`). A change of one table goes over its inputs before and behind it, and over no other
+//! table; no clause says so. Each error is want of memory; behind it what is told counts for nothing.
 #![tactic(auto)]
 
 ghost use Rattle.std.specs.Prelude.{◌≡◌, ◌==◌, ◌&&◌, ◌||◌, ◌<◌, ℕ, not, Bool, true, false, Some, None, List, [], ◌∷◌, slice_get, slice_set, bytes_eq, if◌then◌else◌, IfOk, OnOk};
@@ -24,7 +24,7 @@ use std::collections::BTreeSet;
 #[cfg(test)]
 mod tests;
 
-/// Places of tables.
+/// Places in a list of tables or of latches.
 pub type Places = Sequence<usize>;
 
 /// For each signal the places of the tables that read it.
@@ -194,7 +194,8 @@ impl Readers {
         }
     }
 
-    /// The places of the tables that read a signal, each once, in rising order; an error only for want of memory.
+    /// The places of the tables that read a signal (each once, in rising order, which no clause says); an error only for want
+    /// of memory.
     pub fn places(&self, alloc: Global, name: &Name) -> Result<Places, AllocError>
         ensures { IfOk result (λ places. (place : ℕ) → is_in places place ≡ told self.now name.now place) }
     {

@@ -91,8 +91,10 @@ fn change_tells(
     all_have(alloc, readers, wanted)
 }
 
+/// Four tables: a letter is a signal, the first of a word the table's own, the others its inputs.
 const WORDS: [&str; 4] = ["xab", "nx", "ynxc", "k"];
 
+/// The places of the tables that read each signal.
 const AT_FIRST: [(u8, &[usize]); 6] = [
     (b'a', &[0]),
     (b'b', &[0]),

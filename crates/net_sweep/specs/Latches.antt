@@ -34,6 +34,7 @@ abbrev pub slot_bit : Circuit → Option Latch → Option Bool
 slot_bit circuit None = None
 slot_bit circuit (Some latch) = fixed_bit circuit latch
 
+-- whether there is such a bit
 abbrev pub is_fixed : Circuit → Option Latch → Bool
 is_fixed circuit slot = is_some (slot_bit circuit slot)
 
@@ -62,6 +63,7 @@ pub record IsBeside (slots : List (Option Latch)) (lists : List ℕ → Option (
   pub asked : (name : List ℕ) → has circuit.outputs name ≡ true → is_some (lists name) ≡ true
   pub waiting : AreMarkedBy (is_fixed circuit) marked slots
 
+-- so do the parts of `Standing`
 abbrev pub IsReady : Standing → Circuit → Type 0
 IsReady standing circuit =
     IsBeside standing.slots.items (get bytes_eq standing.fed) (get bytes_eq standing.tables) standing.read.keys (contains nat_cmp standing.waiting) circuit

@@ -1,4 +1,5 @@
-//! Tables that nothing takes any more are emptied, so that no later step has to change them again and again.
+//! The table at which a step was taken is emptied where nothing takes it any more, so that no later step has to change it
+//! again and again.
 //!
 //! Source: the SIS manual (UCB/ERL M92/41), `sweep`: nodes that do not fan out go. That it changes no chain's end is a law
 //! of sweep_rules; the last rule drops what is left of such a table.
@@ -22,7 +23,8 @@ use net_readers::Readers;
 use sis_base::Copied;
 use std::alloc::{AllocError, Global};
 
-// Whether nothing takes a signal: no table and not the don't-care part reads it, and it is no output and no latch's input.
+// Whether it is seen that nothing takes a signal: no table and not the don't-care part reads it, and it is no output and
+// was no latch's input at the start (a latch that has gone still counts).
 fn is_untaken(readers: &Readers, standing: &Standing, name: &Name) -> bool
     ensures unread { result ≡ true → (tables : List TheTable) → AreReaders (told readers.now) tables → has (table_inputs tables) name.now ≡ false }
     ensures unfed { result ≡ true → get bytes_eq standing.now.fed name.now ≡ None }
@@ -54,7 +56,7 @@ fn empty_table(
     set_table(alloc, circuit, readers, place, constant)
 }
 
-// The table at a place becomes the constant 0 where nothing takes its signal.
+// The table at a place becomes the constant 0 where it is seen that nothing takes its signal.
 pub(crate) fn empty_untaken(
     alloc: Global,
     place: usize,

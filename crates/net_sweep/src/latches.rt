@@ -27,8 +27,8 @@ use std::alloc::AllocError;
 use std::collections::BTreeSet;
 
 /// Latches at the places where they began, and what tells soon which of them always has one bit: the places of the
-/// latches that read each signal (an output has a list too, be it empty), where the tables stand, the leaves that the
-/// don't-care part reads, and the places that wait to be tried.
+/// latches that read each signal, those that have gone among them (an output has a list too, be it empty), where the tables
+/// stand, the leaves that the don't-care part reads, and the places that wait to be tried.
 #[derive(Drop)]
 pub(crate) struct Standing {
     pub(crate) slots: Vec<Option<Latch>>,

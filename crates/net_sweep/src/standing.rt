@@ -33,7 +33,7 @@ fn slots_of(alloc: Global, latches: &[Latch]) -> Result<Vec<Option<Latch>>, Allo
     Ok(slots)
 }
 
-// The places of the latches that read each signal.
+// The places of the latches that read each signal at the start.
 fn fed_latches(alloc: Global, latches: &[Latch]) -> Result<IndexMap<Name, Places>, AllocError>
     ensures { IfOk result (λ lists. (place : ℕ) (latch : TheLatch) → slice_get latches.now place ≡ Some latch → is_in (listed (get bytes_eq lists latch.input)) place ≡ true) }
 {

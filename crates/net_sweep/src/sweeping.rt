@@ -92,7 +92,7 @@ fn gone(alloc: Global, tables: &[Name], latches: usize, end: &Circuit) -> Result
     })
 }
 
-/// Sweeps a network: steps are taken until none applies; how many tables and latches went is answered. An error, only
+/// Sweeps a network: it becomes the end of the chain of steps; how many tables and latches went is answered. An error, only
 /// for want of memory, changes nothing.
 pub fn sweep<R: Row>(alloc: Global, network: &mut Network<R>) -> Result<Swept, SweepFault>
     ensures chain { OnOk result (Chain sweep_step network.old network.new) }

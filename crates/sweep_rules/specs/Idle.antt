@@ -1,4 +1,5 @@
--- A table that nothing takes, and the circuit in which it is the constant 0: sweep does not ask what such a table says.
+-- A table that nothing takes, and the circuit in which it is the constant 0: where sweep ends does not hang on what
+-- such a table says.
 -- Source: the SIS manual (UCB/ERL M92/41), `sweep`: nodes that do not fan out to outputs or latches that matter go.
 use Rattle.std.specs.Prelude.{◌≡◌, ℕ, true, false, List}
 use Rattle.circuit_model.specs.Names.{has}

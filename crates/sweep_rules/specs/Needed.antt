@@ -25,6 +25,7 @@ needed_within circuit (suc steps) name =
 unfoldable pub is_needed : Circuit → List ℕ → Bool
 is_needed circuit name = needed_within circuit (length circuit.tables + length circuit.latches) name
 
+-- whether each table and each latch is needed
 abbrev pub all_needed : Circuit → Bool
 all_needed circuit =
     list_all (λ (table : Table). is_needed circuit table.output) circuit.tables

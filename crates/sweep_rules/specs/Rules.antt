@@ -29,6 +29,7 @@ unwritten_bit table = if is_some (written_bit table) then None else constant_bit
 abbrev pub with_constant : Circuit → Table → Circuit
 with_constant circuit table = option_map_or (λ bit. with_replaced circuit (constant_table table.output bit)) (unwritten_bit table) circuit
 
+-- the first table that is constant and written otherwise
 unfoldable pub constant_rule : Circuit → Option Circuit
 constant_rule circuit = option_map (with_constant circuit) (find (λ table. is_some (unwritten_bit table)) circuit.tables)
 
@@ -61,6 +62,7 @@ abbrev pub with_bit_put : Circuit → Table → Circuit
 with_bit_put circuit constant =
     option_map_or (λ bit. with_tables circuit (map (at_bit constant.output bit) circuit.tables)) (written_bit constant) circuit
 
+-- the first constant that tables read is put into them
 unfoldable pub put_rule : Circuit → Option Circuit
 put_rule circuit =
     option_map (with_bit_put circuit)
@@ -70,6 +72,7 @@ put_rule circuit =
 abbrev pub renamed : List ℕ → List ℕ → List ℕ → List ℕ
 renamed from to name = if bytes_eq from name then to else name
 
+-- a character for the other bit
 abbrev pub turned_over : Tri → Tri
 turned_over Zero = One
 turned_over One = Zero
@@ -105,6 +108,7 @@ abbrev pub with_bypass : Circuit → Table → Circuit
 with_bypass circuit table =
     option_map_or (λ input. with_tables circuit (map (rewired table.output input (is_inverter table)) circuit.tables)) (only_input table.inputs) circuit
 
+-- the first table of one input that tables read is passed by
 unfoldable pub bypass_rule : Circuit → Option Circuit
 bypass_rule circuit =
     option_map (with_bypass circuit)
@@ -119,6 +123,8 @@ starts_at init false = init == 0 || init == 2
 abbrev pub input_bit : Circuit → Latch → Option Bool
 input_bit circuit latch = option_map_or written_bit (driver circuit.tables latch.input) None
 
+-- a bit, where the latch may start at it and need not start at the other one, and the don't-care part does not read the
+-- latch
 abbrev pub bit_from_start : Circuit → Latch → Bool → Option Bool
 bit_from_start circuit latch bit = if starts_at latch.init bit && not (dont_care_reads circuit latch.output) then Some bit else None
 
@@ -130,6 +136,7 @@ fixed_bit circuit latch = option_map_or (bit_from_start circuit latch) (input_bi
 abbrev pub with_latch_fixed : Circuit → Latch → Circuit
 with_latch_fixed circuit latch = option_map_or (λ bit. with_fixed circuit latch.output bit) (fixed_bit circuit latch) circuit
 
+-- the first latch that always has one bit becomes a constant
 unfoldable pub latch_rule : Circuit → Option Circuit
 latch_rule circuit = option_map (with_latch_fixed circuit) (find (λ (latch : Latch). is_some (fixed_bit circuit latch)) circuit.latches)
 

@@ -37,8 +37,8 @@ pub fn needed_is_closed()
         → is_needed circuit name ≡ true → test name ≡ true }
 {}
 
-/// A table that nothing takes may be emptied before any step: the chain from there ends where the chain from the circuit
-/// does.
+/// A table of a sound circuit that nothing takes may be emptied before any step: the circuit stays sound, and the chain
+/// from there ends where the chain from the circuit does.
 pub fn idle_tables_may_be_emptied()
     ensures sound { (circuit : TheCircuit) (name : List ℕ) → IsSound circuit → IsIdle circuit name → IsSound (with_emptied circuit name) }
     ensures ends { (circuit end : TheCircuit) (name : List ℕ) → IsSound circuit → IsIdle circuit name → Chain sweep_step (with_emptied circuit name) end → Chain sweep_step circuit end }

@@ -1,6 +1,6 @@
 use Rattle.std.proofs.Common.{map}
 use Rattle.cube_cover.specs.Covers.{picked}
-use Rattle.cube_cover.specs.Found.{IsThinner}
+use Rattle.cube_cover.specs.Thinner.{IsThinner}
 use Rattle.cube_cover.proofs.thin.thin_once.Given as goal
 
 abbrev pub invariant-loop-place : goal.invariant-loop-place
