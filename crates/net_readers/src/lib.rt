@@ -173,6 +173,15 @@ fn places_in(alloc: Global, set: &BTreeSet<usize>) -> Result<Places, AllocError>
 }
 
 impl Readers {
+    /// The readers where there is no table; takes no memory.
+    pub fn of_none(alloc: Global) -> Readers
+        ensures { AreReaders (told result) [] }
+    {
+        Readers {
+            sets: IndexMap::new(alloc),
+        }
+    }
+
     /// The readers of signals in tables; an error only for want of memory.
     pub fn of_tables(alloc: Global, tables: &[Table]) -> Result<Readers, AllocError>
         ensures { IfOk result (λ readers. AreReaders (told readers) tables.now) }
@@ -202,6 +211,14 @@ impl Readers {
         match self.sets.get(name) {
             None => Ok(Sequence::new(alloc)),
             Some(set) => places_in(alloc, set),
+        }
+    }
+
+    /// How many tables read a signal, which no clause says: it serves to choose between ways, for speed alone.
+    pub fn count(&self, name: &Name) -> usize {
+        match self.sets.get(name) {
+            None => 0,
+            Some(set) => set.len(),
         }
     }
 

@@ -15,19 +15,19 @@ use Rattle.sweep_rules.specs.Sweeping.{IsSwept, tables_gone, latches_gone}
 use Rattle.sweep_rules.proofs.Chaining.{step_kept, chain_kept, chain_swept}
 use Rattle.sweep_rules.proofs.Falling.{step_falls}
 use Rattle.sweep_rules.proofs.Weight.{weight, replaced_lighter}
-use Rattle.net_sweep.specs.Settled.{table_step, IsTurn, Goes, HasLed}
+use Rattle.net_sweep.specs.Settled.{table_step, IsMove, Goes, HasLed}
 use Rattle.sweep_rules.specs.Idle.{IsIdle, with_emptied}
 use Rattle.sweep_rules.proofs.Idle.{emptied_sound, emptied_ends}
 
-goes_more : (between : List Circuit) (from to next : Circuit) → Goes between from to → IsTurn to next → Goes (between ++ next ∷ []) from next
-goes_more [] from to next h turn = (subst (λ (c : Circuit). IsTurn c next) (sym h) turn, refl)
+goes_more : (between : List Circuit) (from to next : Circuit) → Goes between from to → IsMove to next → Goes (between ++ next ∷ []) from next
+goes_more [] from to next h turn = (subst (λ (c : Circuit). IsMove c next) (sym h) turn, refl)
 goes_more (first ∷ between) from to next h turn = (h.0, goes_more between first to next h.1 turn)
 
 goes_through : (between others : List Circuit) (from to end : Circuit) → Goes between from to → Goes others to end → Goes (between ++ others) from end
 goes_through [] others from to end h k = subst (λ (c : Circuit). Goes others c end) (sym h) k
 goes_through (first ∷ between) others from to end h k = (h.0, goes_through between others first to end h.1 k)
 
-turn_sound : (from to : Circuit) → IsSound from → IsTurn from to → IsSound to
+turn_sound : (from to : Circuit) → IsSound from → IsMove from to → IsSound to
 turn_sound from to sound turn =
     elim turn as (λ _. IsSound to) [
       | inl step ↦ (step_kept from to sound step).sound
@@ -35,7 +35,7 @@ turn_sound from to sound turn =
     ]
 
 -- a turn changes no chain's end
-turn_ends : (from to end : Circuit) → IsSound from → IsTurn from to → Chain sweep_step to end → Chain sweep_step from end
+turn_ends : (from to end : Circuit) → IsSound from → IsMove from to → Chain sweep_step to end → Chain sweep_step from end
 turn_ends from to end sound turn chain =
     elim turn as (λ _. Chain sweep_step from end) [
       | inl step ↦ record { between = to ∷ chain.between; leads = (step, chain.leads); finished = chain.finished }
@@ -90,13 +90,13 @@ other_step_is circuit next h n = by (tidy_rule circuit) (constant_rule circuit) 
     by None None None (Some x) e k m = let z : Some x ≡ None = k in absurd cc
     by None None None None e k m = m
 
--- turns make a sound circuit no heavier
+-- moves make a sound circuit no heavier
 emptied_lighter : (circuit : Circuit) (name : List ℕ) → IsSound circuit → IsIdle circuit name → weight (with_emptied circuit name) ≤ weight circuit
 emptied_lighter circuit name sound idle =
     let (table, drives) = output_driver circuit.tables name idle.driven in
     replaced_lighter circuit table (constant_table name false) drives (λ other reads. absurd (false≢true reads)) (omega arith)
 
-turn_lighter : (from to : Circuit) → IsSound from → IsTurn from to → weight to ≤ weight from
+turn_lighter : (from to : Circuit) → IsSound from → IsMove from to → weight to ≤ weight from
 turn_lighter from to sound turn =
     elim turn as (λ _. weight to ≤ weight from) [
       | inl step ↦ (let one : weight to < weight from = step_falls from to sound step in omega (arith, one))

@@ -31,8 +31,8 @@ use Rattle.net_sweep.specs.declared.turns.Change.{Change}
 use Rattle.net_sweep.specs.declared.turns.Change.TheVariants.{Bit, Input}
 use Rattle.table_tidy.specs.Tidy.{IsWide}
 use Rattle.net_sweep.specs.Turns.{IsFirst}
-use Rattle.net_sweep.specs.Settled.{passes, rule_turn, table_step, IsNext, changed_by, is_apart, AreMarkedBy, AreMarked, AreSameBut, AreSound}
-use Rattle.net_readers.specs.Readers.{is_in, AreReaders}
+use Rattle.net_sweep.specs.Settled.{passes, rule_turn, table_step, IsNext, changed_by, is_apart, AreMarkedBy, AreMarked, IsAlike, IsAlikeThere, AreAlikeBut, AreSound}
+use Rattle.net_readers.specs.Readers.{is_in, reads_at as is_read_at}
 use Rattle.net_sweep.proofs.Marking.{read_by, reads_at}
 
 -- the next step of the rules that change tables
@@ -61,8 +61,12 @@ present rule circuit place first =
 pub next_tidy : (circuit : Circuit) (place : ℕ) → IsFirst (passes Tidy circuit.tables) circuit.tables (Some place) → IsNext circuit (Some (Tidy, place))
 unfolding table_step
 next_tidy circuit place first =
-    let (table, at, step) = present Tidy circuit place first in
-    (table, at, ap (λ (o : Option Circuit). option_or o (option_or (constant_rule circuit) (option_or (put_rule circuit) (bypass_rule circuit)))) step)
+    let (table, at, step) = present Tidy circuit place first in (
+      table,
+      at,
+      ap (λ (o : Option Circuit). option_or o (option_or (constant_rule circuit) (option_or (put_rule circuit) (bypass_rule circuit)))) step,
+      λ is. let z : Tidy ≡ Bypass = is in absurd cc,
+    )
 
 pub next_constant : (circuit : Circuit) (place : ℕ) → find (passes Tidy circuit.tables) circuit.tables ≡ None → IsFirst (passes Constant circuit.tables) circuit.tables (Some place) → IsNext circuit (Some (Constant, place))
 unfolding table_step
@@ -72,6 +76,7 @@ next_constant circuit place a first =
       at,
       ap (λ (o : Option Circuit). option_or o (option_or (constant_rule circuit) (option_or (put_rule circuit) (bypass_rule circuit)))) (absent Tidy circuit a)
           ∙ ap (λ (o : Option Circuit). option_or o (option_or (put_rule circuit) (bypass_rule circuit))) step,
+      λ is. let z : Constant ≡ Bypass = is in absurd cc,
     )
 
 pub next_put : (circuit : Circuit) (place : ℕ) → find (passes Tidy circuit.tables) circuit.tables ≡ None → find (passes Constant circuit.tables) circuit.tables ≡ None
@@ -84,6 +89,7 @@ next_put circuit place a b first =
       ap (λ (o : Option Circuit). option_or o (option_or (constant_rule circuit) (option_or (put_rule circuit) (bypass_rule circuit)))) (absent Tidy circuit a)
           ∙ (ap (λ (o : Option Circuit). option_or o (option_or (put_rule circuit) (bypass_rule circuit))) (absent Constant circuit b)
           ∙ ap (λ (o : Option Circuit). option_or o (bypass_rule circuit)) step),
+      λ is. let z : Put ≡ Bypass = is in absurd cc,
     )
 
 pub next_bypass : (circuit : Circuit) (place : ℕ) → find (passes Tidy circuit.tables) circuit.tables ≡ None → find (passes Constant circuit.tables) circuit.tables ≡ None
@@ -96,6 +102,7 @@ next_bypass circuit place a b c first =
       ap (λ (o : Option Circuit). option_or o (option_or (constant_rule circuit) (option_or (put_rule circuit) (bypass_rule circuit)))) (absent Tidy circuit a)
           ∙ (ap (λ (o : Option Circuit). option_or o (option_or (put_rule circuit) (bypass_rule circuit))) (absent Constant circuit b)
           ∙ (ap (λ (o : Option Circuit). option_or o (bypass_rule circuit)) (absent Put circuit c) ∙ step)),
+      λ is. a,
     )
 
 pub next_none : (circuit : Circuit) → find (passes Tidy circuit.tables) circuit.tables ≡ None → find (passes Constant circuit.tables) circuit.tables ≡ None
@@ -113,6 +120,28 @@ marked_for_each marked tables a b c d Constant = b
 marked_for_each marked tables a b c d Put = c
 marked_for_each marked tables a b c d Bypass = d
 
+-- tables of which the rules find the same
+
+-- tables are the same but at some places
+abbrev AreSameBut : List ℕ → List Table → List Table → Type 0
+AreSameBut places old new = (place : ℕ) → is_in places place ≡ false → slice_get new place ≡ slice_get old place
+
+alike_itself : (o : Option Table) → IsAlikeThere o o
+alike_itself None = tt
+alike_itself (Some table) = record { output = refl; tidy = refl; unwritten = refl; written = refl; single = refl }
+
+same_alike : (places : List ℕ) (old new : List Table) → AreSameBut places old new → AreAlikeBut places old new
+same_alike places old new same place none = subst (IsAlikeThere (slice_get old place)) (sym (same place none)) (alike_itself (slice_get old place))
+
+-- where a table stands now, a table of which the rules find the same stood before
+pub alike_before : (places : List ℕ) (old new : List Table) (place : ℕ) (table : Table) → AreAlikeBut places old new → is_in places place ≡ false → slice_get new place ≡ Some table
+    → (before : Table) × (slice_get old place ≡ Some before) × IsAlike before table
+alike_before places old new place table alike none at = by (slice_get old place) refl (subst (IsAlikeThere (slice_get old place)) at (alike place none))
+  where
+    by : (o : Option Table) → slice_get old place ≡ o → IsAlikeThere o (Some table) → (before : Table) × (slice_get old place ≡ Some before) × IsAlike before table
+    by None e never = absurd never
+    by (Some before) e like = (before, e, like)
+
 -- a table gives place to one that reads no more
 
 pub there : {X : Type 0} (items : List X) (place : ℕ) → place < length items → (item : X) × (slice_get items place ≡ Some item)
@@ -120,7 +149,7 @@ there [] place lt = absurd (omega (arith, lt))
 there (x ∷ items) zero lt = (x, refl)
 there (x ∷ items) (suc place) lt = there items place (omega (arith, lt))
 
-pub same_but_one : (tables : List Table) (place : ℕ) (made : Table) → AreSameBut (place ∷ []) tables (set tables place made)
+same_but_one : (tables : List Table) (place : ℕ) (made : Table) → AreSameBut (place ∷ []) tables (set tables place made)
 same_but_one tables place made i none = cases (place == i) refl none
   where
     cases : (b : Bool) → (place == i) ≡ b → (b || false) ≡ false → slice_get (set tables place made) i ≡ slice_get tables i
@@ -194,7 +223,7 @@ all_from_places : {X : Type 0} (P : X → Type 0) (items : List X) → ((place :
 all_from_places P [] h = tt
 all_from_places P (first ∷ items) h = (h 0 first refl, all_from_places P items (λ place x at. h (suc place) x at))
 
-same_by_places : {X : Type 0} (xs ys : List X) → ((place : ℕ) → slice_get xs place ≡ slice_get ys place) → xs ≡ ys
+pub same_by_places : {X : Type 0} (xs ys : List X) → ((place : ℕ) → slice_get xs place ≡ slice_get ys place) → xs ≡ ys
 same_by_places [] [] h = refl
 same_by_places [] (y ∷ ys) h = let z : None ≡ Some y = h 0 in absurd cc
 same_by_places (x ∷ xs) [] h = let z : Some x ≡ None = h 0 in absurd cc
@@ -221,7 +250,7 @@ map_same_but name change places tables all place none = cases (slice_get tables 
     cases None e = refl
     cases (Some table) e = ap Some (unread_same name change table (unread table e (has table.inputs name) refl))
 
-pub mapped_same_but : (name : List ℕ) (change : Change) (places : List ℕ) (tables : List Table)
+mapped_same_but : (name : List ℕ) (change : Change) (places : List ℕ) (tables : List Table)
     → ((place : ℕ) (table : Table) → slice_get tables place ≡ Some table → has table.inputs name ≡ true → is_in places place ≡ true)
     → AreSameBut places tables (map (changed_by name change) tables)
 mapped_same_but name change places tables all place none = slice_get-map (changed_by name change) tables place ∙ map_same_but name change places tables all place none
@@ -454,15 +483,29 @@ still_passes Put old new table less h =
 still_passes Bypass old new table less h =
     let (a, b) = and_parts (is_some (only_input table.inputs)) (has (table_inputs new) table.output) h in rw (a, less table.output b) refl
 
+-- so it does to a table of which the rules find the same
+alike_passes : (rule : Rule) (old new : List Table) (before table : Table) → ((name : List ℕ) → has (table_inputs new) name ≡ true → has (table_inputs old) name ≡ true) → IsAlike before table
+    → passes rule new table ≡ true → passes rule old before ≡ true
+alike_passes Tidy old new before table less alike h = ap (λ (b : Bool). not b) (sym alike.tidy) ∙ h
+alike_passes Constant old new before table less alike h = ap (λ (o : Option Bool). is_some o) (sym alike.unwritten) ∙ h
+alike_passes Put old new before table less alike h =
+    let (a, b) = and_parts (is_some (written_bit table)) (has (table_inputs new) table.output) h in
+    rw (ap (λ (o : Option Bool). is_some o) (sym alike.written) ∙ a, ap (has (table_inputs old)) (sym alike.output) ∙ less table.output b) refl
+alike_passes Bypass old new before table less alike h =
+    let (a, b) = and_parts (is_some (only_input table.inputs)) (has (table_inputs new) table.output) h in
+    rw (sym alike.single ∙ a, ap (has (table_inputs old)) (sym alike.output) ∙ less table.output b) refl
+
 -- the candidates afterwards
-pub marked_again : (old new : List Table) (places : List ℕ) (before after : Rule → ℕ → Bool) → AreMarked before old → AreSameBut places old new
+pub marked_again : (old new : List Table) (places : List ℕ) (before after : Rule → ℕ → Bool) → AreMarked before old → AreAlikeBut places old new
     → ((name : List ℕ) → has (table_inputs new) name ≡ true → has (table_inputs old) name ≡ true)
     → ((rule : Rule) (place : ℕ) → is_in places place ≡ true → after rule place ≡ true) → ((rule : Rule) (place : ℕ) → before rule place ≡ true → after rule place ≡ true) → AreMarked after new
-marked_again old new places before after all same less put kept rule place table at passed = cases (is_in places place) refl
+marked_again old new places before after all alike less put kept rule place table at passed = cases (is_in places place) refl
   where
     cases : (b : Bool) → is_in places place ≡ b → after rule place ≡ true
     cases true e = put rule place e
-    cases false e = kept rule place (all rule place table (sym (same place e) ∙ at) (still_passes rule old new table less passed))
+    cases false e =
+        let (other, there, like) = alike_before places old new place table alike e at in
+        kept rule place (all rule place other there (alike_passes rule old new other table less like passed))
 
 -- one turn
 
@@ -478,37 +521,36 @@ constant_turned circuit new place here made bit sound at has_bit is n table ther
     n ∙ (ap (λ (t : Table). with_tables circuit (set circuit.tables place t)) (is ∙ ap (λ (t : Table). constant_table t.output bit) same)
     ∙ sym (constant_set circuit place table bit sound there (ap unwritten_bit (sym same) ∙ has_bit)))
 
-pub set_others : (circuit new : Circuit) (place : ℕ) (made : Table) (places : List ℕ) → new ≡ with_tables circuit (set circuit.tables place made) → places ≡ place ∷ [] → AreSameBut places circuit.tables new.tables
+pub set_others : (circuit new : Circuit) (place : ℕ) (made : Table) (places : List ℕ) → new ≡ with_tables circuit (set circuit.tables place made) → places ≡ place ∷ [] → AreAlikeBut places circuit.tables new.tables
 set_others circuit new place made places n p =
-    subst (λ (ps : List ℕ). AreSameBut ps circuit.tables new.tables) (sym p) (subst (λ (c : Circuit). AreSameBut (place ∷ []) circuit.tables c.tables) (sym n) (same_but_one circuit.tables place made))
+    subst (λ (ps : List ℕ). AreAlikeBut ps circuit.tables new.tables) (sym p)
+    (subst (λ (c : Circuit). AreAlikeBut (place ∷ []) circuit.tables c.tables) (sym n)
+    (same_alike (place ∷ []) circuit.tables (set circuit.tables place made) (same_but_one circuit.tables place made)))
 
-pub put_turned : (circuit new : Circuit) (place : ℕ) (here : Table) (bit : Bool) (name : List ℕ) → slice_get circuit.tables place ≡ Some here → written_bit here ≡ Some bit → name ≡ here.output
-    → new ≡ with_tables circuit (map (changed_by name (Bit bit)) circuit.tables) → (table : Table) → slice_get circuit.tables place ≡ Some table → new ≡ rule_turn Put circuit table
-put_turned circuit new place here bit name at has_bit is n table there =
+pub put_turned : (circuit new : Circuit) (place : ℕ) (here : Table) (bit : Bool) → slice_get circuit.tables place ≡ Some here → written_bit here ≡ Some bit
+    → new ≡ with_tables circuit (map (changed_by here.output (Bit bit)) circuit.tables) → (table : Table) → slice_get circuit.tables place ≡ Some table → new ≡ rule_turn Put circuit table
+put_turned circuit new place here bit at has_bit n table there =
     let same : here ≡ table = same_Some here table (sym at ∙ there) in
-    n ∙ (ap (λ (x : List ℕ). with_tables circuit (map (changed_by x (Bit bit)) circuit.tables)) (is ∙ ap (λ (t : Table). t.output) same) ∙ sym (put_map circuit table bit (ap written_bit (sym same) ∙ has_bit)))
+    n ∙ (ap (λ (t : Table). with_tables circuit (map (changed_by t.output (Bit bit)) circuit.tables)) same ∙ sym (put_map circuit table bit (ap written_bit (sym same) ∙ has_bit)))
 
-pub bypass_turned : (circuit new : Circuit) (place : ℕ) (here : Table) (input to name : List ℕ) (inverts : Bool) → slice_get circuit.tables place ≡ Some here → only_input here.inputs ≡ Some input → to ≡ input → inverts ≡ is_inverter here
-    → name ≡ here.output → new ≡ with_tables circuit (map (changed_by name (Input to inverts)) circuit.tables) → (table : Table) → slice_get circuit.tables place ≡ Some table → new ≡ rule_turn Bypass circuit table
-bypass_turned circuit new place here input to name inverts at single t i is n table there =
+pub bypass_turned : (circuit new : Circuit) (place : ℕ) (here : Table) (input : List ℕ) (inverts : Bool) → slice_get circuit.tables place ≡ Some here → only_input here.inputs ≡ Some input → inverts ≡ is_inverter here
+    → new ≡ with_tables circuit (map (changed_by here.output (Input input inverts)) circuit.tables) → (table : Table) → slice_get circuit.tables place ≡ Some table → new ≡ rule_turn Bypass circuit table
+bypass_turned circuit new place here input inverts at single i n table there =
     let same : here ≡ table = same_Some here table (sym at ∙ there) in
-    let change : Input to inverts ≡ Input input (is_inverter table) = rw (t, i, same) refl in
-    n ∙ (ap (λ (x : List ℕ). with_tables circuit (map (changed_by x (Input to inverts)) circuit.tables)) (is ∙ ap (λ (t : Table). t.output) same)
+    let change : Input input inverts ≡ Input input (is_inverter table) = rw (i, same) refl in
+    n ∙ (ap (λ (t : Table). with_tables circuit (map (changed_by t.output (Input input inverts)) circuit.tables)) same
     ∙ (ap (λ (ch : Change). with_tables circuit (map (changed_by table.output ch) circuit.tables)) change
     ∙ sym (bypass_map circuit table input (ap (λ (t : Table). only_input t.inputs) (sym same) ∙ single))))
 
 pub mapped_others : (circuit new : Circuit) (name : List ℕ) (change : Change) (places : List ℕ)
     → ((place : ℕ) (table : Table) → slice_get circuit.tables place ≡ Some table → has table.inputs name ≡ true → is_in places place ≡ true)
-    → new ≡ with_tables circuit (map (changed_by name change) circuit.tables) → AreSameBut places circuit.tables new.tables
+    → new ≡ with_tables circuit (map (changed_by name change) circuit.tables) → AreAlikeBut places circuit.tables new.tables
 mapped_others circuit new name change places readers n =
-    subst (λ (c : Circuit). AreSameBut places circuit.tables c.tables) (sym n) (mapped_same_but name change places circuit.tables readers)
-
-pub is_apart_input : (circuit : Circuit) (place : ℕ) (here : Table) (input to name : List ℕ) (inverts : Bool) → AreSound circuit.tables → slice_get circuit.tables place ≡ Some here → only_input here.inputs ≡ Some input → to ≡ input
-    → name ≡ here.output → is_apart name (Input to inverts) ≡ true
-is_apart_input circuit place here input to name inverts sound at single t is = rw (t, is, input_apart circuit place here input sound at single) refl
+    subst (λ (c : Circuit). AreAlikeBut places circuit.tables c.tables) (sym n)
+    (same_alike places circuit.tables (map (changed_by name change) circuit.tables) (mapped_same_but name change places circuit.tables readers))
 
 pub turn_marked : (rule : Rule) (circuit new : Circuit) (place : ℕ) (places now : List ℕ) (before after : Rule → ℕ → Bool) → AreSound circuit.tables → place < length circuit.tables → AreMarked before circuit.tables
-    → ((table : Table) → slice_get circuit.tables place ≡ Some table → new ≡ rule_turn rule circuit table) → AreSameBut places circuit.tables new.tables → now ≡ places
+    → ((table : Table) → slice_get circuit.tables place ≡ Some table → new ≡ rule_turn rule circuit table) → AreAlikeBut places circuit.tables new.tables → now ≡ places
     → ((r : Rule) (i : ℕ) → is_in now i ≡ true → after r i ≡ true) → ((r : Rule) (i : ℕ) → before r i ≡ true → after r i ≡ true) → AreMarked after new.tables
 turn_marked rule circuit new place places now before after sound lt all turned others same put kept =
     let (table, at) = there circuit.tables place lt in
@@ -537,21 +579,11 @@ pub partly_ended : (name : List ℕ) (change : Change) (places : List ℕ) (i : 
 partly_ended name change places i old new le h all =
     partly_all name change places old new (subst (λ (ps : List ℕ). IsPartly (changed_by name change) ps old new) (take_all i places le) h) all
 
--- a reader is told
-pub reads_told : (told : List ℕ → ℕ → Bool) (tables : List Table) (name : List ℕ) (places : List ℕ) → AreReaders told tables → ((place : ℕ) → told name place ≡ true → is_in places place ≡ true)
+-- a reader is listed
+pub reads_listed : (tables : List Table) (name : List ℕ) (places : List ℕ) → ((place : ℕ) → is_read_at tables name place ≡ true → is_in places place ≡ true)
     → (place : ℕ) (table : Table) → slice_get tables place ≡ Some table → has table.inputs name ≡ true → is_in places place ≡ true
-reads_told told tables name places all within place table at reads =
-    within place (all name place ∙ (ap (λ (o : Option Table). option_map_or (λ (t : Table). has t.inputs name) o false) at ∙ reads))
-
--- what holds where a call went well
-pub on_ok : {T E : Type 0} (r : Result T E) {A B : Type 0} → (A → B) → OnOk r A → OnOk r B
-on_ok (Ok x) f h = f h
-on_ok (Err e) f h = tt
+reads_listed tables name places within place table at reads = within place (ap (λ (o : Option Table). option_map_or (λ (t : Table). has t.inputs name) o false) at ∙ reads)
 
 pub on_ok_both : {T E : Type 0} (r : Result T E) {A B C : Type 0} → (A → B → C) → OnOk r A → OnOk r B → OnOk r C
 on_ok_both (Ok x) f h k = f h k
 on_ok_both (Err e) f h k = tt
-
-pub on_value : {T E : Type 0} (r : Result T E) {P Q : T → Type 0} → ((x : T) → P x → Q x) → IfOk r P → IfOk r Q
-on_value (Ok x) f h = f x h
-on_value (Err e) f h = tt

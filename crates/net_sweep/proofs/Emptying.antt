@@ -61,6 +61,11 @@ unfolding is_read dont_care_reads
 untaken_read circuit slots fed places read marked name h tables cares =
     ap (λ (b : Bool). b || (not (has (outputs_of circuit.dont_care) name) && has (table_inputs circuit.dont_care) name)) tables ∙ (sym (h.read name) ∙ cares)
 
+-- the constant is put at the place
+pub emptied_set : (circuit new : Circuit) (place : ℕ) (name : List ℕ) (made : Table) → made ≡ constant_table name false → new ≡ with_tables circuit (set circuit.tables place made)
+    → new ≡ with_tables circuit (set circuit.tables place (constant_table name false))
+emptied_set circuit new place name made is n = n ∙ ap (λ (table : Table). with_tables circuit (set circuit.tables place table)) is
+
 -- the circuit as a whole
 pub emptied_whole : (circuit new : Circuit) (slots : List (Option Latch)) (place : ℕ) (table : Table) → IsSound (with_latches circuit (left_at slots)) → slice_get circuit.tables place ≡ Some table
     → new ≡ with_tables circuit (set circuit.tables place (constant_table table.output false))

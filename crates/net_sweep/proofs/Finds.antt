@@ -7,11 +7,6 @@ use Rattle.circuit_model.specs.declared.circuit.Table.{Table}
 use Rattle.circuit_model.specs.Soundness.{IsShaped}
 use Rattle.table_tidy.specs.Tidy.{IsWide}
 
-pub at_place : {X : Type 0} (items : List X) (i : ℕ) (item : X) → i < length items → item ≡ get_or items i item → slice_get items i ≡ Some item
-at_place [] i item lt is = absurd (omega (arith, lt))
-at_place (x ∷ items) zero item lt is = ap Some (sym is)
-at_place (x ∷ items) (suc i) item lt is = at_place items i item (omega (arith, lt)) is
-
 pub within : {X : Type 0} (items : List X) (i : ℕ) (item : X) → slice_get items i ≡ Some item → i < length items
 within [] i item h = let z : None ≡ Some item = h in absurd cc
 within (x ∷ items) zero item h = omega arith

@@ -21,12 +21,11 @@ use Rattle.sweep_rules.specs.Points.{written_bit}
 use Rattle.sweep_rules.specs.Needed.{dont_care_reads}
 use Rattle.sweep_rules.specs.Rules.{fixed_bit, bit_from_start, starts_at}
 use Rattle.net_sweep.specs.declared.marks.Rule.{Rule}
-use Rattle.net_sweep.specs.Settled.{rule_turn, listed, AreMarkedBy, AreMarked, AreSameBut, AreSound}
-use Rattle.net_readers.specs.Readers.{is_in, AreReaders}
-use Rattle.net_readers.proofs.Sets.{readers_last}
+use Rattle.net_sweep.specs.Settled.{rule_turn, listed, AreMarkedBy, AreMarked, AreAlikeBut, AreSound}
+use Rattle.net_readers.specs.Readers.{is_in}
 use Rattle.net_sweep.specs.Latches.{left_at, slot_bit, is_fixed, IsFirstFixed, IsPlaced, AreFed, IsBeside}
 use Rattle.net_sweep.proofs.Marking.{least_first, read_by, reads_at}
-use Rattle.net_sweep.proofs.Changing.{there, still_passes, turn_names, turn_cares, turn_outputs}
+use Rattle.net_sweep.proofs.Changing.{there, alike_before, still_passes, turn_names, turn_cares, turn_outputs}
 
 -- tables of a sound circuit
 pub sound_tables : (circuit : Circuit) → IsSound circuit → AreSound circuit.tables
@@ -102,10 +101,11 @@ cares_same : (old new : Circuit) (name : List ℕ) → new.dont_care ≡ old.don
 unfolding dont_care_reads
 cares_same old new name e = ap (λ (part : List Table). not (has (outputs_of part) name) && has (table_inputs part) name) e
 
-pub fixed_same : (old new : Circuit) (latch : Latch) → new.dont_care ≡ old.dont_care → driver new.tables latch.input ≡ driver old.tables latch.input → fixed_bit new latch ≡ fixed_bit old latch
+fixed_alike : (old new : Circuit) (latch : Latch) → new.dont_care ≡ old.dont_care → option_map_or written_bit (driver new.tables latch.input) None ≡ option_map_or written_bit (driver old.tables latch.input) None
+    → fixed_bit new latch ≡ fixed_bit old latch
 unfolding fixed_bit
-fixed_same old new latch cares drives =
-    ap (λ (o : Option Table). option_map_or (bit_from_start new latch) (option_map_or written_bit o None) None) drives
+fixed_alike old new latch cares bits =
+    ap (λ (o : Option Bool). option_map_or (bit_from_start new latch) o None) bits
     ∙ by (option_map_or written_bit (driver old.tables latch.input) None)
   where
     from_start : (bit : Bool) → bit_from_start new latch bit ≡ bit_from_start old latch bit
@@ -114,6 +114,9 @@ fixed_same old new latch cares drives =
     by : (o : Option Bool) → option_map_or (bit_from_start new latch) o None ≡ option_map_or (bit_from_start old latch) o None
     by None = refl
     by (Some bit) = from_start bit
+
+pub fixed_same : (old new : Circuit) (latch : Latch) → new.dont_care ≡ old.dont_care → driver new.tables latch.input ≡ driver old.tables latch.input → fixed_bit new latch ≡ fixed_bit old latch
+fixed_same old new latch cares drives = fixed_alike old new latch cares (ap (λ (o : Option Table). option_map_or written_bit o None) drives)
 
 pub fixed_written : (circuit : Circuit) (latch : Latch) → is_some (fixed_bit circuit latch) ≡ true → (table : Table) × (driver circuit.tables latch.input ≡ Some table) × (is_some (written_bit table) ≡ true)
 unfolding fixed_bit
@@ -132,10 +135,10 @@ fixed_written circuit latch h = by (driver circuit.tables latch.input) refl h
 -- changed table which is a constant now
 pub waiting_turned : (slots : List (Option Latch)) (lists : List ℕ → Option (List ℕ)) (places : List ℕ → Option ℕ) (old new : Circuit) (changed : List ℕ) (before after : ℕ → Bool)
     → all_different (outputs_of old.tables) ≡ true → IsPlaced places (outputs_of old.tables) → outputs_of new.tables ≡ outputs_of old.tables → new.dont_care ≡ old.dont_care
-    → AreSameBut changed old.tables new.tables → AreFed lists slots → AreMarkedBy (is_fixed old) before slots
+    → AreAlikeBut changed old.tables new.tables → AreFed lists slots → AreMarkedBy (is_fixed old) before slots
     → ((place : ℕ) (table : Table) (latch : ℕ) → is_in changed place ≡ true → slice_get new.tables place ≡ Some table → is_some (written_bit table) ≡ true → is_in (listed (lists table.output)) latch ≡ true → after latch ≡ true)
     → ((latch : ℕ) → before latch ≡ true → after latch ≡ true) → AreMarkedBy (is_fixed new) after slots
-waiting_turned slots lists places old new changed before after differ placed names cares same fed all put kept = marked
+waiting_turned slots lists places old new changed before after differ placed names cares alike fed all put kept = marked
   where
     old_leads : LeadsToTables places old.tables
     old_leads = placed_leads places old.tables differ placed
@@ -143,8 +146,9 @@ waiting_turned slots lists places old new changed before after differ placed nam
     new_leads : LeadsToTables places new.tables
     new_leads = placed_leads places new.tables (ap all_different names ∙ differ) (subst (IsPlaced places) (sym names) placed)
 
-    still : (place : ℕ) (latch : Latch) → slice_get slots place ≡ Some (Some latch) → is_some (fixed_bit new latch) ≡ true → driver new.tables latch.input ≡ driver old.tables latch.input → after place ≡ true
-    still place latch at fixed drives = kept place (all place (Some latch) at (sym (ap (λ (o : Option Bool). is_some o) (fixed_same old new latch cares drives)) ∙ fixed))
+    still : (place : ℕ) (latch : Latch) → slice_get slots place ≡ Some (Some latch) → is_some (fixed_bit new latch) ≡ true
+        → option_map_or written_bit (driver new.tables latch.input) None ≡ option_map_or written_bit (driver old.tables latch.input) None → after place ≡ true
+    still place latch at fixed bits = kept place (all place (Some latch) at (sym (ap (λ (o : Option Bool). is_some o) (fixed_alike old new latch cares bits)) ∙ fixed))
 
     at_place : (place : ℕ) (latch : Latch) → slice_get slots place ≡ Some (Some latch) → is_some (fixed_bit new latch) ≡ true → (o : Option ℕ) → places latch.input ≡ o → after place ≡ true
     at_place place latch at fixed None e =
@@ -158,7 +162,11 @@ waiting_turned slots lists places old new changed before after differ placed nam
             put i table place k (ap (item_at new.tables) (sym e) ∙ (new_leads latch.input ∙ drives)) written
             (subst (λ (n : List ℕ). is_in (listed (lists n)) place ≡ true) (sym (driver_name new.tables latch.input table drives)) (fed place latch at))
         by false k =
-            still place latch at fixed (sym (new_leads latch.input) ∙ (ap (item_at new.tables) e ∙ (same i k ∙ (ap (item_at old.tables) (sym e) ∙ old_leads latch.input))))
+            let (table, drives, written) = fixed_written new latch fixed in
+            let (before, there, like) = alike_before changed old.tables new.tables i table alike k (ap (item_at new.tables) (sym e) ∙ (new_leads latch.input ∙ drives)) in
+            let drove : driver old.tables latch.input ≡ Some before = sym (old_leads latch.input) ∙ (ap (item_at old.tables) e ∙ there) in
+            still place latch at fixed
+            (ap (λ (o : Option Table). option_map_or written_bit o None) drives ∙ (like.written ∙ sym (ap (λ (o : Option Table). option_map_or written_bit o None) drove)))
 
     marked : (place : ℕ) (slot : Option Latch) → slice_get slots place ≡ Some slot → is_fixed new slot ≡ true → after place ≡ true
     marked place None at fixed = absurd (false≢true fixed)
@@ -307,12 +315,12 @@ left_cleared (Some first ∷ slots) (suc place) latch differ at =
 
 -- what stands beside the circuit afterwards
 
-pub turned_beside : (rule : Rule) (circuit new : Circuit) (place : ℕ) (slots : List (Option Latch)) (fed : List ℕ → Option (List ℕ)) (places : List ℕ → Option ℕ) (read : List (List ℕ)) (before after : ℕ → Bool) (changed now : List ℕ) (now_tables : List Table)
+pub turned_beside : (rule : Rule) (circuit new : Circuit) (place : ℕ) (slots : List (Option Latch)) (fed : List ℕ → Option (List ℕ)) (places : List ℕ → Option ℕ) (read : List (List ℕ)) (before after : ℕ → Bool) (changed now : List ℕ)
     → AreSound circuit.tables → place < length circuit.tables → IsBeside slots fed places read before circuit
-    → ((table : Table) → slice_get circuit.tables place ≡ Some table → new ≡ rule_turn rule circuit table) → AreSameBut changed circuit.tables new.tables → now ≡ changed → now_tables ≡ new.tables
-    → ((i : ℕ) (table : Table) (latch : ℕ) → is_in now i ≡ true → slice_get now_tables i ≡ Some table → is_some (written_bit table) ≡ true → is_in (listed (fed table.output)) latch ≡ true → after latch ≡ true)
+    → ((table : Table) → slice_get circuit.tables place ≡ Some table → new ≡ rule_turn rule circuit table) → AreAlikeBut changed circuit.tables new.tables → now ≡ changed
+    → ((i : ℕ) (table : Table) (latch : ℕ) → is_in now i ≡ true → slice_get new.tables i ≡ Some table → is_some (written_bit table) ≡ true → is_in (listed (fed table.output)) latch ≡ true → after latch ≡ true)
     → ((latch : ℕ) → before latch ≡ true → after latch ≡ true) → IsBeside slots fed places read after new
-turned_beside rule circuit new place slots fed places read before after changed now now_tables sound lt h turned same is ts put kept =
+turned_beside rule circuit new place slots fed places read before after changed now sound lt h turned alike is put kept =
     let (table, at) = there circuit.tables place lt in
     let names : outputs_of new.tables ≡ outputs_of circuit.tables = ap (λ (c : Circuit). outputs_of c.tables) (turned table at) ∙ turn_names rule circuit place table sound at in
     let cares : new.dont_care ≡ circuit.dont_care = ap (λ (c : Circuit). c.dont_care) (turned table at) ∙ turn_cares rule circuit table in
@@ -321,17 +329,17 @@ turned_beside rule circuit new place slots fed places read before after changed 
       read = λ name. h.read name ∙ sym (cares_same circuit new name cares);
       fed = h.fed;
       asked = λ name asks. h.asked name (ap (λ (names : List (List ℕ)). has names name) (sym ports) ∙ asks);
-      waiting = waiting_turned slots fed places circuit new changed before after sound.differ h.placed names cares same h.fed h.waiting
-          (λ i t latch k at_new. put i t latch (subst (λ (ps : List ℕ). is_in ps i ≡ true) (sym is) k) (ap (λ (xs : List Table). slice_get xs i) ts ∙ at_new)) kept;
+      waiting = waiting_turned slots fed places circuit new changed before after sound.differ h.placed names cares alike h.fed h.waiting
+          (λ i t latch k at_new. put i t latch (subst (λ (ps : List ℕ). is_in ps i ≡ true) (sym is) k) at_new) kept;
     }
 
-pub fixed_beside : (circuit new : Circuit) (place last : ℕ) (latch : Latch) (bit : Bool) (output key : List ℕ) (table : Table) (slots slots_after : List (Option Latch)) (fed : List ℕ → Option (List ℕ)) (places places_after : List ℕ → Option ℕ) (read : List (List ℕ)) (before after : ℕ → Bool)
+pub fixed_beside : (circuit new : Circuit) (place last : ℕ) (latch : Latch) (bit : Bool) (output key : List ℕ) (slots slots_after : List (Option Latch)) (fed : List ℕ → Option (List ℕ)) (places places_after : List ℕ → Option ℕ) (read : List (List ℕ)) (before after : ℕ → Bool)
     → has (outputs_of circuit.tables) latch.output ≡ false → IsBeside slots fed places read before circuit → slice_get slots place ≡ Some (Some latch)
-    → output ≡ latch.output → table ≡ constant_table output bit → new ≡ with_added circuit table → last ≡ length circuit.tables → key ≡ latch.output → slots_after ≡ set slots place None
+    → output ≡ latch.output → new ≡ with_added circuit (constant_table output bit) → last ≡ length circuit.tables → key ≡ latch.output → slots_after ≡ set slots place None
     → ((other : List ℕ) → places_after other ≡ (if bytes_eq key other then Some last else places other))
     → ((q : ℕ) → is_in (listed (fed latch.output)) q ≡ true → after q ≡ true) → ((q : ℕ) → before q ≡ true → after q ≡ true) → IsBeside slots_after fed places_after read after new
-fixed_beside circuit new place last latch bit output key table slots slots_after fed places places_after read before after undriven h at o t n l k s put_place put kept =
-    let made : new ≡ with_added circuit (constant_table latch.output bit) = n ∙ ap (with_added circuit) (t ∙ ap (λ (name : List ℕ). constant_table name bit) o) in
+fixed_beside circuit new place last latch bit output key slots slots_after fed places places_after read before after undriven h at o n l k s put_place put kept =
+    let made : new ≡ with_added circuit (constant_table latch.output bit) = n ∙ ap (λ (name : List ℕ). with_added circuit (constant_table name bit)) o in
     subst (λ (c : Circuit). IsBeside slots_after fed places_after read after c) (sym made)
     (subst (λ (ss : List (Option Latch)). IsBeside ss fed places_after read after (with_added circuit (constant_table latch.output bit))) (sym s) record {
       placed = placed_added circuit latch bit places places_after h.placed undriven
@@ -342,16 +350,12 @@ fixed_beside circuit new place last latch bit output key table slots slots_after
       waiting = waiting_fixed slots fed circuit place latch bit before after at h.fed h.waiting put kept;
     })
 
-pub fixed_marked : (circuit new : Circuit) (last : ℕ) (name output : List ℕ) (bit : Bool) (table : Table) (before after : Rule → ℕ → Bool) → output ≡ name → table ≡ constant_table output bit → new ≡ with_added circuit table → last ≡ length circuit.tables
+pub fixed_marked : (circuit new : Circuit) (last : ℕ) (output : List ℕ) (bit : Bool) (before after : Rule → ℕ → Bool) → new ≡ with_added circuit (constant_table output bit) → last ≡ length circuit.tables
     → AreMarked before circuit.tables → ((rule : Rule) (place : ℕ) → after rule place ≡ (last == place || before rule place)) → AreMarked after new.tables
 unfolding with_added
-fixed_marked circuit new last name output bit table before after o t n l all put =
-    subst (λ (c : Circuit). AreMarked after c.tables) (sym (n ∙ ap (with_added circuit) t))
+fixed_marked circuit new last output bit before after n l all put =
+    subst (λ (c : Circuit). AreMarked after c.tables) (sym n)
     (marked_added before after circuit.tables output bit all (λ rule place. put rule place ∙ ap (λ (p : ℕ). p == place || before rule place) l))
-
-pub fixed_readers : (circuit new : Circuit) (latch : Latch) (bit : Bool) (told : List ℕ → ℕ → Bool) → new ≡ with_added circuit (constant_table latch.output bit) → AreReaders told circuit.tables → AreReaders told new.tables
-unfolding with_added
-fixed_readers circuit new latch bit told n all = subst (λ (c : Circuit). AreReaders told c.tables) (sym n) (readers_last told circuit.tables (constant_table latch.output bit) refl all)
 
 pub first_is_fixed : (circuit : Circuit) (slots : List (Option Latch)) (waiting : ℕ → Bool) (place : ℕ) (bit : Bool) → AreMarkedBy (is_fixed circuit) waiting slots → ((i : ℕ) → waiting i ≡ true → place ≤ i)
     → option_map_or (slot_bit circuit) (slice_get slots place) None ≡ Some bit → IsFirstFixed circuit slots (Some (place, bit))

@@ -4,6 +4,7 @@ pub mod Finds
 pub mod Chaining
 pub mod Marking
 pub mod Changing
+pub mod Rewiring
 pub mod Latching
 pub mod Stepping
 pub mod Waking

@@ -23,7 +23,6 @@ use Rattle.net_sweep.specs.declared.latches.Standing.{Standing}
 use Rattle.net_sweep.specs.declared.steps.Step.{Step}
 use Rattle.net_sweep.specs.declared.steps.Step.TheVariants.{Turn, Fix}
 use Rattle.net_sweep.specs.Settled.{passes, rule_turn, table_step, IsNext, HasLed, AreMarked}
-use Rattle.net_readers.specs.Readers.{AreReaders}
 use Rattle.net_sweep.specs.Latches.{left_at, with_latches, IsFirstFixed, IsNextStep, IsReady}
 use Rattle.net_sweep.proofs.Chaining.{not_yet, one_more, led_through, no_heavier, table_step_is, other_step_is}
 use Rattle.net_sweep.proofs.Latching.{fixed_same, found_left, none_left, left_has, left_cleared}
@@ -131,7 +130,7 @@ pub turn_stepped : (circuit new : Circuit) (slots after : List (Option Latch)) (
     → ((table : Table) → slice_get circuit.tables place ≡ Some table → new ≡ rule_turn rule circuit table) → after ≡ slots
     → sweep_step (with_latches circuit (left_at slots)) ≡ Some (with_latches new (left_at after))
 turn_stepped circuit new slots after rule place next turned same =
-    let (table, at, step) = next in
+    let (table, at, step, tidy) = next in
     table_step_is (with_latches circuit (left_at slots)) (with_latches new (left_at after))
     (table_step_whole circuit (left_at slots) ∙ (ap (option_map (λ (c : Circuit). with_latches c (left_at slots))) (step ∙ ap Some (sym (turned table at)))
     ∙ ap (λ (s : List (Option Latch)). Some (with_latches new (left_at s))) (sym same)))
@@ -143,7 +142,10 @@ pub fix_next : (circuit : Circuit) (slots : List (Option Latch)) (step : Step) (
 fix_next circuit slots step place bit next is = subst (λ (s : Step). IsNextStep circuit slots (Some s)) is next
 
 pub turn_within : (circuit : Circuit) (rule : Rule) (place : ℕ) → IsNext circuit (Some (rule, place)) → place < length circuit.tables
-turn_within circuit rule place next = let (table, at, step) = next in slice_get_within circuit.tables place table at
+turn_within circuit rule place next = let (table, at, step, tidy) = next in slice_get_within circuit.tables place table at
+
+pub turn_tidy : (circuit : Circuit) (rule : Rule) (place : ℕ) → IsNext circuit (Some (rule, place)) → rule ≡ Bypass → find (passes Tidy circuit.tables) circuit.tables ≡ None
+turn_tidy circuit rule place next = let (table, at, step, tidy) = next in tidy
 
 pub fix_there : (circuit : Circuit) (slots : List (Option Latch)) (place : ℕ) (bit : Bool) → IsFirstFixed circuit slots (Some (place, bit)) → (latch : Latch) × (slice_get slots place ≡ Some (Some latch))
 fix_there circuit slots place bit first = let (latch, at, has_bit, found) = first in (latch, at)
@@ -164,9 +166,8 @@ fix_stepped circuit new slots after place bit sound next fixed cleared =
 
 -- steps one after the other
 
-pub record IsSettling (from to : Circuit) (standing : Standing) (readers : List ℕ → ℕ → Bool) (marks : Rule → ℕ → Bool) : Type 0 where
+pub record IsSettling (from to : Circuit) (standing : Standing) (marks : Rule → ℕ → Bool) : Type 0 where
   pub led : HasLed from (with_latches to (left_at standing.slots.items))
-  pub listed : AreReaders readers to.tables
   pub marked : AreMarked marks to.tables
   pub ready : IsReady standing to
 
@@ -180,25 +181,23 @@ whole_again circuit sound = ap (λ (timing : Option Timing). record circuit { ti
 begun : (circuit : Circuit) (slots : List (Option Latch)) → IsSound circuit → left_at slots ≡ circuit.latches → HasLed circuit (with_latches circuit (left_at slots))
 begun circuit slots sound left = subst (HasLed circuit) (sym (ap (with_latches circuit) left ∙ whole_again circuit sound)) (not_yet circuit sound)
 
-pub settling_none : (circuit : Circuit) (standing : Standing) (now : List Table) (count : ℕ) (readers : List ℕ → ℕ → Bool) (marks : Rule → ℕ → Bool) → IsSound circuit → IsReady standing circuit → left_at standing.slots.items ≡ circuit.latches
-    → now ≡ circuit.tables → count ≡ length circuit.tables → AreReaders readers now → ((rule : Rule) (place : ℕ) → place < count → marks rule place ≡ true) → IsSettling circuit circuit standing readers marks
-settling_none circuit standing now count readers marks sound ready left same long all every = record {
+pub settling_none : (circuit begin : Circuit) (standing : Standing) (count : ℕ) (marks : Rule → ℕ → Bool) → IsSound circuit → IsReady standing circuit → left_at standing.slots.items ≡ circuit.latches
+    → begin ≡ circuit → count ≡ length circuit.tables → ((rule : Rule) (place : ℕ) → place < count → marks rule place ≡ true) → IsSettling circuit begin standing marks
+settling_none circuit begin standing count marks sound ready left same long every = subst (λ (c : Circuit). IsSettling circuit c standing marks) (sym same) record {
   led = begun circuit standing.slots.items sound left;
-  listed = subst (λ (ts : List Table). AreReaders readers ts) same all;
   marked = λ rule place table at passed. every rule place (subst (λ (n : ℕ). place < n) (sym long) (slice_get_within circuit.tables place table at));
   ready = ready;
 }
 
 -- a step, and then the table at which it was taken is emptied where nothing takes it
-pub settling_more : (from to mid_circuit new : Circuit) (standing mid after : Standing) (readers readers_after : List ℕ → ℕ → Bool) (marks marks_after : Rule → ℕ → Bool) → IsSettling from to standing readers marks
+pub settling_more : (from to mid_circuit new : Circuit) (standing mid after : Standing) (marks marks_after : Rule → ℕ → Bool) → IsSettling from to standing marks
     → mid.slots.items ≡ standing.slots.items → sweep_step (with_latches to (left_at mid.slots.items)) ≡ Some (with_latches mid_circuit (left_at after.slots.items))
     → HasLed (with_latches mid_circuit (left_at after.slots.items)) (with_latches new (left_at after.slots.items))
-    → AreReaders readers_after new.tables → AreMarked marks_after new.tables → IsReady after new → IsSettling from new after readers_after marks_after
-settling_more from to mid_circuit new standing mid after readers readers_after marks marks_after h same step emptied listed marked ready = record {
+    → AreMarked marks_after new.tables → IsReady after new → IsSettling from new after marks_after
+settling_more from to mid_circuit new standing mid after marks marks_after h same step emptied marked ready = record {
   led = led_through from (with_latches mid_circuit (left_at after.slots.items)) (with_latches new (left_at after.slots.items))
       (one_more from (with_latches to (left_at standing.slots.items)) (with_latches mid_circuit (left_at after.slots.items)) h.led
       (subst (λ (slots : List (Option Latch)). sweep_step (with_latches to (left_at slots)) ≡ Some (with_latches mid_circuit (left_at after.slots.items))) same step)) emptied;
-  listed = listed;
   marked = marked;
   ready = ready;
 }
@@ -231,15 +230,19 @@ still_next circuit slots mid o step next is same = subst (λ (ss : List (Option 
 pub still_sound : (circuit : Circuit) (slots mid : List (Option Latch)) → IsSound (with_latches circuit (left_at slots)) → mid ≡ slots → IsSound (with_latches circuit (left_at mid))
 still_sound circuit slots mid sound same = subst (λ (ss : List (Option Latch)). IsSound (with_latches circuit (left_at ss))) (sym same) sound
 
-pub settled_led : (from to end : Circuit) (slots mid : List (Option Latch)) → HasLed from (with_latches to (left_at slots)) → mid ≡ slots → end ≡ with_latches to (left_at mid) → HasLed from end
-settled_led from to end slots mid led same is = subst (HasLed from) (sym (is ∙ ap (λ (ss : List (Option Latch)). with_latches to (left_at ss)) same)) led
+pub settled_led : (from to left end : Circuit) (slots mid : List (Option Latch)) → HasLed from (with_latches to (left_at slots)) → mid ≡ slots → left ≡ to → end ≡ with_latches left (left_at mid) → HasLed from end
+settled_led from to left end slots mid led same l is =
+    subst (HasLed from) (sym (is ∙ (ap (λ (c : Circuit). with_latches c (left_at mid)) l ∙ ap (λ (ss : List (Option Latch)). with_latches to (left_at ss)) same))) led
 
 pub none_next : (circuit : Circuit) (slots mid : List (Option Latch)) (o : Option Step) → IsNextStep circuit slots o → o ≡ None → mid ≡ slots → IsNextStep circuit mid None
 none_next circuit slots mid o next is same = subst (λ (ss : List (Option Latch)). IsNextStep circuit ss None) (sym same) (subst (IsNextStep circuit slots) is next)
 
-pub settled_tables : (circuit end : Circuit) (slots : List (Option Latch)) → IsNextStep circuit slots None → end ≡ with_latches circuit (left_at slots) → table_step end ≡ None
-settled_tables circuit end slots next is = ap table_step is ∙ (table_step_whole circuit (left_at slots) ∙ ap (option_map (λ (c : Circuit). with_latches c (left_at slots))) next.0)
+pub settled_tables : (circuit left end : Circuit) (slots : List (Option Latch)) → IsNextStep circuit slots None → left ≡ circuit → end ≡ with_latches left (left_at slots) → table_step end ≡ None
+settled_tables circuit left end slots next l is =
+    ap table_step (is ∙ ap (λ (c : Circuit). with_latches c (left_at slots)) l)
+    ∙ (table_step_whole circuit (left_at slots) ∙ ap (option_map (λ (c : Circuit). with_latches c (left_at slots))) next.0)
 
-pub settled_latches : (circuit end : Circuit) (slots : List (Option Latch)) → IsNextStep circuit slots None → end ≡ with_latches circuit (left_at slots) → latch_rule end ≡ None
-settled_latches circuit end slots next is =
-    ap latch_rule is ∙ latch_rule_none (with_latches circuit (left_at slots)) (whole_find circuit (left_at slots) (left_at slots) ∙ none_left circuit slots next.1)
+pub settled_latches : (circuit left end : Circuit) (slots : List (Option Latch)) → IsNextStep circuit slots None → left ≡ circuit → end ≡ with_latches left (left_at slots) → latch_rule end ≡ None
+settled_latches circuit left end slots next l is =
+    ap latch_rule (is ∙ ap (λ (c : Circuit). with_latches c (left_at slots)) l)
+    ∙ latch_rule_none (with_latches circuit (left_at slots)) (whole_find circuit (left_at slots) (left_at slots) ∙ none_left circuit slots next.1)

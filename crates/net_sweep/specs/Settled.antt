@@ -1,7 +1,7 @@
 -- The first four rules of sweep, which change tables and leave their number, their outputs and their places; and what is
 -- kept to see soon where one of them applies: places where a rule may apply.
 -- Source: the SIS manual (UCB/ERL M92/41), `sweep`.
-use Rattle.std.specs.Prelude.{◌≡◌, ℕ, ◌&&◌, Bool, true, false, not, Option, Some, None, is_some, List, [], ◌∷◌, ◌⊎◌, slice_get, bytes_eq}
+use Rattle.std.specs.Prelude.{◌≡◌, ℕ, ◌&&◌, Bool, true, false, not, Option, Some, None, is_some, List, [], ◌∷◌, ◌⊎◌, find, slice_get, bytes_eq, ⊤}
 use Rattle.std.specs.Option.{option_or}
 use Rattle.std.specs.List.{AllByRecursion}
 use Rattle.std.specs.Ordering.{nat_cmp}
@@ -48,10 +48,13 @@ rule_turn Bypass circuit table = with_bypass circuit table
 unfoldable pub table_step : Circuit → Option Circuit
 table_step circuit = option_or (tidy_rule circuit) (option_or (constant_rule circuit) (option_or (put_rule circuit) (bypass_rule circuit)))
 
--- the rule and the place of the table to which the next step of these rules applies it, if there is one
+-- the rule and the place of the table to which the next step of these rules applies it, if there is one; a table is passed
+-- by only where all are tidy
 abbrev pub IsNext : Circuit → Option (Rule × ℕ) → Type 0
 IsNext circuit None = table_step circuit ≡ None
-IsNext circuit (Some (rule, place)) = (table : Table) × (slice_get circuit.tables place ≡ Some table) × (table_step circuit ≡ Some (rule_turn rule circuit table))
+IsNext circuit (Some (rule, place)) =
+    (table : Table) × (slice_get circuit.tables place ≡ Some table) × (table_step circuit ≡ Some (rule_turn rule circuit table))
+    × (rule ≡ Bypass → find (passes Tidy circuit.tables) circuit.tables ≡ None)
 
 -- a table in which a signal has a bit, or gives place to another one
 abbrev pub changed_by : List ℕ → Change → Table → Table
@@ -83,20 +86,36 @@ marked_in candidates Constant place = contains nat_cmp candidates.unwritten plac
 marked_in candidates Put place = contains nat_cmp candidates.constants place
 marked_in candidates Bypass place = contains nat_cmp candidates.singles place
 
--- tables are the same but at some places
-abbrev pub AreSameBut : List ℕ → List Table → List Table → Type 0
-AreSameBut places old new = (place : ℕ) → is_in places place ≡ false → slice_get new place ≡ slice_get old place
+-- two tables of which the rules find the same: the signal, whether they are tidy, the constant that they ought to be written
+-- as, the one that they are written as, and whether they have one input
+pub record IsAlike (old new : Table) : Type 0 where
+  pub output : new.output ≡ old.output
+  pub tidy : is_tidy new ≡ is_tidy old
+  pub unwritten : unwritten_bit new ≡ unwritten_bit old
+  pub written : written_bit new ≡ written_bit old
+  pub single : is_some (only_input new.inputs) ≡ is_some (only_input old.inputs)
+
+-- the same at a place, or no table in both
+abbrev pub IsAlikeThere : Option Table → Option Table → Type 0
+IsAlikeThere None None = ⊤
+IsAlikeThere None (Some new) = ⊥
+IsAlikeThere (Some old) None = ⊥
+IsAlikeThere (Some old) (Some new) = IsAlike old new
+
+-- but at some places tables stand where tables stood, and the rules find the same of them
+abbrev pub AreAlikeBut : List ℕ → List Table → List Table → Type 0
+AreAlikeBut places old new = (place : ℕ) → is_in places place ≡ false → IsAlikeThere (slice_get old place) (slice_get new place)
 
 -- a step of sweep; or a table that nothing takes is emptied, which changes no chain's end
-abbrev pub IsTurn : Circuit → Circuit → Type 0
-IsTurn from to = (sweep_step from ≡ Some to) ⊎ ((name : List ℕ) × IsIdle from name × (to ≡ with_emptied from name))
+abbrev pub IsMove : Circuit → Circuit → Type 0
+IsMove from to = (sweep_step from ≡ Some to) ⊎ ((name : List ℕ) × IsIdle from name × (to ≡ with_emptied from name))
 
--- turns lead from one circuit to another one, over some between them
+-- moves lead from one circuit to another one, over some between them
 abbrev pub Goes : List Circuit → Circuit → Circuit → Type 0
 Goes [] from to = from ≡ to
-Goes (next ∷ rest) from to = IsTurn from next × Goes rest next to
+Goes (next ∷ rest) from to = IsMove from next × Goes rest next to
 
--- turns have led from one circuit to another one, which is sound
+-- moves have led from one circuit to another one, which is sound
 pub record HasLed (from to : Circuit) : Type 0 where
   pub between : List Circuit
   pub goes : Goes between from to

@@ -16,10 +16,11 @@ ghost use Rattle.net_sweep.specs.Latches.{left_at, with_latches, IsReady};
 
 use crate::latches::Standing;
 use crate::marks::{Candidates, mark, put_place};
-use circuit_model::{Circuit, Latch, Name, Table};
+use circuit_model::{Latch, Name};
 use indexmap::IndexMap;
-use net_needed::{constant_table, note_place, written_bit};
+use net_needed::note_place;
 use net_readers::Places;
+use net_wires::Wires;
 use sis_base::Copied;
 use std::alloc::{AllocError, Global};
 use std::collections::BTreeSet;
@@ -35,15 +36,6 @@ fn take_latch(slots: &mut Vec<Option<Latch>>, place: usize) -> Latch
         Some(latch) => latch,
         None => unreachable!(),
     }
-}
-
-// Puts a table behind the last.
-#[tactic(auto, unfolding(circuit_laws::specs::Edits::with_added))]
-fn add_table(circuit: &mut Circuit, table: Table) -> Result<(), AllocError>
-    ensures { OnOk result (circuit.new ≡ with_added circuit.old table) }
-{
-    circuit.tables.push(table)?;
-    Ok(())
 }
 
 // Puts places in.
@@ -74,37 +66,37 @@ pub(crate) fn wake(
 
 // The latches that read the table at a place, if there is one, wait where it is written as a constant.
 fn wake_at(
-    tables: &[Table],
+    alloc: Global,
+    circuit: &Wires,
     place: usize,
     fed: &IndexMap<Name, Places>,
     waiting: &mut BTreeSet<usize>,
 ) -> Result<(), AllocError>
-    ensures put { OnOk result ((table : TheTable) (latch : ℕ) → slice_get tables.now place ≡ Some table → is_some (bit_written table) ≡ true → is_in (listed (get bytes_eq fed.now table.output)) latch ≡ true → contains nat_cmp waiting.new latch ≡ true) }
+    ensures put { OnOk result ((table : TheTable) (latch : ℕ) → slice_get circuit.now.tables place ≡ Some table → is_some (bit_written table) ≡ true → is_in (listed (get bytes_eq fed.now table.output)) latch ≡ true → contains nat_cmp waiting.new latch ≡ true) }
     ensures kept { OnOk result ((latch : ℕ) → contains nat_cmp waiting.old latch ≡ true → contains nat_cmp waiting.new latch ≡ true) }
 {
-    match tables.get(place) {
+    if circuit.bit(place).is_none() {
+        return Ok(());
+    }
+    match circuit.table(alloc, place)? {
         None => Ok(()),
-        Some(table) => {
-            if written_bit(table).is_none() {
-                return Ok(());
-            }
-            wake(fed, waiting, &table.output)
-        }
+        Some(table) => wake(fed, waiting, &table.output),
     }
 }
 
 // The latches that read the tables at some places wait where these are written as constants.
 pub(crate) fn wake_all(
-    tables: &[Table],
+    alloc: Global,
+    circuit: &Wires,
     places: &[usize],
     fed: &IndexMap<Name, Places>,
     waiting: &mut BTreeSet<usize>,
 ) -> Result<(), AllocError>
-    ensures put { OnOk result ((place : ℕ) (table : TheTable) (latch : ℕ) → is_in places.now place ≡ true → slice_get tables.now place ≡ Some table → is_some (bit_written table) ≡ true → is_in (listed (get bytes_eq fed.now table.output)) latch ≡ true → contains nat_cmp waiting.new latch ≡ true) }
+    ensures put { OnOk result ((place : ℕ) (table : TheTable) (latch : ℕ) → is_in places.now place ≡ true → slice_get circuit.now.tables place ≡ Some table → is_some (bit_written table) ≡ true → is_in (listed (get bytes_eq fed.now table.output)) latch ≡ true → contains nat_cmp waiting.new latch ≡ true) }
     ensures kept { OnOk result ((latch : ℕ) → contains nat_cmp waiting.old latch ≡ true → contains nat_cmp waiting.new latch ≡ true) }
 {
     for place in places {
-        wake_at(tables, *place, fed, waiting)?;
+        wake_at(alloc, circuit, *place, fed, waiting)?;
     }
     Ok(())
 }
@@ -114,7 +106,7 @@ pub(crate) fn fix(
     alloc: Global,
     place: usize,
     bit: bool,
-    circuit: &mut Circuit,
+    circuit: &mut Wires,
     candidates: &mut Candidates,
     standing: &mut Standing,
 ) -> Result<(), AllocError>
@@ -128,8 +120,8 @@ pub(crate) fn fix(
     ensures marked { OnOk result (AreMarked (marked_in candidates.new) circuit.new.tables) }
 {
     let name = take_latch(&mut standing.slots, place).output;
-    let last = circuit.tables.len();
-    add_table(circuit, constant_table(alloc, name.copy(alloc)?, bit)?)?;
+    let last = circuit.len();
+    circuit.add_constant(alloc, name.copy(alloc)?, bit)?;
     mark(candidates, last)?;
     note_place(&mut standing.tables, name.copy(alloc)?, last)?;
     wake(&standing.fed, &mut standing.waiting, &name)

@@ -19,10 +19,11 @@ ghost use Rattle.net_sweep.specs.Settled.{AreMarkedBy};
 ghost use Rattle.net_sweep.specs.Latches.{slot_bit as bit_of_slot, is_fixed, IsFirstFixed, IsReady};
 
 use crate::marks::{put_place, take_least};
-use circuit_model::{Circuit, Latch, Name, Table};
+use circuit_model::{Latch, Name};
 use indexmap::{IndexMap, IndexSet};
-use net_needed::{is_among, table_of, written_bit};
+use net_needed::is_among;
 use net_readers::Places;
+use net_wires::Wires;
 use std::alloc::AllocError;
 use std::collections::BTreeSet;
 
@@ -39,13 +40,13 @@ pub(crate) struct Standing {
 }
 
 // The constant that the table of a signal is written as.
-fn driven_bit(places: &IndexMap<Name, usize>, tables: &[Table], name: &Name) -> Option<bool>
-    requires { LeadsToTables (get bytes_eq places.now) tables.now }
-    ensures { result ≡ option_map_or bit_written (driver tables.now name.now) None }
+fn driven_bit(circuit: &Wires, places: &IndexMap<Name, usize>, name: &Name) -> Option<bool>
+    requires { LeadsToTables (get bytes_eq places.now) circuit.now.tables }
+    ensures { result ≡ option_map_or bit_written (driver circuit.now.tables name.now) None }
 {
-    match table_of(places, tables, name) {
+    match places.get(name) {
         None => None,
-        Some(table) => written_bit(table),
+        Some(place) => circuit.bit(*place),
     }
 }
 
@@ -62,7 +63,7 @@ fn starts_at(init: u8, bit: bool) -> bool
 // The bit that a latch always has.
 #[tactic(auto, unfolding(sweep_rules::specs::Rules::fixed_bit))]
 fn fixed_bit(
-    circuit: &Circuit,
+    circuit: &Wires,
     places: &IndexMap<Name, usize>,
     read: &IndexSet<Name>,
     latch: &Latch,
@@ -72,7 +73,7 @@ fn fixed_bit(
     ensures { result ≡ bit_fixed circuit.now latch.now }
 {
     let is_read = is_among(read, &latch.output);
-    match driven_bit(places, circuit.tables.as_slice(), &latch.input) {
+    match driven_bit(circuit, places, &latch.input) {
         None => None,
         Some(bit) => {
             if starts_at(latch.init, bit) && !is_read {
@@ -86,7 +87,7 @@ fn fixed_bit(
 
 // The bit that the latch at a place always has, if one is left there.
 fn slot_bit(
-    circuit: &Circuit,
+    circuit: &Wires,
     places: &IndexMap<Name, usize>,
     read: &IndexSet<Name>,
     slot: &Option<Latch>,
@@ -103,7 +104,7 @@ fn slot_bit(
 
 // The bit that the latch at a place always has, if the place is one and a latch is left there.
 fn bit_at(
-    circuit: &Circuit,
+    circuit: &Wires,
     places: &IndexMap<Name, usize>,
     read: &IndexSet<Name>,
     slots: &[Option<Latch>],
@@ -121,7 +122,7 @@ fn bit_at(
 
 // The place of the first latch that always has one bit, with the bit; the place stays among those that wait.
 fn first_fixed(
-    circuit: &Circuit,
+    circuit: &Wires,
     places: &IndexMap<Name, usize>,
     read: &IndexSet<Name>,
     slots: &[Option<Latch>],
@@ -144,7 +145,7 @@ fn first_fixed(
 
 // The place of the first latch that always has one bit, with the bit.
 pub(crate) fn next_fixed(
-    circuit: &Circuit,
+    circuit: &Wires,
     standing: &mut Standing,
 ) -> Result<Option<(usize, bool)>, AllocError>
     requires differ { all_different (outputs_of circuit.now.tables) ≡ true }

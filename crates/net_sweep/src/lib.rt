@@ -4,9 +4,9 @@
 //! Source: the SIS manual (UCB/ERL M92/41), `sweep`. What a step is stands in sweep_rules. Here steps are taken until none
 //! applies: of the first four rules at places of tables that wait in ordered sets (`marks`, `turns`), of the fifth at
 //! places of latches that wait likewise (`latches`, `fixing`; `standing` takes latches out and puts them back), all of them
-//! in place (`tables`: a table is changed with the readers of signals); behind a step the table at which it was taken is
-//! emptied where nothing takes it (`idle`). The last rule is one pass over the circuit, by net_needed, behind which the
-//! first five are asked again.
+//! on wires (net_wires), where two signals change places in all tables at once: a table of one input with many readers is
+//! passed by in this way; behind a step the table at which it was taken is emptied where nothing takes it (`idle`). The last
+//! rule is one pass over the circuit, by net_needed, behind which the first five are asked again.
 //! Promised: the chain of steps, to its end (`sweep`); an error, only for want of memory, changes nothing.
 #![tactic(auto)]
 
@@ -20,7 +20,6 @@ mod rows;
 mod standing;
 mod steps;
 mod sweeping;
-mod tables;
 mod turns;
 
 pub use sweeping::{SweepFault, Swept, sweep};

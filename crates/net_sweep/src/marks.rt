@@ -93,11 +93,11 @@ pub(crate) fn all_marked(alloc: Global, count: usize) -> Result<Candidates, Allo
 }
 
 // Takes the list of a signal out.
-pub(crate) fn take_list(alloc: Global, readers: &mut IndexMap<Name, Places>, name: &Name) -> Places
-    ensures list { result ≡ listed (get bytes_eq readers.old name.now) }
-    ensures rest { (other : List ℕ) → get bytes_eq readers.new other ≡ (if bytes_eq name.now other then None else get bytes_eq readers.old other) }
+pub(crate) fn take_list(alloc: Global, lists: &mut IndexMap<Name, Places>, name: &Name) -> Places
+    ensures list { result ≡ listed (get bytes_eq lists.old name.now) }
+    ensures rest { (other : List ℕ) → get bytes_eq lists.new other ≡ (if bytes_eq name.now other then None else get bytes_eq lists.old other) }
 {
-    match readers.swap_remove(name) {
+    match lists.swap_remove(name) {
         Some(places) => places,
         None => Sequence::new(alloc),
     }
@@ -105,27 +105,27 @@ pub(crate) fn take_list(alloc: Global, readers: &mut IndexMap<Name, Places>, nam
 
 // Puts the list of a signal in.
 pub(crate) fn put_list(
-    readers: &mut IndexMap<Name, Places>,
+    lists: &mut IndexMap<Name, Places>,
     name: Name,
     places: Places,
 ) -> Result<(), AllocError>
-    ensures { OnOk result ((other : List ℕ) → get bytes_eq readers.new other ≡ (if bytes_eq name other then Some places else get bytes_eq readers.old other)) }
+    ensures { OnOk result ((other : List ℕ) → get bytes_eq lists.new other ≡ (if bytes_eq name other then Some places else get bytes_eq lists.old other)) }
 {
-    let _list = readers.insert(name, places)?;
+    let _list = lists.insert(name, places)?;
     Ok(())
 }
 
-// Puts a reader behind the last of a signal.
-pub(crate) fn add_reader(
+// Puts a place behind the last of a signal.
+pub(crate) fn add_place(
     alloc: Global,
-    readers: &mut IndexMap<Name, Places>,
+    lists: &mut IndexMap<Name, Places>,
     name: &Name,
-    reader: usize,
+    place: usize,
 ) -> Result<(), AllocError>
-    ensures { OnOk result ((other : List ℕ) → listed (get bytes_eq readers.new other) ≡ (if bytes_eq name.now other then listed (get bytes_eq readers.old other) ++ reader ∷ [] else listed (get bytes_eq readers.old other))) }
+    ensures { OnOk result ((other : List ℕ) → listed (get bytes_eq lists.new other) ≡ (if bytes_eq name.now other then listed (get bytes_eq lists.old other) ++ place ∷ [] else listed (get bytes_eq lists.old other))) }
 {
     let key = name.copy(alloc)?;
-    let mut places = take_list(alloc, readers, name);
-    places.push(reader)?;
-    put_list(readers, key, places)
+    let mut places = take_list(alloc, lists, name);
+    places.push(place)?;
+    put_list(lists, key, places)
 }

@@ -6,10 +6,11 @@ ghost use Rattle.circuit_model.specs.Names.{has};
 ghost use Rattle.circuit_model.specs.Values.{table_value};
 ghost use Rattle.circuit_model.specs.declared.circuit.Tri.TheVariants.{Free};
 ghost use Rattle.net_core.specs.Tables.{HasCharacters};
-ghost use Rattle.net_sweep.specs.Turns.{opens_at_one};
-ghost use Rattle.sweep_rules.specs.Rules.{asks_against, row_at_bit as bit_in_row, at_bit as table_at_bit, renamed as name_for, turned_over, row_turned as turned_row, rewired as table_rewired, is_inverter as inverts_input};
+ghost use Rattle.net_sweep.specs.Turns.{opens_at_one, row_at_marks};
+ghost use Rattle.sweep_rules.specs.Rules.{asks_against, at_bit as table_at_bit, renamed as name_for, row_turned as turned_row, rewired as table_rewired, is_inverter as inverts_input};
 
 use circuit_model::{Name, Names, Row, Rows, Table, Tri};
+use net_wires::rows_turned;
 use sis_base::{Copied, Sequence};
 use std::alloc::{AllocError, Global};
 use table_tidy::tidied_table;
@@ -34,20 +35,30 @@ fn place_at_bit(is_signal: bool, bit: bool, place: Tri) -> Option<Tri>
     }
 }
 
-// A row in which a signal has a bit, if it is left.
+// For each name, whether it is the signal.
+fn marks_of(alloc: Global, name: &Name, inputs: &[Name]) -> Result<Vec<bool>, AllocError>
+    ensures { IfOk result (λ marks. marks.items ≡ map (bytes_eq name.now) inputs.now) }
+{
+    let mut marks = Vec::with_capacity(alloc, inputs.len())?;
+    for input in inputs {
+        marks.push(*name == *input)?;
+    }
+    Ok(marks)
+}
+
+// A row in which the signal at the marked places has a bit, if it is left.
 fn row_at_bit(
     alloc: Global,
-    name: &Name,
     bit: bool,
-    inputs: &[Name],
+    marks: &[bool],
     row: &[Tri],
 ) -> Result<Option<Row>, AllocError>
-    requires { length row.now ≡ length inputs.now }
-    ensures { IfOk result (λ made. made ≡ bit_in_row name.now bit inputs.now row.now) }
+    requires { length row.now ≡ length marks.now }
+    ensures { IfOk result (λ made. made ≡ row_at_marks bit marks.now row.now) }
 {
     let mut made = Vec::with_capacity(alloc, row.len())?;
-    for (i, input) in inputs.iter().enumerate() {
-        match place_at_bit(*name == *input, bit, row[i]) {
+    for (i, mark) in marks.iter().enumerate() {
+        match place_at_bit(*mark, bit, row[i]) {
             None => return Ok(None),
             Some(place) => made.push(place)?,
         }
@@ -65,20 +76,14 @@ fn add_row(rows: &mut Rows, row: Option<Row>) -> Result<(), AllocError>
     Ok(())
 }
 
-// The rows that are left where a signal has a bit.
-fn rows_at_bit(
-    alloc: Global,
-    name: &Name,
-    bit: bool,
-    inputs: &[Name],
-    rows: &[Row],
-) -> Result<Rows, AllocError>
-    requires { HasCharacters (length inputs.now) rows.now }
-    ensures { IfOk result (λ made. made ≡ filter_map (bit_in_row name.now bit inputs.now) rows.now) }
+// The rows that are left where the signal at the marked places has a bit.
+fn rows_at_bit(alloc: Global, bit: bool, marks: &[bool], rows: &[Row]) -> Result<Rows, AllocError>
+    requires { HasCharacters (length marks.now) rows.now }
+    ensures { IfOk result (λ made. made ≡ filter_map (row_at_marks bit marks.now) rows.now) }
 {
     let mut made = Sequence::new(alloc);
     for row in rows {
-        let left = row_at_bit(alloc, name, bit, inputs, row.as_slice())?;
+        let left = row_at_bit(alloc, bit, marks, row.as_slice())?;
         add_row(&mut made, left)?;
     }
     Ok(made)
@@ -98,13 +103,8 @@ pub(crate) fn at_bit(
     if !is_among(&table.inputs, name) {
         return table.copy(alloc);
     }
-    let rows = rows_at_bit(
-        alloc,
-        name,
-        bit,
-        table.inputs.as_slice(),
-        table.rows.as_slice(),
-    )?;
+    let marks = marks_of(alloc, name, table.inputs.as_slice())?;
+    let rows = rows_at_bit(alloc, bit, marks.as_slice(), table.rows.as_slice())?;
     let put = Table {
         inputs: table.inputs.copy(alloc)?,
         output: table.output.copy(alloc)?,
@@ -112,49 +112,6 @@ pub(crate) fn at_bit(
         phase: table.phase,
     };
     tidied_table(alloc, put)
-}
-
-// A character of a row, turned over where it is that of the signal.
-fn turned_place(is_signal: bool, place: Tri) -> Tri
-    ensures { result ≡ (if is_signal then turned_over place else place) }
-{
-    if !is_signal {
-        return place;
-    }
-    match place {
-        Tri::Zero => Tri::One,
-        Tri::One => Tri::Zero,
-        Tri::Free => Tri::Free,
-    }
-}
-
-// A row with the characters of a signal turned over.
-fn row_turned(alloc: Global, name: &Name, inputs: &[Name], row: &[Tri]) -> Result<Row, AllocError>
-    requires { length row.now ≡ length inputs.now }
-    ensures { IfOk result (λ made. made ≡ turned_row name.now inputs.now row.now) }
-{
-    let mut made = Vec::with_capacity(alloc, row.len())?;
-    for (i, input) in inputs.iter().enumerate() {
-        made.push(turned_place(*name == *input, row[i]))?;
-    }
-    Ok(Sequence::from_vec(made))
-}
-
-// Rows with the characters of a signal turned over.
-fn rows_turned(
-    alloc: Global,
-    name: &Name,
-    inputs: &[Name],
-    rows: &[Row],
-) -> Result<Rows, AllocError>
-    requires { HasCharacters (length inputs.now) rows.now }
-    ensures { IfOk result (λ made. made ≡ map (turned_row name.now inputs.now) rows.now) }
-{
-    let mut made = Vec::with_capacity(alloc, rows.len())?;
-    for row in rows {
-        made.push(row_turned(alloc, name, inputs, row.as_slice())?)?;
-    }
-    Ok(Sequence::from_vec(made))
 }
 
 // The rows of a table that reads a signal through an inverter or directly.
@@ -170,7 +127,8 @@ fn rows_rewired(
     if !inverts {
         return table.rows.copy(alloc);
     }
-    rows_turned(alloc, name, table.inputs.as_slice(), table.rows.as_slice())
+    let marks = marks_of(alloc, name, table.inputs.as_slice())?;
+    rows_turned(alloc, marks.as_slice(), table.rows.as_slice())
 }
 
 // A name, or the one that takes its place.

@@ -13,7 +13,7 @@ ghost use Rattle.net_readers.specs.Readers.{is_in};
 ghost use Rattle.net_sweep.specs.Latches.{left_at, with_latches, IsPlaced, IsReady};
 
 use crate::latches::Standing;
-use crate::marks::{add_reader, put_list, put_place};
+use crate::marks::{add_place, put_list, put_place};
 use circuit_model::{Circuit, Latch, Latches, Name, Table, Timing};
 use indexmap::IndexMap;
 use net_needed::{leaves_read, note_place};
@@ -39,7 +39,7 @@ fn fed_latches(alloc: Global, latches: &[Latch]) -> Result<IndexMap<Name, Places
 {
     let mut lists = IndexMap::new(alloc);
     for (place, latch) in latches.iter().enumerate() {
-        add_reader(alloc, &mut lists, &latch.input, place)?;
+        add_place(alloc, &mut lists, &latch.input, place)?;
     }
     Ok(lists)
 }

@@ -18,7 +18,7 @@ use circuit_model::{Circuit, Name};
 use cube_cover::Row;
 use net_core::Network;
 use net_needed::need_step;
-use net_readers::Readers;
+use net_wires::Wires;
 use std::alloc::{AllocError, Global};
 
 /// How many tables and latches a sweep took away; a latch that became a table counts as a latch alone.
@@ -49,21 +49,14 @@ fn settled<R: Row>(alloc: Global, circuit: Circuit) -> Result<Circuit, AllocErro
     ensures tables { IfOk result (λ end. table_step end ≡ None) }
     ensures latches { IfOk result (λ end. latch_rule end ≡ None) }
 {
-    let mut end = circuit;
-    let mut standing = standing_of(alloc, &end)?;
-    let mut readers = Readers::of_tables(alloc, end.tables.as_slice())?;
-    let mut candidates = all_marked(alloc, end.tables.len())?;
-    while let Some(step) = next_step::<R>(alloc, &end, &readers, &mut candidates, &mut standing)? {
-        take_step::<R>(
-            alloc,
-            step,
-            &mut end,
-            &mut readers,
-            &mut candidates,
-            &mut standing,
-        )?;
-        empty_turned(alloc, step, &mut end, &mut readers, &standing)?;
+    let mut standing = standing_of(alloc, &circuit)?;
+    let mut candidates = all_marked(alloc, circuit.tables.len())?;
+    let mut wires = Wires::from_circuit(alloc, circuit)?;
+    while let Some(step) = next_step::<R>(alloc, &wires, &mut candidates, &mut standing)? {
+        take_step::<R>(alloc, step, &mut wires, &mut candidates, &mut standing)?;
+        empty_turned(alloc, step, &mut wires, &standing)?;
     }
+    let end = wires.into_circuit(alloc)?;
     with_standing(alloc, end, &standing)
 }
 

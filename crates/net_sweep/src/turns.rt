@@ -1,6 +1,6 @@
 //! Where a rule that changes tables applies next, and what it changes.
 
-ghost use Rattle.std.specs.Prelude.{◌≡◌, ℕ, ◌<◌, ◌==◌, Bool, true, false, Option, Some, None, List, [], ◌∷◌, ◌++◌, length, map, slice_get, slice_set, bytes_eq, if◌then◌else◌, IfOk, OnOk};
+ghost use Rattle.std.specs.Prelude.{◌≡◌, ℕ, ◌<◌, ◌==◌, Bool, true, false, Option, Some, None, List, [], ◌∷◌, ◌++◌, length, map, find, slice_get, slice_set, bytes_eq, if◌then◌else◌, IfOk, OnOk};
 ghost use Rattle.std.specs.Ordering.{nat_cmp};
 ghost use Rattle.std.specs.BTreeSet.{contains};
 ghost use Rattle.std.specs.List.{AllByRecursion};
@@ -12,20 +12,21 @@ ghost use Rattle.circuit_laws.specs.Edits.{with_tables as tables_in};
 ghost use Rattle.net_core.specs.Tables.{HasCharacters};
 ghost use Rattle.net_sweep.specs.declared.marks.Rule.{Rule as TheRule};
 ghost use Rattle.net_sweep.specs.declared.marks.Rule.TheVariants.{Tidy, Constant, Put, Bypass};
+ghost use Rattle.net_sweep.specs.declared.turns.Change.TheVariants.{Input};
 ghost use Rattle.table_tidy.specs.Tidy.{IsWide};
-ghost use Rattle.sweep_rules.specs.Rules.{only_input as input_alone};
+ghost use Rattle.sweep_rules.specs.Rules.{only_input as input_alone, rewired as table_rewired};
 ghost use Rattle.net_sweep.specs.Turns.{IsFirst};
-ghost use Rattle.net_sweep.specs.Settled.{passes, rule_turn, IsNext, changed_by, is_apart, marked_in, AreMarkedBy, AreMarked, AreSameBut, AreSound};
-ghost use Rattle.net_readers.specs.Readers.{told, is_in, AreReaders};
+ghost use Rattle.net_sweep.specs.Settled.{passes, rule_turn, IsNext, changed_by, is_apart, marked_in, AreMarkedBy, AreMarked, AreAlikeBut, AreSound};
+ghost use Rattle.net_readers.specs.Readers.{is_in, reads_at};
 
 use crate::constants::unwritten_bit;
 use crate::marks::{Candidates, Rule, mark_all, put_place, take_least};
 use crate::rows::{at_bit, is_inverter, rewired};
-use crate::tables::{set_table, table_at};
-use circuit_model::{Circuit, Name, Table};
+use circuit_model::{Name, Table};
 use cube_cover::Row;
 use net_needed::{constant_table, written_bit};
-use net_readers::{Places, Readers};
+use net_readers::Places;
+use net_wires::Wires;
 use sis_base::{Copied, Sequence};
 use std::alloc::{AllocError, Global};
 use std::collections::BTreeSet;
@@ -53,12 +54,10 @@ fn only_input(alloc: Global, inputs: &[Name]) -> Result<Option<Name>, AllocError
 fn applies_to<R: Row>(
     alloc: Global,
     rule: Rule,
-    circuit: &Circuit,
-    readers: &Readers,
+    circuit: &Wires,
     table: &Table,
 ) -> Result<bool, AllocError>
-    requires wide { IsWide table.now }
-    requires listed { AreReaders (told readers.now) circuit.now.tables }
+    requires { IsWide table.now }
     ensures { IfOk result (λ answer. answer ≡ passes rule circuit.now.tables table.now) }
 {
     match rule {
@@ -72,12 +71,24 @@ fn applies_to<R: Row>(
         }
         Rule::Put => {
             let is_written = written_bit(table).is_some();
-            Ok(is_written && readers.is_read(&table.output))
+            Ok(is_written && circuit.is_read(&table.output))
         }
         Rule::Bypass => {
             let is_single = table.inputs.len() == 1;
-            Ok(is_single && readers.is_read(&table.output))
+            Ok(is_single && circuit.is_read(&table.output))
         }
+    }
+}
+
+// Whether it is seen without a copy of the table at a place that a rule does not apply to it: to put a constant, the table
+// must be written as one; to be passed by, it must have one input.
+fn is_passed_over(rule: Rule, circuit: &Wires, place: usize) -> bool
+    ensures { result ≡ true → option_map_or (passes rule circuit.now.tables) (slice_get circuit.now.tables place) false ≡ false }
+{
+    match rule {
+        Rule::Tidy | Rule::Constant => false,
+        Rule::Put => circuit.bit(place).is_none(),
+        Rule::Bypass => circuit.width(place) != 1,
     }
 }
 
@@ -85,17 +96,18 @@ fn applies_to<R: Row>(
 fn applies_at<R: Row>(
     alloc: Global,
     rule: Rule,
-    circuit: &Circuit,
-    readers: &Readers,
+    circuit: &Wires,
     place: usize,
 ) -> Result<bool, AllocError>
-    requires wide { AllByRecursion IsWide circuit.now.tables }
-    requires listed { AreReaders (told readers.now) circuit.now.tables }
+    requires { AllByRecursion IsWide circuit.now.tables }
     ensures { IfOk result (λ answer. answer ≡ option_map_or (passes rule circuit.now.tables) (slice_get circuit.now.tables place) false) }
 {
-    match circuit.tables.as_slice().get(place) {
+    if is_passed_over(rule, circuit, place) {
+        return Ok(false);
+    }
+    match circuit.table(alloc, place)? {
         None => Ok(false),
-        Some(table) => applies_to::<R>(alloc, rule, circuit, readers, table),
+        Some(table) => applies_to::<R>(alloc, rule, circuit, &table),
     }
 }
 
@@ -103,18 +115,16 @@ fn applies_at<R: Row>(
 fn first_place<R: Row>(
     alloc: Global,
     rule: Rule,
-    circuit: &Circuit,
-    readers: &Readers,
+    circuit: &Wires,
     marked: &mut BTreeSet<usize>,
 ) -> Result<Option<usize>, AllocError>
     requires sound { AreSound circuit.now.tables }
-    requires listed { AreReaders (told readers.now) circuit.now.tables }
     requires marked { AreMarkedBy (passes rule circuit.now.tables) (contains nat_cmp marked.old) circuit.now.tables }
     ensures first { IfOk result (λ place. IsFirst (passes rule circuit.now.tables) circuit.now.tables place) }
     ensures marked { OnOk result (AreMarkedBy (passes rule circuit.now.tables) (contains nat_cmp marked.new) circuit.now.tables) }
 {
     while let Some(place) = take_least(marked) {
-        if applies_at::<R>(alloc, rule, circuit, readers, place)? {
+        if applies_at::<R>(alloc, rule, circuit, place)? {
             put_place(marked, place)?;
             return Ok(Some(place));
         }
@@ -125,50 +135,29 @@ fn first_place<R: Row>(
 // The rule and the place of the next step, if there is one.
 pub(crate) fn next_turn<R: Row>(
     alloc: Global,
-    circuit: &Circuit,
-    readers: &Readers,
+    circuit: &Wires,
     candidates: &mut Candidates,
 ) -> Result<Option<(Rule, usize)>, AllocError>
     requires sound { AreSound circuit.now.tables }
-    requires listed { AreReaders (told readers.now) circuit.now.tables }
     requires marked { AreMarked (marked_in candidates.old) circuit.now.tables }
     ensures next { IfOk result (λ turn. IsNext circuit.now turn) }
     ensures marked { OnOk result (AreMarked (marked_in candidates.new) circuit.now.tables) }
 {
-    if let Some(place) = first_place::<R>(
-        alloc,
-        Rule::Tidy,
-        circuit,
-        readers,
-        &mut candidates.untidy,
-    )? {
+    if let Some(place) = first_place::<R>(alloc, Rule::Tidy, circuit, &mut candidates.untidy)? {
         return Ok(Some((Rule::Tidy, place)));
     }
     if let Some(place) = first_place::<R>(
         alloc,
         Rule::Constant,
         circuit,
-        readers,
         &mut candidates.unwritten,
     )? {
         return Ok(Some((Rule::Constant, place)));
     }
-    if let Some(place) = first_place::<R>(
-        alloc,
-        Rule::Put,
-        circuit,
-        readers,
-        &mut candidates.constants,
-    )? {
+    if let Some(place) = first_place::<R>(alloc, Rule::Put, circuit, &mut candidates.constants)? {
         return Ok(Some((Rule::Put, place)));
     }
-    if let Some(place) = first_place::<R>(
-        alloc,
-        Rule::Bypass,
-        circuit,
-        readers,
-        &mut candidates.singles,
-    )? {
+    if let Some(place) = first_place::<R>(alloc, Rule::Bypass, circuit, &mut candidates.singles)? {
         return Ok(Some((Rule::Bypass, place)));
     }
     Ok(None)
@@ -183,50 +172,45 @@ fn one_place(alloc: Global, place: usize) -> Result<Places, AllocError>
     Ok(places)
 }
 
+// A copy of the table at a place.
+fn table_at(alloc: Global, circuit: &Wires, place: usize) -> Result<Table, AllocError>
+    requires { place < length circuit.now.tables }
+    ensures { IfOk result (λ table. slice_get circuit.now.tables place ≡ Some table) }
+{
+    match circuit.table(alloc, place)? {
+        Some(table) => Ok(table),
+        None => unreachable!(),
+    }
+}
+
 // Tidies the table at a place.
-fn tidy_at(
-    alloc: Global,
-    circuit: &mut Circuit,
-    readers: &mut Readers,
-    place: usize,
-) -> Result<Places, AllocError>
+fn tidy_at(alloc: Global, circuit: &mut Wires, place: usize) -> Result<Places, AllocError>
     requires sound { AreSound circuit.old.tables }
     requires within { place < length circuit.old.tables }
-    requires listed { AreReaders (told readers.old) circuit.old.tables }
     ensures turned { OnOk result ((table : TheTable) → slice_get circuit.old.tables place ≡ Some table → circuit.new ≡ rule_turn Tidy circuit.old table) }
-    ensures others { IfOk result (λ places. AreSameBut places circuit.old.tables circuit.new.tables) }
-    ensures listed { OnOk result (AreReaders (told readers.new) circuit.new.tables) }
+    ensures others { IfOk result (λ places. AreAlikeBut places circuit.old.tables circuit.new.tables) }
 {
     let places = one_place(alloc, place)?;
-    let table = table_at(circuit, place);
-    let copy = table.copy(alloc)?;
-    let tidied = tidied_table(alloc, copy)?;
-    set_table(alloc, circuit, readers, place, tidied)?;
+    let table = table_at(alloc, circuit, place)?;
+    let tidied = tidied_table(alloc, table)?;
+    circuit.set(alloc, place, &tidied)?;
     Ok(places)
 }
 
 // Writes the table at a place as a constant.
-fn write_at<R: Row>(
-    alloc: Global,
-    circuit: &mut Circuit,
-    readers: &mut Readers,
-    place: usize,
-) -> Result<Places, AllocError>
+fn write_at<R: Row>(alloc: Global, circuit: &mut Wires, place: usize) -> Result<Places, AllocError>
     requires sound { AreSound circuit.old.tables }
     requires within { place < length circuit.old.tables }
-    requires listed { AreReaders (told readers.old) circuit.old.tables }
     ensures turned { OnOk result ((table : TheTable) → slice_get circuit.old.tables place ≡ Some table → circuit.new ≡ rule_turn Constant circuit.old table) }
-    ensures others { IfOk result (λ places. AreSameBut places circuit.old.tables circuit.new.tables) }
-    ensures listed { OnOk result (AreReaders (told readers.new) circuit.new.tables) }
+    ensures others { IfOk result (λ places. AreAlikeBut places circuit.old.tables circuit.new.tables) }
 {
     let places = one_place(alloc, place)?;
-    let table = table_at(circuit, place);
-    match unwritten_bit::<R>(alloc, table)? {
+    let table = table_at(alloc, circuit, place)?;
+    match unwritten_bit::<R>(alloc, &table)? {
         None => Ok(places),
         Some(bit) => {
-            let output = table.output.copy(alloc)?;
-            let constant = constant_table(alloc, output, bit)?;
-            set_table(alloc, circuit, readers, place, constant)?;
+            let constant = constant_table(alloc, table.output, bit)?;
+            circuit.set(alloc, place, &constant)?;
             Ok(places)
         }
     }
@@ -246,23 +230,20 @@ fn changed(alloc: Global, table: &Table, name: &Name, change: &Change) -> Result
 // Changes the table at a place, if there is one.
 fn change_at(
     alloc: Global,
-    circuit: &mut Circuit,
-    readers: &mut Readers,
+    circuit: &mut Wires,
     place: usize,
     name: &Name,
     change: &Change,
 ) -> Result<(), AllocError>
-    requires wide { AllByRecursion IsWide circuit.old.tables }
-    requires listed { AreReaders (told readers.old) circuit.old.tables }
+    requires { AllByRecursion IsWide circuit.old.tables }
     ensures same { OnOk result (circuit.new ≡ tables_in circuit.old circuit.new.tables) }
     ensures changed { OnOk result ((other : ℕ) → slice_get circuit.new.tables other ≡ (if place == other then option_map (changed_by name.now change.now) (slice_get circuit.old.tables other) else slice_get circuit.old.tables other)) }
-    ensures listed { OnOk result (AreReaders (told readers.new) circuit.new.tables) }
 {
-    match circuit.tables.as_slice().get(place) {
+    match circuit.table(alloc, place)? {
         None => Ok(()),
         Some(table) => {
-            let made = changed(alloc, table, name, change)?;
-            set_table(alloc, circuit, readers, place, made)
+            let made = changed(alloc, &table, name, change)?;
+            circuit.set(alloc, place, &made)
         }
     }
 }
@@ -270,21 +251,18 @@ fn change_at(
 // Changes the tables at some places, all that read a signal among them.
 fn change_all(
     alloc: Global,
-    circuit: &mut Circuit,
-    readers: &mut Readers,
+    circuit: &mut Wires,
     places: &[usize],
     name: &Name,
     change: &Change,
 ) -> Result<(), AllocError>
     requires sound { AreSound circuit.old.tables }
     requires apart { is_apart name.now change.now ≡ true }
-    requires listed { AreReaders (told readers.old) circuit.old.tables }
-    requires all { (place : ℕ) → told readers.old name.now place ≡ true → is_in places.now place ≡ true }
-    ensures changed { OnOk result (circuit.new ≡ tables_in circuit.old (map (changed_by name.now change.now) circuit.old.tables)) }
-    ensures listed { OnOk result (AreReaders (told readers.new) circuit.new.tables) }
+    requires all { (place : ℕ) → reads_at circuit.old.tables name.now place ≡ true → is_in places.now place ≡ true }
+    ensures { OnOk result (circuit.new ≡ tables_in circuit.old (map (changed_by name.now change.now) circuit.old.tables)) }
 {
     for place in places {
-        change_at(alloc, circuit, readers, *place, name, change)?;
+        change_at(alloc, circuit, *place, name, change)?;
     }
     Ok(())
 }
@@ -292,114 +270,173 @@ fn change_all(
 // Changes each table that reads a signal, and tells their places.
 fn change_readers(
     alloc: Global,
-    circuit: &mut Circuit,
-    readers: &mut Readers,
+    circuit: &mut Wires,
     name: &Name,
     change: &Change,
 ) -> Result<Places, AllocError>
     requires sound { AreSound circuit.old.tables }
     requires apart { is_apart name.now change.now ≡ true }
-    requires listed { AreReaders (told readers.old) circuit.old.tables }
     ensures changed { OnOk result (circuit.new ≡ tables_in circuit.old (map (changed_by name.now change.now) circuit.old.tables)) }
-    ensures others { IfOk result (λ places. AreSameBut places circuit.old.tables circuit.new.tables) }
-    ensures listed { OnOk result (AreReaders (told readers.new) circuit.new.tables) }
+    ensures others { IfOk result (λ places. AreAlikeBut places circuit.old.tables circuit.new.tables) }
 {
-    let places = readers.places(alloc, name)?;
-    change_all(alloc, circuit, readers, places.as_slice(), name, change)?;
+    let places = circuit.places(alloc, name)?;
+    change_all(alloc, circuit, places.as_slice(), name, change)?;
     Ok(places)
 }
 
 // Puts the constant at a place into the tables that read it.
-fn put_at(
-    alloc: Global,
-    circuit: &mut Circuit,
-    readers: &mut Readers,
-    place: usize,
-) -> Result<Places, AllocError>
+fn put_at(alloc: Global, circuit: &mut Wires, place: usize) -> Result<Places, AllocError>
     requires sound { AreSound circuit.old.tables }
     requires within { place < length circuit.old.tables }
-    requires listed { AreReaders (told readers.old) circuit.old.tables }
     ensures turned { OnOk result ((table : TheTable) → slice_get circuit.old.tables place ≡ Some table → circuit.new ≡ rule_turn Put circuit.old table) }
-    ensures others { IfOk result (λ places. AreSameBut places circuit.old.tables circuit.new.tables) }
-    ensures listed { OnOk result (AreReaders (told readers.new) circuit.new.tables) }
+    ensures others { IfOk result (λ places. AreAlikeBut places circuit.old.tables circuit.new.tables) }
 {
-    let table = table_at(circuit, place);
-    match written_bit(table) {
+    let table = table_at(alloc, circuit, place)?;
+    match written_bit(&table) {
         None => Ok(Sequence::new(alloc)),
-        Some(bit) => {
-            let name = table.output.copy(alloc)?;
-            change_readers(alloc, circuit, readers, &name, &Change::Bit(bit))
-        }
+        Some(bit) => change_readers(alloc, circuit, &table.output, &Change::Bit(bit)),
     }
+}
+
+// The tables at some places, each with one signal read in place of another one.
+fn rewired_tables(
+    alloc: Global,
+    circuit: &Wires,
+    places: &[usize],
+    from: &Name,
+    to: &Name,
+    inverts: bool,
+) -> Result<Vec<Table>, AllocError>
+    requires wide { AllByRecursion IsWide circuit.now.tables }
+    requires within { (place : ℕ) → is_in places.now place ≡ true → place < length circuit.now.tables }
+    ensures { IfOk result (λ made. map Some made.items ≡ map (λ place. option_map (table_rewired from.now to.now inverts) (slice_get circuit.now.tables place)) places.now) }
+{
+    let mut made = Vec::with_capacity(alloc, places.len())?;
+    for place in places {
+        let table = table_at(alloc, circuit, *place)?;
+        made.push(rewired(alloc, &table, from, to, inverts)?)?;
+    }
+    Ok(made)
+}
+
+// Puts tables at some places, each at its own.
+fn set_tables(
+    alloc: Global,
+    circuit: &mut Wires,
+    places: &[usize],
+    tables: &[Table],
+) -> Result<(), AllocError>
+    requires each { length tables.now ≡ length places.now }
+    requires within { (place : ℕ) → is_in places.now place ≡ true → place < length circuit.old.tables }
+    ensures same { OnOk result (circuit.new ≡ tables_in circuit.old circuit.new.tables) }
+    ensures set { OnOk result ((place : ℕ) → is_in places.now place ≡ true → (i : ℕ) × (slice_get places.now i ≡ Some place) × (slice_get circuit.new.tables place ≡ slice_get tables.now i)) }
+    ensures others { OnOk result ((place : ℕ) → is_in places.now place ≡ false → slice_get circuit.new.tables place ≡ slice_get circuit.old.tables place) }
+{
+    for (i, place) in places.iter().enumerate() {
+        circuit.set(alloc, *place, &tables[i])?;
+    }
+    Ok(())
+}
+
+// Each table that reads a signal reads another one in its place: the two change places everywhere, and then the tables that
+// read the other one before are written as they are to be.
+fn rewire_by_exchange(
+    alloc: Global,
+    circuit: &mut Wires,
+    from: &Name,
+    to: &Name,
+    inverts: bool,
+) -> Result<Places, AllocError>
+    requires sound { AreSound circuit.old.tables }
+    requires tidy { find (passes Tidy circuit.old.tables) circuit.old.tables ≡ None }
+    requires apart { bytes_eq from.now to.now ≡ false }
+    ensures changed { OnOk result (circuit.new ≡ tables_in circuit.old (map (changed_by from.now (Input to.now inverts)) circuit.old.tables)) }
+    ensures others { IfOk result (λ places. AreAlikeBut places circuit.old.tables circuit.new.tables) }
+{
+    let places = circuit.places(alloc, to)?;
+    let tables = rewired_tables(alloc, circuit, places.as_slice(), from, to, inverts)?;
+    circuit.exchange(alloc, from, to, inverts)?;
+    set_tables(alloc, circuit, places.as_slice(), tables.as_slice())?;
+    Ok(places)
+}
+
+// Each table that reads a signal reads another one in its place; of the two signals the readers of the one with fewer are
+// written anew.
+fn rewire(
+    alloc: Global,
+    circuit: &mut Wires,
+    from: &Name,
+    to: Name,
+    inverts: bool,
+) -> Result<Places, AllocError>
+    requires sound { AreSound circuit.old.tables }
+    requires tidy { find (passes Tidy circuit.old.tables) circuit.old.tables ≡ None }
+    requires apart { bytes_eq from.now to ≡ false }
+    ensures changed { OnOk result (circuit.new ≡ tables_in circuit.old (map (changed_by from.now (Input to inverts)) circuit.old.tables)) }
+    ensures others { IfOk result (λ places. AreAlikeBut places circuit.old.tables circuit.new.tables) }
+{
+    if circuit.count(&to) < circuit.count(from) {
+        return rewire_by_exchange(alloc, circuit, from, &to, inverts);
+    }
+    change_readers(alloc, circuit, from, &Change::Input(to, inverts))
 }
 
 // Readers of the table of one input at a place read that input in its place.
-fn bypass_at(
-    alloc: Global,
-    circuit: &mut Circuit,
-    readers: &mut Readers,
-    place: usize,
-) -> Result<Places, AllocError>
+fn bypass_at(alloc: Global, circuit: &mut Wires, place: usize) -> Result<Places, AllocError>
     requires sound { AreSound circuit.old.tables }
     requires within { place < length circuit.old.tables }
-    requires listed { AreReaders (told readers.old) circuit.old.tables }
+    requires tidy { find (passes Tidy circuit.old.tables) circuit.old.tables ≡ None }
     ensures turned { OnOk result ((table : TheTable) → slice_get circuit.old.tables place ≡ Some table → circuit.new ≡ rule_turn Bypass circuit.old table) }
-    ensures others { IfOk result (λ places. AreSameBut places circuit.old.tables circuit.new.tables) }
-    ensures listed { OnOk result (AreReaders (told readers.new) circuit.new.tables) }
+    ensures others { IfOk result (λ places. AreAlikeBut places circuit.old.tables circuit.new.tables) }
 {
-    let table = table_at(circuit, place);
+    let table = table_at(alloc, circuit, place)?;
     match only_input(alloc, table.inputs.as_slice())? {
         None => Ok(Sequence::new(alloc)),
         Some(input) => {
-            let name = table.output.copy(alloc)?;
-            let change = Change::Input(input, is_inverter(table));
-            change_readers(alloc, circuit, readers, &name, &change)
+            let inverts = is_inverter(&table);
+            rewire(alloc, circuit, &table.output, input, inverts)
         }
     }
 }
 
-// Applies a rule at a place, and tells the places of the tables that it changed.
+// Applies a rule at a place, and tells the places of the tables that it wrote anew.
 fn apply<R: Row>(
     alloc: Global,
     rule: Rule,
-    circuit: &mut Circuit,
-    readers: &mut Readers,
+    circuit: &mut Wires,
     place: usize,
 ) -> Result<Places, AllocError>
     requires sound { AreSound circuit.old.tables }
     requires within { place < length circuit.old.tables }
-    requires listed { AreReaders (told readers.old) circuit.old.tables }
+    requires tidy { rule ≡ Bypass → find (passes Tidy circuit.old.tables) circuit.old.tables ≡ None }
     ensures turned { OnOk result ((table : TheTable) → slice_get circuit.old.tables place ≡ Some table → circuit.new ≡ rule_turn rule circuit.old table) }
-    ensures others { IfOk result (λ places. AreSameBut places circuit.old.tables circuit.new.tables) }
-    ensures listed { OnOk result (AreReaders (told readers.new) circuit.new.tables) }
+    ensures others { IfOk result (λ places. AreAlikeBut places circuit.old.tables circuit.new.tables) }
 {
     match rule {
-        Rule::Tidy => tidy_at(alloc, circuit, readers, place),
-        Rule::Constant => write_at::<R>(alloc, circuit, readers, place),
-        Rule::Put => put_at(alloc, circuit, readers, place),
-        Rule::Bypass => bypass_at(alloc, circuit, readers, place),
+        Rule::Tidy => tidy_at(alloc, circuit, place),
+        Rule::Constant => write_at::<R>(alloc, circuit, place),
+        Rule::Put => put_at(alloc, circuit, place),
+        Rule::Bypass => bypass_at(alloc, circuit, place),
     }
 }
 
-// Applies a rule at a place, marks the tables that it changed, and tells their places.
+// Applies a rule at a place, marks the tables that it wrote anew, and tells their places.
 pub(crate) fn turn<R: Row>(
     alloc: Global,
     rule: Rule,
     place: usize,
-    circuit: &mut Circuit,
-    readers: &mut Readers,
+    circuit: &mut Wires,
     candidates: &mut Candidates,
 ) -> Result<Places, AllocError>
     requires sound { AreSound circuit.old.tables }
     requires within { place < length circuit.old.tables }
-    requires listed { AreReaders (told readers.old) circuit.old.tables }
+    requires tidy { rule ≡ Bypass → find (passes Tidy circuit.old.tables) circuit.old.tables ≡ None }
     requires marked { AreMarked (marked_in candidates.old) circuit.old.tables }
     ensures turned { OnOk result ((table : TheTable) → slice_get circuit.old.tables place ≡ Some table → circuit.new ≡ rule_turn rule circuit.old table) }
-    ensures others { IfOk result (λ places. AreSameBut places circuit.old.tables circuit.new.tables) }
-    ensures listed { OnOk result (AreReaders (told readers.new) circuit.new.tables) }
+    ensures others { IfOk result (λ places. AreAlikeBut places circuit.old.tables circuit.new.tables) }
     ensures marked { OnOk result (AreMarked (marked_in candidates.new) circuit.new.tables) }
 {
-    let places = apply::<R>(alloc, rule, circuit, readers, place)?;
+    let places = apply::<R>(alloc, rule, circuit, place)?;
     mark_all(candidates, places.as_slice())?;
     Ok(places)
 }

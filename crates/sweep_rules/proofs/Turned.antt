@@ -158,7 +158,7 @@ at_shaped name bit table shaped = at_either IsShaped name bit table (λ reads. t
 
 -- rows turned over
 
-turned_agrees : (place : Tri) (bit : Bool) → agrees (literal_of (turned_over place)) bit ≡ agrees (literal_of place) (not bit)
+pub turned_agrees : (place : Tri) (bit : Bool) → agrees (literal_of (turned_over place)) bit ≡ agrees (literal_of place) (not bit)
 turned_agrees Free bit = refl
 turned_agrees Zero true = refl
 turned_agrees Zero false = refl

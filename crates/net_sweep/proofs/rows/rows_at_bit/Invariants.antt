@@ -1,7 +1,7 @@
 use Rattle.std.proofs.Common.{◌≡◌, take}
 use Rattle.std.specs.List.{filter_map}
-use Rattle.sweep_rules.specs.Rules.{row_at_bit}
+use Rattle.net_sweep.specs.Turns.{row_at_marks}
 use Rattle.net_sweep.proofs.rows.rows_at_bit.Given as goal
 
 abbrev pub invariant-loop-row : goal.invariant-loop-row
-invariant-loop-row l = l.made ≡ filter_map (row_at_bit l.name l.bit l.inputs) (take l.row-index l.rows)
+invariant-loop-row l = l.made ≡ filter_map (row_at_marks l.bit l.marks) (take l.row-index l.rows)

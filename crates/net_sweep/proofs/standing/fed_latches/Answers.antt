@@ -5,5 +5,5 @@ use Rattle.net_sweep.proofs.standing.fed_latches.Goals as goal
 
 pub loop-place-preserved : goal.loop-place-preserved
 loop-place-preserved c =
-    under_more c.args.latches.now c.loop-place.place c.index-latches-place.result (get bytes_eq c.loop-place.lists) (get bytes_eq c.add_reader.new.readers) c.loop-place-test.true c.index-latches-place.is c.loop-place.invariant
-    c.in_ok-add_reader.ensures
+    under_more c.args.latches.now c.loop-place.place c.index-latches-place.result (get bytes_eq c.loop-place.lists) (get bytes_eq c.add_place.new.lists) c.loop-place-test.true c.index-latches-place.is c.loop-place.invariant
+    c.in_ok-add_place.ensures

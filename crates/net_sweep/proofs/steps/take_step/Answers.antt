@@ -1,8 +1,7 @@
-use Rattle.net_readers.specs.Readers.{told}
 use Rattle.net_sweep.specs.Latches.{left_at, with_latches}
-use Rattle.net_sweep.proofs.Changing.{on_ok, on_ok_both}
-use Rattle.net_sweep.proofs.Latching.{sound_tables, fixed_readers}
-use Rattle.net_sweep.proofs.Stepping.{turn_next, turn_within, turn_stepped, fix_next, fix_there, fix_stepped}
+use Rattle.net_sweep.proofs.Changing.{on_ok_both}
+use Rattle.net_sweep.proofs.Latching.{sound_tables}
+use Rattle.net_sweep.proofs.Stepping.{turn_next, turn_within, turn_tidy, turn_stepped, fix_next, fix_stepped}
 use Rattle.net_sweep.proofs.steps.take_step.Goals as goal
 
 pub turn_tables-requires-clause-sound : goal.turn_tables-requires-clause-sound
@@ -11,6 +10,10 @@ turn_tables-requires-clause-sound g c = sound_tables (with_latches c.args.circui
 pub turn_tables-requires-clause-within : goal.turn_tables-requires-clause-within
 turn_tables-requires-clause-within g c =
     turn_within c.args.circuit.now c.in-Turn.rule c.in-Turn.place (turn_next c.args.circuit.now c.args.standing.now.slots.items c.args.step c.in-Turn.rule c.in-Turn.place c.requires.next c.in-Turn.is)
+
+pub turn_tables-requires-clause-tidy : goal.turn_tables-requires-clause-tidy
+turn_tables-requires-clause-tidy g c =
+    turn_tidy c.args.circuit.now c.in-Turn.rule c.in-Turn.place (turn_next c.args.circuit.now c.args.standing.now.slots.items c.args.step c.in-Turn.rule c.in-Turn.place c.requires.next c.in-Turn.is)
 
 pub returns-in-Turn-clause-stepped : goal.returns-in-Turn-clause-stepped
 returns-in-Turn-clause-stepped g c =
@@ -25,9 +28,3 @@ returns-in-Fix-clause-stepped g c =
     (fix_stepped c.args.circuit.now c.fix.new.circuit c.args.standing.now.slots.items c.fix.new.standing.slots.items c.in-Fix.place c.in-Fix.bit c.requires.sound
     (fix_next c.args.circuit.now c.args.standing.now.slots.items c.args.step c.in-Fix.place c.in-Fix.bit c.requires.next c.in-Fix.is))
     c.fix.ensures.fixed c.fix.ensures.slots
-
-pub returns-in-Fix-clause-listed : goal.returns-in-Fix-clause-listed
-returns-in-Fix-clause-listed g c =
-    let (latch, at) = fix_there c.args.circuit.now c.args.standing.now.slots.items c.in-Fix.place c.in-Fix.bit
-    (fix_next c.args.circuit.now c.args.standing.now.slots.items c.args.step c.in-Fix.place c.in-Fix.bit c.requires.next c.in-Fix.is).1 in
-    on_ok c.fix.result (λ fixed. fixed_readers c.args.circuit.now c.fix.new.circuit latch c.in-Fix.bit (told c.args.readers.now) (fixed latch at) c.requires.listed) c.fix.ensures.fixed

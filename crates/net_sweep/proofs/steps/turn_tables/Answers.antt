@@ -10,6 +10,6 @@ pub returns-clause-ready : goal.returns-clause-ready
 returns-clause-ready g c =
     on_ok_both c.wake_all.result
     (turned_beside c.args.rule c.args.circuit.now c.turn.new.circuit c.args.place c.args.standing.now.slots.items (get bytes_eq c.args.standing.now.fed) (get bytes_eq c.args.standing.now.tables) c.args.standing.now.read.keys
-    (contains nat_cmp c.args.standing.now.waiting) (contains nat_cmp c.wake_all.new.waiting) c.in_ok-places.places c.as_slice-2.result.now c.as_slice.result.now c.requires.sound c.requires.within c.requires.ready
-    c.in_ok-places.ensures.turned c.in_ok-places.ensures.others c.as_slice-2.ensures c.as_slice.ensures)
+    (contains nat_cmp c.args.standing.now.waiting) (contains nat_cmp c.wake_all.new.waiting) c.in_ok-places.places c.as_slice.result.now c.requires.sound c.requires.within c.requires.ready
+    c.in_ok-places.ensures.turned c.in_ok-places.ensures.others c.as_slice.ensures)
     c.wake_all.ensures.put c.wake_all.ensures.kept

@@ -1,16 +1,16 @@
-use Rattle.std.proofs.Common.{sym, ap, ◌∙◌, refl}
+use Rattle.std.proofs.Common.{sym, ap, ◌∙◌}
 use Rattle.sweep_rules.specs.Rules.{only_input}
-use Rattle.net_sweep.proofs.Changing.{bypass_turned, is_apart_input, on_ok}
+use Rattle.net_readers.proofs.Sets.{on_ok}
+use Rattle.net_sweep.proofs.Changing.{bypass_turned, input_apart}
 use Rattle.net_sweep.proofs.turns.bypass_at.Goals as goal
 
-pub change_readers-requires-clause-apart : goal.change_readers-requires-clause-apart
-change_readers-requires-clause-apart c =
-    is_apart_input c.args.circuit.now c.args.place c.table_at-table.result.now c.in-Some.input c.in-Some.input c.in_ok-name-in-Some.name c.is_inverter.result c.requires.sound c.table_at-table.ensures
-    (ap only_input (sym c.as_slice.ensures) ∙ (sym c.in_ok-only_input.ensures ∙ c.in-Some.is)) refl c.in_ok-name-in-Some.ensures
+pub rewire-requires-clause-apart : goal.rewire-requires-clause-apart
+rewire-requires-clause-apart c =
+    input_apart c.args.circuit.now c.args.place c.in_ok-table.table c.in-Some.input c.requires.sound c.in_ok-table.ensures (ap only_input (sym c.as_slice.ensures) ∙ (sym c.in_ok-only_input.ensures ∙ c.in-Some.is))
 
-pub returns-in_ok-name-in-Some-clause-turned : goal.returns-in_ok-name-in-Some-clause-turned
-returns-in_ok-name-in-Some-clause-turned c =
-    on_ok c.change_readers.result
-    (bypass_turned c.args.circuit.now c.change_readers.new.circuit c.args.place c.table_at-table.result.now c.in-Some.input c.in-Some.input c.in_ok-name-in-Some.name c.is_inverter.result c.table_at-table.ensures
-    (ap only_input (sym c.as_slice.ensures) ∙ (sym c.in_ok-only_input.ensures ∙ c.in-Some.is)) refl c.is_inverter.ensures c.in_ok-name-in-Some.ensures)
-    c.change_readers.ensures.changed
+pub returns-clause-turned : goal.returns-clause-turned
+returns-clause-turned c =
+    on_ok c.rewire.result
+    (bypass_turned c.args.circuit.now c.rewire.new.circuit c.args.place c.in_ok-table.table c.in-Some.input c.is_inverter-inverts.result c.in_ok-table.ensures
+    (ap only_input (sym c.as_slice.ensures) ∙ (sym c.in_ok-only_input.ensures ∙ c.in-Some.is)) c.is_inverter-inverts.ensures)
+    c.rewire.ensures.changed

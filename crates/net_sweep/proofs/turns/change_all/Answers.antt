@@ -1,29 +1,20 @@
 use Rattle.std.proofs.Common.{refl}
-use Rattle.net_readers.specs.Readers.{told}
 use Rattle.net_sweep.specs.Settled.{changed_by}
-use Rattle.net_sweep.proofs.Changing.{partly_none, partly_more, partly_wide, partly_ended, reads_told, grown}
+use Rattle.net_sweep.proofs.Changing.{partly_none, partly_more, partly_wide, partly_ended, reads_listed, grown}
 use Rattle.net_sweep.proofs.turns.change_all.Goals as goal
 
 pub loop-place-init : goal.loop-place-init
-loop-place-init c = (partly_none (changed_by c.args.name.now c.args.change.now) c.args.circuit.now, c.requires.listed)
+loop-place-init c = partly_none (changed_by c.args.name.now c.args.change.now) c.args.circuit.now
 
-pub change_at-requires-clause-wide : goal.change_at-requires-clause-wide
-change_at-requires-clause-wide c = partly_wide c.args.name.now c.args.change.now _ c.args.circuit.now c.loop-place.circuit c.requires.sound c.loop-place.invariant.0
-
-pub change_at-requires-clause-listed : goal.change_at-requires-clause-listed
-change_at-requires-clause-listed c = c.loop-place.invariant.1
+pub change_at-requires : goal.change_at-requires
+change_at-requires c = partly_wide c.args.name.now c.args.change.now _ c.args.circuit.now c.loop-place.circuit c.requires.sound c.loop-place.invariant
 
 pub loop-place-preserved : goal.loop-place-preserved
-loop-place-preserved c = (
-  partly_more c.args.name.now c.args.change.now _ _ _ c.args.circuit.now c.loop-place.circuit c.change_at.new.circuit c.requires.sound c.requires.apart c.loop-place.invariant.0 c.in_ok-change_at.ensures.same c.in_ok-change_at.ensures.changed
-      (grown c.args.places.now c.loop-place.place-index _ 0 c.loop-place-test.true refl),
-  c.in_ok-change_at.ensures.listed,
-)
+loop-place-preserved c =
+    partly_more c.args.name.now c.args.change.now _ _ _ c.args.circuit.now c.loop-place.circuit c.change_at.new.circuit c.requires.sound c.requires.apart c.loop-place.invariant c.in_ok-change_at.ensures.same c.in_ok-change_at.ensures.changed
+    (grown c.args.places.now c.loop-place.place-index _ 0 c.loop-place-test.true refl)
 
-pub returns-clause-changed : goal.returns-clause-changed
-returns-clause-changed c =
-    partly_ended c.args.name.now c.args.change.now c.args.places.now c.loop-place.place-index c.args.circuit.now c.loop-place.circuit c.loop-place-test.false c.loop-place.invariant.0
-    (reads_told (told c.args.readers.now) c.args.circuit.now.tables c.args.name.now c.args.places.now c.requires.listed c.requires.all)
-
-pub returns-clause-listed : goal.returns-clause-listed
-returns-clause-listed c = c.loop-place.invariant.1
+pub returns : goal.returns
+returns c =
+    partly_ended c.args.name.now c.args.change.now c.args.places.now c.loop-place.place-index c.args.circuit.now c.loop-place.circuit c.loop-place-test.false c.loop-place.invariant
+    (reads_listed c.args.circuit.now.tables c.args.name.now c.args.places.now c.requires.all)

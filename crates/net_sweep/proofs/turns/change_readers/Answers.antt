@@ -1,6 +1,6 @@
 use Rattle.std.proofs.Common.{ap, ◌∙◌, List, ℕ}
-use Rattle.net_readers.specs.Readers.{told, is_in}
-use Rattle.net_sweep.proofs.Changing.{mapped_others, reads_told}
+use Rattle.net_readers.specs.Readers.{is_in}
+use Rattle.net_sweep.proofs.Changing.{mapped_others, reads_listed}
 use Rattle.net_sweep.proofs.turns.change_readers.Goals as goal
 
 pub change_all-requires-clause-all : goal.change_all-requires-clause-all
@@ -9,4 +9,4 @@ change_all-requires-clause-all c place h = ap (λ (ps : List ℕ). is_in ps plac
 pub returns-clause-others : goal.returns-clause-others
 returns-clause-others c =
     mapped_others c.args.circuit.now c.change_all.new.circuit c.args.name.now c.args.change.now c.in_ok-places.places
-    (reads_told (told c.args.readers.now) c.args.circuit.now.tables c.args.name.now c.in_ok-places.places c.requires.listed (λ place h. c.in_ok-places.ensures place ∙ h)) c.in_ok-change_all.ensures.changed
+    (reads_listed c.args.circuit.now.tables c.args.name.now c.in_ok-places.places (λ place h. c.in_ok-places.ensures place ∙ h)) c.in_ok-change_all.ensures

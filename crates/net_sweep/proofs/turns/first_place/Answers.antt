@@ -6,8 +6,8 @@ use Rattle.net_sweep.proofs.Finds.{all_wide}
 use Rattle.net_sweep.proofs.Marking.{least_first, none_first_from, none_marked_from, marked_less, marked_back}
 use Rattle.net_sweep.proofs.turns.first_place.Goals as goal
 
-pub applies_at-requires-clause-wide : goal.applies_at-requires-clause-wide
-applies_at-requires-clause-wide g c = all_wide c.args.circuit.now.tables c.requires.sound.shaped
+pub applies_at-requires : goal.applies_at-requires
+applies_at-requires g c = all_wide c.args.circuit.now.tables c.requires.sound.shaped
 
 pub returns-then-branch-clause-first : goal.returns-then-branch-clause-first
 returns-then-branch-clause-first g c =

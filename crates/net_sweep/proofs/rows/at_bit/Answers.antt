@@ -1,0 +1,15 @@
+use Rattle.std.proofs.Common.{◌∙◌, sym, ap, bytes_eq, map}
+use Rattle.std.specs.List.{filter_map}
+use Rattle.net_sweep.specs.Turns.{row_at_marks}
+use Rattle.net_sweep.proofs.RowSteps.{at_marked}
+use Rattle.net_wires.proofs.Carried.{on_value}
+use Rattle.net_sweep.proofs.rows.at_bit.Goals as goal
+
+pub returns : goal.returns
+returns c =
+    on_value c.tidied_table.result
+    (λ made is. is
+    ∙ at_marked c.args.name.now c.args.bit c.args.table.now c.as_slice-2.result.now c.in_ok-copy.field-0 c.in_ok-copy-2.field-0 c.in_ok-rows.rows (sym c.is_among.ensures ∙ c.if-not-is_among.false)
+    (c.as_slice-2.ensures.value ∙ (c.in_ok-marks.ensures ∙ ap (map (bytes_eq c.args.name.now)) c.as_slice.ensures)) c.in_ok-copy.ensures c.in_ok-copy-2.ensures
+    (c.in_ok-rows.ensures ∙ ap (filter_map (row_at_marks c.args.bit c.as_slice-2.result.now)) c.as_slice-3.ensures))
+    c.tidied_table.ensures

@@ -1,0 +1,106 @@
+-- Rows with marked places turned over, and tables over names that lead back.
+use Rattle.std.proofs.Common.{◌≡◌, ℕ, zero, suc, ◌+◌, ◌<◌, Bool, true, false, if◌then◌else◌, List, [], ◌∷◌, ◌++◌, take, length, map, get_or, slice_get, unwrap_or, refl, ap, ◌∙◌, arith}
+use Rattle.circuit_model.specs.declared.circuit.Tri.{Tri}
+use Rattle.circuit_model.specs.declared.circuit.Tri.TheVariants.{Zero, One, Free}
+use Rattle.circuit_model.specs.declared.circuit.Table.{Table}
+use Rattle.sweep_rules.specs.Rules.{turned_over}
+use Rattle.net_wires.specs.declared.lines.Line.{Line}
+use Rattle.sweep_rules.specs.Points.{bit_by, written_bit}
+use Rattle.net_wires.specs.Wires.{row_over, marks_over, table_over, LeadsBack}
+
+-- a row without characters stays
+pub row_nothing : (marks : List Bool) → row_over marks [] ≡ []
+unfolding row_over
+row_nothing [] = refl
+row_nothing (turns ∷ marks) = refl
+
+-- a character more of a row
+pub row_more : (marks : List Bool) (row : List Tri) (i : ℕ) (d : Tri) → i < length row
+    → row_over marks (take (i + 1) row) ≡ row_over marks (take i row) ++ (if unwrap_or (slice_get marks i) false then turned_over (get_or row i d) else get_or row i d) ∷ []
+unfolding row_over
+row_more marks row i d lt = let next : i + 1 ≡ suc i = omega arith in ap (λ (n : ℕ). row_over marks (take n row)) next ∙ by marks row i lt
+  where
+    by : (marks : List Bool) (row : List Tri) (i : ℕ) → i < length row
+        → row_over marks (take (suc i) row) ≡ row_over marks (take i row) ++ (if unwrap_or (slice_get marks i) false then turned_over (get_or row i d) else get_or row i d) ∷ []
+    by [] [] i lt = absurd (omega (arith, lt))
+    by [] (place ∷ row) zero lt = refl
+    by [] (place ∷ row) (suc i) lt = ap (λ (r : List Tri). place ∷ r) (by [] row i (omega (arith, lt)))
+    by (turns ∷ marks) [] i lt = absurd (omega (arith, lt))
+    by (turns ∷ marks) (place ∷ row) zero lt = ap (λ (r : List Tri). (if turns then turned_over place else place) ∷ r) (row_nothing marks)
+    by (turns ∷ marks) (place ∷ row) (suc i) lt = ap (λ (r : List Tri). (if turns then turned_over place else place) ∷ r) (by marks row i (omega (arith, lt)))
+
+pub turned_twice : (place : Tri) → turned_over (turned_over place) ≡ place
+turned_twice Zero = refl
+turned_twice One = refl
+turned_twice Free = refl
+
+-- over names that lead back a row is what it was
+row_back : (there back : List ℕ → Line) → LeadsBack there back → (inputs : List (List ℕ)) (row : List Tri)
+    → row_over (marks_over back (map (λ input. (there input).name) inputs)) (row_over (marks_over there inputs) row) ≡ row
+unfolding row_over
+row_back there back h [] row = refl
+row_back there back h (input ∷ inputs) [] = refl
+row_back there back h (input ∷ inputs) (place ∷ row) =
+    rw (ap (λ (line : Line). line.inverts) (h input), row_back there back h inputs row) (ap (λ (p : Tri). p ∷ row) (by (there input).inverts))
+  where
+    by : (turns : Bool) → (if turns then turned_over (if turns then turned_over place else place) else (if turns then turned_over place else place)) ≡ place
+    by true = turned_twice place
+    by false = refl
+
+rows_back : (there back : List ℕ → Line) → LeadsBack there back → (inputs : List (List ℕ)) (rows : List (List Tri))
+    → map (row_over (marks_over back (map (λ input. (there input).name) inputs))) (map (row_over (marks_over there inputs)) rows) ≡ rows
+rows_back there back h inputs [] = refl
+rows_back there back h inputs (row ∷ rows) = rw (row_back there back h inputs row, rows_back there back h inputs rows) refl
+
+names_back : (there back : List ℕ → Line) → LeadsBack there back → (inputs : List (List ℕ)) → map (λ name. (back name).name) (map (λ input. (there input).name) inputs) ≡ inputs
+names_back there back h [] = refl
+names_back there back h (input ∷ inputs) = rw (ap (λ (line : Line). line.name) (h input), names_back there back h inputs) refl
+
+-- and so is a table
+pub table_back : (there back : List ℕ → Line) → LeadsBack there back → (table : Table) → table_over back (table_over there table) ≡ table
+table_back there back h table = rw (names_back there back h table.inputs, rows_back there back h table.inputs table.rows) refl
+
+-- over names that lead to themselves a table stays
+pub row_itself : (line : List ℕ → Line) → ((name : List ℕ) → line name ≡ record { name = name; inverts = false }) → (inputs : List (List ℕ)) (row : List Tri) → row_over (marks_over line inputs) row ≡ row
+unfolding row_over
+row_itself line h [] row = refl
+row_itself line h (input ∷ inputs) [] = refl
+row_itself line h (input ∷ inputs) (place ∷ row) = rw (h input, row_itself line h inputs row) refl
+
+rows_itself : (line : List ℕ → Line) → ((name : List ℕ) → line name ≡ record { name = name; inverts = false }) → (inputs : List (List ℕ)) (rows : List (List Tri)) → map (row_over (marks_over line inputs)) rows ≡ rows
+rows_itself line h inputs [] = refl
+rows_itself line h inputs (row ∷ rows) = rw (row_itself line h inputs row, rows_itself line h inputs rows) refl
+
+names_itself : (line : List ℕ → Line) → ((name : List ℕ) → line name ≡ record { name = name; inverts = false }) → (inputs : List (List ℕ)) → map (λ input. (line input).name) inputs ≡ inputs
+names_itself line h [] = refl
+names_itself line h (input ∷ inputs) = rw (h input, names_itself line h inputs) refl
+
+table_itself : (line : List ℕ → Line) → ((name : List ℕ) → line name ≡ record { name = name; inverts = false }) → (table : Table) → table_over line table ≡ table
+table_itself line h table = rw (names_itself line h table.inputs, rows_itself line h table.inputs table.rows) refl
+
+pub tables_itself : (line : List ℕ → Line) → ((name : List ℕ) → line name ≡ record { name = name; inverts = false }) → (tables : List Table) → map (table_over line) tables ≡ tables
+tables_itself line h [] = refl
+tables_itself line h (table ∷ tables) = rw (table_itself line h table, tables_itself line h tables) refl
+
+rows_stay : (rows : List (List Tri)) → map (row_over []) rows ≡ rows
+unfolding row_over
+rows_stay [] = refl
+rows_stay (row ∷ rows) = ap (λ (rs : List (List Tri)). row ∷ rs) (rows_stay rows)
+
+-- a table without inputs stays
+pub constant_stays : (line : List ℕ → Line) (table : Table) → table.inputs ≡ [] → table_over line table ≡ table
+constant_stays line table h = by table.inputs h
+  where
+    by : (inputs : List (List ℕ)) → inputs ≡ []
+        → record { inputs = map (λ input. (line input).name) inputs; output = table.output; rows = map (row_over (marks_over line inputs)) table.rows; phase = table.phase } ≡ record table { inputs = inputs }
+    by [] h = rw (rows_stay table.rows) refl
+    by (input ∷ inputs) h = absurd cc
+
+-- a table is written as a constant over what its inputs lead to where it is one itself
+pub bit_stays : (line : List ℕ → Line) (table : Table) → written_bit (table_over line table) ≡ written_bit table
+unfolding written_bit
+bit_stays line table = by table.inputs
+  where
+    by : (inputs : List (List ℕ)) → bit_by (map (λ input. (line input).name) inputs) table.phase (map (row_over (marks_over line inputs)) table.rows) ≡ bit_by inputs table.phase table.rows
+    by [] = ap (bit_by [] table.phase) (rows_stay table.rows)
+    by (input ∷ inputs) = refl

@@ -1,0 +1,282 @@
+//! A circuit whose tables are kept over wires, with exact readers of the wires.
+
+ghost use Rattle.std.specs.Prelude.{◌≡◌, ◌<◌, ◌++◌, ℕ, Bool, false, not, Some, None, List, [], ◌∷◌, length, map, slice_get, slice_set, bytes_eq, if◌then◌else◌, IfOk, OnOk};
+ghost use Rattle.std.specs.Option.{option_map_or};
+ghost use Rattle.circuit_model.specs.Names.{has};
+ghost use Rattle.circuit_model.specs.Soundness.{table_inputs};
+ghost use Rattle.circuit_model.specs.declared.circuit.Table.{Table as TheTable};
+ghost use Rattle.circuit_laws.specs.Edits.{with_tables, with_added, constant_table as table_of_bit};
+ghost use Rattle.sweep_rules.specs.Points.{written_bit as bit_written};
+ghost use Rattle.indexmap.specs.IndexMap.{get};
+ghost use Rattle.net_readers.specs.Readers.{told, is_in, reads_at, AreReaders};
+ghost use Rattle.net_wires.specs.Wires.{line_of, exchanged};
+
+use crate::lines::{Line, lead, line_from, name_of, table_over, tables_over};
+use circuit_model::{Circuit, Name, Table};
+use indexmap::IndexMap;
+use net_needed::{constant_table, written_bit};
+use net_readers::{Places, Readers};
+use sis_base::{Copied, Sequence};
+use std::alloc::{AllocError, Global};
+use std::marker::Model;
+use std::mem;
+
+/// A circuit on which rules run: two signals change places in all tables at once, and who reads a signal is known. Contracts
+/// see it as that circuit. Behind an error, which is want of memory alone, any circuit may stand.
+#[derive(Drop)]
+pub struct Wires {
+    // the circuit with wires in the places of the signals that its tables read
+    circuit: Circuit,
+    // the places of the tables that read each wire
+    readers: Readers,
+    // the signal that each wire carries
+    signals: IndexMap<Name, Line>,
+    // the wire that carries each signal
+    wires: IndexMap<Name, Line>,
+}
+
+impl Model for Wires {
+    ghost use Rattle.std.specs.Prelude.{map, bytes_eq};
+    ghost use Rattle.indexmap.specs.IndexMap.{get};
+    ghost use Rattle.circuit_model.specs.declared.circuit.Circuit.{Circuit as TheCircuit};
+    ghost use Rattle.circuit_laws.specs.Edits.{with_tables};
+    ghost use Rattle.net_readers.specs.Readers.{told, AreReaders};
+    ghost use Rattle.net_wires.specs.Wires.{line_of, table_over, ArePaired};
+
+    ghost Value = { TheCircuit };
+
+    ghost view = { λ w. with_tables w.circuit (map (table_over (line_of (get bytes_eq w.signals))) w.circuit.tables) };
+
+    ghost invariant = { λ w. AreReaders (told w.readers) w.circuit.tables × ArePaired (line_of (get bytes_eq w.signals)) (line_of (get bytes_eq w.wires)) };
+}
+
+// Puts another table at a place of a circuit.
+fn put_table(alloc: Global, circuit: &mut Circuit, place: usize, table: Table)
+    requires { place < length circuit.old.tables }
+    ensures { circuit.new ≡ with_tables circuit.old (slice_set circuit.old.tables place table) }
+{
+    let mut tables = mem::replace(&mut circuit.tables, Sequence::new(alloc)).into_vec();
+    tables[place] = table;
+    circuit.tables = Sequence::from_vec(tables);
+}
+
+// Puts a table behind the last of a circuit.
+#[tactic(auto, unfolding(circuit_laws::specs::Edits::with_added))]
+fn push_table(circuit: &mut Circuit, table: Table) -> Result<(), AllocError>
+    ensures { OnOk result (circuit.new ≡ with_added circuit.old table) }
+{
+    circuit.tables.push(table)?;
+    Ok(())
+}
+
+// The table at a place of a circuit gives place to another one, and the readers are those of the new tables.
+fn change_table(
+    alloc: Global,
+    circuit: &mut Circuit,
+    readers: &mut Readers,
+    place: usize,
+    table: Table,
+) -> Result<(), AllocError>
+    requires within { place < length circuit.old.tables }
+    requires listed { AreReaders (told readers.old) circuit.old.tables }
+    ensures set { OnOk result (circuit.new ≡ with_tables circuit.old (slice_set circuit.old.tables place table)) }
+    ensures listed { OnOk result (AreReaders (told readers.new) circuit.new.tables) }
+{
+    readers.change(alloc, place, &circuit.tables.as_slice()[place], &table)?;
+    put_table(alloc, circuit, place, table);
+    Ok(())
+}
+
+// A bit, turned over or not.
+fn turned_bit(bit: bool, inverts: bool) -> bool
+    ensures { result ≡ (if inverts then not bit else bit) }
+{
+    if inverts {
+        return !bit;
+    }
+    bit
+}
+
+// A wire carries a signal, turned over or not.
+fn join(
+    alloc: Global,
+    signals: &mut IndexMap<Name, Line>,
+    wires: &mut IndexMap<Name, Line>,
+    wire: &Name,
+    signal: &Name,
+    inverts: bool,
+) -> Result<(), AllocError>
+    ensures signals { OnOk result ((name : List ℕ) → line_of (get bytes_eq signals.new) name ≡ (if bytes_eq wire.now name then record { name = signal.now; inverts = inverts } else line_of (get bytes_eq signals.old) name)) }
+    ensures wires { OnOk result ((name : List ℕ) → line_of (get bytes_eq wires.new) name ≡ (if bytes_eq signal.now name then record { name = wire.now; inverts = inverts } else line_of (get bytes_eq wires.old) name)) }
+{
+    let to_signal = Line {
+        name: signal.copy(alloc)?,
+        inverts,
+    };
+    let to_wire = Line {
+        name: wire.copy(alloc)?,
+        inverts,
+    };
+    lead(signals, wire.copy(alloc)?, to_signal)?;
+    lead(wires, signal.copy(alloc)?, to_wire)
+}
+
+impl Wires {
+    // The wires of a circuit without anything; takes no memory.
+    fn empty(alloc: Global) -> Wires {
+        Wires {
+            circuit: Circuit {
+                name: Sequence::new(alloc),
+                inputs: Sequence::new(alloc),
+                outputs: Sequence::new(alloc),
+                clocks: Sequence::new(alloc),
+                timing: None,
+                latches: Sequence::new(alloc),
+                tables: Sequence::new(alloc),
+                dont_care: Sequence::new(alloc),
+            },
+            readers: Readers::of_none(alloc),
+            signals: IndexMap::new(alloc),
+            wires: IndexMap::new(alloc),
+        }
+    }
+
+    /// A circuit on wires; an error only for want of memory.
+    pub fn from_circuit(alloc: Global, circuit: Circuit) -> Result<Wires, AllocError>
+        ensures { IfOk result (λ made. made ≡ circuit) }
+    {
+        let readers = Readers::of_tables(alloc, circuit.tables.as_slice())?;
+        Ok(Wires {
+            circuit,
+            readers,
+            signals: IndexMap::new(alloc),
+            wires: IndexMap::new(alloc),
+        })
+    }
+
+    /// The circuit; an error only for want of memory.
+    pub fn into_circuit(self, alloc: Global) -> Result<Circuit, AllocError>
+        ensures { IfOk result (λ circuit. circuit ≡ self) }
+    {
+        let tables = tables_over(alloc, &self.signals, self.circuit.tables.as_slice())?;
+        let mut circuit = self.circuit;
+        circuit.tables = tables;
+        Ok(circuit)
+    }
+
+    /// The number of tables.
+    pub fn len(&self) -> usize
+        ensures { result ≡ length self.now.tables }
+    {
+        self.circuit.tables.len()
+    }
+
+    /// A copy of the table at a place, if there is one; an error only for want of memory.
+    pub fn table(&self, alloc: Global, place: usize) -> Result<Option<Table>, AllocError>
+        ensures { IfOk result (λ table. table ≡ slice_get self.now.tables place) }
+    {
+        match self.circuit.tables.as_slice().get(place) {
+            None => Ok(None),
+            Some(table) => {
+                let made = table_over(alloc, &self.signals, table)?;
+                Ok(Some(made))
+            }
+        }
+    }
+
+    /// The constant that the table at a place is written as, if there is a table and it is written so.
+    pub fn bit(&self, place: usize) -> Option<bool>
+        ensures { result ≡ option_map_or bit_written (slice_get self.now.tables place) None }
+    {
+        match self.circuit.tables.as_slice().get(place) {
+            None => None,
+            Some(table) => written_bit(table),
+        }
+    }
+
+    /// How many inputs the table at a place has; 0 where there is no table.
+    pub fn width(&self, place: usize) -> usize
+        ensures { result ≡ option_map_or (λ (table : TheTable). length table.inputs) (slice_get self.now.tables place) 0 }
+    {
+        match self.circuit.tables.as_slice().get(place) {
+            None => 0,
+            Some(table) => table.inputs.len(),
+        }
+    }
+
+    /// Whether some table reads a signal.
+    pub fn is_read(&self, name: &Name) -> bool
+        ensures { result ≡ has (table_inputs self.now.tables) name.now }
+    {
+        self.readers.is_read(name_of(&self.wires, name))
+    }
+
+    /// The places of the tables that read a signal; an error only for want of memory.
+    pub fn places(&self, alloc: Global, name: &Name) -> Result<Places, AllocError>
+        ensures { IfOk result (λ places. (place : ℕ) → is_in places place ≡ reads_at self.now.tables name.now place) }
+    {
+        self.readers.places(alloc, name_of(&self.wires, name))
+    }
+
+    /// How many tables read a signal, which no clause says: it serves to choose between ways, for speed alone.
+    pub fn count(&self, name: &Name) -> usize {
+        self.readers.count(name_of(&self.wires, name))
+    }
+
+    /// The table at a place gives place to another one; an error only for want of memory.
+    pub fn set(&mut self, alloc: Global, place: usize, table: &Table) -> Result<(), AllocError>
+        requires { place < length self.old.tables }
+        ensures { OnOk result (self.new ≡ with_tables self.old (slice_set self.old.tables place table.now)) }
+    {
+        let mut made = mem::replace(self, Wires::empty(alloc));
+        let kept = table_over(alloc, &made.wires, table)?;
+        change_table(alloc, &mut made.circuit, &mut made.readers, place, kept)?;
+        *self = made;
+        Ok(())
+    }
+
+    /// Two signals change places in all tables, the first turned over or not; an error only for want of memory.
+    pub fn exchange(
+        &mut self,
+        alloc: Global,
+        one: &Name,
+        other: &Name,
+        inverts: bool,
+    ) -> Result<(), AllocError>
+        requires { bytes_eq one.now other.now ≡ false }
+        ensures { OnOk result (self.new ≡ with_tables self.old (map (exchanged one.now other.now inverts) self.old.tables)) }
+    {
+        let mut made = mem::replace(self, Wires::empty(alloc));
+        let first = line_from(alloc, &made.wires, one)?;
+        let second = line_from(alloc, &made.wires, other)?;
+        let turned = turned_bit(first.inverts, inverts);
+        join(
+            alloc,
+            &mut made.signals,
+            &mut made.wires,
+            &first.name,
+            other,
+            turned,
+        )?;
+        join(
+            alloc,
+            &mut made.signals,
+            &mut made.wires,
+            &second.name,
+            one,
+            second.inverts,
+        )?;
+        *self = made;
+        Ok(())
+    }
+
+    /// A constant table stands last; an error only for want of memory.
+    pub fn add_constant(&mut self, alloc: Global, name: Name, bit: bool) -> Result<(), AllocError>
+        ensures { OnOk result (self.new ≡ with_added self.old (table_of_bit name bit)) }
+    {
+        let mut made = mem::replace(self, Wires::empty(alloc));
+        push_table(&mut made.circuit, constant_table(alloc, name, bit)?)?;
+        *self = made;
+        Ok(())
+    }
+}
