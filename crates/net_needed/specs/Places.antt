@@ -14,9 +14,10 @@ holder latches signal = find (λ (latch : Latch). bytes_eq signal latch.output) 
 abbrev pub item_at : {X : Type 0} → List X → Option ℕ → Option X
 item_at items place = option_map_or (slice_get items) place None
 
--- places lead from each signal to its table, and to its latch
+-- places lead from each signal to its table
 abbrev pub LeadsToTables : (List ℕ → Option ℕ) → List Table → Type 0
 LeadsToTables places tables = (signal : List ℕ) → item_at tables (places signal) ≡ driver tables signal
 
+-- places lead from each signal to its latch
 abbrev pub LeadsToLatches : (List ℕ → Option ℕ) → List Latch → Type 0
 LeadsToLatches places latches = (signal : List ℕ) → item_at latches (places signal) ≡ holder latches signal

@@ -5,10 +5,11 @@ use Rattle.circuit_model.specs.Names.{has}
 use Rattle.circuit_model.specs.declared.circuit.Table.{Table}
 use Rattle.circuit_model.specs.declared.circuit.Latch.{Latch}
 
--- what the tables and the latches of a name read
+-- what the tables of a name read
 unfoldable pub read_by_tables : List ℕ → List Table → List (List ℕ)
 read_by_tables name tables = flat_map (λ (table : Table). if bytes_eq name table.output then table.inputs else []) tables
 
+-- what the latches of a name read
 unfoldable pub read_by_latches : List ℕ → List Latch → List (List ℕ)
 read_by_latches name latches = flat_map (λ (latch : Latch). if bytes_eq name latch.output then latch.input ∷ [] else []) latches
 

@@ -16,4 +16,4 @@ mod tests;
 pub use constants::{constant_table, written_bit};
 pub use leaves::{driven_names, is_among, leaves_read};
 pub use needed::need_step;
-pub use places::{note_place, table_of};
+pub use places::note_place;

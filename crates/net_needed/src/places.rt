@@ -65,7 +65,7 @@ fn noted_place(places: &IndexMap<Name, usize>, name: &Name) -> Option<usize>
 }
 
 /// The table of a signal.
-pub fn table_of<'a>(
+pub(crate) fn table_of<'a>(
     places: &IndexMap<Name, usize>,
     tables: &'a [Table],
     name: &Name,

@@ -222,7 +222,8 @@ impl Readers {
         }
     }
 
-    /// The table at a place gives place to another one; an error only for want of memory.
+    /// At a place the table that stood there before gives place to the one that stands there now; an error only for want of
+    /// memory.
     pub fn change(
         &mut self,
         alloc: Global,

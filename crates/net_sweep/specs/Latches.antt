@@ -1,5 +1,5 @@
--- Latches that are taken out of a circuit and stand at places that stay, so that one of them goes without a move of the
--- others; and what is kept to see soon which of them always has one bit.
+-- Latches that are copied out of a circuit, whose own list counts for nothing from then on, and stand at places that stay,
+-- so that one of them goes without a move of the others; and what is kept to see soon which of them always has one bit.
 -- Source: De Micheli, "Synthesis and Optimization of Digital Circuits", chapter 9 (removal of registers that hold a
 -- constant); the SIS manual (UCB/ERL M92/41), `sweep`.
 use Rattle.std.specs.Prelude.{◌≡◌, ℕ, Bool, true, Option, Some, None, is_some, List, [], ◌∷◌, find, slice_get, bytes_eq}
@@ -63,7 +63,7 @@ pub record IsBeside (slots : List (Option Latch)) (lists : List ℕ → Option (
   pub asked : (name : List ℕ) → has circuit.outputs name ≡ true → is_some (lists name) ≡ true
   pub waiting : AreMarkedBy (is_fixed circuit) marked slots
 
--- so do the parts of `Standing`
+-- what `Standing` holds tells so of a circuit
 abbrev pub IsReady : Standing → Circuit → Type 0
 IsReady standing circuit =
     IsBeside standing.slots.items (get bytes_eq standing.fed) (get bytes_eq standing.tables) standing.read.keys (contains nat_cmp standing.waiting) circuit

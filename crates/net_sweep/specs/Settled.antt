@@ -86,8 +86,8 @@ marked_in candidates Constant place = contains nat_cmp candidates.unwritten plac
 marked_in candidates Put place = contains nat_cmp candidates.constants place
 marked_in candidates Bypass place = contains nat_cmp candidates.singles place
 
--- two tables of which the rules find the same: the signal, whether they are tidy, the constant that they ought to be written
--- as, the one that they are written as, and whether they have one input
+-- two tables that are alike in all that a rule asks of a table alone: the signal, whether it is tidy, the constant that it
+-- ought to be written as, the one that it is written as, and whether it has one input
 pub record IsAlike (old new : Table) : Type 0 where
   pub output : new.output ≡ old.output
   pub tidy : is_tidy new ≡ is_tidy old
@@ -95,14 +95,14 @@ pub record IsAlike (old new : Table) : Type 0 where
   pub written : written_bit new ≡ written_bit old
   pub single : is_some (only_input new.inputs) ≡ is_some (only_input old.inputs)
 
--- the same at a place, or no table in both
+-- tables that are alike, or no table in both
 abbrev pub IsAlikeThere : Option Table → Option Table → Type 0
 IsAlikeThere None None = ⊤
 IsAlikeThere None (Some new) = ⊥
 IsAlikeThere (Some old) None = ⊥
 IsAlikeThere (Some old) (Some new) = IsAlike old new
 
--- but at some places tables stand where tables stood, and the rules find the same of them
+-- at each place but the given ones a table stands exactly where one stood, and the two are alike
 abbrev pub AreAlikeBut : List ℕ → List Table → List Table → Type 0
 AreAlikeBut places old new = (place : ℕ) → is_in places place ≡ false → IsAlikeThere (slice_get old place) (slice_get new place)
 
@@ -115,7 +115,7 @@ abbrev pub Goes : List Circuit → Circuit → Circuit → Type 0
 Goes [] from to = from ≡ to
 Goes (next ∷ rest) from to = IsMove from next × Goes rest next to
 
--- moves have led from one circuit to another one, which is sound
+-- moves have led from one circuit to another one, which is sound: the circuits between them, and how they follow
 pub record HasLed (from to : Circuit) : Type 0 where
   pub between : List Circuit
   pub goes : Goes between from to

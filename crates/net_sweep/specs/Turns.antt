@@ -1,4 +1,4 @@
--- Where a rule of sweep applies first.
+-- Where a rule of sweep applies first, and rows of tables that read a constant.
 -- Source: the SIS manual (UCB/ERL M92/41), `sweep`.
 use Rattle.std.specs.Prelude.{◌≡◌, ℕ, ◌<◌, Bool, true, false, Option, Some, None, List, [], ◌∷◌, find, slice_get, length, if◌then◌else◌}
 use Rattle.std.specs.Option.{option_map}

@@ -20,18 +20,26 @@ use std::collections::BTreeSet;
 /// A rule of sweep that changes tables.
 #[derive(Clone, Copy)]
 pub(crate) enum Rule {
+    // a table that is not tidy is tidied
     Tidy,
+    // a table that is constant is written as the constant
     Constant,
+    // a written constant is put into the tables that read it
     Put,
+    // the tables that read a table of one input read that input in its place
     Bypass,
 }
 
 /// For each rule the places of tables to which it may apply.
 #[derive(Drop)]
 pub(crate) struct Candidates {
+    // for `Tidy`
     pub(crate) untidy: BTreeSet<usize>,
+    // for `Constant`
     pub(crate) unwritten: BTreeSet<usize>,
+    // for `Put`
     pub(crate) constants: BTreeSet<usize>,
+    // for `Bypass`
     pub(crate) singles: BTreeSet<usize>,
 }
 

@@ -10,7 +10,7 @@ ghost use Rattle.net_sweep.specs.Turns.{opens_at_one, row_at_marks};
 ghost use Rattle.sweep_rules.specs.Rules.{asks_against, at_bit as table_at_bit, renamed as name_for, row_turned as turned_row, rewired as table_rewired, is_inverter as inverts_input};
 
 use circuit_model::{Name, Names, Row, Rows, Table, Tri};
-use net_wires::rows_turned;
+use net_wires::rows_over;
 use sis_base::{Copied, Sequence};
 use std::alloc::{AllocError, Global};
 use table_tidy::tidied_table;
@@ -35,8 +35,8 @@ fn place_at_bit(is_signal: bool, bit: bool, place: Tri) -> Option<Tri>
     }
 }
 
-// For each name, whether it is the signal.
-fn marks_of(alloc: Global, name: &Name, inputs: &[Name]) -> Result<Vec<bool>, AllocError>
+// For each input, whether it is the signal.
+fn columns_of(alloc: Global, name: &Name, inputs: &[Name]) -> Result<Vec<bool>, AllocError>
     ensures { IfOk result (λ marks. marks.items ≡ map (bytes_eq name.now) inputs.now) }
 {
     let mut marks = Vec::with_capacity(alloc, inputs.len())?;
@@ -103,7 +103,7 @@ pub(crate) fn at_bit(
     if !is_among(&table.inputs, name) {
         return table.copy(alloc);
     }
-    let marks = marks_of(alloc, name, table.inputs.as_slice())?;
+    let marks = columns_of(alloc, name, table.inputs.as_slice())?;
     let rows = rows_at_bit(alloc, bit, marks.as_slice(), table.rows.as_slice())?;
     let put = Table {
         inputs: table.inputs.copy(alloc)?,
@@ -127,8 +127,8 @@ fn rows_rewired(
     if !inverts {
         return table.rows.copy(alloc);
     }
-    let marks = marks_of(alloc, name, table.inputs.as_slice())?;
-    rows_turned(alloc, marks.as_slice(), table.rows.as_slice())
+    let marks = columns_of(alloc, name, table.inputs.as_slice())?;
+    rows_over(alloc, marks.as_slice(), table.rows.as_slice())
 }
 
 // A name, or the one that takes its place.

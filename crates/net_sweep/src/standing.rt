@@ -1,4 +1,5 @@
-//! Latches are taken out of a circuit, each to a place of its own, and put back.
+//! Latches are copied out of a circuit, each to a place of its own, and those that are left are put back; until then the
+//! circuit's own list counts for nothing.
 
 ghost use Rattle.std.specs.Prelude.{◌≡◌, ℕ, ◌<◌, true, Some, is_some, List, [], ◌∷◌, ◌++◌, length, map, slice_get, bytes_eq, IfOk, OnOk};
 ghost use Rattle.std.specs.Ordering.{nat_cmp};

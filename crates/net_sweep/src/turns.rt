@@ -82,7 +82,7 @@ fn applies_to<R: Row>(
 
 // Whether it is seen without a copy of the table at a place that a rule does not apply to it: to put a constant, the table
 // must be written as one; to be passed by, it must have one input.
-fn is_passed_over(rule: Rule, circuit: &Wires, place: usize) -> bool
+fn is_ruled_out(rule: Rule, circuit: &Wires, place: usize) -> bool
     ensures { result ≡ true → option_map_or (passes rule circuit.now.tables) (slice_get circuit.now.tables place) false ≡ false }
 {
     match rule {
@@ -102,7 +102,7 @@ fn applies_at<R: Row>(
     requires { AllByRecursion IsWide circuit.now.tables }
     ensures { IfOk result (λ answer. answer ≡ option_map_or (passes rule circuit.now.tables) (slice_get circuit.now.tables place) false) }
 {
-    if is_passed_over(rule, circuit, place) {
+    if is_ruled_out(rule, circuit, place) {
         return Ok(false);
     }
     match circuit.table(alloc, place)? {
@@ -338,8 +338,8 @@ fn set_tables(
     Ok(())
 }
 
-// Each table that reads a signal reads another one in its place: the two change places everywhere, and then the tables that
-// read the other one before are written as they are to be.
+// Each table that reads a signal reads another one in its place, turned over or not: the two change places everywhere, and
+// then the tables that read the other one before are written as they are to be.
 fn rewire_by_exchange(
     alloc: Global,
     circuit: &mut Wires,
@@ -360,8 +360,9 @@ fn rewire_by_exchange(
     Ok(places)
 }
 
-// Each table that reads a signal reads another one in its place; of the two signals the readers of the one with fewer are
-// written anew.
+// Each table that reads a signal reads another one in its place, turned over or not. The readers of the signal with fewer are
+// written anew; where as many read the one as the other, those of the second. So sets of readers are joined, the smaller to
+// the larger.
 fn rewire(
     alloc: Global,
     circuit: &mut Wires,
@@ -375,7 +376,7 @@ fn rewire(
     ensures changed { OnOk result (circuit.new ≡ tables_in circuit.old (map (changed_by from.now (Input to inverts)) circuit.old.tables)) }
     ensures others { IfOk result (λ places. AreAlikeBut places circuit.old.tables circuit.new.tables) }
 {
-    if circuit.count(&to) < circuit.count(from) {
+    if circuit.count(&to) <= circuit.count(from) {
         return rewire_by_exchange(alloc, circuit, from, &to, inverts);
     }
     change_readers(alloc, circuit, from, &Change::Input(to, inverts))

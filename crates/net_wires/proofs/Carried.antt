@@ -15,35 +15,36 @@ use Rattle.circuit_laws.specs.Edits.{with_tables, with_added, constant_table}
 use Rattle.circuit_laws.proofs.Names.{same_name, name_itself, name_is, name_not, name_apart, name_cases, has_append}
 use Rattle.sweep_rules.specs.Rules.{turned_over, row_turned}
 use Rattle.sweep_rules.specs.Points.{written_bit}
+use Rattle.net_needed.proofs.Searching.{at_place}
 use Rattle.net_readers.specs.Readers.{reads_at, AreReaders}
 use Rattle.net_readers.proofs.Sets.{readers_last}
-use Rattle.net_wires.specs.declared.lines.Line.{Line}
+use Rattle.net_wires.specs.declared.leads.Lead.{Lead}
 use Rattle.net_wires.specs.Wires.{row_over, marks_over, table_over, LeadsBack, ArePaired, name_exchanged, exchanged}
 use Rattle.net_wires.proofs.Turning.{turned_twice, table_back, constant_stays, bit_stays}
 
 -- a signal is among those that wires carry exactly where its wire is among the wires
-carried_name : (signal wire : List ℕ → Line) → ArePaired signal wire → (name input : List ℕ) → bytes_eq name (signal input).name ≡ bytes_eq (wire name).name input
+carried_name : (signal wire : List ℕ → Lead) → ArePaired signal wire → (name input : List ℕ) → bytes_eq name (signal input).name ≡ bytes_eq (wire name).name input
 carried_name signal wire h name input =
     elim (name_cases (wire name).name input) as (λ _. bytes_eq name (signal input).name ≡ bytes_eq (wire name).name input) [
       | inl same ↦
-          name_is name (signal input).name (sym (ap (λ (line : Line). line.name) (ap signal (sym same) ∙ h.away name))) ∙ sym (name_is (wire name).name input same)
+          name_is name (signal input).name (sym (ap (λ (lead : Lead). lead.name) (ap signal (sym same) ∙ h.from_signal name))) ∙ sym (name_is (wire name).name input same)
       | inr other ↦
-          name_not name (signal input).name (λ e. name_apart (wire name).name input other (ap (λ (n : List ℕ). (wire n).name) e ∙ ap (λ (line : Line). line.name) (h.home input))) ∙ sym other
+          name_not name (signal input).name (λ e. name_apart (wire name).name input other (ap (λ (n : List ℕ). (wire n).name) e ∙ ap (λ (lead : Lead). lead.name) (h.from_wire input))) ∙ sym other
     ]
 
-pub carried_has : (signal wire : List ℕ → Line) → ArePaired signal wire → (name : List ℕ) (inputs : List (List ℕ)) → has (map (λ input. (signal input).name) inputs) name ≡ has inputs (wire name).name
+pub carried_has : (signal wire : List ℕ → Lead) → ArePaired signal wire → (name : List ℕ) (inputs : List (List ℕ)) → has (map (λ input. (signal input).name) inputs) name ≡ has inputs (wire name).name
 carried_has signal wire h name [] = refl
 carried_has signal wire h name (input ∷ inputs) = rw (carried_name signal wire h name input, carried_has signal wire h name inputs) refl
 
 -- some table reads a signal where some table reads its wire
-pub carried_read : (signal wire : List ℕ → Line) → ArePaired signal wire → (name : List ℕ) (tables : List Table) → has (table_inputs (map (table_over signal) tables)) name ≡ has (table_inputs tables) (wire name).name
+pub carried_read : (signal wire : List ℕ → Lead) → ArePaired signal wire → (name : List ℕ) (tables : List Table) → has (table_inputs (map (table_over signal) tables)) name ≡ has (table_inputs tables) (wire name).name
 carried_read signal wire h name [] = refl
 carried_read signal wire h name (table ∷ tables) =
     has_append (map (λ input. (signal input).name) table.inputs) (table_inputs (map (table_over signal) tables)) name
     ∙ (rw (carried_has signal wire h name table.inputs, carried_read signal wire h name tables) refl ∙ sym (has_append table.inputs (table_inputs tables) (wire name).name))
 
 -- and so for the table at a place
-pub carried_at : (signal wire : List ℕ → Line) → ArePaired signal wire → (name : List ℕ) (place : ℕ) (tables : List Table) → reads_at (map (table_over signal) tables) name place ≡ reads_at tables (wire name).name place
+pub carried_at : (signal wire : List ℕ → Lead) → ArePaired signal wire → (name : List ℕ) (place : ℕ) (tables : List Table) → reads_at (map (table_over signal) tables) name place ≡ reads_at tables (wire name).name place
 carried_at signal wire h name place tables =
     ap (λ (o : Option Table). option_map_or (λ (table : Table). has table.inputs name) o false) (slice_get-map (table_over signal) tables place) ∙ by (slice_get tables place)
   where
@@ -52,16 +53,16 @@ carried_at signal wire h name place tables =
     by (Some table) = carried_has signal wire h name table.inputs
 
 -- a name that leads elsewhere
-abbrev pub linked : List ℕ → Line → (List ℕ → Line) → List ℕ → Line
-linked from to lines name = if bytes_eq from name then to else lines name
+abbrev pub linked : List ℕ → Lead → (List ℕ → Lead) → List ℕ → Lead
+linked from to leads name = if bytes_eq from name then to else leads name
 
 -- two names are led to two others, which no other name led to, and these are led back
-linked_back : (there back : List ℕ → Line) (x y a b : List ℕ) (p q : Bool) → bytes_eq a b ≡ false → LeadsBack there back
+linked_back : (there back : List ℕ → Lead) (x y a b : List ℕ) (p q : Bool) → bytes_eq a b ≡ false → LeadsBack there back
     → ((name : List ℕ) → (there name).name ≡ a → name ≡ y) → ((name : List ℕ) → (there name).name ≡ b → name ≡ x)
     → LeadsBack (linked x (record { name = a; inverts = p }) (linked y (record { name = b; inverts = q }) there)) (linked a (record { name = x; inverts = p }) (linked b (record { name = y; inverts = q }) back))
 linked_back there back x y a b p q apart home by_a by_b name = first (bytes_eq x name) refl
   where
-    new : List ℕ → Line
+    new : List ℕ → Lead
     new = linked a (record { name = x; inverts = p }) (linked b (record { name = y; inverts = q }) back)
 
     at_a : new a ≡ record { name = x; inverts = p }
@@ -86,15 +87,15 @@ linked_back there back x y a b p q apart home by_a by_b name = first (bytes_eq x
     first true e = at_a ∙ ap (λ (n : List ℕ). record { name = n; inverts = p }) (same_name x name e)
     first false e = second e (bytes_eq y name) refl
 
--- what two lines become where the signals that two wires carry change places
-pub record AreLinked (signal wire signal_after wire_after : List ℕ → Line) (one other : List ℕ) (first second : Line) (turned : Bool) : Type 0 where
+-- what two leads become where the signals that two wires carry change places
+pub record AreLinked (signal wire signal_after wire_after : List ℕ → Lead) (one other : List ℕ) (first second : Lead) (turned : Bool) : Type 0 where
   pub apart : bytes_eq one other ≡ false
   pub first_is : first ≡ wire one
   pub second_is : second ≡ wire other
   pub signals : (name : List ℕ) → signal_after name ≡ linked second.name (record { name = one; inverts = second.inverts }) (linked first.name (record { name = other; inverts = turned }) signal) name
   pub wires : (name : List ℕ) → wire_after name ≡ linked one (record { name = second.name; inverts = second.inverts }) (linked other (record { name = first.name; inverts = turned }) wire) name
 
-pub linked_twice : (signal wire signal_mid wire_mid signal_after wire_after : List ℕ → Line) (one other : List ℕ) (first second : Line) (turned : Bool) → bytes_eq one other ≡ false → first ≡ wire one → second ≡ wire other
+pub linked_twice : (signal wire signal_mid wire_mid signal_after wire_after : List ℕ → Lead) (one other : List ℕ) (first second : Lead) (turned : Bool) → bytes_eq one other ≡ false → first ≡ wire one → second ≡ wire other
     → ((name : List ℕ) → signal_mid name ≡ (if bytes_eq first.name name then record { name = other; inverts = turned } else signal name))
     → ((name : List ℕ) → wire_mid name ≡ (if bytes_eq other name then record { name = first.name; inverts = turned } else wire name))
     → ((name : List ℕ) → signal_after name ≡ (if bytes_eq second.name name then record { name = one; inverts = second.inverts } else signal_mid name))
@@ -104,54 +105,54 @@ linked_twice signal wire signal_mid wire_mid signal_after wire_after one other f
   apart = apart;
   first_is = first_is;
   second_is = second_is;
-  signals = λ name. s2 name ∙ ap (λ (line : Line). if bytes_eq second.name name then record { name = one; inverts = second.inverts } else line) (s1 name);
-  wires = λ name. w2 name ∙ ap (λ (line : Line). if bytes_eq one name then record { name = second.name; inverts = second.inverts } else line) (w1 name);
+  signals = λ name. s2 name ∙ ap (λ (lead : Lead). if bytes_eq second.name name then record { name = one; inverts = second.inverts } else lead) (s1 name);
+  wires = λ name. w2 name ∙ ap (λ (lead : Lead). if bytes_eq one name then record { name = second.name; inverts = second.inverts } else lead) (w1 name);
 }
 
--- lines that are the same at each name lead back as well
-back_same : (there back there_too back_too : List ℕ → Line) → ((name : List ℕ) → there_too name ≡ there name) → ((name : List ℕ) → back_too name ≡ back name) → LeadsBack there back → LeadsBack there_too back_too
+-- leads that are the same at each name lead back as well
+back_same : (there back there_too back_too : List ℕ → Lead) → ((name : List ℕ) → there_too name ≡ there name) → ((name : List ℕ) → back_too name ≡ back name) → LeadsBack there back → LeadsBack there_too back_too
 back_same there back there_too back_too e f h name = rw (e name) (f (there name).name ∙ h name)
 
-pub linked_paired : (signal wire signal_after wire_after : List ℕ → Line) (one other : List ℕ) (first second : Line) (turned : Bool) → ArePaired signal wire
+pub linked_paired : (signal wire signal_after wire_after : List ℕ → Lead) (one other : List ℕ) (first second : Lead) (turned : Bool) → ArePaired signal wire
     → AreLinked signal wire signal_after wire_after one other first second turned → ArePaired signal_after wire_after
 linked_paired signal wire signal_after wire_after one other first second turned h l = record {
-  home = back_same (linked second.name (record { name = one; inverts = second.inverts }) (linked first.name (record { name = other; inverts = turned }) signal)) (linked one (record { name = second.name; inverts = second.inverts }) (linked other (record { name = first.name; inverts = turned }) wire)) signal_after wire_after l.signals l.wires
-      (linked_back signal wire second.name first.name one other second.inverts turned l.apart h.home (λ name e. sym (home_at name one e) ∙ ap (λ (line : Line). line.name) (sym l.first_is)) (λ name e. sym (home_at name other e) ∙ ap (λ (line : Line). line.name) (sym l.second_is)));
-  away = back_same (linked one (record { name = second.name; inverts = second.inverts }) (linked other (record { name = first.name; inverts = turned }) wire)) (linked second.name (record { name = one; inverts = second.inverts }) (linked first.name (record { name = other; inverts = turned }) signal)) wire_after signal_after l.wires l.signals
-      (linked_back wire signal one other second.name first.name second.inverts turned differ h.away
+  from_wire = back_same (linked second.name (record { name = one; inverts = second.inverts }) (linked first.name (record { name = other; inverts = turned }) signal)) (linked one (record { name = second.name; inverts = second.inverts }) (linked other (record { name = first.name; inverts = turned }) wire)) signal_after wire_after l.signals l.wires
+      (linked_back signal wire second.name first.name one other second.inverts turned l.apart h.from_wire (λ name e. sym (home_at name one e) ∙ ap (λ (lead : Lead). lead.name) (sym l.first_is)) (λ name e. sym (home_at name other e) ∙ ap (λ (lead : Lead). lead.name) (sym l.second_is)));
+  from_signal = back_same (linked one (record { name = second.name; inverts = second.inverts }) (linked other (record { name = first.name; inverts = turned }) wire)) (linked second.name (record { name = one; inverts = second.inverts }) (linked first.name (record { name = other; inverts = turned }) signal)) wire_after signal_after l.wires l.signals
+      (linked_back wire signal one other second.name first.name second.inverts turned differ h.from_signal
       (λ name e. sym (away_at name second.name e) ∙ second_signal) (λ name e. sym (away_at name first.name e) ∙ first_signal));
 }
   where
     home_at : (name u : List ℕ) → (signal name).name ≡ u → (wire u).name ≡ name
-    home_at name u e = ap (λ (n : List ℕ). (wire n).name) (sym e) ∙ ap (λ (line : Line). line.name) (h.home name)
+    home_at name u e = ap (λ (n : List ℕ). (wire n).name) (sym e) ∙ ap (λ (lead : Lead). lead.name) (h.from_wire name)
 
     away_at : (name u : List ℕ) → (wire name).name ≡ u → (signal u).name ≡ name
-    away_at name u e = ap (λ (n : List ℕ). (signal n).name) (sym e) ∙ ap (λ (line : Line). line.name) (h.away name)
+    away_at name u e = ap (λ (n : List ℕ). (signal n).name) (sym e) ∙ ap (λ (lead : Lead). lead.name) (h.from_signal name)
 
     first_signal : (signal first.name).name ≡ one
-    first_signal = away_at one first.name (ap (λ (line : Line). line.name) (sym l.first_is))
+    first_signal = away_at one first.name (ap (λ (lead : Lead). lead.name) (sym l.first_is))
 
     second_signal : (signal second.name).name ≡ other
-    second_signal = away_at other second.name (ap (λ (line : Line). line.name) (sym l.second_is))
+    second_signal = away_at other second.name (ap (λ (lead : Lead). lead.name) (sym l.second_is))
 
     differ : bytes_eq second.name first.name ≡ false
     differ = name_not second.name first.name (λ e. name_apart one other l.apart (sym first_signal ∙ (ap (λ (n : List ℕ). (signal n).name) (sym e) ∙ second_signal)))
 
 -- what each wire carries then
-record IsMoved (before after : Line) (one other : List ℕ) (inverts : Bool) : Type 0 where
+record IsMoved (before after : Lead) (one other : List ℕ) (inverts : Bool) : Type 0 where
   name : after.name ≡ name_exchanged one other before.name
   turns : after.inverts ≡ (if inverts && bytes_eq one before.name then not before.inverts else before.inverts)
 
-linked_moved : (signal wire signal_after wire_after : List ℕ → Line) (one other : List ℕ) (first second : Line) (inverts turned : Bool) → ArePaired signal wire
+linked_moved : (signal wire signal_after wire_after : List ℕ → Lead) (one other : List ℕ) (first second : Lead) (inverts turned : Bool) → ArePaired signal wire
     → turned ≡ (if inverts then not first.inverts else first.inverts) → AreLinked signal wire signal_after wire_after one other first second turned → (input : List ℕ) → IsMoved (signal input) (signal_after input) one other inverts
 linked_moved signal wire signal_after wire_after one other first second inverts turned h t l input =
-    subst (λ (line : Line). IsMoved (signal input) line one other inverts) (sym (l.signals input)) (at_second (bytes_eq second.name input) refl)
+    subst (λ (lead : Lead). IsMoved (signal input) lead one other inverts) (sym (l.signals input)) (at_second (bytes_eq second.name input) refl)
   where
     first_signal : signal first.name ≡ record { name = one; inverts = first.inverts }
-    first_signal = rw (l.first_is) (h.away one)
+    first_signal = rw (l.first_is) (h.from_signal one)
 
     second_signal : signal second.name ≡ record { name = other; inverts = second.inverts }
-    second_signal = rw (l.second_is) (h.away other)
+    second_signal = rw (l.second_is) (h.from_signal other)
 
     at_one : IsMoved (record { name = one; inverts = first.inverts }) (record { name = other; inverts = turned }) one other inverts
     at_one = record { name = rw (name_itself one) refl; turns = rw (name_itself one, t) (by inverts) }
@@ -167,33 +168,33 @@ linked_moved signal wire signal_after wire_after one other first second inverts 
         by true = refl
         by false = refl
 
-    stays : (line : Line) → bytes_eq one line.name ≡ false → bytes_eq other line.name ≡ false → IsMoved line line one other inverts
-    stays line e f = record { name = rw (e, f) refl; turns = rw (e) (by inverts) }
+    stays : (lead : Lead) → bytes_eq one lead.name ≡ false → bytes_eq other lead.name ≡ false → IsMoved lead lead one other inverts
+    stays lead e f = record { name = rw (e, f) refl; turns = rw (e) (by inverts) }
       where
-        by : (b : Bool) → line.inverts ≡ (if b && false then not line.inverts else line.inverts)
+        by : (b : Bool) → lead.inverts ≡ (if b && false then not lead.inverts else lead.inverts)
         by true = refl
         by false = refl
 
-    home_at : (u : List ℕ) (line : Line) → line ≡ wire u → bytes_eq line.name input ≡ false → bytes_eq u (signal input).name ≡ false
-    home_at u line is e = name_not u (signal input).name (λ same. name_apart line.name input e
-        (ap (λ (w : Line). w.name) is ∙ (ap (λ (n : List ℕ). (wire n).name) same ∙ ap (λ (w : Line). w.name) (h.home input))))
+    home_at : (u : List ℕ) (lead : Lead) → lead ≡ wire u → bytes_eq lead.name input ≡ false → bytes_eq u (signal input).name ≡ false
+    home_at u lead is e = name_not u (signal input).name (λ same. name_apart lead.name input e
+        (ap (λ (w : Lead). w.name) is ∙ (ap (λ (n : List ℕ). (wire n).name) same ∙ ap (λ (w : Lead). w.name) (h.from_wire input))))
 
     at_first : bytes_eq second.name input ≡ false → (e : Bool) → bytes_eq first.name input ≡ e
         → IsMoved (signal input) (if e then record { name = other; inverts = turned } else signal input) one other inverts
-    at_first n true e = subst (λ (line : Line). IsMoved line (record { name = other; inverts = turned }) one other inverts) (sym first_signal ∙ ap signal (same_name first.name input e)) at_one
+    at_first n true e = subst (λ (lead : Lead). IsMoved lead (record { name = other; inverts = turned }) one other inverts) (sym first_signal ∙ ap signal (same_name first.name input e)) at_one
     at_first n false e = stays (signal input) (home_at one first l.first_is e) (home_at other second l.second_is n)
 
     at_second : (e : Bool) → bytes_eq second.name input ≡ e
         → IsMoved (signal input) (if e then record { name = one; inverts = second.inverts } else linked first.name (record { name = other; inverts = turned }) signal input) one other inverts
-    at_second true e = subst (λ (line : Line). IsMoved line (record { name = one; inverts = second.inverts }) one other inverts) (sym second_signal ∙ ap signal (same_name second.name input e)) at_other
+    at_second true e = subst (λ (lead : Lead). IsMoved lead (record { name = one; inverts = second.inverts }) one other inverts) (sym second_signal ∙ ap signal (same_name second.name input e)) at_other
     at_second false e = at_first e (bytes_eq first.name input) refl
 
-names_moved : (before after : List ℕ → Line) (one other : List ℕ) (inverts : Bool) → ((input : List ℕ) → IsMoved (before input) (after input) one other inverts) → (inputs : List (List ℕ))
+names_moved : (before after : List ℕ → Lead) (one other : List ℕ) (inverts : Bool) → ((input : List ℕ) → IsMoved (before input) (after input) one other inverts) → (inputs : List (List ℕ))
     → map (λ input. (after input).name) inputs ≡ map (name_exchanged one other) (map (λ input. (before input).name) inputs)
 names_moved before after one other inverts h [] = refl
 names_moved before after one other inverts h (input ∷ inputs) = rw ((h input).name, names_moved before after one other inverts h inputs) refl
 
-row_moved : (before after : List ℕ → Line) (one other : List ℕ) → ((input : List ℕ) → IsMoved (before input) (after input) one other true) → (inputs : List (List ℕ)) (row : List Tri)
+row_moved : (before after : List ℕ → Lead) (one other : List ℕ) → ((input : List ℕ) → IsMoved (before input) (after input) one other true) → (inputs : List (List ℕ)) (row : List Tri)
     → row_over (marks_over after inputs) row ≡ row_turned one (map (λ input. (before input).name) inputs) (row_over (marks_over before inputs) row)
 unfolding row_over row_turned
 row_moved before after one other h [] row = refl
@@ -209,23 +210,23 @@ row_moved before after one other h (input ∷ inputs) (place ∷ row) =
     by false true = refl
     by false false = refl
 
-rows_moved : (before after : List ℕ → Line) (one other : List ℕ) → ((input : List ℕ) → IsMoved (before input) (after input) one other true) → (inputs : List (List ℕ)) (rows : List (List Tri))
+rows_moved : (before after : List ℕ → Lead) (one other : List ℕ) → ((input : List ℕ) → IsMoved (before input) (after input) one other true) → (inputs : List (List ℕ)) (rows : List (List Tri))
     → map (row_over (marks_over after inputs)) rows ≡ map (row_turned one (map (λ input. (before input).name) inputs)) (map (row_over (marks_over before inputs)) rows)
 rows_moved before after one other h inputs [] = refl
 rows_moved before after one other h inputs (row ∷ rows) = rw (row_moved before after one other h inputs row, rows_moved before after one other h inputs rows) refl
 
-marks_same : (before after : List ℕ → Line) (one other : List ℕ) → ((input : List ℕ) → IsMoved (before input) (after input) one other false) → (inputs : List (List ℕ)) → marks_over after inputs ≡ marks_over before inputs
+marks_same : (before after : List ℕ → Lead) (one other : List ℕ) → ((input : List ℕ) → IsMoved (before input) (after input) one other false) → (inputs : List (List ℕ)) → marks_over after inputs ≡ marks_over before inputs
 marks_same before after one other h [] = refl
 marks_same before after one other h (input ∷ inputs) = rw ((h input).turns, marks_same before after one other h inputs) refl
 
-table_moved : (before after : List ℕ → Line) (one other : List ℕ) (inverts : Bool) → ((input : List ℕ) → IsMoved (before input) (after input) one other inverts) → (table : Table)
+table_moved : (before after : List ℕ → Lead) (one other : List ℕ) (inverts : Bool) → ((input : List ℕ) → IsMoved (before input) (after input) one other inverts) → (table : Table)
     → table_over after table ≡ exchanged one other inverts (table_over before table)
 unfolding exchanged
 table_moved before after one other true h table = rw (names_moved before after one other true h table.inputs, rows_moved before after one other h table.inputs table.rows) refl
 table_moved before after one other false h table = rw (names_moved before after one other false h table.inputs, marks_same before after one other h table.inputs) refl
 
 -- the tables are those in which two signals have changed places
-pub tables_moved : (signal wire signal_after wire_after : List ℕ → Line) (one other : List ℕ) (first second : Line) (inverts turned : Bool) → ArePaired signal wire
+pub tables_moved : (signal wire signal_after wire_after : List ℕ → Lead) (one other : List ℕ) (first second : Lead) (inverts turned : Bool) → ArePaired signal wire
     → turned ≡ (if inverts then not first.inverts else first.inverts) → AreLinked signal wire signal_after wire_after one other first second turned → (tables : List Table)
     → map (table_over signal_after) tables ≡ map (exchanged one other inverts) (map (table_over signal) tables)
 tables_moved signal wire signal_after wire_after one other first second inverts turned h t l [] = refl
@@ -235,53 +236,47 @@ tables_moved signal wire signal_after wire_after one other first second inverts 
       tables_moved signal wire signal_after wire_after one other first second inverts turned h t l tables,
     ) refl
 
--- an item at a place, by its being there
-pub at_place : {X : Type 0} (items : List X) (i : ℕ) (item : X) → i < length items → item ≡ get_or items i item → slice_get items i ≡ Some item
-at_place [] i item lt is = absurd (omega (arith, lt))
-at_place (x ∷ items) zero item lt is = ap Some (sym is)
-at_place (x ∷ items) (suc i) item lt is = at_place items i item (omega (arith, lt)) is
-
 -- the table at a place
-table_there : (circuit seen : Circuit) (line : List ℕ → Line) (place : ℕ) (table : Table) → seen ≡ with_tables circuit (map (table_over line) circuit.tables) → place < length circuit.tables → table ≡ get_or circuit.tables place table
-    → slice_get seen.tables place ≡ Some (table_over line table)
-table_there circuit seen line place table is lt here =
-    ap (λ (c : Circuit). slice_get c.tables place) is ∙ (slice_get-map (table_over line) circuit.tables place ∙ ap (option_map (table_over line)) (at_place circuit.tables place table lt here))
+table_there : (circuit seen : Circuit) (lead : List ℕ → Lead) (place : ℕ) (table : Table) → seen ≡ with_tables circuit (map (table_over lead) circuit.tables) → place < length circuit.tables → table ≡ get_or circuit.tables place table
+    → slice_get seen.tables place ≡ Some (table_over lead table)
+table_there circuit seen lead place table is lt here =
+    ap (λ (c : Circuit). slice_get c.tables place) is ∙ (slice_get-map (table_over lead) circuit.tables place ∙ ap (option_map (table_over lead)) (at_place circuit.tables place table lt here))
 
 -- the constant at a place
-pub bit_there : (circuit seen : Circuit) (line : List ℕ → Line) (place : ℕ) (table : Table) → seen ≡ with_tables circuit (map (table_over line) circuit.tables) → place < length circuit.tables → table ≡ get_or circuit.tables place table
+pub bit_there : (circuit seen : Circuit) (lead : List ℕ → Lead) (place : ℕ) (table : Table) → seen ≡ with_tables circuit (map (table_over lead) circuit.tables) → place < length circuit.tables → table ≡ get_or circuit.tables place table
     → written_bit table ≡ option_map_or written_bit (slice_get seen.tables place) None
-bit_there circuit seen line place table is lt here =
-    sym (ap (λ (o : Option Table). option_map_or written_bit o None) (table_there circuit seen line place table is lt here) ∙ bit_stays line table)
+bit_there circuit seen lead place table is lt here =
+    sym (ap (λ (o : Option Table). option_map_or written_bit o None) (table_there circuit seen lead place table is lt here) ∙ bit_stays lead table)
 
 -- the number of inputs at a place
-pub width_there : (circuit seen : Circuit) (line : List ℕ → Line) (place : ℕ) (table : Table) → seen ≡ with_tables circuit (map (table_over line) circuit.tables) → place < length circuit.tables → table ≡ get_or circuit.tables place table
+pub width_there : (circuit seen : Circuit) (lead : List ℕ → Lead) (place : ℕ) (table : Table) → seen ≡ with_tables circuit (map (table_over lead) circuit.tables) → place < length circuit.tables → table ≡ get_or circuit.tables place table
     → length table.inputs ≡ option_map_or (λ (t : Table). length t.inputs) (slice_get seen.tables place) 0
-width_there circuit seen line place table is lt here =
-    sym (ap (λ (o : Option Table). option_map_or (λ (t : Table). length t.inputs) o 0) (table_there circuit seen line place table is lt here) ∙ length-map table.inputs (λ input. (line input).name))
+width_there circuit seen lead place table is lt here =
+    sym (ap (λ (o : Option Table). option_map_or (λ (t : Table). length t.inputs) o 0) (table_there circuit seen lead place table is lt here) ∙ length-map table.inputs (λ input. (lead input).name))
 
 -- who reads a signal
-pub read_there : (circuit seen : Circuit) (signal wire : List ℕ → Line) (name : List ℕ) → seen ≡ with_tables circuit (map (table_over signal) circuit.tables) → ArePaired signal wire → has (table_inputs circuit.tables) (wire name).name ≡ has (table_inputs seen.tables) name
+pub read_there : (circuit seen : Circuit) (signal wire : List ℕ → Lead) (name : List ℕ) → seen ≡ with_tables circuit (map (table_over signal) circuit.tables) → ArePaired signal wire → has (table_inputs circuit.tables) (wire name).name ≡ has (table_inputs seen.tables) name
 read_there circuit seen signal wire name is h = sym (ap (λ (c : Circuit). has (table_inputs c.tables) name) is ∙ carried_read signal wire h name circuit.tables)
 
-pub places_there : (circuit seen : Circuit) (signal wire : List ℕ → Line) (name : List ℕ) (place : ℕ) → seen ≡ with_tables circuit (map (table_over signal) circuit.tables) → ArePaired signal wire → reads_at circuit.tables (wire name).name place ≡ reads_at seen.tables name place
+pub places_there : (circuit seen : Circuit) (signal wire : List ℕ → Lead) (name : List ℕ) (place : ℕ) → seen ≡ with_tables circuit (map (table_over signal) circuit.tables) → ArePaired signal wire → reads_at circuit.tables (wire name).name place ≡ reads_at seen.tables name place
 places_there circuit seen signal wire name place is h = sym (ap (λ (c : Circuit). reads_at c.tables name place) is ∙ carried_at signal wire h name place circuit.tables)
 
 -- a table is put in over wires
-pub table_put : (circuit seen : Circuit) (signal wire : List ℕ → Line) (place : ℕ) (table kept : Table) (new : Circuit) → seen ≡ with_tables circuit (map (table_over signal) circuit.tables) → ArePaired signal wire → kept ≡ table_over wire table
+pub table_put : (circuit seen : Circuit) (signal wire : List ℕ → Lead) (place : ℕ) (table kept : Table) (new : Circuit) → seen ≡ with_tables circuit (map (table_over signal) circuit.tables) → ArePaired signal wire → kept ≡ table_over wire table
     → new ≡ with_tables circuit (set circuit.tables place kept) → with_tables new (map (table_over signal) new.tables) ≡ with_tables seen (set seen.tables place table)
 table_put circuit seen signal wire place table kept new is h k n =
     rw (n, is) (ap (with_tables circuit)
-    (map-set (table_over signal) circuit.tables place kept ∙ ap (set (map (table_over signal) circuit.tables) place) (ap (table_over signal) k ∙ table_back wire signal h.away table)))
+    (map-set (table_over signal) circuit.tables place kept ∙ ap (set (map (table_over signal) circuit.tables) place) (ap (table_over signal) k ∙ table_back wire signal h.from_signal table)))
 
 -- two signals have changed places
-pub signals_moved : (circuit seen : Circuit) (signal wire signal_after wire_after : List ℕ → Line) (one other : List ℕ) (first second : Line) (inverts turned : Bool) → seen ≡ with_tables circuit (map (table_over signal) circuit.tables)
+pub signals_moved : (circuit seen : Circuit) (signal wire signal_after wire_after : List ℕ → Lead) (one other : List ℕ) (first second : Lead) (inverts turned : Bool) → seen ≡ with_tables circuit (map (table_over signal) circuit.tables)
     → ArePaired signal wire → turned ≡ (if inverts then not first.inverts else first.inverts) → AreLinked signal wire signal_after wire_after one other first second turned
     → with_tables circuit (map (table_over signal_after) circuit.tables) ≡ with_tables seen (map (exchanged one other inverts) seen.tables)
 signals_moved circuit seen signal wire signal_after wire_after one other first second inverts turned is h t l =
     rw (is) (ap (with_tables circuit) (tables_moved signal wire signal_after wire_after one other first second inverts turned h t l circuit.tables))
 
 -- a constant stands last
-pub constant_last : (circuit seen : Circuit) (signal : List ℕ → Line) (name : List ℕ) (bit : Bool) (table : Table) (new : Circuit) → seen ≡ with_tables circuit (map (table_over signal) circuit.tables) → table ≡ constant_table name bit
+pub constant_last : (circuit seen : Circuit) (signal : List ℕ → Lead) (name : List ℕ) (bit : Bool) (table : Table) (new : Circuit) → seen ≡ with_tables circuit (map (table_over signal) circuit.tables) → table ≡ constant_table name bit
     → new ≡ with_added circuit table → with_tables new (map (table_over signal) new.tables) ≡ with_added seen (constant_table name bit)
 unfolding with_added
 constant_last circuit seen signal name bit table new is t n =

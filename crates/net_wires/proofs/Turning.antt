@@ -1,10 +1,12 @@
 -- Rows with marked places turned over, and tables over names that lead back.
-use Rattle.std.proofs.Common.{◌≡◌, ℕ, zero, suc, ◌+◌, ◌<◌, Bool, true, false, if◌then◌else◌, List, [], ◌∷◌, ◌++◌, take, length, map, get_or, slice_get, unwrap_or, refl, ap, ◌∙◌, arith}
+use Rattle.std.proofs.Common.{◌≡◌, ℕ, zero, suc, ◌+◌, ◌<◌, Bool, true, false, if◌then◌else◌, List, [], ◌∷◌, ◌++◌, take, length, map, get_or, slice_get, unwrap_or, refl, sym, ap, ◌∙◌, arith}
+use Rattle.std.specs.List.{list_any}
+use Rattle.std.proofs.lemmas.Bool.{false≢true}
 use Rattle.circuit_model.specs.declared.circuit.Tri.{Tri}
 use Rattle.circuit_model.specs.declared.circuit.Tri.TheVariants.{Zero, One, Free}
 use Rattle.circuit_model.specs.declared.circuit.Table.{Table}
 use Rattle.sweep_rules.specs.Rules.{turned_over}
-use Rattle.net_wires.specs.declared.lines.Line.{Line}
+use Rattle.net_wires.specs.declared.leads.Lead.{Lead}
 use Rattle.sweep_rules.specs.Points.{bit_by, written_bit}
 use Rattle.net_wires.specs.Wires.{row_over, marks_over, table_over, LeadsBack}
 
@@ -35,52 +37,52 @@ turned_twice One = refl
 turned_twice Free = refl
 
 -- over names that lead back a row is what it was
-row_back : (there back : List ℕ → Line) → LeadsBack there back → (inputs : List (List ℕ)) (row : List Tri)
+row_back : (there back : List ℕ → Lead) → LeadsBack there back → (inputs : List (List ℕ)) (row : List Tri)
     → row_over (marks_over back (map (λ input. (there input).name) inputs)) (row_over (marks_over there inputs) row) ≡ row
 unfolding row_over
 row_back there back h [] row = refl
 row_back there back h (input ∷ inputs) [] = refl
 row_back there back h (input ∷ inputs) (place ∷ row) =
-    rw (ap (λ (line : Line). line.inverts) (h input), row_back there back h inputs row) (ap (λ (p : Tri). p ∷ row) (by (there input).inverts))
+    rw (ap (λ (lead : Lead). lead.inverts) (h input), row_back there back h inputs row) (ap (λ (p : Tri). p ∷ row) (by (there input).inverts))
   where
     by : (turns : Bool) → (if turns then turned_over (if turns then turned_over place else place) else (if turns then turned_over place else place)) ≡ place
     by true = turned_twice place
     by false = refl
 
-rows_back : (there back : List ℕ → Line) → LeadsBack there back → (inputs : List (List ℕ)) (rows : List (List Tri))
+rows_back : (there back : List ℕ → Lead) → LeadsBack there back → (inputs : List (List ℕ)) (rows : List (List Tri))
     → map (row_over (marks_over back (map (λ input. (there input).name) inputs))) (map (row_over (marks_over there inputs)) rows) ≡ rows
 rows_back there back h inputs [] = refl
 rows_back there back h inputs (row ∷ rows) = rw (row_back there back h inputs row, rows_back there back h inputs rows) refl
 
-names_back : (there back : List ℕ → Line) → LeadsBack there back → (inputs : List (List ℕ)) → map (λ name. (back name).name) (map (λ input. (there input).name) inputs) ≡ inputs
+names_back : (there back : List ℕ → Lead) → LeadsBack there back → (inputs : List (List ℕ)) → map (λ name. (back name).name) (map (λ input. (there input).name) inputs) ≡ inputs
 names_back there back h [] = refl
-names_back there back h (input ∷ inputs) = rw (ap (λ (line : Line). line.name) (h input), names_back there back h inputs) refl
+names_back there back h (input ∷ inputs) = rw (ap (λ (lead : Lead). lead.name) (h input), names_back there back h inputs) refl
 
 -- and so is a table
-pub table_back : (there back : List ℕ → Line) → LeadsBack there back → (table : Table) → table_over back (table_over there table) ≡ table
+pub table_back : (there back : List ℕ → Lead) → LeadsBack there back → (table : Table) → table_over back (table_over there table) ≡ table
 table_back there back h table = rw (names_back there back h table.inputs, rows_back there back h table.inputs table.rows) refl
 
 -- over names that lead to themselves a table stays
-pub row_itself : (line : List ℕ → Line) → ((name : List ℕ) → line name ≡ record { name = name; inverts = false }) → (inputs : List (List ℕ)) (row : List Tri) → row_over (marks_over line inputs) row ≡ row
+pub row_itself : (lead : List ℕ → Lead) → ((name : List ℕ) → lead name ≡ record { name = name; inverts = false }) → (inputs : List (List ℕ)) (row : List Tri) → row_over (marks_over lead inputs) row ≡ row
 unfolding row_over
-row_itself line h [] row = refl
-row_itself line h (input ∷ inputs) [] = refl
-row_itself line h (input ∷ inputs) (place ∷ row) = rw (h input, row_itself line h inputs row) refl
+row_itself lead h [] row = refl
+row_itself lead h (input ∷ inputs) [] = refl
+row_itself lead h (input ∷ inputs) (place ∷ row) = rw (h input, row_itself lead h inputs row) refl
 
-rows_itself : (line : List ℕ → Line) → ((name : List ℕ) → line name ≡ record { name = name; inverts = false }) → (inputs : List (List ℕ)) (rows : List (List Tri)) → map (row_over (marks_over line inputs)) rows ≡ rows
-rows_itself line h inputs [] = refl
-rows_itself line h inputs (row ∷ rows) = rw (row_itself line h inputs row, rows_itself line h inputs rows) refl
+rows_itself : (lead : List ℕ → Lead) → ((name : List ℕ) → lead name ≡ record { name = name; inverts = false }) → (inputs : List (List ℕ)) (rows : List (List Tri)) → map (row_over (marks_over lead inputs)) rows ≡ rows
+rows_itself lead h inputs [] = refl
+rows_itself lead h inputs (row ∷ rows) = rw (row_itself lead h inputs row, rows_itself lead h inputs rows) refl
 
-names_itself : (line : List ℕ → Line) → ((name : List ℕ) → line name ≡ record { name = name; inverts = false }) → (inputs : List (List ℕ)) → map (λ input. (line input).name) inputs ≡ inputs
-names_itself line h [] = refl
-names_itself line h (input ∷ inputs) = rw (h input, names_itself line h inputs) refl
+names_itself : (lead : List ℕ → Lead) → ((name : List ℕ) → lead name ≡ record { name = name; inverts = false }) → (inputs : List (List ℕ)) → map (λ input. (lead input).name) inputs ≡ inputs
+names_itself lead h [] = refl
+names_itself lead h (input ∷ inputs) = rw (h input, names_itself lead h inputs) refl
 
-table_itself : (line : List ℕ → Line) → ((name : List ℕ) → line name ≡ record { name = name; inverts = false }) → (table : Table) → table_over line table ≡ table
-table_itself line h table = rw (names_itself line h table.inputs, rows_itself line h table.inputs table.rows) refl
+table_itself : (lead : List ℕ → Lead) → ((name : List ℕ) → lead name ≡ record { name = name; inverts = false }) → (table : Table) → table_over lead table ≡ table
+table_itself lead h table = rw (names_itself lead h table.inputs, rows_itself lead h table.inputs table.rows) refl
 
-pub tables_itself : (line : List ℕ → Line) → ((name : List ℕ) → line name ≡ record { name = name; inverts = false }) → (tables : List Table) → map (table_over line) tables ≡ tables
-tables_itself line h [] = refl
-tables_itself line h (table ∷ tables) = rw (table_itself line h table, tables_itself line h tables) refl
+pub tables_itself : (lead : List ℕ → Lead) → ((name : List ℕ) → lead name ≡ record { name = name; inverts = false }) → (tables : List Table) → map (table_over lead) tables ≡ tables
+tables_itself lead h [] = refl
+tables_itself lead h (table ∷ tables) = rw (table_itself lead h table, tables_itself lead h tables) refl
 
 rows_stay : (rows : List (List Tri)) → map (row_over []) rows ≡ rows
 unfolding row_over
@@ -88,19 +90,31 @@ rows_stay [] = refl
 rows_stay (row ∷ rows) = ap (λ (rs : List (List Tri)). row ∷ rs) (rows_stay rows)
 
 -- a table without inputs stays
-pub constant_stays : (line : List ℕ → Line) (table : Table) → table.inputs ≡ [] → table_over line table ≡ table
-constant_stays line table h = by table.inputs h
+pub constant_stays : (lead : List ℕ → Lead) (table : Table) → table.inputs ≡ [] → table_over lead table ≡ table
+constant_stays lead table h = by table.inputs h
   where
     by : (inputs : List (List ℕ)) → inputs ≡ []
-        → record { inputs = map (λ input. (line input).name) inputs; output = table.output; rows = map (row_over (marks_over line inputs)) table.rows; phase = table.phase } ≡ record table { inputs = inputs }
+        → record { inputs = map (λ input. (lead input).name) inputs; output = table.output; rows = map (row_over (marks_over lead inputs)) table.rows; phase = table.phase } ≡ record table { inputs = inputs }
     by [] h = rw (rows_stay table.rows) refl
     by (input ∷ inputs) h = absurd cc
 
 -- a table is written as a constant over what its inputs lead to where it is one itself
-pub bit_stays : (line : List ℕ → Line) (table : Table) → written_bit (table_over line table) ≡ written_bit table
+pub bit_stays : (lead : List ℕ → Lead) (table : Table) → written_bit (table_over lead table) ≡ written_bit table
 unfolding written_bit
-bit_stays line table = by table.inputs
+bit_stays lead table = by table.inputs
   where
-    by : (inputs : List (List ℕ)) → bit_by (map (λ input. (line input).name) inputs) table.phase (map (row_over (marks_over line inputs)) table.rows) ≡ bit_by inputs table.phase table.rows
+    by : (inputs : List (List ℕ)) → bit_by (map (λ input. (lead input).name) inputs) table.phase (map (row_over (marks_over lead inputs)) table.rows) ≡ bit_by inputs table.phase table.rows
     by [] = ap (bit_by [] table.phase) (rows_stay table.rows)
     by (input ∷ inputs) = refl
+
+-- where no place is marked rows stay
+unmarked_row : (marks : List Bool) (row : List Tri) → list_any (λ (mark : Bool). mark) marks ≡ false → row_over marks row ≡ row
+unfolding row_over
+unmarked_row [] row h = refl
+unmarked_row (true ∷ marks) row h = absurd (false≢true (sym h))
+unmarked_row (false ∷ marks) [] h = refl
+unmarked_row (false ∷ marks) (place ∷ row) h = ap (λ (r : List Tri). place ∷ r) (unmarked_row marks row h)
+
+pub unmarked_rows : (marks : List Bool) (rows : List (List Tri)) → list_any (λ (mark : Bool). mark) marks ≡ false → map (row_over marks) rows ≡ rows
+unmarked_rows marks [] h = refl
+unmarked_rows marks (row ∷ rows) h = rw (unmarked_row marks row h, unmarked_rows marks rows h) refl

@@ -287,7 +287,7 @@ const SET: &[(Parts, Option<bool>)] = &[
     (("l", &[]), Some(false)),
 ];
 
-/// The places of the tables among those that read each signal.
+/// For each signal the places of the tables of `SET` that read it.
 const READERS: &[(u8, &[usize])] = &[
     (b'a', &[0]),
     (b'b', &[0]),

@@ -9,9 +9,9 @@ ghost use Rattle.circuit_laws.specs.Edits.{with_tables, with_added, constant_tab
 ghost use Rattle.sweep_rules.specs.Points.{written_bit as bit_written};
 ghost use Rattle.indexmap.specs.IndexMap.{get};
 ghost use Rattle.net_readers.specs.Readers.{told, is_in, reads_at, AreReaders};
-ghost use Rattle.net_wires.specs.Wires.{line_of, exchanged};
+ghost use Rattle.net_wires.specs.Wires.{lead_of, exchanged};
 
-use crate::lines::{Line, lead, line_from, name_of, table_over, tables_over};
+use crate::leads::{Lead, lead_from, name_of, set_lead, table_over, tables_over};
 use circuit_model::{Circuit, Name, Table};
 use indexmap::IndexMap;
 use net_needed::{constant_table, written_bit};
@@ -30,9 +30,9 @@ pub struct Wires {
     // the places of the tables that read each wire
     readers: Readers,
     // the signal that each wire carries
-    signals: IndexMap<Name, Line>,
+    signal_of: IndexMap<Name, Lead>,
     // the wire that carries each signal
-    wires: IndexMap<Name, Line>,
+    wire_of: IndexMap<Name, Lead>,
 }
 
 impl Model for Wires {
@@ -41,13 +41,13 @@ impl Model for Wires {
     ghost use Rattle.circuit_model.specs.declared.circuit.Circuit.{Circuit as TheCircuit};
     ghost use Rattle.circuit_laws.specs.Edits.{with_tables};
     ghost use Rattle.net_readers.specs.Readers.{told, AreReaders};
-    ghost use Rattle.net_wires.specs.Wires.{line_of, table_over, ArePaired};
+    ghost use Rattle.net_wires.specs.Wires.{lead_of, table_over, ArePaired};
 
     ghost Value = { TheCircuit };
 
-    ghost view = { λ w. with_tables w.circuit (map (table_over (line_of (get bytes_eq w.signals))) w.circuit.tables) };
+    ghost view = { λ w. with_tables w.circuit (map (table_over (lead_of (get bytes_eq w.signal_of))) w.circuit.tables) };
 
-    ghost invariant = { λ w. AreReaders (told w.readers) w.circuit.tables × ArePaired (line_of (get bytes_eq w.signals)) (line_of (get bytes_eq w.wires)) };
+    ghost invariant = { λ w. AreReaders (told w.readers) w.circuit.tables × ArePaired (lead_of (get bytes_eq w.signal_of)) (lead_of (get bytes_eq w.wire_of)) };
 }
 
 // Puts another table at a place of a circuit.
@@ -98,27 +98,27 @@ fn turned_bit(bit: bool, inverts: bool) -> bool
 }
 
 // A wire carries a signal, turned over or not.
-fn join(
+fn pair(
     alloc: Global,
-    signals: &mut IndexMap<Name, Line>,
-    wires: &mut IndexMap<Name, Line>,
+    signals: &mut IndexMap<Name, Lead>,
+    wires: &mut IndexMap<Name, Lead>,
     wire: &Name,
     signal: &Name,
     inverts: bool,
 ) -> Result<(), AllocError>
-    ensures signals { OnOk result ((name : List ℕ) → line_of (get bytes_eq signals.new) name ≡ (if bytes_eq wire.now name then record { name = signal.now; inverts = inverts } else line_of (get bytes_eq signals.old) name)) }
-    ensures wires { OnOk result ((name : List ℕ) → line_of (get bytes_eq wires.new) name ≡ (if bytes_eq signal.now name then record { name = wire.now; inverts = inverts } else line_of (get bytes_eq wires.old) name)) }
+    ensures signals { OnOk result ((name : List ℕ) → lead_of (get bytes_eq signals.new) name ≡ (if bytes_eq wire.now name then record { name = signal.now; inverts = inverts } else lead_of (get bytes_eq signals.old) name)) }
+    ensures wires { OnOk result ((name : List ℕ) → lead_of (get bytes_eq wires.new) name ≡ (if bytes_eq signal.now name then record { name = wire.now; inverts = inverts } else lead_of (get bytes_eq wires.old) name)) }
 {
-    let to_signal = Line {
+    let to_signal = Lead {
         name: signal.copy(alloc)?,
         inverts,
     };
-    let to_wire = Line {
+    let to_wire = Lead {
         name: wire.copy(alloc)?,
         inverts,
     };
-    lead(signals, wire.copy(alloc)?, to_signal)?;
-    lead(wires, signal.copy(alloc)?, to_wire)
+    set_lead(signals, wire.copy(alloc)?, to_signal)?;
+    set_lead(wires, signal.copy(alloc)?, to_wire)
 }
 
 impl Wires {
@@ -136,8 +136,8 @@ impl Wires {
                 dont_care: Sequence::new(alloc),
             },
             readers: Readers::of_none(alloc),
-            signals: IndexMap::new(alloc),
-            wires: IndexMap::new(alloc),
+            signal_of: IndexMap::new(alloc),
+            wire_of: IndexMap::new(alloc),
         }
     }
 
@@ -149,8 +149,8 @@ impl Wires {
         Ok(Wires {
             circuit,
             readers,
-            signals: IndexMap::new(alloc),
-            wires: IndexMap::new(alloc),
+            signal_of: IndexMap::new(alloc),
+            wire_of: IndexMap::new(alloc),
         })
     }
 
@@ -158,7 +158,7 @@ impl Wires {
     pub fn into_circuit(self, alloc: Global) -> Result<Circuit, AllocError>
         ensures { IfOk result (λ circuit. circuit ≡ self) }
     {
-        let tables = tables_over(alloc, &self.signals, self.circuit.tables.as_slice())?;
+        let tables = tables_over(alloc, &self.signal_of, self.circuit.tables.as_slice())?;
         let mut circuit = self.circuit;
         circuit.tables = tables;
         Ok(circuit)
@@ -178,7 +178,7 @@ impl Wires {
         match self.circuit.tables.as_slice().get(place) {
             None => Ok(None),
             Some(table) => {
-                let made = table_over(alloc, &self.signals, table)?;
+                let made = table_over(alloc, &self.signal_of, table)?;
                 Ok(Some(made))
             }
         }
@@ -208,34 +208,35 @@ impl Wires {
     pub fn is_read(&self, name: &Name) -> bool
         ensures { result ≡ has (table_inputs self.now.tables) name.now }
     {
-        self.readers.is_read(name_of(&self.wires, name))
+        self.readers.is_read(name_of(&self.wire_of, name))
     }
 
     /// The places of the tables that read a signal; an error only for want of memory.
     pub fn places(&self, alloc: Global, name: &Name) -> Result<Places, AllocError>
         ensures { IfOk result (λ places. (place : ℕ) → is_in places place ≡ reads_at self.now.tables name.now place) }
     {
-        self.readers.places(alloc, name_of(&self.wires, name))
+        self.readers.places(alloc, name_of(&self.wire_of, name))
     }
 
     /// How many tables read a signal, which no clause says: it serves to choose between ways, for speed alone.
     pub fn count(&self, name: &Name) -> usize {
-        self.readers.count(name_of(&self.wires, name))
+        self.readers.count(name_of(&self.wire_of, name))
     }
 
-    /// The table at a place gives place to another one; an error only for want of memory.
+    /// The table at a place, which has one, gives place to another one; an error only for want of memory.
     pub fn set(&mut self, alloc: Global, place: usize, table: &Table) -> Result<(), AllocError>
         requires { place < length self.old.tables }
         ensures { OnOk result (self.new ≡ with_tables self.old (slice_set self.old.tables place table.now)) }
     {
         let mut made = mem::replace(self, Wires::empty(alloc));
-        let kept = table_over(alloc, &made.wires, table)?;
+        let kept = table_over(alloc, &made.wire_of, table)?;
         change_table(alloc, &mut made.circuit, &mut made.readers, place, kept)?;
         *self = made;
         Ok(())
     }
 
-    /// Two signals change places in all tables, the first turned over or not; an error only for want of memory.
+    /// Two signals, which are different, change places among the inputs of all tables, the characters of the first turned over
+    /// or not; outputs, latches and the don't-care part stay. An error only for want of memory.
     pub fn exchange(
         &mut self,
         alloc: Global,
@@ -247,21 +248,21 @@ impl Wires {
         ensures { OnOk result (self.new ≡ with_tables self.old (map (exchanged one.now other.now inverts) self.old.tables)) }
     {
         let mut made = mem::replace(self, Wires::empty(alloc));
-        let first = line_from(alloc, &made.wires, one)?;
-        let second = line_from(alloc, &made.wires, other)?;
+        let first = lead_from(alloc, &made.wire_of, one)?;
+        let second = lead_from(alloc, &made.wire_of, other)?;
         let turned = turned_bit(first.inverts, inverts);
-        join(
+        pair(
             alloc,
-            &mut made.signals,
-            &mut made.wires,
+            &mut made.signal_of,
+            &mut made.wire_of,
             &first.name,
             other,
             turned,
         )?;
-        join(
+        pair(
             alloc,
-            &mut made.signals,
-            &mut made.wires,
+            &mut made.signal_of,
+            &mut made.wire_of,
             &second.name,
             one,
             second.inverts,
@@ -270,7 +271,7 @@ impl Wires {
         Ok(())
     }
 
-    /// A constant table stands last; an error only for want of memory.
+    /// The table that is a bit is put last under a name; an error only for want of memory.
     pub fn add_constant(&mut self, alloc: Global, name: Name, bit: bool) -> Result<(), AllocError>
         ensures { OnOk result (self.new ≡ with_added self.old (table_of_bit name bit)) }
     {

@@ -17,7 +17,7 @@ constant_bit table =
     if every_point (length table.inputs) (λ point. table_value table point) then Some true
     else (if every_point (length table.inputs) (λ point. not (table_value table point)) then Some false else None)
 
--- the constant that inputs, phase and rows are written as
+-- the constant that a table with these inputs, phase and rows is written as
 abbrev pub bit_by : List (List ℕ) → Bool → List (List Tri) → Option Bool
 bit_by [] true [] = Some false
 bit_by [] true ([] ∷ []) = Some true

@@ -29,7 +29,7 @@ unwritten_bit table = if is_some (written_bit table) then None else constant_bit
 abbrev pub with_constant : Circuit → Table → Circuit
 with_constant circuit table = option_map_or (λ bit. with_replaced circuit (constant_table table.output bit)) (unwritten_bit table) circuit
 
--- the first table that is constant and written otherwise
+-- the first table that is constant and written otherwise is written as the constant
 unfoldable pub constant_rule : Circuit → Option Circuit
 constant_rule circuit = option_map (with_constant circuit) (find (λ table. is_some (unwritten_bit table)) circuit.tables)
 
@@ -72,7 +72,7 @@ put_rule circuit =
 abbrev pub renamed : List ℕ → List ℕ → List ℕ → List ℕ
 renamed from to name = if bytes_eq from name then to else name
 
--- a character for the other bit
+-- a character for the other bit: 0 and 1 change places, a dash stays
 abbrev pub turned_over : Tri → Tri
 turned_over Zero = One
 turned_over One = Zero

@@ -38,6 +38,6 @@ pub record IsSwept (circuit : Circuit) : Type 0 where
 abbrev pub tables_gone : Circuit → Circuit → ℕ
 tables_gone old new = count_by (λ name. not (has (outputs_of new.tables) name)) (outputs_of old.tables)
 
--- how many latches there are less
+-- how many fewer latches there are
 abbrev pub latches_gone : Circuit → Circuit → ℕ
 latches_gone old new = length old.latches - length new.latches

@@ -1,5 +1,5 @@
 use Rattle.std.proofs.Common.{ℕ, ◌<◌, refl, sym, subst}
-use Rattle.net_wires.proofs.Carried.{at_place}
+use Rattle.net_needed.proofs.Searching.{at_place}
 use Rattle.net_sweep.proofs.Rewiring.{set_within, set_more}
 use Rattle.net_sweep.proofs.turns.set_tables.Goals as goal
 

@@ -1,7 +1,7 @@
 use Rattle.std.proofs.Common.{bytes_eq, ◌∙◌, sym}
 use Rattle.indexmap.specs.IndexMap.{get}
 use Rattle.net_readers.specs.Readers.{told}
-use Rattle.net_wires.specs.Wires.{line_of}
+use Rattle.net_wires.specs.Wires.{lead_of}
 use Rattle.net_wires.proofs.Carried.{constant_last, readers_still}
 use Rattle.net_wires.proofs.wires.Wires.add_constant.Goals as goal
 
@@ -13,5 +13,5 @@ invariant_of-made c = (
 
 pub returns : goal.returns
 returns c =
-    constant_last c.made.inside.circuit c.args.self.now (line_of (get bytes_eq c.made.inside.signals)) c.args.name c.args.bit c.in_ok-constant_table.field-0 c.push_table.new.circuit (sym (c.made.view_is ∙ c.replace-made.ensures.value))
+    constant_last c.made.inside.circuit c.args.self.now (lead_of (get bytes_eq c.made.inside.signal_of)) c.args.name c.args.bit c.in_ok-constant_table.field-0 c.push_table.new.circuit (sym (c.made.view_is ∙ c.replace-made.ensures.value))
     c.in_ok-constant_table.ensures c.in_ok-push_table.ensures

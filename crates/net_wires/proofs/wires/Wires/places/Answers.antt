@@ -1,7 +1,7 @@
 use Rattle.std.proofs.Common.{bytes_eq, ◌∙◌, sym, ap, List, ℕ}
 use Rattle.indexmap.specs.IndexMap.{get}
 use Rattle.net_readers.specs.Readers.{reads_at}
-use Rattle.net_wires.specs.Wires.{line_of}
+use Rattle.net_wires.specs.Wires.{lead_of}
 use Rattle.net_wires.proofs.Carried.{places_there, on_value}
 use Rattle.net_wires.proofs.wires.Wires.places.Goals as goal
 
@@ -11,5 +11,5 @@ returns c =
     (λ places is place. is place
     ∙ (c.self.invariant.0 c.name_of.result.now place
     ∙ (ap (λ (name : List ℕ). reads_at c.self.inside.circuit.tables name place) c.name_of.ensures
-    ∙ places_there c.self.inside.circuit c.args.self.now (line_of (get bytes_eq c.self.inside.signals)) (line_of (get bytes_eq c.self.inside.wires)) c.args.name.now place (sym c.self.view_is) c.self.invariant.1)))
+    ∙ places_there c.self.inside.circuit c.args.self.now (lead_of (get bytes_eq c.self.inside.signal_of)) (lead_of (get bytes_eq c.self.inside.wire_of)) c.args.name.now place (sym c.self.view_is) c.self.invariant.1)))
     c.places.ensures

@@ -3,7 +3,7 @@ use Rattle.circuit_model.specs.declared.circuit.Tri.{Tri}
 use Rattle.circuit_model.specs.declared.circuit.Tri.TheVariants.{Zero}
 use Rattle.sweep_rules.specs.Rules.{turned_over}
 use Rattle.net_wires.proofs.Turning.{row_nothing, row_more}
-use Rattle.net_wires.proofs.lines.row_turned.Goals as goal
+use Rattle.net_wires.proofs.leads.row_over.Goals as goal
 
 pub loop-i-init : goal.loop-i-init
 loop-i-init c = c.in_ok-made.ensures.items ∙ sym (row_nothing c.args.marks.now)
