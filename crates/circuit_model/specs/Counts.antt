@@ -14,9 +14,11 @@ is_literal Zero = true
 is_literal One = true
 is_literal Free = false
 
+-- how many literals a row has
 unfoldable pub literals_of_row : List Tri → ℕ
 literals_of_row row = count_by is_literal row
 
+-- how many literals the rows of a table have in all
 unfoldable pub literals_of_table : Table → ℕ
 literals_of_table table = sum_by literals_of_row table.rows
 

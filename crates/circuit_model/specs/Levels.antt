@@ -22,6 +22,7 @@ unfoldable pub place_from : ℕ → List (List ℕ) → List ℕ → Option ℕ
 place_from start [] name = None
 place_from start (first ∷ names) name = if bytes_eq name first then Some start else place_from (suc start) names name
 
+-- the place of the first of some names that is a given one, counted from 0
 unfoldable pub place_in : List (List ℕ) → List ℕ → Option ℕ
 place_in names name = place_from 0 names name
 
@@ -46,6 +47,7 @@ reads_in place tables = map (λ (table : Table). map place table.inputs) tables
 abbrev pub output_places : (List ℕ → Option ℕ) → (List ℕ → Option ℕ) → List (List ℕ) → List OutputPlaces
 output_places signal dont_care outputs = map (λ (name : List ℕ). record { signal = signal name; dont_care = dont_care name }) outputs
 
+-- the places of what each latch takes
 abbrev pub latch_places : (List ℕ → Option ℕ) → List Latch → List (Option ℕ)
 latch_places place latches = map (λ (latch : Latch). place latch.input) latches
 
@@ -70,7 +72,7 @@ bits_to tables reads front back zero = front ++ (map (λ (table : Table). false)
 bits_to tables reads front back (suc depth) =
     front ++ (level_of tables reads (bits_to tables reads front back depth) ++ back)
 
--- to the depth that is the number of tables
+-- the bits of all signals to a depth at which they stay: the number of tables
 unfoldable pub settled_bits : List Table → List (List (Option ℕ)) → List Bool → List Bool → List Bool
 settled_bits tables reads front back = bits_to tables reads front back (length tables)
 

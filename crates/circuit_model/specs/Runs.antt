@@ -18,6 +18,7 @@ bit_of [] bits name = None
 bit_of (first ∷ names) [] name = None
 bit_of (first ∷ names) (bit ∷ bits) name = if bytes_eq name first then Some bit else bit_of names bits name
 
+-- the signals that latches drive
 abbrev pub latch_outputs : Circuit → List (List ℕ)
 latch_outputs circuit = map (λ (latch : Latch). latch.output) circuit.latches
 
@@ -33,18 +34,21 @@ value_in circuit state row signal = signal_value circuit.tables (leaves_of circu
 unfoldable pub is_free : Circuit → List Bool → List Bool → List ℕ → Bool
 is_free circuit state row output = is_free_under circuit.dont_care (leaves_of circuit state row) output
 
+-- a bit, shown
 abbrev pub tri_of : Bool → Tri
 tri_of true = One
 tri_of false = Zero
 
+-- what an output shows: a dash where it is left open, and else its bit
 unfoldable pub output_at : Circuit → List Bool → List Bool → List ℕ → Tri
 output_at circuit state row output =
     if is_free circuit state row output then Free else tri_of (value_in circuit state row output)
 
--- a step: the outputs at it, and the state after it, in which all latches have taken their inputs together
+-- what all outputs show at a step
 unfoldable pub outputs_at : Circuit → List Bool → List Bool → List Tri
 outputs_at circuit state row = map (output_at circuit state row) circuit.outputs
 
+-- the state after a step: all latches take their inputs together
 unfoldable pub next_state : Circuit → List Bool → List Bool → List Bool
 next_state circuit state row = map (λ (latch : Latch). value_in circuit state row latch.input) circuit.latches
 
@@ -69,6 +73,7 @@ Meets Free shown = Unit {0}
 Meets Zero shown = shown ≡ Zero
 Meets One shown = shown ≡ One
 
+-- a run meets what was asked for at every step and output, and has as many of both
 unfoldable pub MeetsAll : List (List Tri) → List (List Tri) → Type 0
 MeetsAll asked shown = AllZip (AllZip Meets) asked shown
 

@@ -13,12 +13,15 @@ use Rattle.circuit_model.specs.declared.circuit.Latch.{Latch}
 use Rattle.circuit_model.specs.declared.circuit.Timing.{Timing}
 use Rattle.circuit_model.specs.declared.circuit.Circuit.{Circuit}
 
+-- the signals that tables drive
 abbrev pub outputs_of : List Table → List (List ℕ)
 outputs_of tables = map (λ (table : Table). table.output) tables
 
+-- the signals that latches take
 abbrev pub latch_inputs : Circuit → List (List ℕ)
 latch_inputs circuit = map (λ (latch : Latch). latch.input) circuit.latches
 
+-- the signal that controls the clock, where one is named
 abbrev pub control_of : Option Timing → List (List ℕ)
 control_of None = []
 control_of (Some timing) = option_to_list timing.control

@@ -17,11 +17,13 @@ use Rattle.circuit_model.specs.declared.circuit.Circuit.{Circuit}
 abbrev pub dotted : List ℕ → List (List ℕ) → Written
 dotted word others = record { first = word; others = others }
 
+-- a character of a row: `0`, `1` or `-`
 abbrev pub character : Tri → ℕ
 character Zero = 48
 character One = 49
 character Free = 45
 
+-- the last word of a row
 abbrev pub digit_of_phase : Bool → List ℕ
 digit_of_phase true = codes "1"
 digit_of_phase false = codes "0"
@@ -31,43 +33,50 @@ unfoldable pub row_line : Bool → List Tri → Written
 row_line phase [] = record { first = digit_of_phase phase; others = [] }
 row_line phase (place ∷ places) = record { first = map character (place ∷ places); others = digit_of_phase phase ∷ [] }
 
+-- a table: its inputs and its output behind them, and a line for each row
 unfoldable pub table_lines : Table → List Written
 table_lines table = dotted (codes ".names") (table.inputs ++ table.output ∷ []) ∷ map (row_line table.phase) table.rows
 
+-- an edge of the clock, or a level of it, by its word
 abbrev pub kind_word : Kind → List ℕ
 kind_word Fe = codes "fe"
 kind_word Re = codes "re"
 kind_word Ah = codes "ah"
 kind_word Al = codes "al"
 
--- no control is written `NIL`
+-- the control of the clock; where there is none, `NIL`
 abbrev pub control_word : Option (List ℕ) → List ℕ
 control_word None = codes "NIL"
 control_word (Some control) = control
 
+-- what stands in a latch's line between its signals and its init
 unfoldable pub timing_words : Option Timing → List (List ℕ)
 timing_words None = []
 timing_words (Some timing) = kind_word timing.kind ∷ control_word timing.control ∷ []
 
--- 0 to 3; a sound circuit has no other
+-- an init by its digit, 0 to 3; a sound circuit has no other
 abbrev pub init_word : ℕ → List ℕ
 init_word zero = codes "0"
 init_word (suc zero) = codes "1"
 init_word (suc (suc zero)) = codes "2"
 init_word init = codes "3"
 
+-- a latch: what it takes, what it drives, its timing and its init
 unfoldable pub latch_line : Option Timing → Latch → Written
 latch_line timing latch =
     dotted (codes ".latch") (latch.input ∷ latch.output ∷ timing_words timing ++ init_word latch.init ∷ [])
 
+-- the line of the clocks, if there are any
 unfoldable pub clock_lines : List (List ℕ) → List Written
 clock_lines [] = []
 clock_lines (name ∷ names) = dotted (codes ".clock") (name ∷ names) ∷ []
 
+-- the don't-care part, if it has tables: a line for itself and those of its tables
 unfoldable pub dont_care_lines : List Table → List Written
 dont_care_lines [] = []
 dont_care_lines (table ∷ tables) = dotted (codes ".exdc") [] ∷ flat_map table_lines (table ∷ tables)
 
+-- all lines of a circuit, in order
 unfoldable pub circuit_lines : Circuit → List Written
 circuit_lines circuit =
     dotted (codes ".model") (circuit.name ∷ []) ∷ dotted (codes ".inputs") circuit.inputs ∷ dotted (codes ".outputs") circuit.outputs
