@@ -107,32 +107,26 @@ marks_next whole rest now made new mark inv more n = rw n (append_assoc made (ma
 pub marks_all : (whole now made : List Bool) → made ++ now ≡ whole → now ≡ [] → made ≡ whole
 marks_all whole now made inv done = sym (append-nil made) ∙ (ap (λ (r : List Bool). made ++ r) (sym done) ∙ inv)
 
--- rows without repeats
-pub once_more : (front rows : List (List Tri)) (i : ℕ) (row : List Tri) → i < length rows → row ≡ get_or rows i row
-    → rows_once front (drop i rows) ≡ (if list_any (same_row row) front then rows_once front (drop (i + 1) rows) else row ∷ rows_once (front ++ row ∷ []) (drop (i + 1) rows))
+-- rows without repeats: one more is put behind those made so far where it is new
+pub once_next : (whole made new : List (List Tri)) (row : List Tri) (rows now : List (List Tri)) (seen : Bool) → now ≡ row ∷ rows → seen ≡ has (map row_text made) (row_text row) → new ≡ made ++ (if seen then [] else row ∷ [])
+    → made ++ rows_once made now ≡ whole → new ++ rows_once new rows ≡ whole
 unfolding rows_once
-once_more front rows i row lt is = rw (drop_more rows i row lt, ← is) refl
-
-pub once_done : (front rows : List (List Tri)) (i : ℕ) → length rows ≤ i → rows_once front (drop i rows) ≡ []
-unfolding rows_once
-once_done front rows i le = rw (drop_all i rows le) refl
-
--- the rows made so far stand in front: one more is put behind them where it is new
-pub once_next : (whole made new : List (List Tri)) (rows : List (List Tri)) (i : ℕ) (row : List Tri) (seen : Bool) → i < length rows → row ≡ get_or rows i row
-    → seen ≡ has (map row_text made) (row_text row) → new ≡ made ++ (if seen then [] else row ∷ [])
-    → made ++ rows_once made (drop i rows) ≡ whole → new ++ rows_once new (drop (i + 1) rows) ≡ whole
-once_next whole made new rows i row seen lt is s n inv = rw n (by seen refl)
+once_next whole made new row rows now seen more s n inv = rw n (by seen refl)
   where
-    known : seen ≡ list_any (same_row row) made
-    known = s ∙ has_text made row
+    rest : Bool → List (List Tri)
+    rest b = if b then rows_once made rows else row ∷ rows_once (made ++ row ∷ []) rows
 
-    by : (b : Bool) → seen ≡ b → (made ++ (if b then [] else row ∷ [])) ++ rows_once (made ++ (if b then [] else row ∷ [])) (drop (i + 1) rows) ≡ whole
-    by true e =
-        ap (λ (m : List (List Tri)). m ++ rows_once m (drop (i + 1) rows)) (append-nil made)
-        ∙ (ap (λ (r : List (List Tri)). made ++ r) (sym (once_more made rows i row lt is ∙ ap (λ (b : Bool). if b then rows_once made (drop (i + 1) rows) else row ∷ rows_once (made ++ row ∷ []) (drop (i + 1) rows)) (sym known ∙ e))) ∙ inv)
-    by false e =
-        append_assoc made (row ∷ []) (rows_once (made ++ row ∷ []) (drop (i + 1) rows))
-        ∙ (ap (λ (r : List (List Tri)). made ++ r) (sym (once_more made rows i row lt is ∙ ap (λ (b : Bool). if b then rows_once made (drop (i + 1) rows) else row ∷ rows_once (made ++ row ∷ []) (drop (i + 1) rows)) (sym known ∙ e))) ∙ inv)
+    step : (b : Bool) → seen ≡ b → made ++ rest b ≡ whole
+    step b e = ap (λ (c : Bool). made ++ rest c) (sym e ∙ (s ∙ has_text made row)) ∙ (ap (λ (rs : List (List Tri)). made ++ rows_once made rs) (sym more) ∙ inv)
+
+    by : (b : Bool) → seen ≡ b → (made ++ (if b then [] else row ∷ [])) ++ rows_once (made ++ (if b then [] else row ∷ [])) rows ≡ whole
+    by true e = ap (λ (m : List (List Tri)). m ++ rows_once m rows) (append-nil made) ∙ step true e
+    by false e = append_assoc made (row ∷ []) (rows_once (made ++ row ∷ []) rows) ∙ step false e
+
+pub once_done : (whole made now : List (List Tri)) → length now ≡ 0 → made ++ rows_once made now ≡ whole → made ≡ whole
+unfolding rows_once
+once_done whole made [] none inv = sym (append-nil made) ∙ inv
+once_done whole made (row ∷ rows) none inv = absurd (omega arith)
 
 -- what is seen is what is made
 has-push : (texts : List (List ℕ)) (text q : List ℕ) → has (texts ++ text ∷ []) q ≡ (bytes_eq q text || has texts q)

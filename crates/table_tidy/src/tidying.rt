@@ -89,26 +89,25 @@ fn push_new(
     alloc: Global,
     seen: &mut IndexSet<Name>,
     made: &mut Rows,
-    row: &Row,
+    row: Row,
 ) -> Result<(), AllocError>
-    ensures rows { OnOk result (made.new ≡ made.old ++ (if contains bytes_eq seen.old (row_text row.now) then [] else row.now ∷ [])) }
-    ensures seen { OnOk result ((text : List ℕ) → contains bytes_eq seen.new text ≡ (bytes_eq (row_text row.now) text || contains bytes_eq seen.old text)) }
+    ensures rows { OnOk result (made.new ≡ made.old ++ (if contains bytes_eq seen.old (row_text row) then [] else row ∷ [])) }
+    ensures seen { OnOk result ((text : List ℕ) → contains bytes_eq seen.new text ≡ (bytes_eq (row_text row) text || contains bytes_eq seen.old text)) }
 {
     let text = text_of(alloc, row.as_slice())?;
-    let copy = row.copy(alloc)?;
     if seen.insert(text)? {
-        made.push(copy)?;
+        made.push(row)?;
     }
     Ok(())
 }
 
 // The rows without those that equal an earlier one.
-fn rows_once(alloc: Global, rows: &[Row]) -> Result<Rows, AllocError>
-    ensures { IfOk result (λ made. made ≡ once_behind [] rows.now) }
+fn rows_once(alloc: Global, rows: Rows) -> Result<Rows, AllocError>
+    ensures { IfOk result (λ made. made ≡ once_behind [] rows) }
 {
     let mut seen = IndexSet::new(alloc);
     let mut made = Sequence::new(alloc);
-    for row in rows {
+    for row in rows.into_vec() {
         push_new(alloc, &mut seen, &mut made, row)?;
     }
     Ok(made)
@@ -152,7 +151,7 @@ fn with_rows_once(alloc: Global, table: Table) -> Result<Table, AllocError>
     Ok(Table {
         inputs,
         output,
-        rows: rows_once(alloc, rows.as_slice())?,
+        rows: rows_once(alloc, rows)?,
         phase,
     })
 }

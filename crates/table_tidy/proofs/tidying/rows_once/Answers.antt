@@ -1,20 +1,29 @@
-use Rattle.std.proofs.Common.{List, [], ◌++◌, bytes_eq, ap, ◌∙◌, sym}
-use Rattle.std.proofs.lemmas.List.{append-nil}
+use Rattle.std.proofs.Common.{◌≡◌, ◌∷◌, [], bytes_eq, length, ap, sym, ◌∙◌, arith}
+use Rattle.std.specs.Vec.Iter.{into_iter_items}
 use Rattle.indexmap.specs.IndexSet.{contains}
-use Rattle.circuit_model.specs.declared.circuit.Tri.{Tri}
 use Rattle.table_tidy.specs.Tidy.{rows_once, row_text}
 use Rattle.table_tidy.proofs.Steps.{once_next, once_done, seen_next}
 use Rattle.table_tidy.proofs.tidying.rows_once.Goals as goal
 
 pub loop-row-preserved : goal.loop-row-preserved
-loop-row-preserved c = (
-  once_next (rows_once [] c.args.rows.now) c.loop-row.made c.push_new.new.made c.args.rows.now c.loop-row.row-index c.row-item.result (contains bytes_eq c.loop-row.seen (row_text c.row-item.result))
-      c.loop-row-test.true c.row-item.is (c.loop-row.invariant.1 (row_text c.row-item.result)) c.in_ok-push_new.ensures.rows c.loop-row.invariant.0,
-  λ q. seen_next c.loop-row.made c.push_new.new.made c.row-item.result q (contains bytes_eq c.loop-row.seen (row_text c.row-item.result)) (contains bytes_eq c.loop-row.seen q) (contains bytes_eq c.push_new.new.seen q)
-      (c.loop-row.invariant.1 (row_text c.row-item.result)) c.in_ok-push_new.ensures.rows (c.loop-row.invariant.1 q) (c.in_ok-push_new.ensures.seen q),
-)
+loop-row-preserved c =
+    let at = c.loop-row in
+    let row = c.in-Some.row in
+    let known = contains bytes_eq at.seen (row_text row) in
+    let steps : into_iter_items at.row-iterator ≡ row ∷ into_iter_items c.next.new.self = c.in-Some.ensures.steps.0 in (
+      once_next (rows_once [] (into_iter_items c.into_iter-row-iterator.result)) at.made c.push_new.new.made row (into_iter_items c.next.new.self) (into_iter_items at.row-iterator) known
+          steps (at.invariant.1 (row_text row)) c.in_ok-push_new.ensures.rows at.invariant.0,
+      λ text. seen_next at.made c.push_new.new.made row text known (contains bytes_eq at.seen text) (contains bytes_eq c.push_new.new.seen text)
+          (at.invariant.1 (row_text row)) c.in_ok-push_new.ensures.rows (at.invariant.1 text) (c.in_ok-push_new.ensures.seen text),
+      let was = at.invariant.2 in
+          let gone = c.in-Some.ensures.steps.1 in
+          let short = ap length steps in
+          omega arith,
+    )
 
 pub returns : goal.returns
 returns c =
-    sym (append-nil c.loop-row.made)
-    ∙ (ap (λ (zs : List (List Tri)). c.loop-row.made ++ zs) (sym (once_done c.loop-row.made c.args.rows.now c.loop-row.row-index c.loop-row-test.false)) ∙ c.loop-row.invariant.0)
+    let at = c.loop-row in
+    let none = c.in-None.ensures.steps in
+    once_done (rows_once [] (into_iter_items c.into_iter-row-iterator.result)) at.made (into_iter_items at.row-iterator) (sym at.invariant.2 ∙ none.0) at.invariant.0
+    ∙ ap (rows_once []) (c.into_iter-row-iterator.ensures.into_iter_gives.0 ∙ c.into_vec-row-items.ensures)
