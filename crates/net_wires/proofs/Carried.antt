@@ -1,5 +1,5 @@
 -- Who reads a signal is who reads its wire; and two signals change places where their wires change signals.
-use Rattle.std.proofs.Common.{◌≡◌, ℕ, zero, suc, ◌<◌, length, get_or, set, Bool, true, false, not, ◌&&◌, if◌then◌else◌, Option, Some, None, List, [], ◌∷◌, ◌++◌, map, slice_get, bytes_eq, inl, inr, refl, sym, ap, ◌∙◌, subst, arith}
+use Rattle.std.proofs.Common.{◌≡◌, ℕ, ◌<◌, length, get_or, set, Bool, true, false, not, ◌&&◌, if◌then◌else◌, Option, Some, None, List, [], ◌∷◌, ◌++◌, map, slice_get, bytes_eq, inl, inr, refl, sym, ap, ◌∙◌, subst}
 use Rattle.std.specs.Prelude.{Result, IfOk}
 use Rattle.std.specs.declared.result.Result.TheVariants.{Ok, Err}
 use Rattle.std.specs.Option.{option_map, option_map_or}
@@ -19,7 +19,7 @@ use Rattle.net_needed.proofs.Searching.{at_place}
 use Rattle.net_readers.specs.Readers.{reads_at, AreReaders}
 use Rattle.net_readers.proofs.Sets.{readers_last}
 use Rattle.net_wires.specs.declared.leads.Lead.{Lead}
-use Rattle.net_wires.specs.Wires.{row_over, marks_over, table_over, LeadsBack, ArePaired, name_exchanged, exchanged}
+use Rattle.net_wires.specs.Wires.{row_over, marks_over, table_over, LeadsBack, ArePaired, name_exchanged, exchanged, led, turned_if, HaveExchanged}
 use Rattle.net_wires.proofs.Turning.{turned_twice, table_back, constant_stays, bit_stays}
 
 -- a signal is among those that wires carry exactly where its wire is among the wires
@@ -52,18 +52,14 @@ carried_at signal wire h name place tables =
     by None = refl
     by (Some table) = carried_has signal wire h name table.inputs
 
--- a name that leads elsewhere
-abbrev pub linked : List ℕ → Lead → (List ℕ → Lead) → List ℕ → Lead
-linked from to leads name = if bytes_eq from name then to else leads name
-
 -- two names are led to two others, which no other name led to, and these are led back
 linked_back : (there back : List ℕ → Lead) (x y a b : List ℕ) (p q : Bool) → bytes_eq a b ≡ false → LeadsBack there back
     → ((name : List ℕ) → (there name).name ≡ a → name ≡ y) → ((name : List ℕ) → (there name).name ≡ b → name ≡ x)
-    → LeadsBack (linked x (record { name = a; inverts = p }) (linked y (record { name = b; inverts = q }) there)) (linked a (record { name = x; inverts = p }) (linked b (record { name = y; inverts = q }) back))
+    → LeadsBack (led x (record { name = a; inverts = p }) (led y (record { name = b; inverts = q }) there)) (led a (record { name = x; inverts = p }) (led b (record { name = y; inverts = q }) back))
 linked_back there back x y a b p q apart home by_a by_b name = first (bytes_eq x name) refl
   where
     new : List ℕ → Lead
-    new = linked a (record { name = x; inverts = p }) (linked b (record { name = y; inverts = q }) back)
+    new = led a (record { name = x; inverts = p }) (led b (record { name = y; inverts = q }) back)
 
     at_a : new a ≡ record { name = x; inverts = p }
     at_a = rw (name_itself a) refl
@@ -82,8 +78,8 @@ linked_back there back x y a b p q apart home by_a by_b name = first (bytes_eq x
     second nx false e = last (there name).name (bytes_eq a (there name).name) refl (bytes_eq b (there name).name) refl nx e refl ∙ home name
 
     first : (e : Bool) → bytes_eq x name ≡ e
-        → new (if e then record { name = a; inverts = p } else linked y (record { name = b; inverts = q }) there name).name
-        ≡ record { name = name; inverts = (if e then record { name = a; inverts = p } else linked y (record { name = b; inverts = q }) there name).inverts }
+        → new (if e then record { name = a; inverts = p } else led y (record { name = b; inverts = q }) there name).name
+        ≡ record { name = name; inverts = (if e then record { name = a; inverts = p } else led y (record { name = b; inverts = q }) there name).inverts }
     first true e = at_a ∙ ap (λ (n : List ℕ). record { name = n; inverts = p }) (same_name x name e)
     first false e = second e (bytes_eq y name) refl
 
@@ -92,22 +88,37 @@ pub record AreLinked (signal wire signal_after wire_after : List ℕ → Lead) (
   pub apart : bytes_eq one other ≡ false
   pub first_is : first ≡ wire one
   pub second_is : second ≡ wire other
-  pub signals : (name : List ℕ) → signal_after name ≡ linked second.name (record { name = one; inverts = second.inverts }) (linked first.name (record { name = other; inverts = turned }) signal) name
-  pub wires : (name : List ℕ) → wire_after name ≡ linked one (record { name = second.name; inverts = second.inverts }) (linked other (record { name = first.name; inverts = turned }) wire) name
+  pub signals : (name : List ℕ) → signal_after name ≡ led second.name (record { name = one; inverts = second.inverts }) (led first.name (record { name = other; inverts = turned }) signal) name
+  pub wires : (name : List ℕ) → wire_after name ≡ led one (record { name = second.name; inverts = second.inverts }) (led other (record { name = first.name; inverts = turned }) wire) name
 
-pub linked_twice : (signal wire signal_mid wire_mid signal_after wire_after : List ℕ → Lead) (one other : List ℕ) (first second : Lead) (turned : Bool) → bytes_eq one other ≡ false → first ≡ wire one → second ≡ wire other
-    → ((name : List ℕ) → signal_mid name ≡ (if bytes_eq first.name name then record { name = other; inverts = turned } else signal name))
-    → ((name : List ℕ) → wire_mid name ≡ (if bytes_eq other name then record { name = first.name; inverts = turned } else wire name))
-    → ((name : List ℕ) → signal_after name ≡ (if bytes_eq second.name name then record { name = one; inverts = second.inverts } else signal_mid name))
-    → ((name : List ℕ) → wire_after name ≡ (if bytes_eq one name then record { name = second.name; inverts = second.inverts } else wire_mid name))
-    → AreLinked signal wire signal_after wire_after one other first second turned
-linked_twice signal wire signal_mid wire_mid signal_after wire_after one other first second turned apart first_is second_is s1 w1 s2 w2 = record {
-  apart = apart;
-  first_is = first_is;
-  second_is = second_is;
-  signals = λ name. s2 name ∙ ap (λ (lead : Lead). if bytes_eq second.name name then record { name = one; inverts = second.inverts } else lead) (s1 name);
-  wires = λ name. w2 name ∙ ap (λ (lead : Lead). if bytes_eq one name then record { name = second.name; inverts = second.inverts } else lead) (w1 name);
+-- leads that are set one after the other are those of an exchange
+pub linked_twice : (signal wire signal_mid wire_mid signal_after wire_after : List ℕ → Lead) (one other : List ℕ) (inverts : Bool) (first second : Lead) (turned : Bool) → first ≡ wire one → second ≡ wire other → turned ≡ turned_if inverts first.inverts
+    → ((name : List ℕ) → signal_mid name ≡ led first.name (record { name = other; inverts = turned }) signal name)
+    → ((name : List ℕ) → wire_mid name ≡ led other (record { name = first.name; inverts = turned }) wire name)
+    → ((name : List ℕ) → signal_after name ≡ led second.name (record { name = one; inverts = second.inverts }) signal_mid name)
+    → ((name : List ℕ) → wire_after name ≡ led one (record { name = second.name; inverts = second.inverts }) wire_mid name)
+    → HaveExchanged signal wire signal_after wire_after one other inverts
+linked_twice signal wire signal_mid wire_mid signal_after wire_after one other inverts first second turned f s t s1 w1 s2 w2 = record {
+  signals = λ name.
+      s2 name
+      ∙ (ap (λ (lead : Lead). led second.name (record { name = one; inverts = second.inverts }) (λ _. lead) name) (s1 name)
+      ∙ by (λ first second turned. led second.name (record { name = one; inverts = second.inverts }) (led first.name (record { name = other; inverts = turned }) signal) name));
+  wires = λ name.
+      w2 name
+      ∙ (ap (λ (lead : Lead). led one (record { name = second.name; inverts = second.inverts }) (λ _. lead) name) (w1 name)
+      ∙ by (λ first second turned. led one (record { name = second.name; inverts = second.inverts }) (led other (record { name = first.name; inverts = turned }) wire) name));
 }
+  where
+    by : (at : Lead → Lead → Bool → Lead) → at first second turned ≡ at (wire one) (wire other) (turned_if inverts (wire one).inverts)
+    by at =
+        ap (at first second) t
+        ∙ (ap (λ (lead : Lead). at lead second (turned_if inverts lead.inverts)) f
+        ∙ ap (λ (lead : Lead). at (wire one) lead (turned_if inverts (wire one).inverts)) s)
+
+-- an exchange, with names for the wires
+linked : (signal wire signal_after wire_after : List ℕ → Lead) (one other : List ℕ) (inverts : Bool) → bytes_eq one other ≡ false → HaveExchanged signal wire signal_after wire_after one other inverts
+    → AreLinked signal wire signal_after wire_after one other (wire one) (wire other) (turned_if inverts (wire one).inverts)
+linked signal wire signal_after wire_after one other inverts apart h = record { apart = apart; first_is = refl; second_is = refl; signals = h.signals; wires = h.wires }
 
 -- leads that are the same at each name lead back as well
 back_same : (there back there_too back_too : List ℕ → Lead) → ((name : List ℕ) → there_too name ≡ there name) → ((name : List ℕ) → back_too name ≡ back name) → LeadsBack there back → LeadsBack there_too back_too
@@ -116,9 +127,9 @@ back_same there back there_too back_too e f h name = rw (e name) (f (there name)
 pub linked_paired : (signal wire signal_after wire_after : List ℕ → Lead) (one other : List ℕ) (first second : Lead) (turned : Bool) → ArePaired signal wire
     → AreLinked signal wire signal_after wire_after one other first second turned → ArePaired signal_after wire_after
 linked_paired signal wire signal_after wire_after one other first second turned h l = record {
-  from_wire = back_same (linked second.name (record { name = one; inverts = second.inverts }) (linked first.name (record { name = other; inverts = turned }) signal)) (linked one (record { name = second.name; inverts = second.inverts }) (linked other (record { name = first.name; inverts = turned }) wire)) signal_after wire_after l.signals l.wires
+  from_wire = back_same (led second.name (record { name = one; inverts = second.inverts }) (led first.name (record { name = other; inverts = turned }) signal)) (led one (record { name = second.name; inverts = second.inverts }) (led other (record { name = first.name; inverts = turned }) wire)) signal_after wire_after l.signals l.wires
       (linked_back signal wire second.name first.name one other second.inverts turned l.apart h.from_wire (λ name e. sym (home_at name one e) ∙ ap (λ (lead : Lead). lead.name) (sym l.first_is)) (λ name e. sym (home_at name other e) ∙ ap (λ (lead : Lead). lead.name) (sym l.second_is)));
-  from_signal = back_same (linked one (record { name = second.name; inverts = second.inverts }) (linked other (record { name = first.name; inverts = turned }) wire)) (linked second.name (record { name = one; inverts = second.inverts }) (linked first.name (record { name = other; inverts = turned }) signal)) wire_after signal_after l.wires l.signals
+  from_signal = back_same (led one (record { name = second.name; inverts = second.inverts }) (led other (record { name = first.name; inverts = turned }) wire)) (led second.name (record { name = one; inverts = second.inverts }) (led first.name (record { name = other; inverts = turned }) signal)) wire_after signal_after l.wires l.signals
       (linked_back wire signal one other second.name first.name second.inverts turned differ h.from_signal
       (λ name e. sym (away_at name second.name e) ∙ second_signal) (λ name e. sym (away_at name first.name e) ∙ first_signal));
 }
@@ -185,7 +196,7 @@ linked_moved signal wire signal_after wire_after one other first second inverts 
     at_first n false e = stays (signal input) (home_at one first l.first_is e) (home_at other second l.second_is n)
 
     at_second : (e : Bool) → bytes_eq second.name input ≡ e
-        → IsMoved (signal input) (if e then record { name = one; inverts = second.inverts } else linked first.name (record { name = other; inverts = turned }) signal input) one other inverts
+        → IsMoved (signal input) (if e then record { name = one; inverts = second.inverts } else led first.name (record { name = other; inverts = turned }) signal input) one other inverts
     at_second true e = subst (λ (lead : Lead). IsMoved lead (record { name = one; inverts = second.inverts }) one other inverts) (sym second_signal ∙ ap signal (same_name second.name input e)) at_other
     at_second false e = at_first e (bytes_eq first.name input) refl
 
@@ -268,12 +279,18 @@ table_put circuit seen signal wire place table kept new is h k n =
     rw (n, is) (ap (with_tables circuit)
     (map-set (table_over signal) circuit.tables place kept ∙ ap (set (map (table_over signal) circuit.tables) place) (ap (table_over signal) k ∙ table_back wire signal h.from_signal table)))
 
+-- after an exchange wires and signals are still paired
+pub exchange_paired : (signal wire signal_after wire_after : List ℕ → Lead) (one other : List ℕ) (inverts : Bool) → bytes_eq one other ≡ false → ArePaired signal wire → HaveExchanged signal wire signal_after wire_after one other inverts
+    → ArePaired signal_after wire_after
+exchange_paired signal wire signal_after wire_after one other inverts apart p h =
+    linked_paired signal wire signal_after wire_after one other (wire one) (wire other) (turned_if inverts (wire one).inverts) p (linked signal wire signal_after wire_after one other inverts apart h)
+
 -- two signals have changed places
-pub signals_moved : (circuit seen : Circuit) (signal wire signal_after wire_after : List ℕ → Lead) (one other : List ℕ) (first second : Lead) (inverts turned : Bool) → seen ≡ with_tables circuit (map (table_over signal) circuit.tables)
-    → ArePaired signal wire → turned ≡ (if inverts then not first.inverts else first.inverts) → AreLinked signal wire signal_after wire_after one other first second turned
+pub signals_moved : (circuit seen : Circuit) (signal wire signal_after wire_after : List ℕ → Lead) (one other : List ℕ) (inverts : Bool) → seen ≡ with_tables circuit (map (table_over signal) circuit.tables)
+    → bytes_eq one other ≡ false → ArePaired signal wire → HaveExchanged signal wire signal_after wire_after one other inverts
     → with_tables circuit (map (table_over signal_after) circuit.tables) ≡ with_tables seen (map (exchanged one other inverts) seen.tables)
-signals_moved circuit seen signal wire signal_after wire_after one other first second inverts turned is h t l =
-    rw (is) (ap (with_tables circuit) (tables_moved signal wire signal_after wire_after one other first second inverts turned h t l circuit.tables))
+signals_moved circuit seen signal wire signal_after wire_after one other inverts is apart p h =
+    rw (is) (ap (with_tables circuit) (tables_moved signal wire signal_after wire_after one other (wire one) (wire other) inverts (turned_if inverts (wire one).inverts) p refl (linked signal wire signal_after wire_after one other inverts apart h) circuit.tables))
 
 -- a constant stands last
 pub constant_last : (circuit seen : Circuit) (signal : List ℕ → Lead) (name : List ℕ) (bit : Bool) (table : Table) (new : Circuit) → seen ≡ with_tables circuit (map (table_over signal) circuit.tables) → table ≡ constant_table name bit

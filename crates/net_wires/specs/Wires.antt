@@ -3,7 +3,7 @@
 -- Source: Cormen, Leiserson, Rivest and Stein, "Introduction to Algorithms", third edition, chapter 21 (names of sets apart
 -- from what they hold); Brace, Rudell and Bryant, "Efficient Implementation of a BDD Package" (1990), complement marks beside
 -- what is shared.
-use Rattle.std.specs.Prelude.{◌≡◌, ℕ, Bool, false, Option, Some, None, List, [], ◌∷◌, map, bytes_eq, if◌then◌else◌}
+use Rattle.std.specs.Prelude.{◌≡◌, ℕ, Bool, false, not, Option, Some, None, List, [], ◌∷◌, map, bytes_eq, if◌then◌else◌}
 use Rattle.circuit_model.specs.declared.circuit.Tri.{Tri}
 use Rattle.circuit_model.specs.declared.circuit.Table.{Table}
 use Rattle.sweep_rules.specs.Rules.{turned_over, row_turned}
@@ -56,3 +56,19 @@ exchanged one other inverts table = record table {
   inputs = map (name_exchanged one other) table.inputs;
   rows = if inverts then map (row_turned one table.inputs) table.rows else table.rows;
 }
+
+-- leads, but for one name, which leads elsewhere
+abbrev pub led : List ℕ → Lead → (List ℕ → Lead) → List ℕ → Lead
+led from to leads name = if bytes_eq from name then to else leads name
+
+-- a bit, turned over or not
+abbrev pub turned_if : Bool → Bool → Bool
+turned_if inverts bit = if inverts then not bit else bit
+
+-- two signals have changed wires: the wire of the second carries the first as it carried the second, and the wire of the
+-- first carries the second as it carried the first, turned over or not; all else stays
+pub record HaveExchanged (signal wire signal_after wire_after : List ℕ → Lead) (one other : List ℕ) (inverts : Bool) : Type 0 where
+  pub signals : (name : List ℕ) → signal_after name
+      ≡ led (wire other).name (record { name = one; inverts = (wire other).inverts }) (led (wire one).name (record { name = other; inverts = turned_if inverts (wire one).inverts }) signal) name
+  pub wires : (name : List ℕ) → wire_after name
+      ≡ led one (record { name = (wire other).name; inverts = (wire other).inverts }) (led other (record { name = (wire one).name; inverts = turned_if inverts (wire one).inverts }) wire) name

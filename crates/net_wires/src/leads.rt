@@ -4,7 +4,7 @@ ghost use Rattle.std.specs.Prelude.{◌≡◌, ◌++◌, ℕ, Bool, Some, None, 
 ghost use Rattle.std.specs.List.{list_any};
 ghost use Rattle.indexmap.specs.IndexMap.{get};
 ghost use Rattle.sweep_rules.specs.Rules.{turned_over};
-ghost use Rattle.net_wires.specs.Wires.{lead_of, marks_over, row_over as over_marks, table_over as over_leads};
+ghost use Rattle.net_wires.specs.Wires.{lead_of, led, marks_over, row_over as over_marks, table_over as over_leads};
 
 use circuit_model::{Name, Names, Row, Rows, Table, Tables, Tri};
 use indexmap::IndexMap;
@@ -58,23 +58,33 @@ pub(crate) fn set_lead(
     name: Name,
     to: Lead,
 ) -> Result<(), AllocError>
-    ensures { OnOk result ((other : List ℕ) → lead_of (get bytes_eq leads.new) other ≡ (if bytes_eq name other then to else lead_of (get bytes_eq leads.old) other)) }
+    ensures { OnOk result ((other : List ℕ) → lead_of (get bytes_eq leads.new) other ≡ led name to (lead_of (get bytes_eq leads.old)) other) }
 {
     let _before = leads.insert(name, to)?;
     Ok(())
 }
 
-// The names to which names lead.
+// The name to which a name leads, in its place.
+fn name_over(alloc: Global, leads: &IndexMap<Name, Lead>, name: Name) -> Result<Name, AllocError>
+    ensures { IfOk result (λ made. made ≡ (lead_of (get bytes_eq leads.now) name).name) }
+{
+    match leads.get(&name) {
+        None => Ok(name),
+        Some(lead) => lead.name.copy(alloc),
+    }
+}
+
+// The names to which names lead, in their places.
 fn names_over(
     alloc: Global,
     leads: &IndexMap<Name, Lead>,
-    names: &[Name],
+    names: Names,
 ) -> Result<Names, AllocError>
-    ensures { IfOk result (λ made. made ≡ map (λ name. (lead_of (get bytes_eq leads.now) name).name) names.now) }
+    ensures { IfOk result (λ made. made ≡ map (λ name. (lead_of (get bytes_eq leads.now) name).name) names) }
 {
     let mut made = Vec::with_capacity(alloc, names.len())?;
-    for name in names {
-        made.push(name_of(leads, name).copy(alloc)?)?;
+    for name in names.into_vec() {
+        made.push(name_over(alloc, leads, name)?)?;
     }
     Ok(Sequence::from_vec(made))
 }
@@ -144,32 +154,36 @@ fn is_any_marked(marks: &[bool]) -> bool
     marks.iter().any(|mark| *mark)
 }
 
-// The rows of a table with the characters at marked places turned over; where no place is marked, a copy.
-fn table_rows_over(alloc: Global, marks: &[bool], rows: &Rows) -> Result<Rows, AllocError>
-    ensures { IfOk result (λ made. made ≡ map (over_marks marks.now) rows.now) }
+// The rows of a table with the characters at marked places turned over; where no place is marked, the rows themselves.
+fn table_rows_over(alloc: Global, marks: &[bool], rows: Rows) -> Result<Rows, AllocError>
+    ensures { IfOk result (λ made. made ≡ map (over_marks marks.now) rows) }
 {
     if is_any_marked(marks) {
         return rows_over(alloc, marks, rows.as_slice());
     }
-    rows.copy(alloc)
+    Ok(rows)
 }
 
-// A table over what its inputs lead to.
+// A table over what its inputs lead to, in its place.
 pub(crate) fn table_over(
     alloc: Global,
     leads: &IndexMap<Name, Lead>,
-    table: &Table,
+    table: Table,
 ) -> Result<Table, AllocError>
-    ensures { IfOk result (λ made. made ≡ over_leads (lead_of (get bytes_eq leads.now)) table.now) }
+    ensures { IfOk result (λ made. made ≡ over_leads (lead_of (get bytes_eq leads.now)) table) }
 {
-    let inputs = table.inputs.as_slice();
-    let marks = inverted_inputs(alloc, leads, inputs)?;
-    let rows = table_rows_over(alloc, marks.as_slice(), &table.rows)?;
-    Ok(Table {
-        inputs: names_over(alloc, leads, inputs)?,
-        output: table.output.copy(alloc)?,
+    let Table {
+        inputs,
+        output,
         rows,
-        phase: table.phase,
+        phase,
+    } = table;
+    let marks = inverted_inputs(alloc, leads, inputs.as_slice())?;
+    Ok(Table {
+        rows: table_rows_over(alloc, marks.as_slice(), rows)?,
+        inputs: names_over(alloc, leads, inputs)?,
+        output,
+        phase,
     })
 }
 
@@ -183,7 +197,7 @@ pub(crate) fn tables_over(
 {
     let mut made = Vec::with_capacity(alloc, tables.len())?;
     for table in tables {
-        made.push(table_over(alloc, leads, table)?)?;
+        made.push(table_over(alloc, leads, table.copy(alloc)?)?)?;
     }
     Ok(Sequence::from_vec(made))
 }

@@ -136,8 +136,7 @@ fn set(alloc: Global, wires: &mut Wires, place: usize, parts: Parts) -> Result<(
     if place >= wires.len() {
         return Err(AllocError);
     }
-    let table = table(alloc, parts)?;
-    wires.set(alloc, place, &table)
+    wires.set(alloc, place, table(alloc, parts)?)
 }
 
 /// Whether just these tables stand at the places from 0 on, each with the constant that it is written as.

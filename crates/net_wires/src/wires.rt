@@ -1,6 +1,6 @@
 //! A circuit whose tables are kept over wires, with exact readers of the wires.
 
-ghost use Rattle.std.specs.Prelude.{◌≡◌, ◌<◌, ◌++◌, ℕ, Bool, false, not, Some, None, List, [], ◌∷◌, length, map, slice_get, slice_set, bytes_eq, if◌then◌else◌, IfOk, OnOk};
+ghost use Rattle.std.specs.Prelude.{◌≡◌, ◌<◌, ◌++◌, ℕ, Bool, false, Some, None, List, [], ◌∷◌, length, map, slice_get, slice_set, bytes_eq, IfOk, OnOk};
 ghost use Rattle.std.specs.Option.{option_map_or};
 ghost use Rattle.circuit_model.specs.Names.{has};
 ghost use Rattle.circuit_model.specs.Soundness.{table_inputs};
@@ -9,7 +9,7 @@ ghost use Rattle.circuit_laws.specs.Edits.{with_tables, with_added, constant_tab
 ghost use Rattle.sweep_rules.specs.Points.{written_bit as bit_written};
 ghost use Rattle.indexmap.specs.IndexMap.{get};
 ghost use Rattle.net_readers.specs.Readers.{told, is_in, reads_at, AreReaders};
-ghost use Rattle.net_wires.specs.Wires.{lead_of, exchanged};
+ghost use Rattle.net_wires.specs.Wires.{lead_of, table_over as over_leads, led, turned_if, exchanged, HaveExchanged};
 
 use crate::leads::{Lead, lead_from, name_of, set_lead, table_over, tables_over};
 use circuit_model::{Circuit, Name, Table};
@@ -69,27 +69,29 @@ fn push_table(circuit: &mut Circuit, table: Table) -> Result<(), AllocError>
     Ok(())
 }
 
-// The table at a place of a circuit gives place to another one, and the readers are those of the new tables.
+// The table at a place of a circuit gives place to another one, over wires, and the readers are those of the new tables.
 fn change_table(
     alloc: Global,
     circuit: &mut Circuit,
     readers: &mut Readers,
+    wires: &IndexMap<Name, Lead>,
     place: usize,
     table: Table,
 ) -> Result<(), AllocError>
     requires within { place < length circuit.old.tables }
     requires listed { AreReaders (told readers.old) circuit.old.tables }
-    ensures set { OnOk result (circuit.new ≡ with_tables circuit.old (slice_set circuit.old.tables place table)) }
+    ensures set { OnOk result (circuit.new ≡ with_tables circuit.old (slice_set circuit.old.tables place (over_leads (lead_of (get bytes_eq wires.now)) table))) }
     ensures listed { OnOk result (AreReaders (told readers.new) circuit.new.tables) }
 {
-    readers.change(alloc, place, &circuit.tables.as_slice()[place], &table)?;
-    put_table(alloc, circuit, place, table);
+    let kept = table_over(alloc, wires, table)?;
+    readers.change(alloc, place, &circuit.tables.as_slice()[place], &kept)?;
+    put_table(alloc, circuit, place, kept);
     Ok(())
 }
 
 // A bit, turned over or not.
 fn turned_bit(bit: bool, inverts: bool) -> bool
-    ensures { result ≡ (if inverts then not bit else bit) }
+    ensures { result ≡ turned_if inverts bit }
 {
     if inverts {
         return !bit;
@@ -106,8 +108,8 @@ fn pair(
     signal: &Name,
     inverts: bool,
 ) -> Result<(), AllocError>
-    ensures signals { OnOk result ((name : List ℕ) → lead_of (get bytes_eq signals.new) name ≡ (if bytes_eq wire.now name then record { name = signal.now; inverts = inverts } else lead_of (get bytes_eq signals.old) name)) }
-    ensures wires { OnOk result ((name : List ℕ) → lead_of (get bytes_eq wires.new) name ≡ (if bytes_eq signal.now name then record { name = wire.now; inverts = inverts } else lead_of (get bytes_eq wires.old) name)) }
+    ensures signals { OnOk result ((name : List ℕ) → lead_of (get bytes_eq signals.new) name ≡ led wire.now (record { name = signal.now; inverts = inverts }) (lead_of (get bytes_eq signals.old)) name) }
+    ensures wires { OnOk result ((name : List ℕ) → lead_of (get bytes_eq wires.new) name ≡ led signal.now (record { name = wire.now; inverts = inverts }) (lead_of (get bytes_eq wires.old)) name) }
 {
     let to_signal = Lead {
         name: signal.copy(alloc)?,
@@ -119,6 +121,25 @@ fn pair(
     };
     set_lead(signals, wire.copy(alloc)?, to_signal)?;
     set_lead(wires, signal.copy(alloc)?, to_wire)
+}
+
+// Two signals, which are different, change wires, and the first comes turned over or not.
+fn exchange_leads(
+    alloc: Global,
+    signals: &mut IndexMap<Name, Lead>,
+    wires: &mut IndexMap<Name, Lead>,
+    one: &Name,
+    other: &Name,
+    inverts: bool,
+) -> Result<(), AllocError>
+    ensures { OnOk result (HaveExchanged (lead_of (get bytes_eq signals.old)) (lead_of (get bytes_eq wires.old)) (lead_of (get bytes_eq signals.new)) (lead_of (get bytes_eq wires.new)) one.now other.now inverts) }
+{
+    let first = lead_from(alloc, wires, one)?;
+    let second = lead_from(alloc, wires, other)?;
+    let turned = turned_bit(first.inverts, inverts);
+    pair(alloc, signals, wires, &first.name, other, turned)?;
+    pair(alloc, signals, wires, &second.name, one, second.inverts)?;
+    Ok(())
 }
 
 impl Wires {
@@ -178,7 +199,7 @@ impl Wires {
         match self.circuit.tables.as_slice().get(place) {
             None => Ok(None),
             Some(table) => {
-                let made = table_over(alloc, &self.signal_of, table)?;
+                let made = table_over(alloc, &self.signal_of, table.copy(alloc)?)?;
                 Ok(Some(made))
             }
         }
@@ -224,13 +245,19 @@ impl Wires {
     }
 
     /// The table at a place, which has one, gives place to another one; an error only for want of memory.
-    pub fn set(&mut self, alloc: Global, place: usize, table: &Table) -> Result<(), AllocError>
+    pub fn set(&mut self, alloc: Global, place: usize, table: Table) -> Result<(), AllocError>
         requires { place < length self.old.tables }
-        ensures { OnOk result (self.new ≡ with_tables self.old (slice_set self.old.tables place table.now)) }
+        ensures { OnOk result (self.new ≡ with_tables self.old (slice_set self.old.tables place table)) }
     {
         let mut made = mem::replace(self, Wires::empty(alloc));
-        let kept = table_over(alloc, &made.wire_of, table)?;
-        change_table(alloc, &mut made.circuit, &mut made.readers, place, kept)?;
+        change_table(
+            alloc,
+            &mut made.circuit,
+            &mut made.readers,
+            &made.wire_of,
+            place,
+            table,
+        )?;
         *self = made;
         Ok(())
     }
@@ -248,24 +275,13 @@ impl Wires {
         ensures { OnOk result (self.new ≡ with_tables self.old (map (exchanged one.now other.now inverts) self.old.tables)) }
     {
         let mut made = mem::replace(self, Wires::empty(alloc));
-        let first = lead_from(alloc, &made.wire_of, one)?;
-        let second = lead_from(alloc, &made.wire_of, other)?;
-        let turned = turned_bit(first.inverts, inverts);
-        pair(
+        exchange_leads(
             alloc,
             &mut made.signal_of,
             &mut made.wire_of,
-            &first.name,
-            other,
-            turned,
-        )?;
-        pair(
-            alloc,
-            &mut made.signal_of,
-            &mut made.wire_of,
-            &second.name,
             one,
-            second.inverts,
+            other,
+            inverts,
         )?;
         *self = made;
         Ok(())
@@ -275,8 +291,9 @@ impl Wires {
     pub fn add_constant(&mut self, alloc: Global, name: Name, bit: bool) -> Result<(), AllocError>
         ensures { OnOk result (self.new ≡ with_added self.old (table_of_bit name bit)) }
     {
+        let table = constant_table(alloc, name, bit)?;
         let mut made = mem::replace(self, Wires::empty(alloc));
-        push_table(&mut made.circuit, constant_table(alloc, name, bit)?)?;
+        push_table(&mut made.circuit, table)?;
         *self = made;
         Ok(())
     }
