@@ -1,6 +1,6 @@
 -- What rules change: tables at some places, and nothing that no table read before is read after.
 use Rattle.std.proofs.Common.{◌≡◌, ℕ, zero, suc, ◌+◌, ◌<◌, ◌≤◌, ◌==◌, Bool, true, false, not, ◌||◌, if◌then◌else◌, Option, Some, None, is_some, List, [], ◌∷◌, take, length, map, set, get_or, find, slice_get, bytes_eq, inl, inr, ◌⊎◌, refl, sym, ap, ◌∙◌, subst, arith}
-use Rattle.std.specs.Prelude.{Result, IfOk, OnOk}
+use Rattle.std.specs.Prelude.{Result, OnOk}
 use Rattle.std.specs.declared.result.Result.TheVariants.{Ok, Err}
 use Rattle.std.specs.List.{AllByRecursion}
 use Rattle.std.specs.Option.{option_map, option_map_or, option_or}
@@ -18,12 +18,12 @@ use Rattle.circuit_laws.proofs.Places.{set_replaced, placed_driver}
 use Rattle.circuit_laws.proofs.Paths.{no_return}
 use Rattle.circuit_laws.proofs.Ranks.{leads_one}
 use Rattle.net_core.proofs.Lookups.{get_set_same, get_set_other}
-use Rattle.table_tidy.specs.Tidy.{tidied}
+use Rattle.table_tidy.specs.Tidy.{used_places, rows_differ, is_tidy, tidied}
 use Rattle.sweep_rules.specs.Points.{written_bit}
 use Rattle.sweep_rules.specs.Rules.{tidy_rule, constant_rule, put_rule, bypass_rule, unwritten_bit, only_input, is_inverter, at_bit, rewired}
 use Rattle.sweep_rules.proofs.Points.{only_is}
-use Rattle.table_tidy.proofs.Tidied.{tidied_reads, tidied_output}
-use Rattle.sweep_rules.proofs.Turned.{at_either, at_output, at_reads, at_shaped, rewired_either, rewired_output, rewired_reads, rewired_shaped}
+use Rattle.table_tidy.proofs.Tidied.{tidied_reads, tidied_output, tidied_tidy}
+use Rattle.sweep_rules.proofs.Turned.{with_rows_at, at_either, at_output, at_reads, at_shaped, rows_at_wide, rewires, rewired_either, rewired_output, rewired_reads, rewires_wide, rewired_shaped}
 use Rattle.sweep_rules.proofs.Sizes.{at_without, rewired_without}
 use Rattle.net_sweep.specs.declared.marks.Rule.{Rule}
 use Rattle.net_sweep.specs.declared.marks.Rule.TheVariants.{Tidy, Constant, Put, Bypass}
@@ -31,7 +31,7 @@ use Rattle.net_sweep.specs.declared.turns.Change.{Change}
 use Rattle.net_sweep.specs.declared.turns.Change.TheVariants.{Bit, Input}
 use Rattle.table_tidy.specs.Tidy.{IsWide}
 use Rattle.net_sweep.specs.Turns.{IsFirst}
-use Rattle.net_sweep.specs.Settled.{passes, rule_turn, table_step, IsNext, changed_by, is_apart, AreMarkedBy, AreMarked, IsAlike, IsAlikeThere, AreAlikeBut, AreSound}
+use Rattle.net_sweep.specs.Settled.{passes, rule_turn, table_step, IsNext, changed_by, is_apart, asks_of_written, AreMarkedBy, AreMarked, IsAlike, IsAlikeThere, AreAlikeBut, AreSound}
 use Rattle.net_readers.specs.Readers.{is_in, reads_at as is_read_at}
 use Rattle.net_sweep.proofs.Marking.{read_by, reads_at}
 
@@ -474,6 +474,64 @@ turn_outputs Bypass circuit table = cases (only_input table.inputs) refl
     cases None e = subst (Ports circuit) (sym (bypass_same circuit table e)) refl
     cases (Some input) e = subst (Ports circuit) (sym (bypass_map circuit table input e)) refl
 
+-- a constant is tidy
+pub constant_tidy : (name : List ℕ) (bit : Bool) → is_tidy (constant_table name bit) ≡ true
+unfolding is_tidy used_places rows_differ all_different
+constant_tidy name true = refl
+constant_tidy name false = refl
+
+-- a rule that applies to a tidy table is not the one that tidies
+pub written_asks : (rule : Rule) (tables : List Table) (table : Table) → is_tidy table ≡ true → passes rule tables table ≡ true → asks_of_written rule ≡ true
+written_asks Tidy tables table tidy h = absurd (false≢true (ap (λ (b : Bool). not b) (sym tidy) ∙ h))
+written_asks Constant tables table tidy h = refl
+written_asks Put tables table tidy h = refl
+written_asks Bypass tables table tidy h = refl
+
+-- what rules write is tidy: a table that is not stood there before
+abbrev pub Tidies : List Table → List Table → Type 0
+Tidies old new = (place : ℕ) (table : Table) → slice_get new place ≡ Some table → is_tidy table ≡ false → slice_get old place ≡ Some table
+
+set_tidies : (tables : List Table) (place : ℕ) (old made : Table) → slice_get tables place ≡ Some old → is_tidy made ≡ true → Tidies tables (set tables place made)
+set_tidies tables place old made at tidy i table here =
+    at_set (λ (t : Table). is_tidy t ≡ false → slice_get tables i ≡ Some table) tables place old made i table at here (λ same untidy. absurd (false≢true (sym untidy ∙ tidy))) (λ same untidy. same)
+
+changed_tidies : (name : List ℕ) (change : Change) (table : Table) → IsWide table → is_tidy (changed_by name change table) ≡ false → changed_by name change table ≡ table
+changed_tidies name (Bit bit) table wide =
+    at_either (λ (made : Table). is_tidy made ≡ false → made ≡ table) name bit table
+    (λ reads untidy. absurd (false≢true (sym untidy ∙ tidied_tidy (with_rows_at name bit table) (rows_at_wide name bit table wide)))) (λ none untidy. refl)
+changed_tidies name (Input to inverts) table wide =
+    rewired_either (λ (made : Table). is_tidy made ≡ false → made ≡ table) name to inverts table
+    (λ reads untidy. absurd (false≢true (sym untidy ∙ tidied_tidy (rewires name to inverts table) (rewires_wide name to inverts table wide)))) (λ none untidy. refl)
+
+map_tidies : (name : List ℕ) (change : Change) (tables : List Table) → AllByRecursion IsShaped tables → Tidies tables (map (changed_by name change) tables)
+map_tidies name change tables shaped place made at untidy =
+    let (table, here, is) = unmapped (changed_by name change) tables place made at in
+    let same : made ≡ table = sym is ∙ changed_tidies name change table (all_at IsShaped tables place table shaped here).0 (ap is_tidy is ∙ untidy) in
+    here ∙ ap Some (sym same)
+
+turn_tidies : (rule : Rule) (circuit : Circuit) (place : ℕ) (table : Table) → AreSound circuit.tables → slice_get circuit.tables place ≡ Some table → Tidies circuit.tables (rule_turn rule circuit table).tables
+turn_tidies Tidy circuit place table sound at =
+    subst (λ (c : Circuit). Tidies circuit.tables c.tables) (sym (tidied_set circuit place table sound at))
+    (set_tidies circuit.tables place table (tidied table) at (tidied_tidy table (all_at IsShaped circuit.tables place table sound.shaped at).0))
+turn_tidies Constant circuit place table sound at = cases (unwritten_bit table) refl
+  where
+    cases : (o : Option Bool) → unwritten_bit table ≡ o → Tidies circuit.tables (rule_turn Constant circuit table).tables
+    cases None e = subst (λ (c : Circuit). Tidies circuit.tables c.tables) (sym (constant_same circuit table e)) (λ i t h untidy. h)
+    cases (Some bit) e =
+        subst (λ (c : Circuit). Tidies circuit.tables c.tables) (sym (constant_set circuit place table bit sound at e))
+        (set_tidies circuit.tables place table (constant_table table.output bit) at (constant_tidy table.output bit))
+turn_tidies Put circuit place table sound at = cases (written_bit table) refl
+  where
+    cases : (o : Option Bool) → written_bit table ≡ o → Tidies circuit.tables (rule_turn Put circuit table).tables
+    cases None e = subst (λ (c : Circuit). Tidies circuit.tables c.tables) (sym (put_same circuit table e)) (λ i t h untidy. h)
+    cases (Some bit) e = subst (λ (c : Circuit). Tidies circuit.tables c.tables) (sym (put_map circuit table bit e)) (map_tidies table.output (Bit bit) circuit.tables sound.shaped)
+turn_tidies Bypass circuit place table sound at = cases (only_input table.inputs) refl
+  where
+    cases : (o : Option (List ℕ)) → only_input table.inputs ≡ o → Tidies circuit.tables (rule_turn Bypass circuit table).tables
+    cases None e = subst (λ (c : Circuit). Tidies circuit.tables c.tables) (sym (bypass_same circuit table e)) (λ i t h untidy. h)
+    cases (Some input) e =
+        subst (λ (c : Circuit). Tidies circuit.tables c.tables) (sym (bypass_map circuit table input e)) (map_tidies table.output (Input input (is_inverter table)) circuit.tables sound.shaped)
+
 -- where tables read no more, a rule applies to a table only if it did before
 pub still_passes : (rule : Rule) (old new : List Table) (table : Table) → ((name : List ℕ) → has (table_inputs new) name ≡ true → has (table_inputs old) name ≡ true) → passes rule new table ≡ true → passes rule old table ≡ true
 still_passes Tidy old new table less h = h
@@ -496,13 +554,18 @@ alike_passes Bypass old new before table less alike h =
     rw (sym alike.single ∙ a, ap (has (table_inputs old)) (sym alike.output) ∙ less table.output b) refl
 
 -- the candidates afterwards
-pub marked_again : (old new : List Table) (places : List ℕ) (before after : Rule → ℕ → Bool) → AreMarked before old → AreAlikeBut places old new
+pub marked_again : (old new : List Table) (places : List ℕ) (before after : Rule → ℕ → Bool) → AreMarked before old → AreAlikeBut places old new → Tidies old new
     → ((name : List ℕ) → has (table_inputs new) name ≡ true → has (table_inputs old) name ≡ true)
-    → ((rule : Rule) (place : ℕ) → is_in places place ≡ true → after rule place ≡ true) → ((rule : Rule) (place : ℕ) → before rule place ≡ true → after rule place ≡ true) → AreMarked after new
-marked_again old new places before after all alike less put kept rule place table at passed = cases (is_in places place) refl
+    → ((rule : Rule) (place : ℕ) → asks_of_written rule ≡ true → is_in places place ≡ true → after rule place ≡ true)
+    → ((rule : Rule) (place : ℕ) → before rule place ≡ true → after rule place ≡ true) → AreMarked after new
+marked_again old new places before after all alike tidies less put kept rule place table at passed = cases (is_in places place) refl
   where
+    tidy : (b : Bool) → is_tidy table ≡ b → is_in places place ≡ true → after rule place ≡ true
+    tidy true t e = put rule place (written_asks rule new table t passed) e
+    tidy false t e = kept rule place (all rule place table (tidies place table at t) (still_passes rule old new table less passed))
+
     cases : (b : Bool) → is_in places place ≡ b → after rule place ≡ true
-    cases true e = put rule place e
+    cases true e = tidy (is_tidy table) refl e
     cases false e =
         let (other, there, like) = alike_before places old new place table alike e at in
         kept rule place (all rule place other there (alike_passes rule old new other table less like passed))
@@ -551,12 +614,13 @@ mapped_others circuit new name change places readers n =
 
 pub turn_marked : (rule : Rule) (circuit new : Circuit) (place : ℕ) (places now : List ℕ) (before after : Rule → ℕ → Bool) → AreSound circuit.tables → place < length circuit.tables → AreMarked before circuit.tables
     → ((table : Table) → slice_get circuit.tables place ≡ Some table → new ≡ rule_turn rule circuit table) → AreAlikeBut places circuit.tables new.tables → now ≡ places
-    → ((r : Rule) (i : ℕ) → is_in now i ≡ true → after r i ≡ true) → ((r : Rule) (i : ℕ) → before r i ≡ true → after r i ≡ true) → AreMarked after new.tables
+    → ((r : Rule) (i : ℕ) → asks_of_written r ≡ true → is_in now i ≡ true → after r i ≡ true) → ((r : Rule) (i : ℕ) → before r i ≡ true → after r i ≡ true) → AreMarked after new.tables
 turn_marked rule circuit new place places now before after sound lt all turned others same put kept =
     let (table, at) = there circuit.tables place lt in
     marked_again circuit.tables new.tables places before after all others
+    (subst (λ (c : Circuit). Tidies circuit.tables c.tables) (sym (turned table at)) (turn_tidies rule circuit place table sound at))
     (λ name h. turn_reads rule circuit place table sound at name (subst (λ (c : Circuit). has (table_inputs c.tables) name ≡ true) (turned table at) h))
-    (λ r i h. put r i (subst (λ (ps : List ℕ). is_in ps i ≡ true) (sym same) h)) kept
+    (λ r i asks h. put r i asks (subst (λ (ps : List ℕ). is_in ps i ≡ true) (sym same) h)) kept
 
 -- the table at one place is changed
 pub set_changed : (turn : Table → Table) (circuit new : Circuit) (place : ℕ) (here made : Table) → slice_get circuit.tables place ≡ Some here → made ≡ turn here → new ≡ with_tables circuit (set circuit.tables place made)

@@ -15,17 +15,18 @@ use Rattle.circuit_laws.proofs.Drivers.{driver_name, driver_none}
 use Rattle.circuit_laws.proofs.Paths.{driver_added_other}
 use Rattle.circuit_laws.proofs.Places.{placed_driver, latches_stay}
 use Rattle.net_core.proofs.Lookups.{get_set_same, get_set_other, get_push_at, get_push_left, get_push_cases}
+use Rattle.table_tidy.specs.Tidy.{is_tidy}
 use Rattle.net_needed.specs.Places.{item_at, LeadsToTables}
 use Rattle.net_needed.proofs.Taking.{tables_differ}
 use Rattle.sweep_rules.specs.Points.{written_bit}
 use Rattle.sweep_rules.specs.Needed.{dont_care_reads}
 use Rattle.sweep_rules.specs.Rules.{fixed_bit, bit_from_start, starts_at}
 use Rattle.net_sweep.specs.declared.marks.Rule.{Rule}
-use Rattle.net_sweep.specs.Settled.{rule_turn, listed, AreMarkedBy, AreMarked, AreAlikeBut, AreSound}
+use Rattle.net_sweep.specs.Settled.{rule_turn, listed, asks_of_written, AreMarkedBy, AreMarked, AreAlikeBut, AreSound}
 use Rattle.net_readers.specs.Readers.{is_in}
 use Rattle.net_sweep.specs.Latches.{left_at, slot_bit, is_fixed, IsFirstFixed, IsPlaced, AreFed, IsBeside}
 use Rattle.net_sweep.proofs.Marking.{least_first, read_by, reads_at}
-use Rattle.net_sweep.proofs.Changing.{there, alike_before, still_passes, turn_names, turn_cares, turn_outputs}
+use Rattle.net_sweep.proofs.Changing.{there, alike_before, still_passes, constant_tidy, written_asks, turn_names, turn_cares, turn_outputs}
 
 -- tables of a sound circuit
 pub sound_tables : (circuit : Circuit) → IsSound circuit → AreSound circuit.tables
@@ -241,20 +242,22 @@ added_reads tables name bit read h =
     ]
 
 pub marked_added : (before after : Rule → ℕ → Bool) (tables : List Table) (name : List ℕ) (bit : Bool) → AreMarked before tables
-    → ((rule : Rule) (place : ℕ) → after rule place ≡ (length tables == place || before rule place)) → AreMarked after (tables ++ constant_table name bit ∷ [])
+    → ((rule : Rule) (place : ℕ) → after rule place ≡ ((asks_of_written rule && length tables == place) || before rule place)) → AreMarked after (tables ++ constant_table name bit ∷ [])
 marked_added before after tables name bit all put rule place table at passed =
     elim (get_push_cases tables (constant_table name bit) table place at) as (λ _. after rule place ≡ true) [
-      | inl old ↦ put rule place ∙ by (length tables == place) (all rule place table old (still_passes rule tables (tables ++ constant_table name bit ∷ []) table (λ n h. added_reads tables name bit n h) passed))
-      | inr last ↦ put rule place ∙ last_one (length tables == place) refl last.0
+      | inl old ↦ put rule place ∙ by (asks_of_written rule && length tables == place) (all rule place table old (still_passes rule tables (tables ++ constant_table name bit ∷ []) table (λ n h. added_reads tables name bit n h) passed))
+      | inr last ↦
+          put rule place
+          ∙ last_one (length tables == place) refl last.0 (written_asks rule (tables ++ constant_table name bit ∷ []) table (ap is_tidy (sym last.1) ∙ constant_tidy name bit) passed)
     ]
   where
     by : (b : Bool) → before rule place ≡ true → (b || before rule place) ≡ true
     by true h = refl
     by false h = h
 
-    last_one : (b : Bool) → (length tables == place) ≡ b → place ≡ length tables → (b || before rule place) ≡ true
-    last_one true e same = refl
-    last_one false e same = absurd (eqb-false (length tables) place e (sym same))
+    last_one : (b : Bool) → (length tables == place) ≡ b → place ≡ length tables → asks_of_written rule ≡ true → ((asks_of_written rule && b) || before rule place) ≡ true
+    last_one true e same asks = rw (asks) refl
+    last_one false e same asks = absurd (eqb-false (length tables) place e (sym same))
 
 -- the first latch that always has one bit
 
@@ -351,11 +354,11 @@ fixed_beside circuit new place last latch bit output key slots slots_after fed p
     })
 
 pub fixed_marked : (circuit new : Circuit) (last : ℕ) (output : List ℕ) (bit : Bool) (before after : Rule → ℕ → Bool) → new ≡ with_added circuit (constant_table output bit) → last ≡ length circuit.tables
-    → AreMarked before circuit.tables → ((rule : Rule) (place : ℕ) → after rule place ≡ (last == place || before rule place)) → AreMarked after new.tables
+    → AreMarked before circuit.tables → ((rule : Rule) (place : ℕ) → after rule place ≡ ((asks_of_written rule && last == place) || before rule place)) → AreMarked after new.tables
 unfolding with_added
 fixed_marked circuit new last output bit before after n l all put =
     subst (λ (c : Circuit). AreMarked after c.tables) (sym n)
-    (marked_added before after circuit.tables output bit all (λ rule place. put rule place ∙ ap (λ (p : ℕ). p == place || before rule place) l))
+    (marked_added before after circuit.tables output bit all (λ rule place. put rule place ∙ ap (λ (p : ℕ). (asks_of_written rule && p == place) || before rule place) l))
 
 pub first_is_fixed : (circuit : Circuit) (slots : List (Option Latch)) (waiting : ℕ → Bool) (place : ℕ) (bit : Bool) → AreMarkedBy (is_fixed circuit) waiting slots → ((i : ℕ) → waiting i ≡ true → place ≤ i)
     → option_map_or (slot_bit circuit) (slice_get slots place) None ≡ Some bit → IsFirstFixed circuit slots (Some (place, bit))

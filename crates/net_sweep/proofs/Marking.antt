@@ -11,7 +11,7 @@ use Rattle.circuit_model.specs.declared.circuit.Table.{Table}
 use Rattle.circuit_laws.proofs.Names.{has_either, has_front, has_back, name_itself, same_name}
 use Rattle.net_sweep.specs.Turns.{IsFirst}
 use Rattle.net_sweep.specs.declared.marks.Rule.{Rule}
-use Rattle.net_sweep.specs.Settled.{listed, AreMarkedBy}
+use Rattle.net_sweep.specs.Settled.{listed, asks_of_written, AreMarkedBy}
 use Rattle.net_readers.specs.Readers.{is_in}
 use Rattle.net_sweep.proofs.Finds.{within}
 
@@ -99,31 +99,31 @@ reads_at (first ∷ tables) (suc place) table name at h = has_back first.inputs 
 
 -- places are marked one by one
 pub record HasMarked (places : List ℕ) (before after : Rule → ℕ → Bool) : Type 0 where
-  pub put : (rule : Rule) (place : ℕ) → is_in places place ≡ true → after rule place ≡ true
+  pub put : (rule : Rule) (place : ℕ) → asks_of_written rule ≡ true → is_in places place ≡ true → after rule place ≡ true
   pub kept : (rule : Rule) (place : ℕ) → before rule place ≡ true → after rule place ≡ true
 
 pub marked_none : (before : Rule → ℕ → Bool) → HasMarked [] before before
-marked_none before = record { put = λ rule place h. absurd (false≢true h); kept = λ rule place h. h }
+marked_none before = record { put = λ rule place asks h. absurd (false≢true h); kept = λ rule place h. h }
 
 pub marked_more : (places : List ℕ) (i put d : ℕ) (before now after : Rule → ℕ → Bool) → i < length places → put ≡ get_or places i d → HasMarked (take i places) before now
-    → ((rule : Rule) (place : ℕ) → after rule place ≡ (put == place || now rule place)) → HasMarked (take (i + 1) places) before after
+    → ((rule : Rule) (place : ℕ) → after rule place ≡ ((asks_of_written rule && put == place) || now rule place)) → HasMarked (take (i + 1) places) before after
 marked_more places i put d before now after lt is h more = record {
-  put = λ rule place within. by rule place (is_in (take i places) place) refl (put == place) refl
+  put = λ rule place asks within. by rule place asks (is_in (take i places) place) refl (put == place) refl
       (sym (list_any_more (λ other. other == place) places i d lt ∙ ap (λ (n : ℕ). is_in (take i places) place || (n == place)) (sym is)) ∙ within);
   kept = λ rule place held. kept rule place (h.kept rule place held);
 }
   where
     kept : (rule : Rule) (place : ℕ) → now rule place ≡ true → after rule place ≡ true
-    kept rule place held = more rule place ∙ (ap (λ (b : Bool). put == place || b) held ∙ or_true (put == place))
+    kept rule place held = more rule place ∙ (ap (λ (b : Bool). (asks_of_written rule && put == place) || b) held ∙ or_true (asks_of_written rule && put == place))
       where
         or_true : (b : Bool) → (b || true) ≡ true
         or_true true = refl
         or_true false = refl
 
-    by : (rule : Rule) (place : ℕ) (a : Bool) → is_in (take i places) place ≡ a → (b : Bool) → (put == place) ≡ b → (a || b) ≡ true → after rule place ≡ true
-    by rule place true e b f k = kept rule place (h.put rule place e)
-    by rule place false e true f k = more rule place ∙ ap (λ (c : Bool). c || now rule place) f
-    by rule place false e false f k = absurd (false≢true k)
+    by : (rule : Rule) (place : ℕ) → asks_of_written rule ≡ true → (a : Bool) → is_in (take i places) place ≡ a → (b : Bool) → (put == place) ≡ b → (a || b) ≡ true → after rule place ≡ true
+    by rule place asks true e b f k = kept rule place (h.put rule place asks e)
+    by rule place asks false e true f k = more rule place ∙ (ap (λ (c : Bool). (c && put == place) || now rule place) asks ∙ ap (λ (c : Bool). c || now rule place) f)
+    by rule place asks false e false f k = absurd (false≢true k)
 
 -- a place is listed for one signal after the other
 pub record HasListed (reader : ℕ) (inputs : List (List ℕ)) (before after : List ℕ → Option (List ℕ)) : Type 0 where

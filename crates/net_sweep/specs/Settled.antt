@@ -66,6 +66,13 @@ abbrev pub is_apart : List ℕ → Change → Bool
 is_apart name (Bit bit) = true
 is_apart name (Input to inverts) = not (bytes_eq name to)
 
+-- whether a rule may apply to a table since it was written anew: any but the one that tidies, since what is written is tidy
+abbrev pub asks_of_written : Rule → Bool
+asks_of_written Tidy = false
+asks_of_written Constant = true
+asks_of_written Put = true
+asks_of_written Bypass = true
+
 -- the places that are listed, none where there is no list
 abbrev pub listed : Option (List ℕ) → List ℕ
 listed None = []

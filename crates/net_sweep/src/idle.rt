@@ -54,7 +54,7 @@ pub(crate) fn empty_untaken(
                 return Ok(());
             }
             let constant = constant_table(alloc, table.output, false)?;
-            circuit.set(alloc, place, &constant)
+            circuit.set(alloc, place, constant)
         }
     }
 }

@@ -7,7 +7,7 @@ ghost use Rattle.std.specs.Ordering.{nat_cmp};
 ghost use Rattle.std.specs.BTreeSet.{contains, btree_set_len};
 ghost use Rattle.indexmap.specs.IndexMap.{get};
 ghost use Rattle.net_sweep.specs.declared.marks.Rule.{Rule as TheRule};
-ghost use Rattle.net_sweep.specs.Settled.{listed, marked_in};
+ghost use Rattle.net_sweep.specs.Settled.{listed, marked_in, asks_of_written};
 ghost use Rattle.net_readers.specs.Readers.{is_in};
 
 use circuit_model::Name;
@@ -62,20 +62,19 @@ pub(crate) fn put_place(set: &mut BTreeSet<usize>, put: usize) -> Result<(), All
     Ok(())
 }
 
-// Marks a place for each rule.
+// Marks the place of a table that was written anew, and so is tidy, for each rule but the one that tidies.
 pub(crate) fn mark(candidates: &mut Candidates, put: usize) -> Result<(), AllocError>
-    ensures { OnOk result ((rule : TheRule) (place : ℕ) → marked_in candidates.new rule place ≡ (put == place || marked_in candidates.old rule place)) }
+    ensures { OnOk result ((rule : TheRule) (place : ℕ) → marked_in candidates.new rule place ≡ ((asks_of_written rule && put == place) || marked_in candidates.old rule place)) }
 {
-    put_place(&mut candidates.untidy, put)?;
     put_place(&mut candidates.unwritten, put)?;
     put_place(&mut candidates.constants, put)?;
     put_place(&mut candidates.singles, put)?;
     Ok(())
 }
 
-// Marks places for each rule.
+// Marks places of tables that were written anew for each rule but the one that tidies.
 pub(crate) fn mark_all(candidates: &mut Candidates, places: &[usize]) -> Result<(), AllocError>
-    ensures put { OnOk result ((rule : TheRule) (place : ℕ) → is_in places.now place ≡ true → marked_in candidates.new rule place ≡ true) }
+    ensures put { OnOk result ((rule : TheRule) (place : ℕ) → asks_of_written rule ≡ true → is_in places.now place ≡ true → marked_in candidates.new rule place ≡ true) }
     ensures kept { OnOk result ((rule : TheRule) (place : ℕ) → marked_in candidates.old rule place ≡ true → marked_in candidates.new rule place ≡ true) }
 {
     for put in places {
@@ -84,20 +83,27 @@ pub(crate) fn mark_all(candidates: &mut Candidates, places: &[usize]) -> Result<
     Ok(())
 }
 
+// So many places, from 0 on.
+pub(crate) fn all_places(alloc: Global, count: usize) -> Result<BTreeSet<usize>, AllocError>
+    ensures { IfOk result (λ places. (place : ℕ) → place < count → contains nat_cmp places place ≡ true) }
+{
+    let mut places = BTreeSet::new(alloc);
+    for place in 0..count {
+        put_place(&mut places, place)?;
+    }
+    Ok(places)
+}
+
 // The candidates where each of so many places is marked for each rule.
 pub(crate) fn all_marked(alloc: Global, count: usize) -> Result<Candidates, AllocError>
     ensures { IfOk result (λ candidates. (rule : TheRule) (place : ℕ) → place < count → marked_in candidates rule place ≡ true) }
 {
-    let mut candidates = Candidates {
-        untidy: BTreeSet::new(alloc),
-        unwritten: BTreeSet::new(alloc),
-        constants: BTreeSet::new(alloc),
-        singles: BTreeSet::new(alloc),
-    };
-    for place in 0..count {
-        mark(&mut candidates, place)?;
-    }
-    Ok(candidates)
+    Ok(Candidates {
+        untidy: all_places(alloc, count)?,
+        unwritten: all_places(alloc, count)?,
+        constants: all_places(alloc, count)?,
+        singles: all_places(alloc, count)?,
+    })
 }
 
 // Takes the list of a signal out.

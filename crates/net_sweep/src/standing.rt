@@ -2,8 +2,6 @@
 //! circuit's own list counts for nothing.
 
 ghost use Rattle.std.specs.Prelude.{◌≡◌, ℕ, ◌<◌, true, Some, is_some, List, [], ◌∷◌, ◌++◌, length, map, slice_get, bytes_eq, IfOk, OnOk};
-ghost use Rattle.std.specs.Ordering.{nat_cmp};
-ghost use Rattle.std.specs.BTreeSet.{contains};
 ghost use Rattle.indexmap.specs.IndexMap.{get};
 ghost use Rattle.circuit_model.specs.Names.{has, all_different};
 ghost use Rattle.circuit_model.specs.Soundness.{outputs_of};
@@ -14,14 +12,13 @@ ghost use Rattle.net_readers.specs.Readers.{is_in};
 ghost use Rattle.net_sweep.specs.Latches.{left_at, with_latches, IsPlaced, IsReady};
 
 use crate::latches::Standing;
-use crate::marks::{add_place, put_list, put_place};
+use crate::marks::{add_place, all_places, put_list};
 use circuit_model::{Circuit, Latch, Latches, Name, Table, Timing};
 use indexmap::IndexMap;
 use net_needed::{leaves_read, note_place};
 use net_readers::Places;
 use sis_base::{Copied, Sequence};
 use std::alloc::{AllocError, Global};
-use std::collections::BTreeSet;
 
 // A place for each latch.
 fn slots_of(alloc: Global, latches: &[Latch]) -> Result<Vec<Option<Latch>>, AllocError>
@@ -75,17 +72,6 @@ fn fed_by(
         note_output(alloc, &mut lists, output)?;
     }
     Ok(lists)
-}
-
-// As many places as there are latches.
-fn all_places(alloc: Global, count: usize) -> Result<BTreeSet<usize>, AllocError>
-    ensures { IfOk result (λ places. (place : ℕ) → place < count → contains nat_cmp places place ≡ true) }
-{
-    let mut places = BTreeSet::new(alloc);
-    for place in 0..count {
-        put_place(&mut places, place)?;
-    }
-    Ok(places)
 }
 
 // Where the tables of signals stand.

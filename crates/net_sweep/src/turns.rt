@@ -193,7 +193,7 @@ fn tidy_at(alloc: Global, circuit: &mut Wires, place: usize) -> Result<Places, A
     let places = one_place(alloc, place)?;
     let table = table_at(alloc, circuit, place)?;
     let tidied = tidied_table(alloc, table)?;
-    circuit.set(alloc, place, &tidied)?;
+    circuit.set(alloc, place, tidied)?;
     Ok(places)
 }
 
@@ -210,7 +210,7 @@ fn write_at<R: Row>(alloc: Global, circuit: &mut Wires, place: usize) -> Result<
         None => Ok(places),
         Some(bit) => {
             let constant = constant_table(alloc, table.output, bit)?;
-            circuit.set(alloc, place, &constant)?;
+            circuit.set(alloc, place, constant)?;
             Ok(places)
         }
     }
@@ -243,7 +243,7 @@ fn change_at(
         None => Ok(()),
         Some(table) => {
             let made = changed(alloc, &table, name, change)?;
-            circuit.set(alloc, place, &made)
+            circuit.set(alloc, place, made)
         }
     }
 }
@@ -333,7 +333,7 @@ fn set_tables(
     ensures others { OnOk result ((place : ℕ) → is_in places.now place ≡ false → slice_get circuit.new.tables place ≡ slice_get circuit.old.tables place) }
 {
     for (i, place) in places.iter().enumerate() {
-        circuit.set(alloc, *place, &tables[i])?;
+        circuit.set(alloc, *place, tables[i].copy(alloc)?)?;
     }
     Ok(())
 }

@@ -1,4 +1,4 @@
-use Rattle.std.proofs.Common.{ℕ, ◌<◌, refl, sym, subst}
+use Rattle.std.proofs.Common.{ℕ, ◌<◌, Some, refl, sym, ap, ◌∙◌, subst}
 use Rattle.net_needed.proofs.Searching.{at_place}
 use Rattle.net_sweep.proofs.Rewiring.{set_within, set_more}
 use Rattle.net_sweep.proofs.turns.set_tables.Goals as goal
@@ -8,6 +8,7 @@ set-requires c = set_within c.args.places.now _ c.args.tables.now c.args.circuit
 
 pub loop-i-preserved : goal.loop-i-preserved
 loop-i-preserved c =
-    set_more c.args.places.now c.args.tables.now c.args.circuit.now c.loop-i.circuit c.set.new.self c.loop-i.i _ 0 c.index-tables-i.result c.loop-i.invariant c.loop-i-test.true refl
+    set_more c.args.places.now c.args.tables.now c.args.circuit.now c.loop-i.circuit c.set.new.self c.loop-i.i _ 0 c.in_ok-copy.field-0 c.loop-i.invariant c.loop-i-test.true refl
     (set_within c.args.places.now _ c.args.tables.now c.args.circuit.now c.loop-i.circuit c.loop-i.i _ 0 c.loop-i.invariant c.loop-i-test.true refl c.requires.within)
-    (at_place c.args.tables.now c.loop-i.i c.index-tables-i.result (subst (λ (n : ℕ). c.loop-i.i < n) (sym c.requires.each) c.loop-i-test.true) c.index-tables-i.is) c.in_ok-set.ensures
+    (at_place c.args.tables.now c.loop-i.i c.index-tables-i.result (subst (λ (n : ℕ). c.loop-i.i < n) (sym c.requires.each) c.loop-i-test.true) c.index-tables-i.is ∙ ap Some (sym c.in_ok-copy.ensures))
+    c.in_ok-set.ensures
