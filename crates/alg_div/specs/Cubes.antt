@@ -28,6 +28,7 @@ unfoldable pub products_by : List (Option Bool) → List (List (Option Bool)) �
 products_by cube [] = []
 products_by cube (row ∷ rows) = times cube row ∷ products_by cube rows
 
+-- all products of two lists of cubes
 unfoldable pub products : List (List (Option Bool)) → List (List (Option Bool)) → List (List (Option Bool))
 products [] rows = []
 products (cube ∷ cubes) rows = products_by cube rows ++ products cubes rows

@@ -27,6 +27,7 @@ unfoldable pub touched_from : List (Option Bool) → List (List (Option Bool)) �
 touched_from mask [] = mask
 touched_from mask (row ∷ rows) = touched_from (times mask row) rows
 
+-- a row of this width with a literal at each place where some row has one
 abbrev pub touched : ℕ → List (List (Option Bool)) → List (Option Bool)
 touched width rows = touched_from (replicate width None) rows
 

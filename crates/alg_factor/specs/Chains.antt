@@ -5,6 +5,7 @@ use Rattle.alg_factor.specs.Forms.{Form, Split}
 use Rattle.alg_factor.specs.Shapes.{shape}
 use Rattle.alg_factor.specs.declared.factoring.Product.{Product}
 
+-- the form of some products and a rest: one split behind the other
 unfoldable pub chained : {X : Type 0} → (X → List (Option Bool)) → List (Product X) → Form → Form
 chained f [] rest = rest
 chained f (product ∷ products) rest = Split product.place product.bit (shape f product.quotient) (chained f products rest)

@@ -14,6 +14,7 @@ abbrev pub parts_before : Form → List Part → List Part
 parts_before (Sum rows) parts = inr rows ∷ parts
 parts_before (Split place bit quotient rest) parts = inl (place, bit) ∷ parts_before quotient (parts_before rest parts)
 
+-- the first two of some forms as the quotient and the rest of one
 abbrev pub split_first : ℕ → Bool → List Form → List Form
 split_first place bit [] = []
 split_first place bit (quotient ∷ []) = []
@@ -25,6 +26,7 @@ forms_of [] = []
 forms_of (inr rows ∷ parts) = Sum rows ∷ forms_of parts
 forms_of (inl literal ∷ parts) = split_first literal.0 literal.1 (forms_of parts)
 
+-- the first of some forms
 abbrev pub first_form : List Form → Form
 first_form [] = Sum []
 first_form (form ∷ forms) = form
@@ -34,11 +36,13 @@ forms_of-parts_before (Sum rows) parts = refl
 forms_of-parts_before (Split place bit quotient rest) parts =
     ap (split_first place bit) (forms_of-parts_before quotient (parts_before rest parts) ∙ ap (λ forms. quotient ∷ forms) (forms_of-parts_before rest parts))
 
+-- forms, coded as lists of parts
 abbrev pub form_code : Coded Form
 form_code =
     code_by (List Part) (coded_list (coded⊎ (coded× coded_ℕ coded_bool) (coded_list (coded_list (coded_option coded_bool)))))
     (λ form. parts_before form []) (λ parts. first_form (forms_of parts)) (λ form. ap first_form (forms_of-parts_before form []))
 
+-- factors, coded as a width and a form
 abbrev pub factors_code : Coded Factors
 factors_code =
     code_by (ℕ × Form) (coded× coded_ℕ form_code) (λ f. (f.width, f.form)) (λ p. record { width = p.0; form = p.1 }) (λ _. refl)

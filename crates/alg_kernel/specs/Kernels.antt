@@ -15,6 +15,7 @@ use Rattle.alg_div.specs.Quotient.{IsTerm}
 abbrev pub row_cmp : List (Option Bool) → List (Option Bool) → Ordering
 row_cmp = slice_cmp (option_cmp bool_cmp)
 
+-- the order of lists of rows, row by row
 abbrev pub rows_cmp : List (List (Option Bool)) → List (List (Option Bool)) → Ordering
 rows_cmp = slice_cmp row_cmp
 

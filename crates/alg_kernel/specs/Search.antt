@@ -45,6 +45,7 @@ abbrev pub both : Option Bool → Option Bool → Option Bool
 both None other = None
 both (Some bit) other = if alike other bit then Some bit else None
 
+-- what two rows have in common
 unfoldable pub both_rows : List (Option Bool) → List (Option Bool) → List (Option Bool)
 both_rows [] row = []
 both_rows (place ∷ places) [] = []
@@ -55,6 +56,7 @@ unfoldable pub common_from : List (Option Bool) → List (List (Option Bool)) �
 common_from cube [] = cube
 common_from cube (row ∷ rows) = common_from (both_rows cube row) rows
 
+-- the literals that all of some rows have
 abbrev pub common : List (List (Option Bool)) → List (Option Bool)
 common [] = []
 common (row ∷ rows) = common_from row rows
@@ -124,6 +126,7 @@ pub record AreFound (width : ℕ) (f : List (List (Option Bool))) (ks : List (Li
   pub every : (k : List (List (Option Bool))) → IsFound width f k → Has k ks
   pub order : Ascends rows_cmp ks
 
+-- more than the limit are found
 abbrev pub MoreFound : ℕ → List (List (Option Bool)) → Type 0
 MoreFound width f =
     (ks : List (List (List (Option Bool)))) × (limit < length ks) × Ascends rows_cmp ks × ((k : List (List (Option Bool))) → Has k ks → IsFound width f k)

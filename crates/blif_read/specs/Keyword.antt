@@ -6,19 +6,22 @@ use Rattle.sis_text.specs.Entries.{Entry}
 use Rattle.blif_read.specs.declared.keyword.Keyword.{Keyword}
 use Rattle.blif_read.specs.declared.keyword.Keyword.TheVariants.{Model, Inputs, Outputs, Names, Latch, End, Row, Other}
 
--- the first of some words, and those behind it
+-- the first of some words
 abbrev pub first_word : List (List ℕ) → List ℕ
 first_word [] = []
 first_word (word ∷ words) = word
 
+-- the words behind the first
 abbrev pub other_words : List (List ℕ) → List (List ℕ)
 other_words [] = []
 other_words (word ∷ words) = words
 
+-- whether the first byte is this one
 abbrev pub begins_with : ℕ → List ℕ → Bool
 begins_with byte [] = false
 begins_with byte (first ∷ bytes) = first == byte
 
+-- the kind of a line by its first word
 unfoldable pub keyword_of : List ℕ → Keyword
 keyword_of word =
     if bytes_eq word (codes ".model") then Model
@@ -29,12 +32,15 @@ keyword_of word =
     else (if bytes_eq word (codes ".end") then End
     else (if begins_with 46 word then Other else Row))))))
 
+-- the kind of a line
 unfoldable pub kind_of : Entry → Keyword
 kind_of line = keyword_of (first_word line.words)
 
+-- whether a kind is that of rows
 abbrev pub is_row_kind : Keyword → Bool
 is_row_kind Row = true
 is_row_kind kind = false
 
+-- whether a line is a row
 abbrev pub is_row : Entry → Bool
 is_row line = is_row_kind (kind_of line)

@@ -23,24 +23,27 @@ first_of [] = None
 first_of (None ∷ causes) = first_of causes
 first_of (Some fault ∷ causes) = Some fault
 
--- the words of a `.names` line: all but the last are the table's inputs, the last is its output
+-- the inputs of a `.names` line: all its words but the last
 abbrev pub input_words : List (List ℕ) → List (List ℕ)
 input_words words = take (length words - 1) words
 
+-- the last of some words: the output of a `.names` line
 unfoldable pub last_word : List (List ℕ) → List ℕ
 last_word [] = []
 last_word (word ∷ []) = word
 last_word (word ∷ next ∷ words) = last_word (next ∷ words)
 
+-- whether a list has no item
 abbrev pub is_none : {A : Type 0} → List A → Bool
 is_none [] = true
 is_none (first ∷ rest) = false
 
--- whether a line stands behind the end of the model
+-- whether a kind is that of an end
 abbrev pub is_end_kind : Keyword → Bool
 is_end_kind End = true
 is_end_kind kind = false
 
+-- whether an `.end` line is among the lines before
 unfoldable pub is_ended : List Entry → Bool
 is_ended back = list_any (λ line. is_end_kind (kind_of line)) back
 
@@ -50,6 +53,7 @@ is_node_kind Names = true
 is_node_kind Latch = true
 is_node_kind kind = false
 
+-- how many tables and latches the lines before have
 unfoldable pub nodes_in : List Entry → ℕ
 nodes_in back = count_by (λ line. is_node_kind (kind_of line)) back
 
@@ -61,13 +65,15 @@ long_name names = option_map (λ (name : List ℕ). Limit limit.Name (length nam
 abbrev pub one_too_many : ℕ → Option BlifFault
 one_too_many nodes = when (nat_le 65535 nodes) (Limit limit.Tables 65536)
 
+-- more than 1,000 inputs, by their number
 abbrev pub many_inputs : List (List ℕ) → Option BlifFault
 many_inputs inputs = when (nat_lt 1000 (length inputs)) (Limit limit.Inputs (length inputs))
 
--- a latch: its input, its output, and its start value where that is written
+-- whether a word is a start value
 abbrev pub is_init : List ℕ → Bool
 is_init word = bytes_eq word (codes "0") || bytes_eq word (codes "1") || bytes_eq word (codes "2") || bytes_eq word (codes "3")
 
+-- whether words are those of a latch: its input, its output, and its start value where that is written
 abbrev pub is_latch : List (List ℕ) → Bool
 is_latch [] = false
 is_latch (input ∷ []) = false
@@ -75,10 +81,11 @@ is_latch (input ∷ output ∷ []) = true
 is_latch (input ∷ output ∷ init ∷ []) = is_init init
 is_latch (input ∷ output ∷ init ∷ word ∷ words) = false
 
--- a character of a row, and of its output
+-- whether a byte is a character of a row
 abbrev pub is_character : ℕ → Bool
 is_character byte = byte == 48 || byte == 49 || byte == 45
 
+-- whether a byte is an output's character
 abbrev pub is_output_character : ℕ → Bool
 is_output_character byte = byte == 48 || byte == 49
 
@@ -91,6 +98,7 @@ unfoldable pub is_row_of : ℕ → List ℕ → Bool
 is_row_of width bytes =
     length bytes == width + 1 && list_all is_character (take width bytes) && list_all is_output_character (drop width bytes)
 
+-- the character behind the inputs' ones
 abbrev pub output_character : ℕ → List ℕ → ℕ
 output_character width bytes = slice_index bytes width
 
@@ -107,10 +115,11 @@ table_row_fault width rows number bytes = first_of
     ∷ when (nat_le 32767 (length rows)) (Limit limit.Rows 32768)
     ∷ [])
 
--- the newest line that is no row, and the rows behind it, in file order
+-- the newest line that is no row
 abbrev pub heading : List Entry → Option Entry
 heading back = find (λ line. not (is_row line)) back
 
+-- the rows behind the newest line that is no row, in file order
 abbrev pub rows_behind : List Entry → List (List ℕ)
 rows_behind back = map (λ (line : Entry). joined line.words) (reverse (take_while is_row back))
 
@@ -119,24 +128,27 @@ abbrev pub row_fault_under : Keyword → List (List ℕ) → List (List ℕ) →
 row_fault_under Names words rows number bytes = table_row_fault (length words - 1) rows number bytes
 row_fault_under kind words rows number bytes = Some (BadRow number)
 
+-- what is wrong with bytes as a row behind the newest line that is no row, if there is one
 abbrev pub row_fault : Option Entry → List (List ℕ) → ℕ → List ℕ → Option BlifFault
 row_fault None rows number bytes = Some (BadRow number)
 row_fault (Some line) rows number bytes = row_fault_under (kind_of line) (other_words line.words) rows number bytes
 
--- what is wrong with the words behind the first: of a `.model` line, of a line of ports, of a `.names` and of a `.latch`
--- line; where begun, ended and nodes tell whether a line and an end stand before it, and how many tables and latches
+-- what is wrong with the words behind the first of a `.model` line, where begun tells whether a line stands before it
 unfoldable pub model_fault : Bool → ℕ → List (List ℕ) → Option BlifFault
 model_fault begun number words = first_of
     (when (nat_lt 1 (length words)) (BadArity number) ∷ when begun (SecondModel number) ∷ long_name words ∷ [])
 
+-- what is wrong with a line of ports, where ended tells whether an end stands before it
 unfoldable pub ports_fault : Bool → ℕ → List (List ℕ) → Option BlifFault
 ports_fault ended number words = first_of (when ended (UnknownWord number) ∷ long_name words ∷ [])
 
+-- what is wrong with a `.names` line, where nodes are the tables and latches before it
 unfoldable pub names_fault : Bool → ℕ → ℕ → List (List ℕ) → Option BlifFault
 names_fault ended nodes number words = first_of
     (when ended (UnknownWord number) ∷ when (is_none words) (BadArity number) ∷ long_name words ∷ one_too_many nodes
     ∷ many_inputs (input_words words) ∷ [])
 
+-- what is wrong with a `.latch` line, where nodes are the tables and latches before it
 unfoldable pub latch_fault : Bool → ℕ → ℕ → List (List ℕ) → Option BlifFault
 latch_fault ended nodes number words = first_of
     (when ended (UnknownWord number) ∷ when (not (is_latch words)) (BadLatch number) ∷ long_name (take 2 words) ∷ one_too_many nodes ∷ [])
@@ -153,5 +165,6 @@ fault_as Row back number words whole = first_of
     (when (is_ended back) (UnknownWord number) ∷ row_fault (heading back) (rows_behind back) number (joined whole) ∷ [])
 fault_as Other back number words whole = Some (UnknownWord number)
 
+-- what is wrong with a line, given the lines before it
 unfoldable pub line_fault : List Entry → Entry → Option BlifFault
 line_fault back line = fault_as (kind_of line) back line.number (other_words line.words) line.words

@@ -30,78 +30,92 @@ first_line_fault back (line ∷ lines) = option_or (line_fault back line) (first
 abbrev pub of_lines : {A : Type 0} → (Keyword → List (List ℕ) → List A) → List Entry → List A
 of_lines words_of lines = flat_map (λ line. words_of (kind_of line) (other_words line.words)) lines
 
--- the inputs and outputs that the lines list
+-- the inputs that a line lists
 abbrev pub listed_inputs : Keyword → List (List ℕ) → List (List ℕ)
 listed_inputs Inputs words = words
 listed_inputs kind words = []
 
+-- the outputs that a line lists
 abbrev pub listed_outputs : Keyword → List (List ℕ) → List (List ℕ)
 listed_outputs Outputs words = words
 listed_outputs kind words = []
 
+-- the ports that a line lists
 abbrev pub listed_ports : Keyword → List (List ℕ) → List (List ℕ)
 listed_ports Inputs words = words
 listed_ports Outputs words = words
 listed_ports kind words = []
 
+-- the inputs that lines list, in file order
 unfoldable pub inputs_in : List Entry → List (List ℕ)
 inputs_in lines = of_lines listed_inputs lines
 
+-- the outputs that lines list, in file order
 unfoldable pub outputs_in : List Entry → List (List ℕ)
 outputs_in lines = of_lines listed_outputs lines
 
+-- the ports that lines list, in file order
 unfoldable pub ports_in : List Entry → List (List ℕ)
 ports_in lines = of_lines listed_ports lines
 
--- the words of a `.latch` line: its input, its output
+-- the input of a `.latch` line
 abbrev pub latch_input : List (List ℕ) → List (List ℕ)
 latch_input words = take 1 words
 
+-- the output of a `.latch` line
 abbrev pub latch_output : List (List ℕ) → List (List ℕ)
 latch_output [] = []
 latch_output (input ∷ words) = take 1 words
 
--- the signal that a line drives, and those that it reads
+-- the signal that a line drives
 abbrev pub driven_by : Keyword → List (List ℕ) → List (List ℕ)
 driven_by Names words = last_word words ∷ []
 driven_by Latch words = latch_output words
 driven_by kind words = []
 
+-- the signals that a line reads
 abbrev pub read_by : Keyword → List (List ℕ) → List (List ℕ)
 read_by Outputs words = words
 read_by Names words = input_words words
 read_by Latch words = latch_input words
 read_by kind words = []
 
+-- the signals that lines drive, in file order
 unfoldable pub drives_in : List Entry → List (List ℕ)
 drives_in lines = of_lines driven_by lines
 
+-- the signals that lines read, in file order
 unfoldable pub reads_in : List Entry → List (List ℕ)
 reads_in lines = of_lines read_by lines
 
--- a latch; without a word its start value is 3, which is not known
+-- the start value of a latch; without a word it is 3, which is not known
 abbrev pub init_of : List (List ℕ) → ℕ
 init_of [] = 3
 init_of (word ∷ words) = slice_index word 0 - 48
 
+-- the latch of the words of a line, if there are two or more
 abbrev pub latch_of : List (List ℕ) → List TheLatch
 latch_of (input ∷ output ∷ rest) = record { input = input; output = output; init = init_of rest } ∷ []
 latch_of words = []
 
+-- the latch that a line says, if it is one of a latch
 abbrev pub latches_by : Keyword → List (List ℕ) → List TheLatch
 latches_by Latch words = latch_of words
 latches_by kind words = []
 
+-- the latches that lines say, in file order
 unfoldable pub latches_in : List Entry → List TheLatch
 latches_in lines = of_lines latches_by lines
 
--- a row's characters, and the phase that all rows of a table share: that of the first; 1 without rows
+-- the character of a byte of a row
 abbrev pub character_of : ℕ → Tri
 character_of byte = if byte == 48 then Zero else (if byte == 49 then One else Free)
 
+-- the characters of a row
 abbrev pub row_of : ℕ → List ℕ → List Tri
 row_of width bytes = map character_of (take width bytes)
 
+-- the phase that all rows of a table share: that of the first; 1 without rows
 abbrev pub phase_by : ℕ → List (List ℕ) → Bool
 phase_by width [] = true
 phase_by width (row ∷ rows) = output_character width row == 49
@@ -115,6 +129,7 @@ table_of words rows = record {
   phase = phase_by (length words - 1) rows;
 }
 
+-- whether a kind is that of tables
 abbrev pub is_table_kind : Keyword → Bool
 is_table_kind Names = true
 is_table_kind kind = false
@@ -132,6 +147,7 @@ abbrev pub named_by : Keyword → List (List ℕ) → List ℕ
 named_by Model (word ∷ words) = word
 named_by kind words = codes "top"
 
+-- the name of the model, by the first line
 unfoldable pub model_name : List Entry → List ℕ
 model_name [] = codes "top"
 model_name (line ∷ lines) = named_by (kind_of line) (other_words line.words)
@@ -159,6 +175,7 @@ whole_fault lines = first_of
     ∷ option_map (λ name. Cycle name) (first_on_cycle (tables_in lines))
     ∷ [])
 
+-- a fault, or the circuit where there is none
 abbrev pub unless : Option BlifFault → Circuit → Result Circuit BlifFault
 unless None circuit = Ok circuit
 unless (Some fault) circuit = Err fault

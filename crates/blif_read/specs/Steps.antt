@@ -36,9 +36,11 @@ unfoldable pub mark_for : List (List Tri) → ℕ → ℕ → ℕ
 mark_for [] mark byte = byte
 mark_for (row ∷ rows) mark byte = mark
 
+-- the number of inputs of the table that is being read
 abbrev pub width_of : Reading → ℕ
 width_of reading = length reading.table.inputs
 
+-- the output character of the table that is being read, where these bytes are its next row
 abbrev pub mark_with : Reading → List ℕ → ℕ
 mark_with reading bytes = mark_for reading.table.rows reading.mark (output_character (width_of reading) bytes)
 
@@ -50,10 +52,12 @@ reading_fault reading number bytes = first_of
     ∷ when (nat_le 32767 (length reading.table.rows)) (Limit limit.Rows 32768)
     ∷ [])
 
+-- what is wrong with bytes as a row, where a table is being read or none is
 abbrev pub fault_behind : Option Reading → ℕ → List ℕ → Option BlifFault
 fault_behind None number bytes = Some (BadRow number)
 fault_behind (Some reading) number bytes = reading_fault reading number bytes
 
+-- what is wrong with a row, given whether the model has ended and the table that is being read
 unfoldable pub next_fault : Bool → Option Reading → ℕ → List ℕ → Option BlifFault
 next_fault ended reading number bytes = first_of (when ended (UnknownWord number) ∷ fault_behind reading number bytes ∷ [])
 
@@ -69,6 +73,7 @@ with_row reading bytes = record {
   mark = mark_with reading bytes;
 }
 
+-- the table that is being read with one more row
 abbrev pub row_behind : Option Reading → List ℕ → Option Reading
 row_behind None bytes = None
 row_behind (Some reading) bytes = Some (with_row reading bytes)
@@ -78,6 +83,7 @@ unfoldable pub tables_with : List Table → Option Reading → List Table
 tables_with tables None = tables
 tables_with tables (Some reading) = tables ++ reading.table ∷ []
 
+-- the draft with the table that was being read behind the others
 unfoldable pub closed : Draft → Draft
 closed draft = record draft { begun = true; tables = tables_with draft.tables draft.reading; reading = None }
 
@@ -117,10 +123,12 @@ with_line End draft words whole = record (closed draft) { ended = true }
 with_line Row draft words whole = record draft { begun = true; reading = row_behind draft.reading (joined whole) }
 with_line Other draft words whole = draft
 
+-- a fault, or what is there without one
 abbrev pub from_fault : {A : Type 0} → Option BlifFault → A → Result A BlifFault
 from_fault None value = Ok value
 from_fault (Some fault) value = Err fault
 
+-- a line of a kind taken into what is kept, or its fault
 unfoldable pub take_as : Keyword → Draft → ℕ → List (List ℕ) → List (List ℕ) → Result Draft BlifFault
 take_as kind draft number words whole = from_fault (draft_fault kind draft number words whole) (with_line kind draft words whole)
 
@@ -128,6 +136,7 @@ take_as kind draft number words whole = from_fault (draft_fault kind draft numbe
 unfoldable pub take_entry : Draft → Entry → Result Draft BlifFault
 take_entry draft line = take_as (keyword_of (first_word line.words)) draft line.number (other_words line.words) line.words
 
+-- the next step behind one without a fault; a fault stays
 abbrev pub onward : Result Draft BlifFault → (Draft → Result Draft BlifFault) → Result Draft BlifFault
 onward (Ok draft) next = next draft
 onward (Err fault) next = Err fault
@@ -163,6 +172,7 @@ lists_fault inputs outputs ports drives reads tables = first_of
     ∷ option_map (λ name. Cycle name) (first_on_cycle tables)
     ∷ [])
 
+-- the circuit of these parts: each table has each of its inputs once; no clocks, no don't-care part
 abbrev pub circuit_with : List ℕ → List (List ℕ) → List (List ℕ) → List TheLatch → List Table → Circuit
 circuit_with name inputs outputs latches tables = record {
   name = name;
@@ -175,9 +185,11 @@ circuit_with name inputs outputs latches tables = record {
   dont_care = [];
 }
 
+-- the circuit of what is kept behind the last line
 abbrev pub drafted : Draft → Circuit
 drafted draft = circuit_with draft.name draft.inputs draft.outputs draft.latches (tables_with draft.tables draft.reading)
 
+-- what is wrong with the whole draft: its lists of names, or a cycle of its tables
 abbrev pub draft_lists_fault : Draft → Option BlifFault
 draft_lists_fault draft = lists_fault draft.inputs draft.outputs draft.ports draft.drives draft.reads (tables_with draft.tables draft.reading)
 
@@ -191,6 +203,7 @@ HasApartTables draft =
 unfoldable pub finished : Draft → Result Circuit BlifFault
 finished draft = unless (draft_lists_fault draft) (drafted draft)
 
+-- what is read behind the last line, if no line had a fault
 abbrev pub finish : Result Draft BlifFault → Result Circuit BlifFault
 finish (Ok draft) = finished draft
 finish (Err fault) = Err fault

@@ -16,13 +16,15 @@ unfoldable pub replaced : List Table → Table → List Table
 replaced [] new = []
 replaced (table ∷ tables) new = if bytes_eq new.output table.output then new ∷ tables else table ∷ replaced tables new
 
--- the tables and the latches whose signals pass a test
+-- the tables whose signals pass a test
 unfoldable pub tables_kept : (List ℕ → Bool) → List Table → List Table
 tables_kept test tables = filter (λ (table : Table). test table.output) tables
 
+-- the latches whose signals pass a test
 unfoldable pub latches_kept : (List ℕ → Bool) → List Latch → List Latch
 latches_kept test latches = filter (λ (latch : Latch). test latch.output) latches
 
+-- whether a name is another one
 abbrev pub is_other : List ℕ → List ℕ → Bool
 is_other name other = not (bytes_eq name other)
 
@@ -35,6 +37,7 @@ abbrev pub timing_with : List Latch → Option Timing → Option Timing
 timing_with [] timing = None
 timing_with (latch ∷ latches) timing = timing
 
+-- a circuit with other tables
 abbrev pub with_tables : Circuit → List Table → Circuit
 with_tables circuit tables = record circuit { tables = tables }
 
@@ -58,11 +61,12 @@ with_kept circuit test = record circuit {
 abbrev pub with_removed : Circuit → List ℕ → Circuit
 with_removed circuit name = with_kept circuit (is_other name)
 
--- the table that is a constant: one row without characters, or no row
+-- the rows of a constant: one without characters for 1, none for 0
 abbrev pub constant_rows : Bool → List (List Tri)
 constant_rows true = [] ∷ []
 constant_rows false = []
 
+-- the table without inputs that gives a signal a constant bit
 abbrev pub constant_table : List ℕ → Bool → Table
 constant_table name bit = record { inputs = []; output = name; rows = constant_rows bit; phase = true }
 

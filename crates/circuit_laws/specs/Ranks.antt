@@ -11,6 +11,7 @@ abbrev pub Falls : List Table → (List ℕ → ℕ) → Type 0
 Falls tables rank =
     (signal : List ℕ) (table : Table) → driver tables signal ≡ Some table → AllByRecursion (λ input. rank input < rank signal) table.inputs
 
+-- a rank that falls from each driven signal to what its table reads
 pub record HasRank (tables : List Table) : Type 0 where
   pub rank : List ℕ → ℕ
   pub falls : Falls tables rank

@@ -72,7 +72,7 @@ bits_to tables reads front back zero = front ++ (map (λ (table : Table). false)
 bits_to tables reads front back (suc depth) =
     front ++ (level_of tables reads (bits_to tables reads front back depth) ++ back)
 
--- the bits of all signals to a depth at which they stay: the number of tables
+-- the bits of all signals to the depth at which they stay without cycles: the number of tables
 unfoldable pub settled_bits : List Table → List (List (Option ℕ)) → List Bool → List Bool → List Bool
 settled_bits tables reads front back = bits_to tables reads front back (length tables)
 

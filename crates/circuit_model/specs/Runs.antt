@@ -34,7 +34,7 @@ value_in circuit state row signal = signal_value circuit.tables (leaves_of circu
 unfoldable pub is_free : Circuit → List Bool → List Bool → List ℕ → Bool
 is_free circuit state row output = is_free_under circuit.dont_care (leaves_of circuit state row) output
 
--- a bit, shown
+-- a bit as a character: 1 or 0
 abbrev pub tri_of : Bool → Tri
 tri_of true = One
 tri_of false = Zero

@@ -23,7 +23,7 @@ character Zero = 48
 character One = 49
 character Free = 45
 
--- the last word of a row
+-- a phase by its digit, with which each row ends
 abbrev pub digit_of_phase : Bool → List ℕ
 digit_of_phase true = codes "1"
 digit_of_phase false = codes "0"
@@ -49,7 +49,7 @@ abbrev pub control_word : Option (List ℕ) → List ℕ
 control_word None = codes "NIL"
 control_word (Some control) = control
 
--- what stands in a latch's line between its signals and its init
+-- what stands in a latch's line between its signals and its init, if there is timing
 unfoldable pub timing_words : Option Timing → List (List ℕ)
 timing_words None = []
 timing_words (Some timing) = kind_word timing.kind ∷ control_word timing.control ∷ []

@@ -61,6 +61,7 @@ composed_row None row on off = row ∷ []
 composed_row (Some true) row on off = products row on
 composed_row (Some false) row on off = products row off
 
+-- what all outer rows become, in order
 unfoldable pub composed_rows : ℕ → ℕ → List (List (Option Bool)) → List (List (Option Bool)) → List (List (Option Bool)) → List (List (Option Bool))
 composed_rows x added on off [] = []
 composed_rows x added on off (row ∷ rows) = composed_row (slice_index_or row x None) (opened x added row) on off ++ composed_rows x added on off rows
@@ -83,6 +84,7 @@ asks x bit (row ∷ rows) = is_literal bit (slice_index_or row x None) || asks x
 abbrev pub placed_rows : ℕ → List ℕ → List (List (Option Bool)) → List (List (Option Bool))
 placed_rows width places rows = map (λ row. placed (replicate width None) places row) rows
 
+-- the outer cover with the inner table put in the place of its input x
 abbrev pub composed : Shape → ℕ → Shape → Bool → List (Option ℕ) → Shape
 composed outer x inner phase places =
     let added = count_new places in

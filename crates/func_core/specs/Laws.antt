@@ -24,18 +24,20 @@ ApplyMeans =
     (join : Bool → Bool → Bool) (t u : Tree) (point : ℕ → Bool) →
     eval (apply join t u) point ≡ join (eval t point) (eval u point)
 
--- constants and variables are reduced
+-- the tree of a constant is reduced
 abbrev pub ConstantIsReduced : Type 0
 ConstantIsReduced = (least : ℕ) (b : Bool) → IsReduced least (constant b)
 
+-- the tree of a variable is reduced
 abbrev pub VariableIsReduced : Type 0
 VariableIsReduced = (least place : ℕ) → least ≤ place → IsReduced least (variable place)
 
--- the operations keep reduced trees reduced
+-- a reduced tree with its leaves changed is reduced
 abbrev pub OnLeavesIsReduced : Type 0
 OnLeavesIsReduced =
     (change : Bool → Bool) (least : ℕ) (t : Tree) → IsReduced least t → IsReduced least (on_leaves change t)
 
+-- an operation keeps trees reduced
 abbrev pub ApplyIsReduced : Type 0
 ApplyIsReduced =
     (join : Bool → Bool → Bool) (least : ℕ) (t u : Tree) →
@@ -47,10 +49,11 @@ OneTree =
     (least : ℕ) (t u : Tree) → IsReduced least t → IsReduced least u →
     ((point : ℕ → Bool) → eval t point ≡ eval u point) → t ≡ u
 
--- only Zero has no point; at each assignment that follows the given path the function is true
+-- only Zero has no path to give
 abbrev pub NoPointIsZero : Type 0
 NoPointIsZero = (t : Tree) → one_path t ≡ None → t ≡ Zero
 
+-- a reduced tree is true at each assignment that follows the path given for it
 abbrev pub PointIsTrue : Type 0
 PointIsTrue =
     (least : ℕ) (t : Tree) (literals : List (ℕ × Bool)) (point : ℕ → Bool) →

@@ -35,34 +35,41 @@ abbrev pub phase_tree : Bool → Tree → Tree
 phase_tree true sum = sum
 phase_tree false sum = on_leaves not sum
 
+-- the tree of a table
 abbrev pub table_tree : Bool → List (List (Option Bool)) → Tree
 table_tree phase rows = phase_tree phase (rows_tree Zero rows)
 
--- the trees that are made for each of these, in order
+-- the trees that are made for a literal, in order
 abbrev pub literal_steps : ℕ → Bool → List Tree
 literal_steps place true = variable place ∷ []
 literal_steps place false = variable place ∷ on_leaves not (variable place) ∷ []
 
+-- those for a product and one more literal
 abbrev pub times_steps : Tree → ℕ → Option Bool → List Tree
 times_steps product place None = []
 times_steps product place (Some bit) = literal_steps place bit ++ apply ◌&&◌ product (literal_tree place bit) ∷ []
 
+-- those for a row, behind a product of its places before
 unfoldable pub row_steps : Tree → ℕ → List (Option Bool) → List Tree
 row_steps product place [] = []
 row_steps product place (entry ∷ row) =
     times_steps product place entry ++ row_steps (times_tree product place entry) (suc place) row
 
+-- those for a row and its sum with the rows before
 unfoldable pub plus_steps : Tree → List (Option Bool) → List Tree
 plus_steps sum row = (One ∷ row_steps One 0 row) ++ plus_tree sum row ∷ []
 
+-- those for rows, behind a sum of the rows before
 unfoldable pub rows_steps : Tree → List (List (Option Bool)) → List Tree
 rows_steps sum [] = []
 rows_steps sum (row ∷ rows) = plus_steps sum row ++ rows_steps (plus_tree sum row) rows
 
+-- the one for the complement, at phase 0
 abbrev pub phase_steps : Bool → Tree → List Tree
 phase_steps true sum = []
 phase_steps false sum = on_leaves not sum ∷ []
 
+-- those for a table, in order
 abbrev pub table_steps : Bool → List (List (Option Bool)) → List Tree
 table_steps phase rows = (Zero ∷ rows_steps Zero rows) ++ phase_steps phase (rows_tree Zero rows)
 

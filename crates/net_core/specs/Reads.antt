@@ -26,6 +26,7 @@ abbrev pub rows_at : Option ℕ → List (List Tri) → ℕ
 rows_at None rows = 0
 rows_at (Some place) rows = rows_with place rows
 
+-- how many rows of a table have a literal of a signal
 unfoldable pub uses_in : List ℕ → Table → ℕ
 uses_in name table = rows_at (position (bytes_eq name) table.inputs) table.rows
 
@@ -33,6 +34,7 @@ uses_in name table = rows_at (position (bytes_eq name) table.inputs) table.rows
 unfoldable pub uses_of : List Table → List ℕ → ℕ
 uses_of tables name = sum_by (uses_in name) tables
 
+-- the literals of a table, 0 where there is none
 abbrev pub literals_in : Option Table → ℕ
 literals_in None = 0
 literals_in (Some table) = literals_of_table table

@@ -20,9 +20,11 @@ character_of None = Free
 character_of (Some true) = One
 character_of (Some false) = Zero
 
+-- the places of a row
 abbrev pub places_of : List Tri → List (Option Bool)
 places_of row = map place_of row
 
+-- the characters of a row
 abbrev pub characters_of : List (Option Bool) → List Tri
 characters_of row = map character_of row
 

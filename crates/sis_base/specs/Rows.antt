@@ -28,6 +28,7 @@ abbrev pub phase_value : Bool → Bool → Bool
 phase_value true matched = matched
 phase_value false matched = not matched
 
+-- the value of rows at a point, by phase
 unfoldable pub value_by_phase : Bool → List (List (Option Bool)) → List Bool → Bool
 value_by_phase phase rows point = phase_value phase (some_matches rows point)
 

@@ -12,6 +12,7 @@ is_blank byte = byte == 9 || byte == 13 || byte == 32
 abbrev pub is_word_byte : ℕ → Bool
 is_word_byte byte = not (is_blank byte || byte == 10 || byte == 35)
 
+-- whether there is no byte
 abbrev pub is_empty : List ℕ → Bool
 is_empty [] = true
 is_empty (byte ∷ bytes) = false

@@ -10,6 +10,7 @@ use Rattle.sis_script.specs.declared.command.Op.TheVariants.{Echo, Quit, ReadBli
 use Rattle.sis_script.specs.declared.command.ScriptFault.TheVariants.{BadCommand, BadOption, MissingWord}
 use Rattle.sis_script.specs.declared.command.Command.{Command}
 
+-- whether the first byte is this one
 abbrev pub begins_with : ℕ → List ℕ → Bool
 begins_with byte [] = false
 begins_with byte (first ∷ bytes) = first == byte
@@ -28,6 +29,7 @@ alone op (word ∷ words) = Bad BadOption
 abbrev pub if_file : List ℕ → Op → Op
 if_file word op = if is_file_word word then op else Bad BadOption
 
+-- `read_blif` and its words: a file
 abbrev pub read_op : List (List ℕ) → Op
 read_op [] = Bad MissingWord
 read_op (file ∷ []) = if_file file (ReadBlif file)
@@ -59,9 +61,11 @@ op_by word words =
     else (if bytes_eq word (codes "undo") then alone Undo words
     else Bad BadCommand))))))))
 
+-- a command by its words
 unfoldable pub op_of : List (List ℕ) → Op
 op_of [] = Bad BadCommand
 op_of (word ∷ words) = op_by word words
 
+-- the command of a piece of a script
 abbrev pub command_of : Entry → Command
 command_of piece = record { line = piece.number; op = op_of piece.words }

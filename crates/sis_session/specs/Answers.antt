@@ -23,20 +23,22 @@ use Rattle.sis_session.specs.declared.refusal.StepFault.TheVariants as fault
 use Rattle.sis_session.specs.declared.refusal.Refusal.{Refusal}
 use Rattle.sis_session.specs.declared.refusal.Refusal.TheVariants as refusal
 
--- what a call leaves
+-- the files after a call
 abbrev pub files_after : Call → Files → Files
 files_after (Save name bytes) files = put_file files name bytes
 files_after call files = files
 
+-- the output after a call
 abbrev pub out_after : Call → List ℕ → List ℕ
 out_after (Put reply) out = out ++ reply
 out_after call out = out
 
--- what a failed call leaves: all as before, or a front of what it was to write
+-- what a failed save leaves: all files as before, or a front of what it was to write
 abbrev pub SavesPart : Call → Files → Files → Type 0
 SavesPart (Save name bytes) old new = (new ≡ old) ⊎ ((count : ℕ) × (new ≡ put_file old name (take count bytes)))
 SavesPart call old new = ⊥
 
+-- what a failed put leaves: a front of the reply behind what the output had
 abbrev pub PutsPart : Call → List ℕ → List ℕ → Type 0
 PutsPart (Put reply) old new = (count : ℕ) × (new ≡ old ++ take count reply)
 PutsPart call old new = ⊥
@@ -75,11 +77,12 @@ Answers loads may held files out (Err fault.SinkFault) held' files' out' =
     (held' ≡ held) × (files' ≡ files) × ((e : Effect) × may (Does e) × PutsPart e.call out out')
 Answers loads may held files out (Err fault.Memory) held' files' out' = IsSame held files out held' files' out'
 
--- whether a call may fail in the store, and in the output
+-- whether a call may fail in the store
 abbrev pub IsSave : Call → Type 0
 IsSave (Save name bytes) = Unit {0}
 IsSave call = ⊥
 
+-- whether a call may fail in the output
 abbrev pub IsPut : Call → Type 0
 IsPut (Put reply) = Unit {0}
 IsPut call = ⊥
@@ -117,11 +120,12 @@ Calls call (Err fault.StoreFault) = IsSave call
 Calls call (Err fault.SinkFault) = IsPut call
 Calls call (Err fault.Memory) = Unit {0}
 
--- the counts of the outside: a count rose where its object is named as failed, and stays else
+-- the store's count of faults: it rose where the store is named as failed, and stays else
 abbrev pub StoreFaults : {T : Type 0} → Result T StepFault → ℕ → ℕ → Type 0
 StoreFaults (Err fault.StoreFault) before now = Rose before now
 StoreFaults answer before now = now ≡ before
 
+-- the output's count of faults: it rose where the output is named as failed, and stays else
 abbrev pub SinkFaults : {T : Type 0} → Result T StepFault → ℕ → ℕ → Type 0
 SinkFaults (Err fault.SinkFault) before now = Rose before now
 SinkFaults answer before now = now ≡ before
@@ -162,13 +166,14 @@ MayLoad name (Err fault.StoreFault) = Unit {0}
 MayLoad name (Err fault.SinkFault) = ⊥
 MayLoad name (Err fault.Memory) = Unit {0}
 
--- what a save and a put for a command leave
+-- what a save for a command leaves
 abbrev pub SavesOr : Call → Files → Result Next StepFault → Files → Type 0
 SavesOr call old (Ok onward) new = (onward ≡ Go) × (new ≡ files_after call old)
 SavesOr call old (Err fault.StoreFault) new = SavesPart call old new
 SavesOr call old (Err fault.Memory) new = new ≡ old
 SavesOr call old (Err other) new = ⊥
 
+-- what a put for a command leaves
 abbrev pub PutsOr : Call → List ℕ → Result Next StepFault → List ℕ → Type 0
 PutsOr call old (Ok onward) new = (onward ≡ Go) × (new ≡ out_after call old)
 PutsOr call old (Err fault.SinkFault) new = PutsPart call old new

@@ -34,9 +34,11 @@ pub record IsWritten (held : Held) (op : Op) (e : Effect) (circuit : Circuit) : 
   pub network : held.network ≡ Some circuit
   pub sent : e.call ≡ sent_to file (text_of circuit)
 
+-- there is a network
 abbrev pub HasNetwork : Option Circuit → Type 0
 HasNetwork network = (circuit : Circuit) × (network ≡ Some circuit)
 
+-- there is a network, and a table of the name in it
 abbrev pub HasTable : Option Circuit → List ℕ → Type 0
 HasTable network name = (circuit : Circuit) × (network ≡ Some circuit) × (table : Table) × (driver circuit.tables name ≡ Some table)
 

@@ -67,6 +67,7 @@ quit_outcome held = Does (record (changes held) { onward = Quit })
 abbrev pub takes : Circuit → Effect
 takes circuit = record (changes (just_read circuit)) { read = Some circuit }
 
+-- what comes of reading a file: its circuit is taken, or its fault is the refusal
 abbrev pub read_by : List ℕ → Result Circuit BlifFault → Outcome
 read_by name (Ok circuit) = Does (takes circuit)
 read_by name (Err fault) = Refuses (refusal.Blif name fault)
@@ -96,15 +97,17 @@ abbrev pub stats_outcome : Held → Option Circuit → Outcome
 stats_outcome held None = Refuses refusal.NoNetwork
 stats_outcome held (Some circuit) = Does (replies held (stats_line circuit))
 
--- `print`: all tables are put as they are written, or the one that is named
+-- what `print` puts of a name: its table as it is written, or a refusal where there is none
 abbrev pub named_outcome : Held → List ℕ → Option Table → Outcome
 named_outcome held name None = Refuses (refusal.NoSignal name)
 named_outcome held name (Some table) = Does (replies held (lines_text (table_lines table)))
 
+-- what `print` puts of a circuit
 abbrev pub tables_outcome : Held → Option (List ℕ) → Circuit → Outcome
 tables_outcome held None circuit = Does (replies held (lines_text (flat_map table_lines circuit.tables)))
 tables_outcome held (Some name) circuit = named_outcome held name (driver circuit.tables name)
 
+-- `print`: all tables are put as they are written, or the one that is named
 abbrev pub print_outcome : Held → Option (List ℕ) → Option Circuit → Outcome
 print_outcome held name None = Refuses refusal.NoNetwork
 print_outcome held name (Some circuit) = tables_outcome held name circuit

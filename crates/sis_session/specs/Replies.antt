@@ -45,15 +45,18 @@ stats_line circuit = numbers_line circuit.name (stats_of circuit)
 unfoldable pub line_fault_text : ℕ → List ℕ → List ℕ
 line_fault_text line what = codes "line " ++ (decimal line ++ (codes ": " ++ what))
 
+-- the word for what a limit is on
 abbrev pub kind_word : LimitKind → List ℕ
 kind_word Name = codes "name"
 kind_word Tables = codes "tables"
 kind_word Rows = codes "rows"
 kind_word Inputs = codes "inputs"
 
+-- the text of a limit that is passed
 unfoldable pub limit_text : List ℕ → ℕ → List ℕ
 limit_text kind reached = codes "limit " ++ (kind ++ (codes " " ++ decimal reached))
 
+-- the text of a fault of a file
 unfoldable pub blif_fault_text : BlifFault → List ℕ
 blif_fault_text (UnknownWord line) = line_fault_text line (codes "unknown word")
 blif_fault_text (BadArity line) = line_fault_text line (codes "bad arity")
@@ -67,11 +70,13 @@ blif_fault_text (TwoDrivers name) = codes "two drivers of " ++ name
 blif_fault_text (Undriven name) = codes "undriven " ++ name
 blif_fault_text (Cycle name) = codes "cycle through " ++ name
 
+-- why the words of a command are refused
 abbrev pub script_fault_text : ScriptFault → List ℕ
 script_fault_text BadCommand = codes "unknown command"
 script_fault_text BadOption = codes "bad option"
 script_fault_text MissingWord = codes "missing word"
 
+-- the text of a refusal
 unfoldable pub refusal_text : Refusal → List ℕ
 refusal_text (Script fault) = script_fault_text fault
 refusal_text NoNetwork = codes "no network"
@@ -86,5 +91,6 @@ refusal_text LongScript = codes "script is longer than 67108864 bytes"
 unfoldable pub error_line : ℕ → List ℕ → List ℕ
 error_line line text = codes "sis: line " ++ (decimal line ++ (codes ": " ++ (text ++ codes "\n")))
 
+-- the line of a refusal
 unfoldable pub refusal_line : ℕ → Refusal → List ℕ
 refusal_line line refusal = error_line line (refusal_text refusal)

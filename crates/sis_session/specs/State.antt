@@ -8,6 +8,7 @@ pub record Held : Type 0 where
   pub network : Option Circuit
   pub kept : Option Circuit
 
+-- what a new session holds
 abbrev pub nothing_held : Held
 nothing_held = record { network = None; kept = None }
 

@@ -44,6 +44,7 @@ joined_entries number (line ∷ lines) =
     then before_entry number (word_texts true (closed (kept line))) (joined_entries (number + 1) lines)
     else (record { number = number; words = word_texts true (closed (kept line)) } ∷ joined_entries (number + 1) lines)
 
+-- whether an entry has a word
 unfoldable pub says_words : Entry → Bool
 says_words entry = not_empty entry.words
 
@@ -56,6 +57,7 @@ unfoldable pub line_entries : ℕ → List ℕ → List Entry
 line_entries number line =
     map (λ (part : List ℕ). record { number = number; words = word_texts true part }) (part_texts 59 true (uncommented line))
 
+-- the pieces of the lines of a script, numbered on
 unfoldable pub script_entries_from : ℕ → List (List ℕ) → List Entry
 script_entries_from number [] = []
 script_entries_from number (line ∷ lines) = line_entries number line ++ script_entries_from (number + 1) lines

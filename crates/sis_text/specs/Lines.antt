@@ -49,13 +49,15 @@ joined source number (line ∷ lines) =
     then before number (words_at source line) (joined source (number + 1) lines)
     else (record { number = number; words = words_at source line } ∷ joined source (number + 1) lines)
 
+-- whether a list has an item
 abbrev pub not_empty : {A : Type 0} → List A → Bool
 not_empty [] = false
 not_empty (x ∷ xs) = true
 
--- lines without words are read past
+-- whether a line has a word
 unfoldable pub has_words : Line → Bool
 has_words line = not_empty line.words
 
+-- the logical lines of a text that have words, the words as spans
 unfoldable pub lines_of : List ℕ → List Line
 lines_of source = filter has_words (joined source 1 (physical_lines source))

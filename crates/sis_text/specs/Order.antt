@@ -18,16 +18,19 @@ AreInOrder from limit (span ∷ spans) =
 abbrev pub words_in : List Line → List Span
 words_in lines = flat_map (λ line. line.words) lines
 
--- bytes of words: no blank; in logical lines neither a line end nor `#`; in scripts no `;` either
+-- a byte that is no blank
 abbrev pub is_solid : ℕ → Bool
 is_solid byte = not (is_blank byte)
 
+-- a byte that neither ends a line nor begins a comment
 abbrev pub is_of_line : ℕ → Bool
 is_of_line byte = not (byte == 10) && not (byte == 35)
 
+-- a byte that may stand in a word of a logical line
 abbrev pub is_plain : ℕ → Bool
 is_plain byte = is_solid byte && is_of_line byte
 
+-- a byte that may stand in a word of a script
 abbrev pub is_script_plain : ℕ → Bool
 is_script_plain byte = is_solid byte && (is_of_line byte && not (byte == 59))
 

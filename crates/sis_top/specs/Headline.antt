@@ -53,7 +53,7 @@ HasFailed counts failed.Out = Rose counts.out counts.out_after
 HasFailed counts failed.Err = Rose counts.err counts.err_after
 HasFailed counts failed.Memory = ⊥
 
--- the last line of a call that was cut short
+-- what cut a call short, in words
 abbrev pub failure_text : Failed → List ℕ
 failure_text failed.Store = codes "store failed"
 failure_text failed.Input = codes "input failed"
@@ -61,9 +61,11 @@ failure_text failed.Out = codes "output failed"
 failure_text failed.Err = codes "output failed"
 failure_text failed.Memory = codes "no memory"
 
+-- the last line of a call that was cut short, with its number
 abbrev pub failure_line : ℕ → Failed → List ℕ
 failure_line line what = error_line line (failure_text what)
 
+-- the usage line
 abbrev pub usage_line : List ℕ
 usage_line = codes "sis: usage: sis [-k] [-f FILE | -c TEXT]\n"
 
@@ -177,6 +179,7 @@ abbrev pub MayBeRefused : Place → List Command → Type 0
 MayBeRefused place [] = ⊥
 MayBeRefused place (command ∷ rest) = (why : Refusal) × Step place.files place.held command.op (Refuses why)
 
+-- some machine of the run stands before a command that may be refused
 pub record MeetsRefusal (goes_on : Bool) (from : Machine) : Type 0 where
   pub machine : Machine
   pub reached : Reaches goes_on from machine
@@ -188,6 +191,7 @@ pub data HasRefusal (options : TheOptions) (before : Seen) : Type 0 where
   at_command : (text : List ℕ) → given options.script before ≡ Gives text → MeetsRefusal options.keep (begun text before)
       → HasRefusal options before
 
+-- a call that ends as refused has a refusal: of its script as a whole, or of a command that its run meets
 abbrev pub IsRefused : Option TheOptions → Seen → Status → Type 0
 IsRefused (Some options) before Refused = HasRefusal options before
 IsRefused asked before status = Unit {0}
@@ -218,15 +222,15 @@ Completes counts None before status = Unit {0}
 Completes counts (Some options) before status =
     AreServed options before → NoneRose counts → (status ≡ Done) ⊎ (status ≡ Memory)
 
--- What may have led to a status, where the outside need not tell its contents: for some contents of it, and with any
--- files at each command, the script is refused as a whole, or its run comes to its end, with some command refused or
--- with none. Where the script is a text of the words, it is that text. A file that is told to be missing was missed.
+-- for some contents of the outside the script is refused as a whole; if a file is missing, the misses rose
 pub record MayDeny (counts : Counts) (script : TheScript) : Type 0 where
   pub before : Seen
   pub why : Refusal
   pub denies : given script before ≡ Denies why
   pub missed : IsTrue (is_missing why) → Rose counts.misses counts.misses_after
 
+-- for some contents of the outside a run over any files comes to its end, refused or not as told; a file missed means that
+-- the misses rose
 pub record MayEnd (counts : Counts) (options : TheOptions) (refused : Bool) : Type 0 where
   pub before : Seen
   pub text : List ℕ
@@ -271,6 +275,7 @@ abbrev pub is_input : TheScript → Bool
 is_input OnInput = true
 is_input script = false
 
+-- whether the words ask for the script on the input
 abbrev pub asks_input : Option TheOptions → Bool
 asks_input None = false
 asks_input (Some options) = is_input options.script

@@ -78,12 +78,13 @@ abbrev pub after : Bool → Place → ℕ → List Command → Outcome → Machi
 after goes_on place line rest (Does e) = record { place = place_after e place; todo = todo_after e.onward rest }
 after goes_on place line rest (Refuses reason) = record { place = place_refused line reason place; todo = if goes_on then rest else [] }
 
--- one command leads from one machine to another
+-- the first of some commands, run at a place, leads to a machine
 abbrev pub AdvancesBy : Bool → Place → List Command → Machine → Type 0
 AdvancesBy goes_on place [] machine = ⊥
 AdvancesBy goes_on place (command ∷ rest) machine =
     (outcome : Outcome) × Step place.files place.held command.op outcome × (machine ≡ after goes_on place command.line rest outcome)
 
+-- the next command of a machine leads from it to another one
 abbrev pub Advances : Bool → Machine → Machine → Type 0
 Advances goes_on from to = AdvancesBy goes_on from.place from.todo to
 

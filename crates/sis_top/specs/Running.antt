@@ -73,19 +73,22 @@ MayAdvanced goes_on command place (Ok turned) held misses misses' =
     Turns (MayAdvance goes_on) (λ next. next.held ≡ held) goes_on command place turned misses misses'
 MayAdvanced goes_on command place (Err what) held misses misses' = Unit {0}
 
--- the counts: one rose where its object failed, and stays else
+-- the store's count of faults: it rose where the store failed, and stays else
 abbrev pub StoreRun : {T : Type 0} → Result T Failed → ℕ → ℕ → Type 0
 StoreRun (Err failed.Store) before now = Rose before now
 StoreRun answer before now = now ≡ before
 
+-- the input's count of faults: it rose where the input failed, and stays else
 abbrev pub InputRun : {T : Type 0} → Result T Failed → ℕ → ℕ → Type 0
 InputRun (Err failed.Input) before now = Rose before now
 InputRun answer before now = now ≡ before
 
+-- the output's count of faults: it rose where the output failed, and stays else
 abbrev pub OutRun : {T : Type 0} → Result T Failed → ℕ → ℕ → Type 0
 OutRun (Err failed.Out) before now = Rose before now
 OutRun answer before now = now ≡ before
 
+-- the error output's count of faults: it rose where that output failed, and stays else
 abbrev pub ErrRun : {T : Type 0} → Result T Failed → ℕ → ℕ → Type 0
 ErrRun (Err failed.Err) before now = Rose before now
 ErrRun answer before now = now ≡ before
@@ -107,20 +110,24 @@ Ran goes_on from (Err ended) files out err misses misses' =
     (machine : Machine) × Reaches goes_on from machine × IsNextLine machine.todo ended.line × (cut : Place) × Cuts ended.failed machine cut
     × (cut.files ≡ files) × (cut.out ≡ out) × (cut.err ≡ err)
 
--- the counts at the end of a run
+-- the result of a run without its value and its line: done, or what failed
 abbrev pub ended_as : {T : Type 0} → Result T Ended → Result (Unit {0}) Failed
 ended_as (Ok value) = Ok tt
 ended_as (Err ended) = Err ended.failed
 
+-- the store's count of faults at the end of a run
 abbrev pub StoreEnd : {T : Type 0} → Result T Ended → ℕ → ℕ → Type 0
 StoreEnd result before now = StoreRun (ended_as result) before now
 
+-- the input's count of faults at the end of a run
 abbrev pub InputEnd : {T : Type 0} → Result T Ended → ℕ → ℕ → Type 0
 InputEnd result before now = InputRun (ended_as result) before now
 
+-- the output's count of faults at the end of a run
 abbrev pub OutEnd : {T : Type 0} → Result T Ended → ℕ → ℕ → Type 0
 OutEnd result before now = OutRun (ended_as result) before now
 
+-- the error output's count of faults at the end of a run
 abbrev pub ErrEnd : {T : Type 0} → Result T Ended → ℕ → ℕ → Type 0
 ErrEnd result before now = ErrRun (ended_as result) before now
 
@@ -152,11 +159,12 @@ EndsRun counts goes_on text before status end =
     ((machine : Machine) × EndsAt counts goes_on (begun text before) before.left status end machine)
     ⊎ EndsCut counts status failed.Memory 0 before end
 
--- the cause of how the run of a text ends: it may have run so
+-- for some contents of the outside the run of a text may come to its end, refused or not as told
 abbrev pub MayRunOut : Counts → Bool → List ℕ → Bool → Type 0
 MayRunOut counts goes_on text refused =
     (before : Seen) → RanOut (MayAdvance goes_on) (λ place. Unit {0}) (begun text before) refused counts.misses counts.misses_after
 
+-- the cause of the status with which the run of a text ends
 abbrev pub IsCausedRun : Counts → Bool → List ℕ → Status → Type 0
 IsCausedRun counts goes_on text Done = NoneGrew counts × MayRunOut counts goes_on text false
 IsCausedRun counts goes_on text Refused = NoneGrew counts × MayRunOut counts goes_on text true

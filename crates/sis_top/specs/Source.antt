@@ -23,13 +23,16 @@ pub data Given : Type 0 where
   Gives : (text : List ℕ) → Given
   Denies : (why : Refusal) → Given
 
+-- a text, or its refusal where it is longer than is run
 abbrev pub within : List ℕ → Refusal → Given
 within text why = if nat_le (length text) MAX_BYTES then Gives text else Denies why
 
+-- the script in a file, or why it is refused: the file is missing or too long
 abbrev pub given_by : List ℕ → Option (List ℕ) → Given
 given_by name None = Denies (Missing name)
 given_by name (Some bytes) = within bytes (TooLong name)
 
+-- the script by where it stands
 abbrev pub given : TheScript → Seen → Given
 given (InFile name) before = given_by name (file_at before.files name)
 given (AsText text) before = within text LongScript
@@ -42,6 +45,7 @@ left_behind (InFile name) left = left
 left_behind (AsText text) left = left
 left_behind OnInput left = drop (MAX_BYTES + 1) left
 
+-- what is seen behind the reading of a script
 abbrev pub behind : TheScript → Seen → Seen
 behind script before = record before { left = left_behind script before.left }
 

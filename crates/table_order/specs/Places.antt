@@ -9,6 +9,7 @@ pub record IsIndex (tables : List Table) (place : List ℕ → Option ℕ) : Typ
   pub placed : (i : ℕ) (table : Table) → slice_get tables i ≡ Some table → place table.output ≡ Some i
   pub only : (name : List ℕ) (i : ℕ) → place name ≡ Some i → (table : Table) × (slice_get tables i ≡ Some table) × (table.output ≡ name)
 
+-- whether a place is found, and is that one
 abbrev pub is_at : ℕ → Option ℕ → Bool
 is_at i None = false
 is_at i (Some place) = place == i
@@ -17,10 +18,11 @@ is_at i (Some place) = place == i
 abbrev pub times : ℕ → List ℕ → ℕ
 times i places = count_by (λ place. place == i) places
 
--- how many names lead to a place, and how many lead anywhere
+-- how many names lead to a place
 abbrev pub hits : (List ℕ → Option ℕ) → ℕ → List (List ℕ) → ℕ
 hits place i names = count_by (λ name. is_at i (place name)) names
 
+-- how many names lead anywhere
 abbrev pub placed_count : (List ℕ → Option ℕ) → List (List ℕ) → ℕ
 placed_count place names = count_by (λ name. is_some (place name)) names
 

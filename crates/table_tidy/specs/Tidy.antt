@@ -15,12 +15,14 @@ use Rattle.table_fold.specs.Folding.{folded, constant_one}
 abbrev pub IsWide : Table → Type 0
 IsWide table = AllByRecursion (λ (row : List Tri). length row ≡ length table.inputs) table.rows
 
+-- whether two characters are the same
 abbrev pub same_place : Tri → Tri → Bool
 same_place Zero Zero = true
 same_place One One = true
 same_place Free Free = true
 same_place first second = false
 
+-- whether two rows are the same
 unfoldable pub same_row : List Tri → List Tri → Bool
 same_row [] [] = true
 same_row (first ∷ row) (second ∷ other) = same_place first second && same_row row other
@@ -40,6 +42,7 @@ abbrev pub front_place : List Tri → Tri
 front_place [] = Free
 front_place (place ∷ row) = place
 
+-- a row without its first character
 abbrev pub behind_front : List Tri → List Tri
 behind_front [] = []
 behind_front (place ∷ row) = row
@@ -49,6 +52,7 @@ unfoldable pub used_places : List (List ℕ) → List (List Tri) → List Bool
 used_places [] rows = []
 used_places (input ∷ inputs) rows = list_any (λ row. is_literal (front_place row)) rows ∷ used_places inputs (map behind_front rows)
 
+-- whether there is a row, or the phase is 1
 abbrev pub some_row_or_phase_one : List (List Tri) → Bool → Bool
 some_row_or_phase_one [] phase = phase
 some_row_or_phase_one (row ∷ rows) phase = true
