@@ -27,16 +27,16 @@ goes_through : (between others : List Circuit) (from to end : Circuit) → Goes 
 goes_through [] others from to end h k = subst (λ (c : Circuit). Goes others c end) (sym h) k
 goes_through (first ∷ between) others from to end h k = (h.0, goes_through between others first to end h.1 k)
 
-turn_sound : (from to : Circuit) → IsSound from → IsMove from to → IsSound to
-turn_sound from to sound turn =
+move_sound : (from to : Circuit) → IsSound from → IsMove from to → IsSound to
+move_sound from to sound turn =
     elim turn as (λ _. IsSound to) [
       | inl step ↦ (step_kept from to sound step).sound
       | inr emptied ↦ (let (name, idle, is) = emptied in subst IsSound (sym is) (emptied_sound from name sound idle))
     ]
 
 -- a turn changes no chain's end
-turn_ends : (from to end : Circuit) → IsSound from → IsMove from to → Chain sweep_step to end → Chain sweep_step from end
-turn_ends from to end sound turn chain =
+move_ends : (from to end : Circuit) → IsSound from → IsMove from to → Chain sweep_step to end → Chain sweep_step from end
+move_ends from to end sound turn chain =
     elim turn as (λ _. Chain sweep_step from end) [
       | inl step ↦ record { between = to ∷ chain.between; leads = (step, chain.leads); finished = chain.finished }
       | inr emptied ↦ (let (name, idle, is) = emptied in emptied_ends from end name sound idle (subst (λ (c : Circuit). Chain sweep_step c end) is chain))
@@ -45,7 +45,7 @@ turn_ends from to end sound turn chain =
 goes_ends : (between : List Circuit) (from to end : Circuit) → IsSound from → Goes between from to → Chain sweep_step to end → Chain sweep_step from end
 goes_ends [] from to end sound h chain = subst (λ (c : Circuit). Chain sweep_step c end) (sym h) chain
 goes_ends (first ∷ between) from to end sound h chain =
-    turn_ends from first end sound h.0 (goes_ends between first to end (turn_sound from first sound h.0) h.1 chain)
+    move_ends from first end sound h.0 (goes_ends between first to end (move_sound from first sound h.0) h.1 chain)
 
 pub not_yet : (from : Circuit) → IsSound from → HasLed from from
 not_yet from h = record { between = []; goes = refl; sound = h }
@@ -96,8 +96,8 @@ emptied_lighter circuit name sound idle =
     let (table, drives) = output_driver circuit.tables name idle.driven in
     replaced_lighter circuit table (constant_table name false) drives (λ other reads. absurd (false≢true reads)) (omega arith)
 
-turn_lighter : (from to : Circuit) → IsSound from → IsMove from to → weight to ≤ weight from
-turn_lighter from to sound turn =
+move_lighter : (from to : Circuit) → IsSound from → IsMove from to → weight to ≤ weight from
+move_lighter from to sound turn =
     elim turn as (λ _. weight to ≤ weight from) [
       | inl step ↦ (let one : weight to < weight from = step_falls from to sound step in omega (arith, one))
       | inr emptied ↦ (let (name, idle, is) = emptied in
@@ -109,8 +109,8 @@ turn_lighter from to sound turn =
 lighter : (between : List Circuit) (from to : Circuit) → IsSound from → Goes between from to → weight to ≤ weight from
 lighter [] from to sound h = let e : weight from ≡ weight to = ap weight h in omega (arith, e)
 lighter (next ∷ rest) from to sound h =
-    let one : weight next ≤ weight from = turn_lighter from next sound h.0 in
-    let more : weight to ≤ weight next = lighter rest next to (turn_sound from next sound h.0) h.1 in
+    let one : weight next ≤ weight from = move_lighter from next sound h.0 in
+    let more : weight to ≤ weight next = lighter rest next to (move_sound from next sound h.0) h.1 in
     omega (arith, one, more)
 
 pub no_heavier : (from to : Circuit) → IsSound from → HasLed from to → weight to ≤ weight from

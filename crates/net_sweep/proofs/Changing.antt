@@ -25,13 +25,13 @@ use Rattle.sweep_rules.proofs.Points.{only_is}
 use Rattle.table_tidy.proofs.Tidied.{tidied_reads, tidied_output, tidied_tidy}
 use Rattle.sweep_rules.proofs.Turned.{with_rows_at, at_either, at_output, at_reads, at_shaped, rows_at_wide, rewires, rewired_either, rewired_output, rewired_reads, rewires_wide, rewired_shaped}
 use Rattle.sweep_rules.proofs.Sizes.{at_without, rewired_without}
-use Rattle.net_sweep.specs.declared.marks.Rule.{Rule}
-use Rattle.net_sweep.specs.declared.marks.Rule.TheVariants.{Tidy, Constant, Put, Bypass}
-use Rattle.net_sweep.specs.declared.turns.Change.{Change}
-use Rattle.net_sweep.specs.declared.turns.Change.TheVariants.{Bit, Input}
+use Rattle.net_sweep.specs.declared.queues.Rule.{Rule}
+use Rattle.net_sweep.specs.declared.queues.Rule.TheVariants.{Tidy, Constant, Put, Bypass}
+use Rattle.net_sweep.specs.declared.applying.Change.{Change}
+use Rattle.net_sweep.specs.declared.applying.Change.TheVariants.{Bit, Input}
 use Rattle.table_tidy.specs.Tidy.{IsWide}
-use Rattle.net_sweep.specs.Turns.{IsFirst}
-use Rattle.net_sweep.specs.Settled.{passes, rule_turn, table_step, IsNext, changed_by, is_apart, asks_of_written, AreMarkedBy, AreMarked, IsAlike, IsAlikeThere, AreAlikeBut, AreSound}
+use Rattle.net_sweep.specs.Settled.{IsFirst}
+use Rattle.net_sweep.specs.Settled.{passes, rule_applied, table_step, IsNext, changed_by, is_apart, may_apply_to_written, AreWaiting, AreCandidates, IsAlike, IsAlikeThere, AreAlikeBut, AreSound}
 use Rattle.net_readers.specs.Readers.{is_in, reads_at as is_read_at}
 use Rattle.net_sweep.proofs.Marking.{read_by, reads_at}
 
@@ -43,7 +43,7 @@ named_step Constant circuit = constant_rule circuit
 named_step Put circuit = put_rule circuit
 named_step Bypass circuit = bypass_rule circuit
 
-named_is : (rule : Rule) (circuit : Circuit) → named_step rule circuit ≡ option_map (rule_turn rule circuit) (find (passes rule circuit.tables) circuit.tables)
+named_is : (rule : Rule) (circuit : Circuit) → named_step rule circuit ≡ option_map (rule_applied rule circuit) (find (passes rule circuit.tables) circuit.tables)
 unfolding tidy_rule constant_rule put_rule bypass_rule
 named_is Tidy circuit = refl
 named_is Constant circuit = refl
@@ -51,12 +51,12 @@ named_is Put circuit = refl
 named_is Bypass circuit = refl
 
 absent : (rule : Rule) (circuit : Circuit) → find (passes rule circuit.tables) circuit.tables ≡ None → named_step rule circuit ≡ None
-absent rule circuit h = named_is rule circuit ∙ ap (option_map (rule_turn rule circuit)) h
+absent rule circuit h = named_is rule circuit ∙ ap (option_map (rule_applied rule circuit)) h
 
 present : (rule : Rule) (circuit : Circuit) (place : ℕ) → IsFirst (passes rule circuit.tables) circuit.tables (Some place)
-    → (table : Table) × (slice_get circuit.tables place ≡ Some table) × (named_step rule circuit ≡ Some (rule_turn rule circuit table))
+    → (table : Table) × (slice_get circuit.tables place ≡ Some table) × (named_step rule circuit ≡ Some (rule_applied rule circuit table))
 present rule circuit place first =
-    let (lt, table, at, found) = first in (table, at, named_is rule circuit ∙ ap (option_map (rule_turn rule circuit)) found)
+    let (lt, table, at, found) = first in (table, at, named_is rule circuit ∙ ap (option_map (rule_applied rule circuit)) found)
 
 pub next_tidy : (circuit : Circuit) (place : ℕ) → IsFirst (passes Tidy circuit.tables) circuit.tables (Some place) → IsNext circuit (Some (Tidy, place))
 unfolding table_step
@@ -113,8 +113,8 @@ next_none circuit a b c d =
     ∙ (ap (λ (o : Option Circuit). option_or o (option_or (put_rule circuit) (bypass_rule circuit))) (absent Constant circuit b)
     ∙ (ap (λ (o : Option Circuit). option_or o (bypass_rule circuit)) (absent Put circuit c) ∙ absent Bypass circuit d))
 
-pub marked_for_each : (marked : Rule → ℕ → Bool) (tables : List Table) → AreMarkedBy (passes Tidy tables) (marked Tidy) tables → AreMarkedBy (passes Constant tables) (marked Constant) tables
-    → AreMarkedBy (passes Put tables) (marked Put) tables → AreMarkedBy (passes Bypass tables) (marked Bypass) tables → AreMarked marked tables
+pub marked_for_each : (marked : Rule → ℕ → Bool) (tables : List Table) → AreWaiting (passes Tidy tables) (marked Tidy) tables → AreWaiting (passes Constant tables) (marked Constant) tables
+    → AreWaiting (passes Put tables) (marked Put) tables → AreWaiting (passes Bypass tables) (marked Bypass) tables → AreCandidates marked tables
 marked_for_each marked tables a b c d Tidy = a
 marked_for_each marked tables a b c d Constant = b
 marked_for_each marked tables a b c d Put = c
@@ -321,32 +321,32 @@ partly_wide name change done old new sound h =
 
 -- what each rule makes
 
-tidied_set : (circuit : Circuit) (place : ℕ) (table : Table) → AreSound circuit.tables → slice_get circuit.tables place ≡ Some table → rule_turn Tidy circuit table ≡ with_tables circuit (set circuit.tables place (tidied table))
+tidied_set : (circuit : Circuit) (place : ℕ) (table : Table) → AreSound circuit.tables → slice_get circuit.tables place ≡ Some table → rule_applied Tidy circuit table ≡ with_tables circuit (set circuit.tables place (tidied table))
 unfolding with_replaced
 tidied_set circuit place table sound at =
     ap (with_tables circuit) (sym (set_replaced circuit.tables place table (tidied table) sound.differ at (sym (tidied_output table))))
 
 constant_set : (circuit : Circuit) (place : ℕ) (table : Table) (bit : Bool) → AreSound circuit.tables → slice_get circuit.tables place ≡ Some table → unwritten_bit table ≡ Some bit
-    → rule_turn Constant circuit table ≡ with_tables circuit (set circuit.tables place (constant_table table.output bit))
+    → rule_applied Constant circuit table ≡ with_tables circuit (set circuit.tables place (constant_table table.output bit))
 unfolding with_replaced
 constant_set circuit place table bit sound at is =
     ap (λ (o : Option Bool). option_map_or (λ b. with_tables circuit (replaced circuit.tables (constant_table table.output b))) o circuit) is
     ∙ ap (with_tables circuit) (sym (set_replaced circuit.tables place table (constant_table table.output bit) sound.differ at refl))
 
-constant_same : (circuit : Circuit) (table : Table) → unwritten_bit table ≡ None → rule_turn Constant circuit table ≡ circuit
+constant_same : (circuit : Circuit) (table : Table) → unwritten_bit table ≡ None → rule_applied Constant circuit table ≡ circuit
 constant_same circuit table is = ap (λ (o : Option Bool). option_map_or (λ b. with_replaced circuit (constant_table table.output b)) o circuit) is
 
-put_map : (circuit : Circuit) (table : Table) (bit : Bool) → written_bit table ≡ Some bit → rule_turn Put circuit table ≡ with_tables circuit (map (changed_by table.output (Bit bit)) circuit.tables)
+put_map : (circuit : Circuit) (table : Table) (bit : Bool) → written_bit table ≡ Some bit → rule_applied Put circuit table ≡ with_tables circuit (map (changed_by table.output (Bit bit)) circuit.tables)
 put_map circuit table bit is = ap (λ (o : Option Bool). option_map_or (λ b. with_tables circuit (map (at_bit table.output b) circuit.tables)) o circuit) is
 
-put_same : (circuit : Circuit) (table : Table) → written_bit table ≡ None → rule_turn Put circuit table ≡ circuit
+put_same : (circuit : Circuit) (table : Table) → written_bit table ≡ None → rule_applied Put circuit table ≡ circuit
 put_same circuit table is = ap (λ (o : Option Bool). option_map_or (λ b. with_tables circuit (map (at_bit table.output b) circuit.tables)) o circuit) is
 
-bypass_map : (circuit : Circuit) (table : Table) (input : List ℕ) → only_input table.inputs ≡ Some input → rule_turn Bypass circuit table ≡ with_tables circuit (map (changed_by table.output (Input input (is_inverter table))) circuit.tables)
+bypass_map : (circuit : Circuit) (table : Table) (input : List ℕ) → only_input table.inputs ≡ Some input → rule_applied Bypass circuit table ≡ with_tables circuit (map (changed_by table.output (Input input (is_inverter table))) circuit.tables)
 bypass_map circuit table input is =
     ap (λ (o : Option (List ℕ)). option_map_or (λ i. with_tables circuit (map (rewired table.output i (is_inverter table)) circuit.tables)) o circuit) is
 
-bypass_same : (circuit : Circuit) (table : Table) → only_input table.inputs ≡ None → rule_turn Bypass circuit table ≡ circuit
+bypass_same : (circuit : Circuit) (table : Table) → only_input table.inputs ≡ None → rule_applied Bypass circuit table ≡ circuit
 bypass_same circuit table is =
     ap (λ (o : Option (List ℕ)). option_map_or (λ i. with_tables circuit (map (rewired table.output i (is_inverter table)) circuit.tables)) o circuit) is
 
@@ -364,25 +364,25 @@ input_apart circuit place table input sound at is =
 Narrows : Circuit → Circuit → Type 0
 Narrows old new = (name : List ℕ) → has (table_inputs new.tables) name ≡ true → has (table_inputs old.tables) name ≡ true
 
-pub turn_reads : (rule : Rule) (circuit : Circuit) (place : ℕ) (table : Table) → AreSound circuit.tables → slice_get circuit.tables place ≡ Some table
-    → (name : List ℕ) → has (table_inputs (rule_turn rule circuit table).tables) name ≡ true → has (table_inputs circuit.tables) name ≡ true
+pub applied_reads : (rule : Rule) (circuit : Circuit) (place : ℕ) (table : Table) → AreSound circuit.tables → slice_get circuit.tables place ≡ Some table
+    → (name : List ℕ) → has (table_inputs (rule_applied rule circuit table).tables) name ≡ true → has (table_inputs circuit.tables) name ≡ true
 unfolding Narrows
-turn_reads Tidy circuit place table sound at =
+applied_reads Tidy circuit place table sound at =
     subst (Narrows circuit) (sym (tidied_set circuit place table sound at)) (set_reads circuit.tables place table (tidied table) at (λ name h. tidied_reads table name h))
-turn_reads Constant circuit place table sound at = cases (unwritten_bit table) refl
+applied_reads Constant circuit place table sound at = cases (unwritten_bit table) refl
   where
-    cases : (o : Option Bool) → unwritten_bit table ≡ o → Narrows circuit (rule_turn Constant circuit table)
+    cases : (o : Option Bool) → unwritten_bit table ≡ o → Narrows circuit (rule_applied Constant circuit table)
     cases None e = subst (Narrows circuit) (sym (constant_same circuit table e)) (λ name h. h)
     cases (Some bit) e =
         subst (Narrows circuit) (sym (constant_set circuit place table bit sound at e)) (set_reads circuit.tables place table (constant_table table.output bit) at (λ name h. absurd (false≢true h)))
-turn_reads Put circuit place table sound at = cases (written_bit table) refl
+applied_reads Put circuit place table sound at = cases (written_bit table) refl
   where
-    cases : (o : Option Bool) → written_bit table ≡ o → Narrows circuit (rule_turn Put circuit table)
+    cases : (o : Option Bool) → written_bit table ≡ o → Narrows circuit (rule_applied Put circuit table)
     cases None e = subst (Narrows circuit) (sym (put_same circuit table e)) (λ name h. h)
     cases (Some bit) e = subst (Narrows circuit) (sym (put_map circuit table bit e)) (map_reads table.output (Bit bit) circuit.tables (λ x never. absurd never))
-turn_reads Bypass circuit place table sound at = cases (only_input table.inputs) refl
+applied_reads Bypass circuit place table sound at = cases (only_input table.inputs) refl
   where
-    cases : (o : Option (List ℕ)) → only_input table.inputs ≡ o → Narrows circuit (rule_turn Bypass circuit table)
+    cases : (o : Option (List ℕ)) → only_input table.inputs ≡ o → Narrows circuit (rule_applied Bypass circuit table)
     cases None e = subst (Narrows circuit) (sym (bypass_same circuit table e)) (λ name h. h)
     cases (Some input) e =
         subst (Narrows circuit) (sym (bypass_map circuit table input e))
@@ -407,24 +407,24 @@ map_names name change (table ∷ tables) =
 Names : Circuit → Circuit → Type 0
 Names old new = outputs_of new.tables ≡ outputs_of old.tables
 
-pub turn_names : (rule : Rule) (circuit : Circuit) (place : ℕ) (table : Table) → AreSound circuit.tables → slice_get circuit.tables place ≡ Some table
-    → outputs_of (rule_turn rule circuit table).tables ≡ outputs_of circuit.tables
+pub applied_names : (rule : Rule) (circuit : Circuit) (place : ℕ) (table : Table) → AreSound circuit.tables → slice_get circuit.tables place ≡ Some table
+    → outputs_of (rule_applied rule circuit table).tables ≡ outputs_of circuit.tables
 unfolding Names
-turn_names Tidy circuit place table sound at =
+applied_names Tidy circuit place table sound at =
     subst (Names circuit) (sym (tidied_set circuit place table sound at)) (set_names circuit.tables place table (tidied table) at (tidied_output table))
-turn_names Constant circuit place table sound at = cases (unwritten_bit table) refl
+applied_names Constant circuit place table sound at = cases (unwritten_bit table) refl
   where
-    cases : (o : Option Bool) → unwritten_bit table ≡ o → Names circuit (rule_turn Constant circuit table)
+    cases : (o : Option Bool) → unwritten_bit table ≡ o → Names circuit (rule_applied Constant circuit table)
     cases None e = subst (Names circuit) (sym (constant_same circuit table e)) refl
     cases (Some bit) e = subst (Names circuit) (sym (constant_set circuit place table bit sound at e)) (set_names circuit.tables place table (constant_table table.output bit) at refl)
-turn_names Put circuit place table sound at = cases (written_bit table) refl
+applied_names Put circuit place table sound at = cases (written_bit table) refl
   where
-    cases : (o : Option Bool) → written_bit table ≡ o → Names circuit (rule_turn Put circuit table)
+    cases : (o : Option Bool) → written_bit table ≡ o → Names circuit (rule_applied Put circuit table)
     cases None e = subst (Names circuit) (sym (put_same circuit table e)) refl
     cases (Some bit) e = subst (Names circuit) (sym (put_map circuit table bit e)) (map_names table.output (Bit bit) circuit.tables)
-turn_names Bypass circuit place table sound at = cases (only_input table.inputs) refl
+applied_names Bypass circuit place table sound at = cases (only_input table.inputs) refl
   where
-    cases : (o : Option (List ℕ)) → only_input table.inputs ≡ o → Names circuit (rule_turn Bypass circuit table)
+    cases : (o : Option (List ℕ)) → only_input table.inputs ≡ o → Names circuit (rule_applied Bypass circuit table)
     cases None e = subst (Names circuit) (sym (bypass_same circuit table e)) refl
     cases (Some input) e = subst (Names circuit) (sym (bypass_map circuit table input e)) (map_names table.output (Input input (is_inverter table)) circuit.tables)
 
@@ -432,22 +432,22 @@ turn_names Bypass circuit place table sound at = cases (only_input table.inputs)
 Cares : Circuit → Circuit → Type 0
 Cares old new = new.dont_care ≡ old.dont_care
 
-pub turn_cares : (rule : Rule) (circuit : Circuit) (table : Table) → (rule_turn rule circuit table).dont_care ≡ circuit.dont_care
+pub applied_cares : (rule : Rule) (circuit : Circuit) (table : Table) → (rule_applied rule circuit table).dont_care ≡ circuit.dont_care
 unfolding with_replaced Cares
-turn_cares Tidy circuit table = refl
-turn_cares Constant circuit table = cases (unwritten_bit table) refl
+applied_cares Tidy circuit table = refl
+applied_cares Constant circuit table = cases (unwritten_bit table) refl
   where
-    cases : (o : Option Bool) → unwritten_bit table ≡ o → Cares circuit (rule_turn Constant circuit table)
+    cases : (o : Option Bool) → unwritten_bit table ≡ o → Cares circuit (rule_applied Constant circuit table)
     cases None e = subst (Cares circuit) (sym (constant_same circuit table e)) refl
     cases (Some bit) e = ap (λ (o : Option Bool). (option_map_or (λ b. with_replaced circuit (constant_table table.output b)) o circuit).dont_care) e
-turn_cares Put circuit table = cases (written_bit table) refl
+applied_cares Put circuit table = cases (written_bit table) refl
   where
-    cases : (o : Option Bool) → written_bit table ≡ o → Cares circuit (rule_turn Put circuit table)
+    cases : (o : Option Bool) → written_bit table ≡ o → Cares circuit (rule_applied Put circuit table)
     cases None e = subst (Cares circuit) (sym (put_same circuit table e)) refl
     cases (Some bit) e = subst (Cares circuit) (sym (put_map circuit table bit e)) refl
-turn_cares Bypass circuit table = cases (only_input table.inputs) refl
+applied_cares Bypass circuit table = cases (only_input table.inputs) refl
   where
-    cases : (o : Option (List ℕ)) → only_input table.inputs ≡ o → Cares circuit (rule_turn Bypass circuit table)
+    cases : (o : Option (List ℕ)) → only_input table.inputs ≡ o → Cares circuit (rule_applied Bypass circuit table)
     cases None e = subst (Cares circuit) (sym (bypass_same circuit table e)) refl
     cases (Some input) e = subst (Cares circuit) (sym (bypass_map circuit table input e)) refl
 
@@ -455,22 +455,22 @@ turn_cares Bypass circuit table = cases (only_input table.inputs) refl
 Ports : Circuit → Circuit → Type 0
 Ports old new = new.outputs ≡ old.outputs
 
-pub turn_outputs : (rule : Rule) (circuit : Circuit) (table : Table) → (rule_turn rule circuit table).outputs ≡ circuit.outputs
+pub applied_outputs : (rule : Rule) (circuit : Circuit) (table : Table) → (rule_applied rule circuit table).outputs ≡ circuit.outputs
 unfolding with_replaced Ports
-turn_outputs Tidy circuit table = refl
-turn_outputs Constant circuit table = cases (unwritten_bit table) refl
+applied_outputs Tidy circuit table = refl
+applied_outputs Constant circuit table = cases (unwritten_bit table) refl
   where
-    cases : (o : Option Bool) → unwritten_bit table ≡ o → Ports circuit (rule_turn Constant circuit table)
+    cases : (o : Option Bool) → unwritten_bit table ≡ o → Ports circuit (rule_applied Constant circuit table)
     cases None e = subst (Ports circuit) (sym (constant_same circuit table e)) refl
     cases (Some bit) e = ap (λ (o : Option Bool). (option_map_or (λ b. with_replaced circuit (constant_table table.output b)) o circuit).outputs) e
-turn_outputs Put circuit table = cases (written_bit table) refl
+applied_outputs Put circuit table = cases (written_bit table) refl
   where
-    cases : (o : Option Bool) → written_bit table ≡ o → Ports circuit (rule_turn Put circuit table)
+    cases : (o : Option Bool) → written_bit table ≡ o → Ports circuit (rule_applied Put circuit table)
     cases None e = subst (Ports circuit) (sym (put_same circuit table e)) refl
     cases (Some bit) e = subst (Ports circuit) (sym (put_map circuit table bit e)) refl
-turn_outputs Bypass circuit table = cases (only_input table.inputs) refl
+applied_outputs Bypass circuit table = cases (only_input table.inputs) refl
   where
-    cases : (o : Option (List ℕ)) → only_input table.inputs ≡ o → Ports circuit (rule_turn Bypass circuit table)
+    cases : (o : Option (List ℕ)) → only_input table.inputs ≡ o → Ports circuit (rule_applied Bypass circuit table)
     cases None e = subst (Ports circuit) (sym (bypass_same circuit table e)) refl
     cases (Some input) e = subst (Ports circuit) (sym (bypass_map circuit table input e)) refl
 
@@ -481,7 +481,7 @@ constant_tidy name true = refl
 constant_tidy name false = refl
 
 -- a rule that applies to a tidy table is not the one that tidies
-pub written_asks : (rule : Rule) (tables : List Table) (table : Table) → is_tidy table ≡ true → passes rule tables table ≡ true → asks_of_written rule ≡ true
+pub written_asks : (rule : Rule) (tables : List Table) (table : Table) → is_tidy table ≡ true → passes rule tables table ≡ true → may_apply_to_written rule ≡ true
 written_asks Tidy tables table tidy h = absurd (false≢true (ap (λ (b : Bool). not b) (sym tidy) ∙ h))
 written_asks Constant tables table tidy h = refl
 written_asks Put tables table tidy h = refl
@@ -509,25 +509,25 @@ map_tidies name change tables shaped place made at untidy =
     let same : made ≡ table = sym is ∙ changed_tidies name change table (all_at IsShaped tables place table shaped here).0 (ap is_tidy is ∙ untidy) in
     here ∙ ap Some (sym same)
 
-turn_tidies : (rule : Rule) (circuit : Circuit) (place : ℕ) (table : Table) → AreSound circuit.tables → slice_get circuit.tables place ≡ Some table → Tidies circuit.tables (rule_turn rule circuit table).tables
-turn_tidies Tidy circuit place table sound at =
+applied_tidies : (rule : Rule) (circuit : Circuit) (place : ℕ) (table : Table) → AreSound circuit.tables → slice_get circuit.tables place ≡ Some table → Tidies circuit.tables (rule_applied rule circuit table).tables
+applied_tidies Tidy circuit place table sound at =
     subst (λ (c : Circuit). Tidies circuit.tables c.tables) (sym (tidied_set circuit place table sound at))
     (set_tidies circuit.tables place table (tidied table) at (tidied_tidy table (all_at IsShaped circuit.tables place table sound.shaped at).0))
-turn_tidies Constant circuit place table sound at = cases (unwritten_bit table) refl
+applied_tidies Constant circuit place table sound at = cases (unwritten_bit table) refl
   where
-    cases : (o : Option Bool) → unwritten_bit table ≡ o → Tidies circuit.tables (rule_turn Constant circuit table).tables
+    cases : (o : Option Bool) → unwritten_bit table ≡ o → Tidies circuit.tables (rule_applied Constant circuit table).tables
     cases None e = subst (λ (c : Circuit). Tidies circuit.tables c.tables) (sym (constant_same circuit table e)) (λ i t h untidy. h)
     cases (Some bit) e =
         subst (λ (c : Circuit). Tidies circuit.tables c.tables) (sym (constant_set circuit place table bit sound at e))
         (set_tidies circuit.tables place table (constant_table table.output bit) at (constant_tidy table.output bit))
-turn_tidies Put circuit place table sound at = cases (written_bit table) refl
+applied_tidies Put circuit place table sound at = cases (written_bit table) refl
   where
-    cases : (o : Option Bool) → written_bit table ≡ o → Tidies circuit.tables (rule_turn Put circuit table).tables
+    cases : (o : Option Bool) → written_bit table ≡ o → Tidies circuit.tables (rule_applied Put circuit table).tables
     cases None e = subst (λ (c : Circuit). Tidies circuit.tables c.tables) (sym (put_same circuit table e)) (λ i t h untidy. h)
     cases (Some bit) e = subst (λ (c : Circuit). Tidies circuit.tables c.tables) (sym (put_map circuit table bit e)) (map_tidies table.output (Bit bit) circuit.tables sound.shaped)
-turn_tidies Bypass circuit place table sound at = cases (only_input table.inputs) refl
+applied_tidies Bypass circuit place table sound at = cases (only_input table.inputs) refl
   where
-    cases : (o : Option (List ℕ)) → only_input table.inputs ≡ o → Tidies circuit.tables (rule_turn Bypass circuit table).tables
+    cases : (o : Option (List ℕ)) → only_input table.inputs ≡ o → Tidies circuit.tables (rule_applied Bypass circuit table).tables
     cases None e = subst (λ (c : Circuit). Tidies circuit.tables c.tables) (sym (bypass_same circuit table e)) (λ i t h untidy. h)
     cases (Some input) e =
         subst (λ (c : Circuit). Tidies circuit.tables c.tables) (sym (bypass_map circuit table input e)) (map_tidies table.output (Input input (is_inverter table)) circuit.tables sound.shaped)
@@ -554,10 +554,10 @@ alike_passes Bypass old new before table less alike h =
     rw (sym alike.single ∙ a, ap (has (table_inputs old)) (sym alike.output) ∙ less table.output b) refl
 
 -- the candidates afterwards
-pub marked_again : (old new : List Table) (places : List ℕ) (before after : Rule → ℕ → Bool) → AreMarked before old → AreAlikeBut places old new → Tidies old new
+pub marked_again : (old new : List Table) (places : List ℕ) (before after : Rule → ℕ → Bool) → AreCandidates before old → AreAlikeBut places old new → Tidies old new
     → ((name : List ℕ) → has (table_inputs new) name ≡ true → has (table_inputs old) name ≡ true)
-    → ((rule : Rule) (place : ℕ) → asks_of_written rule ≡ true → is_in places place ≡ true → after rule place ≡ true)
-    → ((rule : Rule) (place : ℕ) → before rule place ≡ true → after rule place ≡ true) → AreMarked after new
+    → ((rule : Rule) (place : ℕ) → may_apply_to_written rule ≡ true → is_in places place ≡ true → after rule place ≡ true)
+    → ((rule : Rule) (place : ℕ) → before rule place ≡ true → after rule place ≡ true) → AreCandidates after new
 marked_again old new places before after all alike tidies less put kept rule place table at passed = cases (is_in places place) refl
   where
     tidy : (b : Bool) → is_tidy table ≡ b → is_in places place ≡ true → after rule place ≡ true
@@ -572,14 +572,14 @@ marked_again old new places before after all alike tidies less put kept rule pla
 
 -- one turn
 
-pub tidy_turned : (circuit new : Circuit) (place : ℕ) (here made : Table) → AreSound circuit.tables → slice_get circuit.tables place ≡ Some here → made ≡ tidied here → new ≡ with_tables circuit (set circuit.tables place made)
-    → (table : Table) → slice_get circuit.tables place ≡ Some table → new ≡ rule_turn Tidy circuit table
-tidy_turned circuit new place here made sound at is n table there =
+pub tidy_applied : (circuit new : Circuit) (place : ℕ) (here made : Table) → AreSound circuit.tables → slice_get circuit.tables place ≡ Some here → made ≡ tidied here → new ≡ with_tables circuit (set circuit.tables place made)
+    → (table : Table) → slice_get circuit.tables place ≡ Some table → new ≡ rule_applied Tidy circuit table
+tidy_applied circuit new place here made sound at is n table there =
     n ∙ (ap (λ (t : Table). with_tables circuit (set circuit.tables place t)) (is ∙ ap tidied (same_Some here table (sym at ∙ there))) ∙ sym (tidied_set circuit place table sound there))
 
-pub constant_turned : (circuit new : Circuit) (place : ℕ) (here made : Table) (bit : Bool) → AreSound circuit.tables → slice_get circuit.tables place ≡ Some here → unwritten_bit here ≡ Some bit → made ≡ constant_table here.output bit
-    → new ≡ with_tables circuit (set circuit.tables place made) → (table : Table) → slice_get circuit.tables place ≡ Some table → new ≡ rule_turn Constant circuit table
-constant_turned circuit new place here made bit sound at has_bit is n table there =
+pub constant_applied : (circuit new : Circuit) (place : ℕ) (here made : Table) (bit : Bool) → AreSound circuit.tables → slice_get circuit.tables place ≡ Some here → unwritten_bit here ≡ Some bit → made ≡ constant_table here.output bit
+    → new ≡ with_tables circuit (set circuit.tables place made) → (table : Table) → slice_get circuit.tables place ≡ Some table → new ≡ rule_applied Constant circuit table
+constant_applied circuit new place here made bit sound at has_bit is n table there =
     let same : here ≡ table = same_Some here table (sym at ∙ there) in
     n ∙ (ap (λ (t : Table). with_tables circuit (set circuit.tables place t)) (is ∙ ap (λ (t : Table). constant_table t.output bit) same)
     ∙ sym (constant_set circuit place table bit sound there (ap unwritten_bit (sym same) ∙ has_bit)))
@@ -590,15 +590,15 @@ set_others circuit new place made places n p =
     (subst (λ (c : Circuit). AreAlikeBut (place ∷ []) circuit.tables c.tables) (sym n)
     (same_alike (place ∷ []) circuit.tables (set circuit.tables place made) (same_but_one circuit.tables place made)))
 
-pub put_turned : (circuit new : Circuit) (place : ℕ) (here : Table) (bit : Bool) → slice_get circuit.tables place ≡ Some here → written_bit here ≡ Some bit
-    → new ≡ with_tables circuit (map (changed_by here.output (Bit bit)) circuit.tables) → (table : Table) → slice_get circuit.tables place ≡ Some table → new ≡ rule_turn Put circuit table
-put_turned circuit new place here bit at has_bit n table there =
+pub put_applied : (circuit new : Circuit) (place : ℕ) (here : Table) (bit : Bool) → slice_get circuit.tables place ≡ Some here → written_bit here ≡ Some bit
+    → new ≡ with_tables circuit (map (changed_by here.output (Bit bit)) circuit.tables) → (table : Table) → slice_get circuit.tables place ≡ Some table → new ≡ rule_applied Put circuit table
+put_applied circuit new place here bit at has_bit n table there =
     let same : here ≡ table = same_Some here table (sym at ∙ there) in
     n ∙ (ap (λ (t : Table). with_tables circuit (map (changed_by t.output (Bit bit)) circuit.tables)) same ∙ sym (put_map circuit table bit (ap written_bit (sym same) ∙ has_bit)))
 
-pub bypass_turned : (circuit new : Circuit) (place : ℕ) (here : Table) (input : List ℕ) (inverts : Bool) → slice_get circuit.tables place ≡ Some here → only_input here.inputs ≡ Some input → inverts ≡ is_inverter here
-    → new ≡ with_tables circuit (map (changed_by here.output (Input input inverts)) circuit.tables) → (table : Table) → slice_get circuit.tables place ≡ Some table → new ≡ rule_turn Bypass circuit table
-bypass_turned circuit new place here input inverts at single i n table there =
+pub bypass_applied : (circuit new : Circuit) (place : ℕ) (here : Table) (input : List ℕ) (inverts : Bool) → slice_get circuit.tables place ≡ Some here → only_input here.inputs ≡ Some input → inverts ≡ is_inverter here
+    → new ≡ with_tables circuit (map (changed_by here.output (Input input inverts)) circuit.tables) → (table : Table) → slice_get circuit.tables place ≡ Some table → new ≡ rule_applied Bypass circuit table
+bypass_applied circuit new place here input inverts at single i n table there =
     let same : here ≡ table = same_Some here table (sym at ∙ there) in
     let change : Input input inverts ≡ Input input (is_inverter table) = rw (i, same) refl in
     n ∙ (ap (λ (t : Table). with_tables circuit (map (changed_by t.output (Input input inverts)) circuit.tables)) same
@@ -612,14 +612,14 @@ mapped_others circuit new name change places readers n =
     subst (λ (c : Circuit). AreAlikeBut places circuit.tables c.tables) (sym n)
     (same_alike places circuit.tables (map (changed_by name change) circuit.tables) (mapped_same_but name change places circuit.tables readers))
 
-pub turn_marked : (rule : Rule) (circuit new : Circuit) (place : ℕ) (places now : List ℕ) (before after : Rule → ℕ → Bool) → AreSound circuit.tables → place < length circuit.tables → AreMarked before circuit.tables
-    → ((table : Table) → slice_get circuit.tables place ≡ Some table → new ≡ rule_turn rule circuit table) → AreAlikeBut places circuit.tables new.tables → now ≡ places
-    → ((r : Rule) (i : ℕ) → asks_of_written r ≡ true → is_in now i ≡ true → after r i ≡ true) → ((r : Rule) (i : ℕ) → before r i ≡ true → after r i ≡ true) → AreMarked after new.tables
-turn_marked rule circuit new place places now before after sound lt all turned others same put kept =
+pub applied_candidates : (rule : Rule) (circuit new : Circuit) (place : ℕ) (places now : List ℕ) (before after : Rule → ℕ → Bool) → AreSound circuit.tables → place < length circuit.tables → AreCandidates before circuit.tables
+    → ((table : Table) → slice_get circuit.tables place ≡ Some table → new ≡ rule_applied rule circuit table) → AreAlikeBut places circuit.tables new.tables → now ≡ places
+    → ((r : Rule) (i : ℕ) → may_apply_to_written r ≡ true → is_in now i ≡ true → after r i ≡ true) → ((r : Rule) (i : ℕ) → before r i ≡ true → after r i ≡ true) → AreCandidates after new.tables
+applied_candidates rule circuit new place places now before after sound lt all turned others same put kept =
     let (table, at) = there circuit.tables place lt in
     marked_again circuit.tables new.tables places before after all others
-    (subst (λ (c : Circuit). Tidies circuit.tables c.tables) (sym (turned table at)) (turn_tidies rule circuit place table sound at))
-    (λ name h. turn_reads rule circuit place table sound at name (subst (λ (c : Circuit). has (table_inputs c.tables) name ≡ true) (turned table at) h))
+    (subst (λ (c : Circuit). Tidies circuit.tables c.tables) (sym (turned table at)) (applied_tidies rule circuit place table sound at))
+    (λ name h. applied_reads rule circuit place table sound at name (subst (λ (c : Circuit). has (table_inputs c.tables) name ≡ true) (turned table at) h))
     (λ r i asks h. put r i asks (subst (λ (ps : List ℕ). is_in ps i ≡ true) (sym same) h)) kept
 
 -- the table at one place is changed

@@ -16,9 +16,9 @@ use Rattle.sweep_rules.specs.Idle.{with_emptied}
 use Rattle.sweep_rules.specs.Needed.{dont_care_reads}
 use Rattle.sweep_rules.specs.Points.{written_bit}
 use Rattle.sweep_rules.specs.Rules.{unwritten_bit}
-use Rattle.net_sweep.specs.declared.marks.Rule.{Rule}
-use Rattle.net_sweep.specs.declared.marks.Rule.TheVariants.{Tidy, Constant, Put, Bypass}
-use Rattle.net_sweep.specs.Settled.{passes, listed, AreMarkedBy, AreMarked, AreSound, HasLed}
+use Rattle.net_sweep.specs.declared.queues.Rule.{Rule}
+use Rattle.net_sweep.specs.declared.queues.Rule.TheVariants.{Tidy, Constant, Put, Bypass}
+use Rattle.net_sweep.specs.Settled.{passes, listed, AreWaiting, AreCandidates, AreSound, HasLed}
 use Rattle.net_readers.specs.Readers.{is_in}
 use Rattle.net_sweep.specs.Latches.{left_at, with_latches, is_fixed, AreFed, IsPlaced, IsBeside}
 use Rattle.net_sweep.proofs.Changing.{set_reads, set_names, at_set, still_passes}
@@ -97,8 +97,8 @@ empty_passes Put tables name unread = unread
 empty_passes Bypass tables name unread = refl
 
 pub emptied_marked : (circuit new : Circuit) (place : ℕ) (table : Table) → slice_get circuit.tables place ≡ Some table → has (table_inputs circuit.tables) table.output ≡ false
-    → new ≡ with_tables circuit (set circuit.tables place (constant_table table.output false)) → (marks : Rule → ℕ → Bool) → AreMarked marks circuit.tables → AreMarked marks new.tables
-emptied_marked circuit new place table at unread is marks all = subst (λ (c : Circuit). AreMarked marks c.tables) (sym is) marked
+    → new ≡ with_tables circuit (set circuit.tables place (constant_table table.output false)) → (marks : Rule → ℕ → Bool) → AreCandidates marks circuit.tables → AreCandidates marks new.tables
+emptied_marked circuit new place table at unread is marks all = subst (λ (c : Circuit). AreCandidates marks c.tables) (sym is) marked
   where
     made : List Table
     made = set circuit.tables place (constant_table table.output false)
@@ -106,7 +106,7 @@ emptied_marked circuit new place table at unread is marks all = subst (λ (c : C
     less : (name : List ℕ) → has (table_inputs (set circuit.tables place (constant_table table.output false))) name ≡ true → has (table_inputs circuit.tables) name ≡ true
     less = set_reads circuit.tables place table (constant_table table.output false) at (λ name h. absurd (false≢true h))
 
-    marked : AreMarked marks (set circuit.tables place (constant_table table.output false))
+    marked : AreCandidates marks (set circuit.tables place (constant_table table.output false))
     marked rule i other here passed =
         at_set (λ (t : Table). passes rule (set circuit.tables place (constant_table table.output false)) t ≡ true → marks rule i ≡ true) circuit.tables place table (constant_table table.output false) i other at here
         (λ z k. absurd (false≢true (sym (empty_passes rule (set circuit.tables place (constant_table table.output false)) table.output
@@ -131,7 +131,7 @@ emptied_beside circuit new slots fed places read marked place table sound h at n
         ap (λ (ts : List Table). driver ts latch.input) (set_replaced circuit.tables place table (constant_table table.output false) sound.differ at refl)
         ∙ driver_replaced_other circuit.tables (constant_table table.output false) latch.input apart
 
-    waiting : AreMarkedBy (is_fixed (with_tables circuit (set circuit.tables place (constant_table table.output false)))) marked slots
+    waiting : AreWaiting (is_fixed (with_tables circuit (set circuit.tables place (constant_table table.output false)))) marked slots
     waiting i None here fixed = absurd (false≢true fixed)
     waiting i (Some latch) here fixed =
         h.waiting i (Some latch) here (sym (ap (λ (o : Option Bool). is_some o) (fixed_same circuit (with_tables circuit (set circuit.tables place (constant_table table.output false))) latch refl

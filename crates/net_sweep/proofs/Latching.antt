@@ -21,12 +21,12 @@ use Rattle.net_needed.proofs.Taking.{tables_differ}
 use Rattle.sweep_rules.specs.Points.{written_bit}
 use Rattle.sweep_rules.specs.Needed.{dont_care_reads}
 use Rattle.sweep_rules.specs.Rules.{fixed_bit, bit_from_start, starts_at}
-use Rattle.net_sweep.specs.declared.marks.Rule.{Rule}
-use Rattle.net_sweep.specs.Settled.{rule_turn, listed, asks_of_written, AreMarkedBy, AreMarked, AreAlikeBut, AreSound}
+use Rattle.net_sweep.specs.declared.queues.Rule.{Rule}
+use Rattle.net_sweep.specs.Settled.{rule_applied, listed, may_apply_to_written, AreWaiting, AreCandidates, AreAlikeBut, AreSound}
 use Rattle.net_readers.specs.Readers.{is_in}
 use Rattle.net_sweep.specs.Latches.{left_at, slot_bit, is_fixed, IsFirstFixed, IsPlaced, AreFed, IsBeside}
 use Rattle.net_sweep.proofs.Marking.{least_first, read_by, reads_at}
-use Rattle.net_sweep.proofs.Changing.{there, alike_before, still_passes, constant_tidy, written_asks, turn_names, turn_cares, turn_outputs}
+use Rattle.net_sweep.proofs.Changing.{there, alike_before, still_passes, constant_tidy, written_asks, applied_names, applied_cares, applied_outputs}
 
 -- tables of a sound circuit
 pub sound_tables : (circuit : Circuit) → IsSound circuit → AreSound circuit.tables
@@ -134,12 +134,12 @@ fixed_written circuit latch h = by (driver circuit.tables latch.input) refl h
 
 -- after some tables have changed, the latches wait that have one bit: those that had one before, and those that read a
 -- changed table which is a constant now
-pub waiting_turned : (slots : List (Option Latch)) (lists : List ℕ → Option (List ℕ)) (places : List ℕ → Option ℕ) (old new : Circuit) (changed : List ℕ) (before after : ℕ → Bool)
+pub waiting_applied : (slots : List (Option Latch)) (lists : List ℕ → Option (List ℕ)) (places : List ℕ → Option ℕ) (old new : Circuit) (changed : List ℕ) (before after : ℕ → Bool)
     → all_different (outputs_of old.tables) ≡ true → IsPlaced places (outputs_of old.tables) → outputs_of new.tables ≡ outputs_of old.tables → new.dont_care ≡ old.dont_care
-    → AreAlikeBut changed old.tables new.tables → AreFed lists slots → AreMarkedBy (is_fixed old) before slots
+    → AreAlikeBut changed old.tables new.tables → AreFed lists slots → AreWaiting (is_fixed old) before slots
     → ((place : ℕ) (table : Table) (latch : ℕ) → is_in changed place ≡ true → slice_get new.tables place ≡ Some table → is_some (written_bit table) ≡ true → is_in (listed (lists table.output)) latch ≡ true → after latch ≡ true)
-    → ((latch : ℕ) → before latch ≡ true → after latch ≡ true) → AreMarkedBy (is_fixed new) after slots
-waiting_turned slots lists places old new changed before after differ placed names cares alike fed all put kept = marked
+    → ((latch : ℕ) → before latch ≡ true → after latch ≡ true) → AreWaiting (is_fixed new) after slots
+waiting_applied slots lists places old new changed before after differ placed names cares alike fed all put kept = marked
   where
     old_leads : LeadsToTables places old.tables
     old_leads = placed_leads places old.tables differ placed
@@ -212,9 +212,9 @@ fed_cleared lists slots place here there fed other latch at = fed other latch (c
 
 -- the constant table of a latch's name is added
 pub waiting_fixed : (slots : List (Option Latch)) (lists : List ℕ → Option (List ℕ)) (old : Circuit) (place : ℕ) (here : Latch) (bit : Bool) (before after : ℕ → Bool)
-    → slice_get slots place ≡ Some (Some here) → AreFed lists slots → AreMarkedBy (is_fixed old) before slots
+    → slice_get slots place ≡ Some (Some here) → AreFed lists slots → AreWaiting (is_fixed old) before slots
     → ((latch : ℕ) → is_in (listed (lists here.output)) latch ≡ true → after latch ≡ true) → ((latch : ℕ) → before latch ≡ true → after latch ≡ true)
-    → AreMarkedBy (is_fixed (with_added old (constant_table here.output bit))) after (set slots place None)
+    → AreWaiting (is_fixed (with_added old (constant_table here.output bit))) after (set slots place None)
 unfolding with_added
 waiting_fixed slots lists old place here bit before after there fed all put kept = marked
   where
@@ -241,11 +241,11 @@ added_reads tables name bit read h =
       | inr last ↦ absurd (false≢true (subst (λ (t : Table). has t.inputs read ≡ true) (sym last.1) reads))
     ]
 
-pub marked_added : (before after : Rule → ℕ → Bool) (tables : List Table) (name : List ℕ) (bit : Bool) → AreMarked before tables
-    → ((rule : Rule) (place : ℕ) → after rule place ≡ ((asks_of_written rule && length tables == place) || before rule place)) → AreMarked after (tables ++ constant_table name bit ∷ [])
+pub marked_added : (before after : Rule → ℕ → Bool) (tables : List Table) (name : List ℕ) (bit : Bool) → AreCandidates before tables
+    → ((rule : Rule) (place : ℕ) → after rule place ≡ ((may_apply_to_written rule && length tables == place) || before rule place)) → AreCandidates after (tables ++ constant_table name bit ∷ [])
 marked_added before after tables name bit all put rule place table at passed =
     elim (get_push_cases tables (constant_table name bit) table place at) as (λ _. after rule place ≡ true) [
-      | inl old ↦ put rule place ∙ by (asks_of_written rule && length tables == place) (all rule place table old (still_passes rule tables (tables ++ constant_table name bit ∷ []) table (λ n h. added_reads tables name bit n h) passed))
+      | inl old ↦ put rule place ∙ by (may_apply_to_written rule && length tables == place) (all rule place table old (still_passes rule tables (tables ++ constant_table name bit ∷ []) table (λ n h. added_reads tables name bit n h) passed))
       | inr last ↦
           put rule place
           ∙ last_one (length tables == place) refl last.0 (written_asks rule (tables ++ constant_table name bit ∷ []) table (ap is_tidy (sym last.1) ∙ constant_tidy name bit) passed)
@@ -255,7 +255,7 @@ marked_added before after tables name bit all put rule place table at passed =
     by true h = refl
     by false h = h
 
-    last_one : (b : Bool) → (length tables == place) ≡ b → place ≡ length tables → asks_of_written rule ≡ true → ((asks_of_written rule && b) || before rule place) ≡ true
+    last_one : (b : Bool) → (length tables == place) ≡ b → place ≡ length tables → may_apply_to_written rule ≡ true → ((may_apply_to_written rule && b) || before rule place) ≡ true
     last_one true e same asks = rw (asks) refl
     last_one false e same asks = absurd (eqb-false (length tables) place e (sym same))
 
@@ -318,21 +318,21 @@ left_cleared (Some first ∷ slots) (suc place) latch differ at =
 
 -- what stands beside the circuit afterwards
 
-pub turned_beside : (rule : Rule) (circuit new : Circuit) (place : ℕ) (slots : List (Option Latch)) (fed : List ℕ → Option (List ℕ)) (places : List ℕ → Option ℕ) (read : List (List ℕ)) (before after : ℕ → Bool) (changed now : List ℕ)
+pub applied_beside : (rule : Rule) (circuit new : Circuit) (place : ℕ) (slots : List (Option Latch)) (fed : List ℕ → Option (List ℕ)) (places : List ℕ → Option ℕ) (read : List (List ℕ)) (before after : ℕ → Bool) (changed now : List ℕ)
     → AreSound circuit.tables → place < length circuit.tables → IsBeside slots fed places read before circuit
-    → ((table : Table) → slice_get circuit.tables place ≡ Some table → new ≡ rule_turn rule circuit table) → AreAlikeBut changed circuit.tables new.tables → now ≡ changed
+    → ((table : Table) → slice_get circuit.tables place ≡ Some table → new ≡ rule_applied rule circuit table) → AreAlikeBut changed circuit.tables new.tables → now ≡ changed
     → ((i : ℕ) (table : Table) (latch : ℕ) → is_in now i ≡ true → slice_get new.tables i ≡ Some table → is_some (written_bit table) ≡ true → is_in (listed (fed table.output)) latch ≡ true → after latch ≡ true)
     → ((latch : ℕ) → before latch ≡ true → after latch ≡ true) → IsBeside slots fed places read after new
-turned_beside rule circuit new place slots fed places read before after changed now sound lt h turned alike is put kept =
+applied_beside rule circuit new place slots fed places read before after changed now sound lt h turned alike is put kept =
     let (table, at) = there circuit.tables place lt in
-    let names : outputs_of new.tables ≡ outputs_of circuit.tables = ap (λ (c : Circuit). outputs_of c.tables) (turned table at) ∙ turn_names rule circuit place table sound at in
-    let cares : new.dont_care ≡ circuit.dont_care = ap (λ (c : Circuit). c.dont_care) (turned table at) ∙ turn_cares rule circuit table in
-    let ports : new.outputs ≡ circuit.outputs = ap (λ (c : Circuit). c.outputs) (turned table at) ∙ turn_outputs rule circuit table in record {
+    let names : outputs_of new.tables ≡ outputs_of circuit.tables = ap (λ (c : Circuit). outputs_of c.tables) (turned table at) ∙ applied_names rule circuit place table sound at in
+    let cares : new.dont_care ≡ circuit.dont_care = ap (λ (c : Circuit). c.dont_care) (turned table at) ∙ applied_cares rule circuit table in
+    let ports : new.outputs ≡ circuit.outputs = ap (λ (c : Circuit). c.outputs) (turned table at) ∙ applied_outputs rule circuit table in record {
       placed = subst (IsPlaced places) (sym names) h.placed;
       read = λ name. h.read name ∙ sym (cares_same circuit new name cares);
       fed = h.fed;
       asked = λ name asks. h.asked name (ap (λ (names : List (List ℕ)). has names name) (sym ports) ∙ asks);
-      waiting = waiting_turned slots fed places circuit new changed before after sound.differ h.placed names cares alike h.fed h.waiting
+      waiting = waiting_applied slots fed places circuit new changed before after sound.differ h.placed names cares alike h.fed h.waiting
           (λ i t latch k at_new. put i t latch (subst (λ (ps : List ℕ). is_in ps i ≡ true) (sym is) k) at_new) kept;
     }
 
@@ -354,13 +354,13 @@ fixed_beside circuit new place last latch bit output key slots slots_after fed p
     })
 
 pub fixed_marked : (circuit new : Circuit) (last : ℕ) (output : List ℕ) (bit : Bool) (before after : Rule → ℕ → Bool) → new ≡ with_added circuit (constant_table output bit) → last ≡ length circuit.tables
-    → AreMarked before circuit.tables → ((rule : Rule) (place : ℕ) → after rule place ≡ ((asks_of_written rule && last == place) || before rule place)) → AreMarked after new.tables
+    → AreCandidates before circuit.tables → ((rule : Rule) (place : ℕ) → after rule place ≡ ((may_apply_to_written rule && last == place) || before rule place)) → AreCandidates after new.tables
 unfolding with_added
 fixed_marked circuit new last output bit before after n l all put =
-    subst (λ (c : Circuit). AreMarked after c.tables) (sym n)
-    (marked_added before after circuit.tables output bit all (λ rule place. put rule place ∙ ap (λ (p : ℕ). (asks_of_written rule && p == place) || before rule place) l))
+    subst (λ (c : Circuit). AreCandidates after c.tables) (sym n)
+    (marked_added before after circuit.tables output bit all (λ rule place. put rule place ∙ ap (λ (p : ℕ). (may_apply_to_written rule && p == place) || before rule place) l))
 
-pub first_is_fixed : (circuit : Circuit) (slots : List (Option Latch)) (waiting : ℕ → Bool) (place : ℕ) (bit : Bool) → AreMarkedBy (is_fixed circuit) waiting slots → ((i : ℕ) → waiting i ≡ true → place ≤ i)
+pub first_is_fixed : (circuit : Circuit) (slots : List (Option Latch)) (waiting : ℕ → Bool) (place : ℕ) (bit : Bool) → AreWaiting (is_fixed circuit) waiting slots → ((i : ℕ) → waiting i ≡ true → place ≤ i)
     → option_map_or (slot_bit circuit) (slice_get slots place) None ≡ Some bit → IsFirstFixed circuit slots (Some (place, bit))
 first_is_fixed circuit slots waiting place bit all least has_bit = by (slice_get slots place) refl has_bit
   where

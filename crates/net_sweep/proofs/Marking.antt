@@ -9,9 +9,9 @@ use Rattle.circuit_model.specs.Names.{has}
 use Rattle.circuit_model.specs.Soundness.{table_inputs}
 use Rattle.circuit_model.specs.declared.circuit.Table.{Table}
 use Rattle.circuit_laws.proofs.Names.{has_either, has_front, has_back, name_itself, same_name}
-use Rattle.net_sweep.specs.Turns.{IsFirst}
-use Rattle.net_sweep.specs.declared.marks.Rule.{Rule}
-use Rattle.net_sweep.specs.Settled.{listed, asks_of_written, AreMarkedBy}
+use Rattle.net_sweep.specs.Settled.{IsFirst}
+use Rattle.net_sweep.specs.declared.queues.Rule.{Rule}
+use Rattle.net_sweep.specs.Settled.{listed, may_apply_to_written, AreWaiting}
 use Rattle.net_readers.specs.Readers.{is_in}
 use Rattle.net_sweep.proofs.Finds.{within}
 
@@ -41,7 +41,7 @@ passing test None h = absurd (false≢true h)
 passing test (Some x) h = (x, refl, h)
 
 -- the least of the marked places is the first where the test is passed
-pub least_first : {X : Type 0} (test : X → Bool) (marked : ℕ → Bool) (items : List X) (place : ℕ) → AreMarkedBy test marked items → ((i : ℕ) → marked i ≡ true → place ≤ i)
+pub least_first : {X : Type 0} (test : X → Bool) (marked : ℕ → Bool) (items : List X) (place : ℕ) → AreWaiting test marked items → ((i : ℕ) → marked i ≡ true → place ≤ i)
     → option_map_or test (slice_get items place) false ≡ true → IsFirst test items (Some place)
 least_first test marked items place all least passes =
     let (item, at, is) = passing test (slice_get items place) passes in (
@@ -52,20 +52,20 @@ least_first test marked items place all least passes =
           let le : place ≤ i = least i (all i t here h) in absurd (omega (arith, lt, le)))),
     )
 
-pub none_first : {X : Type 0} (test : X → Bool) (marked : ℕ → Bool) (items : List X) → AreMarkedBy test marked items → ((i : ℕ) → marked i ≡ false) → find test items ≡ None
+pub none_first : {X : Type 0} (test : X → Bool) (marked : ℕ → Bool) (items : List X) → AreWaiting test marked items → ((i : ℕ) → marked i ≡ false) → find test items ≡ None
 none_first test marked items all none = find_nothing test items (λ i t here. not_true (test t) (λ h. false≢true (sym (none i) ∙ all i t here h)))
 
-pub none_first_from : {X : Type 0} (test : X → Bool) (marked : ℕ → Bool) (items : List X) (o : Option ℕ) → AreMarkedBy test marked items → o ≡ None → IfNone o ((i : ℕ) → marked i ≡ false) → find test items ≡ None
+pub none_first_from : {X : Type 0} (test : X → Bool) (marked : ℕ → Bool) (items : List X) (o : Option ℕ) → AreWaiting test marked items → o ≡ None → IfNone o ((i : ℕ) → marked i ≡ false) → find test items ≡ None
 none_first_from test marked items o all is none = none_first test marked items all (subst (λ (p : Option ℕ). IfNone p ((i : ℕ) → marked i ≡ false)) is none)
 
-pub none_marked_from : {X : Type 0} (test : X → Bool) (marked other : ℕ → Bool) (items : List X) (o : Option ℕ) → AreMarkedBy test marked items → o ≡ None → IfNone o ((i : ℕ) → marked i ≡ false) → AreMarkedBy test other items
+pub none_marked_from : {X : Type 0} (test : X → Bool) (marked other : ℕ → Bool) (items : List X) (o : Option ℕ) → AreWaiting test marked items → o ≡ None → IfNone o ((i : ℕ) → marked i ≡ false) → AreWaiting test other items
 none_marked_from test marked other items o all is none place item at passes =
     let nowhere : (i : ℕ) → marked i ≡ false = subst (λ (p : Option ℕ). IfNone p ((i : ℕ) → marked i ≡ false)) is none in
     absurd (false≢true (sym (nowhere place) ∙ all place item at passes))
 
 -- a place where the test fails need not be marked
-pub marked_less : {X : Type 0} (test : X → Bool) (marked rest : ℕ → Bool) (items : List X) (place : ℕ) → AreMarkedBy test marked items
-    → ((i : ℕ) → rest i ≡ (not (place == i) && marked i)) → option_map_or test (slice_get items place) false ≡ false → AreMarkedBy test rest items
+pub marked_less : {X : Type 0} (test : X → Bool) (marked rest : ℕ → Bool) (items : List X) (place : ℕ) → AreWaiting test marked items
+    → ((i : ℕ) → rest i ≡ (not (place == i) && marked i)) → option_map_or test (slice_get items place) false ≡ false → AreWaiting test rest items
 marked_less {X} test marked rest items place all less fails i item at passes = cases (place == i) refl
   where
     cases : (b : Bool) → (place == i) ≡ b → rest i ≡ true
@@ -74,8 +74,8 @@ marked_less {X} test marked rest items place all less fails i item at passes = c
     cases false e = less i ∙ (ap (λ (b : Bool). not b && marked i) e ∙ all i item at passes)
 
 -- a place that is put back is marked again
-pub marked_back : {X : Type 0} (test : X → Bool) (marked rest new : ℕ → Bool) (items : List X) (place : ℕ) → AreMarkedBy test marked items
-    → ((i : ℕ) → rest i ≡ (not (place == i) && marked i)) → ((i : ℕ) → new i ≡ (place == i || rest i)) → AreMarkedBy test new items
+pub marked_back : {X : Type 0} (test : X → Bool) (marked rest new : ℕ → Bool) (items : List X) (place : ℕ) → AreWaiting test marked items
+    → ((i : ℕ) → rest i ≡ (not (place == i) && marked i)) → ((i : ℕ) → new i ≡ (place == i || rest i)) → AreWaiting test new items
 marked_back test marked rest new items place all less more i item at passes = cases (place == i) refl
   where
     cases : (b : Bool) → (place == i) ≡ b → new i ≡ true
@@ -99,14 +99,14 @@ reads_at (first ∷ tables) (suc place) table name at h = has_back first.inputs 
 
 -- places are marked one by one
 pub record HasMarked (places : List ℕ) (before after : Rule → ℕ → Bool) : Type 0 where
-  pub put : (rule : Rule) (place : ℕ) → asks_of_written rule ≡ true → is_in places place ≡ true → after rule place ≡ true
+  pub put : (rule : Rule) (place : ℕ) → may_apply_to_written rule ≡ true → is_in places place ≡ true → after rule place ≡ true
   pub kept : (rule : Rule) (place : ℕ) → before rule place ≡ true → after rule place ≡ true
 
 pub marked_none : (before : Rule → ℕ → Bool) → HasMarked [] before before
 marked_none before = record { put = λ rule place asks h. absurd (false≢true h); kept = λ rule place h. h }
 
 pub marked_more : (places : List ℕ) (i put d : ℕ) (before now after : Rule → ℕ → Bool) → i < length places → put ≡ get_or places i d → HasMarked (take i places) before now
-    → ((rule : Rule) (place : ℕ) → after rule place ≡ ((asks_of_written rule && put == place) || now rule place)) → HasMarked (take (i + 1) places) before after
+    → ((rule : Rule) (place : ℕ) → after rule place ≡ ((may_apply_to_written rule && put == place) || now rule place)) → HasMarked (take (i + 1) places) before after
 marked_more places i put d before now after lt is h more = record {
   put = λ rule place asks within. by rule place asks (is_in (take i places) place) refl (put == place) refl
       (sym (list_any_more (λ other. other == place) places i d lt ∙ ap (λ (n : ℕ). is_in (take i places) place || (n == place)) (sym is)) ∙ within);
@@ -114,13 +114,13 @@ marked_more places i put d before now after lt is h more = record {
 }
   where
     kept : (rule : Rule) (place : ℕ) → now rule place ≡ true → after rule place ≡ true
-    kept rule place held = more rule place ∙ (ap (λ (b : Bool). (asks_of_written rule && put == place) || b) held ∙ or_true (asks_of_written rule && put == place))
+    kept rule place held = more rule place ∙ (ap (λ (b : Bool). (may_apply_to_written rule && put == place) || b) held ∙ or_true (may_apply_to_written rule && put == place))
       where
         or_true : (b : Bool) → (b || true) ≡ true
         or_true true = refl
         or_true false = refl
 
-    by : (rule : Rule) (place : ℕ) → asks_of_written rule ≡ true → (a : Bool) → is_in (take i places) place ≡ a → (b : Bool) → (put == place) ≡ b → (a || b) ≡ true → after rule place ≡ true
+    by : (rule : Rule) (place : ℕ) → may_apply_to_written rule ≡ true → (a : Bool) → is_in (take i places) place ≡ a → (b : Bool) → (put == place) ≡ b → (a || b) ≡ true → after rule place ≡ true
     by rule place asks true e b f k = kept rule place (h.put rule place asks e)
     by rule place asks false e true f k = more rule place ∙ (ap (λ (c : Bool). (c && put == place) || now rule place) asks ∙ ap (λ (c : Bool). c || now rule place) f)
     by rule place asks false e false f k = absurd (false≢true k)

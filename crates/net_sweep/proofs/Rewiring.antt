@@ -17,8 +17,8 @@ use Rattle.sweep_rules.proofs.Mapped.{find_none}
 use Rattle.net_readers.specs.Readers.{is_in, reads_at}
 use Rattle.net_wires.specs.Wires.{exchanged}
 use Rattle.net_wires.proofs.Exchanging.{exchanged_output, exchanged_tidy, exchanged_unwritten, exchanged_written, exchanged_single, rewired_exchanged}
-use Rattle.net_sweep.specs.declared.marks.Rule.TheVariants.{Tidy}
-use Rattle.net_sweep.specs.declared.turns.Change.TheVariants.{Input}
+use Rattle.net_sweep.specs.declared.queues.Rule.TheVariants.{Tidy}
+use Rattle.net_sweep.specs.declared.applying.Change.TheVariants.{Input}
 use Rattle.net_sweep.specs.Settled.{passes, changed_by, IsAlike, IsAlikeThere, AreAlikeBut, AreSound}
 use Rattle.net_sweep.proofs.Finds.{all_wide}
 use Rattle.net_sweep.proofs.Changing.{all_at, there, same_by_places}

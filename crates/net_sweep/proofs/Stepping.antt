@@ -17,44 +17,44 @@ use Rattle.sweep_rules.specs.Points.{written_bit}
 use Rattle.sweep_rules.specs.Rules.{tidy_rule, constant_rule, put_rule, bypass_rule, latch_rule, need_rule, unwritten_bit, only_input, fixed_bit, at_bit, rewired, is_inverter, with_latch_fixed, sweep_step}
 use Rattle.sweep_rules.proofs.Falling.{step_falls}
 use Rattle.sweep_rules.proofs.Weight.{weight}
-use Rattle.net_sweep.specs.declared.marks.Rule.{Rule}
-use Rattle.net_sweep.specs.declared.marks.Rule.TheVariants.{Tidy, Constant, Put, Bypass}
+use Rattle.net_sweep.specs.declared.queues.Rule.{Rule}
+use Rattle.net_sweep.specs.declared.queues.Rule.TheVariants.{Tidy, Constant, Put, Bypass}
 use Rattle.net_sweep.specs.declared.latches.Standing.{Standing}
 use Rattle.net_sweep.specs.declared.steps.Step.{Step}
-use Rattle.net_sweep.specs.declared.steps.Step.TheVariants.{Turn, Fix}
-use Rattle.net_sweep.specs.Settled.{passes, rule_turn, table_step, IsNext, HasLed, AreMarked}
+use Rattle.net_sweep.specs.declared.steps.Step.TheVariants.{Apply, Fix}
+use Rattle.net_sweep.specs.Settled.{passes, rule_applied, table_step, IsNext, HasLed, AreCandidates}
 use Rattle.net_sweep.specs.Latches.{left_at, with_latches, IsFirstFixed, IsNextStep, IsReady}
 use Rattle.net_sweep.proofs.Chaining.{not_yet, one_more, led_through, no_heavier, table_step_is, other_step_is}
 use Rattle.net_sweep.proofs.Latching.{fixed_same, found_left, none_left, left_has, left_cleared}
 
 -- a rule that changes tables leaves latches and timing
 
-turned_whole : (rule : Rule) (circuit : Circuit) (latches : List Latch) (table : Table) → rule_turn rule (with_latches circuit latches) table ≡ with_latches (rule_turn rule circuit table) latches
+applied_whole : (rule : Rule) (circuit : Circuit) (latches : List Latch) (table : Table) → rule_applied rule (with_latches circuit latches) table ≡ with_latches (rule_applied rule circuit table) latches
 unfolding with_replaced
-turned_whole Tidy circuit latches table = refl
-turned_whole Constant circuit latches table = by (unwritten_bit table)
+applied_whole Tidy circuit latches table = refl
+applied_whole Constant circuit latches table = by (unwritten_bit table)
   where
     by : (o : Option Bool) → option_map_or (λ bit. with_replaced (with_latches circuit latches) (constant_table table.output bit)) o (with_latches circuit latches)
         ≡ with_latches (option_map_or (λ bit. with_replaced circuit (constant_table table.output bit)) o circuit) latches
     by None = refl
     by (Some bit) = refl
-turned_whole Put circuit latches table = by (written_bit table)
+applied_whole Put circuit latches table = by (written_bit table)
   where
     by : (o : Option Bool) → option_map_or (λ bit. with_tables (with_latches circuit latches) (map (at_bit table.output bit) circuit.tables)) o (with_latches circuit latches)
         ≡ with_latches (option_map_or (λ bit. with_tables circuit (map (at_bit table.output bit) circuit.tables)) o circuit) latches
     by None = refl
     by (Some bit) = refl
-turned_whole Bypass circuit latches table = by (only_input table.inputs)
+applied_whole Bypass circuit latches table = by (only_input table.inputs)
   where
     by : (o : Option (List ℕ)) → option_map_or (λ input. with_tables (with_latches circuit latches) (map (rewired table.output input (is_inverter table)) circuit.tables)) o (with_latches circuit latches)
         ≡ with_latches (option_map_or (λ input. with_tables circuit (map (rewired table.output input (is_inverter table)) circuit.tables)) o circuit) latches
     by None = refl
     by (Some input) = refl
 
-found_turn : (rule : Rule) (circuit : Circuit) (latches : List Latch) (o : Option Table)
-    → option_map (rule_turn rule (with_latches circuit latches)) o ≡ option_map (λ (c : Circuit). with_latches c latches) (option_map (rule_turn rule circuit) o)
-found_turn rule circuit latches None = refl
-found_turn rule circuit latches (Some table) = ap Some (turned_whole rule circuit latches table)
+found_applied : (rule : Rule) (circuit : Circuit) (latches : List Latch) (o : Option Table)
+    → option_map (rule_applied rule (with_latches circuit latches)) o ≡ option_map (λ (c : Circuit). with_latches c latches) (option_map (rule_applied rule circuit) o)
+found_applied rule circuit latches None = refl
+found_applied rule circuit latches (Some table) = ap Some (applied_whole rule circuit latches table)
 
 pub table_step_whole : (circuit : Circuit) (latches : List Latch) → table_step (with_latches circuit latches) ≡ option_map (λ (c : Circuit). with_latches c latches) (table_step circuit)
 unfolding table_step tidy_rule constant_rule put_rule bypass_rule
@@ -74,11 +74,11 @@ table_step_whole circuit latches =
     either None None None d = refl
 
     all : (o p q r : Option Table)
-        → option_or (option_map (rule_turn Tidy whole) o) (option_or (option_map (rule_turn Constant whole) p) (option_or (option_map (rule_turn Put whole) q) (option_map (rule_turn Bypass whole) r)))
-        ≡ option_map back (option_or (option_map (rule_turn Tidy circuit) o) (option_or (option_map (rule_turn Constant circuit) p) (option_or (option_map (rule_turn Put circuit) q) (option_map (rule_turn Bypass circuit) r))))
+        → option_or (option_map (rule_applied Tidy whole) o) (option_or (option_map (rule_applied Constant whole) p) (option_or (option_map (rule_applied Put whole) q) (option_map (rule_applied Bypass whole) r)))
+        ≡ option_map back (option_or (option_map (rule_applied Tidy circuit) o) (option_or (option_map (rule_applied Constant circuit) p) (option_or (option_map (rule_applied Put circuit) q) (option_map (rule_applied Bypass circuit) r))))
     all o p q r =
-        rw (found_turn Tidy circuit latches o, found_turn Constant circuit latches p, found_turn Put circuit latches q, found_turn Bypass circuit latches r)
-        (either (option_map (rule_turn Tidy circuit) o) (option_map (rule_turn Constant circuit) p) (option_map (rule_turn Put circuit) q) (option_map (rule_turn Bypass circuit) r))
+        rw (found_applied Tidy circuit latches o, found_applied Constant circuit latches p, found_applied Put circuit latches q, found_applied Bypass circuit latches r)
+        (either (option_map (rule_applied Tidy circuit) o) (option_map (rule_applied Constant circuit) p) (option_map (rule_applied Put circuit) q) (option_map (rule_applied Bypass circuit) r))
 
 -- the step that makes a latch a table
 
@@ -126,26 +126,26 @@ whole_find circuit latches (first ∷ among) = rw (whole_bit circuit latches fir
 
 -- the step that is taken next
 
-pub turn_stepped : (circuit new : Circuit) (slots after : List (Option Latch)) (rule : Rule) (place : ℕ) → IsNext circuit (Some (rule, place))
-    → ((table : Table) → slice_get circuit.tables place ≡ Some table → new ≡ rule_turn rule circuit table) → after ≡ slots
+pub applied_stepped : (circuit new : Circuit) (slots after : List (Option Latch)) (rule : Rule) (place : ℕ) → IsNext circuit (Some (rule, place))
+    → ((table : Table) → slice_get circuit.tables place ≡ Some table → new ≡ rule_applied rule circuit table) → after ≡ slots
     → sweep_step (with_latches circuit (left_at slots)) ≡ Some (with_latches new (left_at after))
-turn_stepped circuit new slots after rule place next turned same =
+applied_stepped circuit new slots after rule place next turned same =
     let (table, at, step, tidy) = next in
     table_step_is (with_latches circuit (left_at slots)) (with_latches new (left_at after))
     (table_step_whole circuit (left_at slots) ∙ (ap (option_map (λ (c : Circuit). with_latches c (left_at slots))) (step ∙ ap Some (sym (turned table at)))
     ∙ ap (λ (s : List (Option Latch)). Some (with_latches new (left_at s))) (sym same)))
 
-pub turn_next : (circuit : Circuit) (slots : List (Option Latch)) (step : Step) (rule : Rule) (place : ℕ) → IsNextStep circuit slots (Some step) → step ≡ Turn rule place → IsNext circuit (Some (rule, place))
-turn_next circuit slots step rule place next is = subst (λ (s : Step). IsNextStep circuit slots (Some s)) is next
+pub applied_next : (circuit : Circuit) (slots : List (Option Latch)) (step : Step) (rule : Rule) (place : ℕ) → IsNextStep circuit slots (Some step) → step ≡ Apply rule place → IsNext circuit (Some (rule, place))
+applied_next circuit slots step rule place next is = subst (λ (s : Step). IsNextStep circuit slots (Some s)) is next
 
 pub fix_next : (circuit : Circuit) (slots : List (Option Latch)) (step : Step) (place : ℕ) (bit : Bool) → IsNextStep circuit slots (Some step) → step ≡ Fix place bit → (table_step circuit ≡ None) × IsFirstFixed circuit slots (Some (place, bit))
 fix_next circuit slots step place bit next is = subst (λ (s : Step). IsNextStep circuit slots (Some s)) is next
 
-pub turn_within : (circuit : Circuit) (rule : Rule) (place : ℕ) → IsNext circuit (Some (rule, place)) → place < length circuit.tables
-turn_within circuit rule place next = let (table, at, step, tidy) = next in slice_get_within circuit.tables place table at
+pub applied_within : (circuit : Circuit) (rule : Rule) (place : ℕ) → IsNext circuit (Some (rule, place)) → place < length circuit.tables
+applied_within circuit rule place next = let (table, at, step, tidy) = next in slice_get_within circuit.tables place table at
 
-pub turn_tidy : (circuit : Circuit) (rule : Rule) (place : ℕ) → IsNext circuit (Some (rule, place)) → rule ≡ Bypass → find (passes Tidy circuit.tables) circuit.tables ≡ None
-turn_tidy circuit rule place next = let (table, at, step, tidy) = next in tidy
+pub applied_tidy : (circuit : Circuit) (rule : Rule) (place : ℕ) → IsNext circuit (Some (rule, place)) → rule ≡ Bypass → find (passes Tidy circuit.tables) circuit.tables ≡ None
+applied_tidy circuit rule place next = let (table, at, step, tidy) = next in tidy
 
 pub fix_there : (circuit : Circuit) (slots : List (Option Latch)) (place : ℕ) (bit : Bool) → IsFirstFixed circuit slots (Some (place, bit)) → (latch : Latch) × (slice_get slots place ≡ Some (Some latch))
 fix_there circuit slots place bit first = let (latch, at, has_bit, found) = first in (latch, at)
@@ -168,7 +168,7 @@ fix_stepped circuit new slots after place bit sound next fixed cleared =
 
 pub record IsSettling (from to : Circuit) (standing : Standing) (marks : Rule → ℕ → Bool) : Type 0 where
   pub led : HasLed from (with_latches to (left_at standing.slots.items))
-  pub marked : AreMarked marks to.tables
+  pub marked : AreCandidates marks to.tables
   pub ready : IsReady standing to
 
 whole_again : (circuit : Circuit) → IsSound circuit → with_latches circuit circuit.latches ≡ circuit
@@ -193,7 +193,7 @@ settling_none circuit begin standing count marks sound ready left same long ever
 pub settling_more : (from to mid_circuit new : Circuit) (standing mid after : Standing) (marks marks_after : Rule → ℕ → Bool) → IsSettling from to standing marks
     → mid.slots.items ≡ standing.slots.items → sweep_step (with_latches to (left_at mid.slots.items)) ≡ Some (with_latches mid_circuit (left_at after.slots.items))
     → HasLed (with_latches mid_circuit (left_at after.slots.items)) (with_latches new (left_at after.slots.items))
-    → AreMarked marks_after new.tables → IsReady after new → IsSettling from new after marks_after
+    → AreCandidates marks_after new.tables → IsReady after new → IsSettling from new after marks_after
 settling_more from to mid_circuit new standing mid after marks marks_after h same step emptied marked ready = record {
   led = led_through from (with_latches mid_circuit (left_at after.slots.items)) (with_latches new (left_at after.slots.items))
       (one_more from (with_latches to (left_at standing.slots.items)) (with_latches mid_circuit (left_at after.slots.items)) h.led

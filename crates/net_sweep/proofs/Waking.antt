@@ -12,7 +12,7 @@ use Rattle.circuit_model.specs.declared.circuit.Circuit.{Circuit}
 use Rattle.circuit_laws.proofs.Names.{same_name, has_head, different_head, different_tail}
 use Rattle.sweep_rules.specs.Points.{written_bit}
 use Rattle.sweep_rules.specs.Needed.{dont_care_reads}
-use Rattle.net_sweep.specs.Settled.{listed, AreMarkedBy}
+use Rattle.net_sweep.specs.Settled.{listed, AreWaiting}
 use Rattle.net_readers.specs.Readers.{is_in}
 use Rattle.net_sweep.specs.Latches.{left_at, is_fixed, IsPlaced, AreFed, IsBeside}
 use Rattle.net_sweep.proofs.Marking.{has_more, taken_cases, listed_none, listed_more, listed_kept}
@@ -136,7 +136,7 @@ slots_long : (latches : List Latch) → length (map Some latches) ≡ length lat
 slots_long [] = refl
 slots_long (latch ∷ latches) = omega (arith, slots_long latches)
 
-pub waiting_all : (circuit : Circuit) (latches : List Latch) (marked : ℕ → Bool) → ((place : ℕ) → place < length latches → marked place ≡ true) → AreMarkedBy (is_fixed circuit) marked (map Some latches)
+pub waiting_all : (circuit : Circuit) (latches : List Latch) (marked : ℕ → Bool) → ((place : ℕ) → place < length latches → marked place ≡ true) → AreWaiting (is_fixed circuit) marked (map Some latches)
 waiting_all circuit latches marked h place slot at fixed = h place (omega (arith, slice_get_within (map Some latches) place slot at, slots_long latches))
 
 -- the latches that are left, one after the other

@@ -13,11 +13,11 @@ use Rattle.circuit_model.specs.declared.circuit.Circuit.{Circuit}
 use Rattle.circuit_laws.specs.Edits.{timing_with}
 use Rattle.sweep_rules.specs.Needed.{dont_care_reads}
 use Rattle.sweep_rules.specs.Rules.{fixed_bit}
-use Rattle.net_sweep.specs.Settled.{listed, table_step, IsNext, AreMarkedBy}
+use Rattle.net_sweep.specs.Settled.{listed, table_step, IsNext, AreWaiting}
 use Rattle.net_readers.specs.Readers.{is_in}
 use Rattle.net_sweep.specs.declared.latches.Standing.{Standing}
 use Rattle.net_sweep.specs.declared.steps.Step.{Step}
-use Rattle.net_sweep.specs.declared.steps.Step.TheVariants.{Turn, Fix}
+use Rattle.net_sweep.specs.declared.steps.Step.TheVariants.{Apply, Fix}
 
 -- the latches that are left at some places, in order
 unfoldable pub left_at : List (Option Latch) → List Latch
@@ -56,20 +56,20 @@ AreFed lists slots = (place : ℕ) (latch : Latch) → slice_get slots place ≡
 -- what stands beside a circuit tells of it: the names of its tables lead to their places, what is read is what its
 -- don't-care part reads, the latches are listed under their inputs, each output has a list, and each latch that always has
 -- one bit waits
-pub record IsBeside (slots : List (Option Latch)) (lists : List ℕ → Option (List ℕ)) (places : List ℕ → Option ℕ) (leaves : List (List ℕ)) (marked : ℕ → Bool) (circuit : Circuit) : Type 0 where
+pub record IsBeside (slots : List (Option Latch)) (lists : List ℕ → Option (List ℕ)) (places : List ℕ → Option ℕ) (leaves : List (List ℕ)) (waits : ℕ → Bool) (circuit : Circuit) : Type 0 where
   pub placed : IsPlaced places (outputs_of circuit.tables)
   pub read : (name : List ℕ) → has leaves name ≡ dont_care_reads circuit name
   pub fed : AreFed lists slots
   pub asked : (name : List ℕ) → has circuit.outputs name ≡ true → is_some (lists name) ≡ true
-  pub waiting : AreMarkedBy (is_fixed circuit) marked slots
+  pub waiting : AreWaiting (is_fixed circuit) waits slots
 
 -- what `Standing` holds tells so of a circuit
 abbrev pub IsReady : Standing → Circuit → Type 0
 IsReady standing circuit =
-    IsBeside standing.slots.items (get bytes_eq standing.fed) (get bytes_eq standing.tables) standing.read.keys (contains nat_cmp standing.waiting) circuit
+    IsBeside standing.slots.items (get bytes_eq standing.fed) (get bytes_eq standing.table_places) standing.leaves_read.keys (contains nat_cmp standing.waiting) circuit
 
 -- the next step of the first five rules, if there is one
 abbrev pub IsNextStep : Circuit → List (Option Latch) → Option Step → Type 0
 IsNextStep circuit slots None = (table_step circuit ≡ None) × (find (is_fixed circuit) slots ≡ None)
-IsNextStep circuit slots (Some (Turn rule place)) = IsNext circuit (Some (rule, place))
+IsNextStep circuit slots (Some (Apply rule place)) = IsNext circuit (Some (rule, place))
 IsNextStep circuit slots (Some (Fix place bit)) = (table_step circuit ≡ None) × IsFirstFixed circuit slots (Some (place, bit))

@@ -1,3 +1,3 @@
-pub mod Turns
+pub mod Columns
 pub mod Settled
 pub mod Latches

@@ -1,7 +1,7 @@
 -- The first four rules of sweep, which change tables and leave their number, their outputs and their places; and what is
 -- kept to see soon where one of them applies: places where a rule may apply.
 -- Source: the SIS manual (UCB/ERL M92/41), `sweep`.
-use Rattle.std.specs.Prelude.{◌≡◌, ℕ, ◌&&◌, Bool, true, false, not, Option, Some, None, is_some, List, [], ◌∷◌, ◌⊎◌, find, slice_get, bytes_eq, ⊤}
+use Rattle.std.specs.Prelude.{◌≡◌, ℕ, ◌<◌, ◌&&◌, Bool, true, false, not, Option, Some, None, is_some, List, [], ◌∷◌, ◌⊎◌, find, slice_get, length, bytes_eq, ⊤}
 use Rattle.std.specs.Option.{option_or}
 use Rattle.std.specs.List.{AllByRecursion}
 use Rattle.std.specs.Ordering.{nat_cmp}
@@ -16,11 +16,11 @@ use Rattle.sweep_rules.specs.Points.{written_bit}
 use Rattle.sweep_rules.specs.Rules.{tidy_rule, constant_rule, put_rule, bypass_rule, with_constant, with_bit_put, with_bypass, unwritten_bit, only_input, at_bit, rewired, sweep_step}
 use Rattle.sweep_rules.specs.Idle.{IsIdle, with_emptied}
 use Rattle.net_readers.specs.Readers.{is_in}
-use Rattle.net_sweep.specs.declared.marks.Rule.{Rule}
-use Rattle.net_sweep.specs.declared.marks.Rule.TheVariants.{Tidy, Constant, Put, Bypass}
-use Rattle.net_sweep.specs.declared.marks.Candidates.{Candidates}
-use Rattle.net_sweep.specs.declared.turns.Change.{Change}
-use Rattle.net_sweep.specs.declared.turns.Change.TheVariants.{Bit, Input}
+use Rattle.net_sweep.specs.declared.queues.Rule.{Rule}
+use Rattle.net_sweep.specs.declared.queues.Rule.TheVariants.{Tidy, Constant, Put, Bypass}
+use Rattle.net_sweep.specs.declared.queues.Candidates.{Candidates}
+use Rattle.net_sweep.specs.declared.applying.Change.{Change}
+use Rattle.net_sweep.specs.declared.applying.Change.TheVariants.{Bit, Input}
 
 -- tables as a sound circuit has them: each signal has one, rows are as wide as the inputs, each input stands once, and no
 -- table is reached from itself
@@ -37,12 +37,17 @@ passes Constant tables table = is_some (unwritten_bit table)
 passes Put tables table = is_some (written_bit table) && has (table_inputs tables) table.output
 passes Bypass tables table = is_some (only_input table.inputs) && has (table_inputs tables) table.output
 
+-- the place of the first item that passes a test
+abbrev pub IsFirst : {X : Type 0} → (X → Bool) → List X → Option ℕ → Type 0
+IsFirst test items None = find test items ≡ None
+IsFirst {X} test items (Some place) = (place < length items) × (item : X) × (slice_get items place ≡ Some item) × (find test items ≡ Some item)
+
 -- what a rule makes of a circuit at a table to which it applies
-abbrev pub rule_turn : Rule → Circuit → Table → Circuit
-rule_turn Tidy circuit table = with_replaced circuit (tidied table)
-rule_turn Constant circuit table = with_constant circuit table
-rule_turn Put circuit table = with_bit_put circuit table
-rule_turn Bypass circuit table = with_bypass circuit table
+abbrev pub rule_applied : Rule → Circuit → Table → Circuit
+rule_applied Tidy circuit table = with_replaced circuit (tidied table)
+rule_applied Constant circuit table = with_constant circuit table
+rule_applied Put circuit table = with_bit_put circuit table
+rule_applied Bypass circuit table = with_bypass circuit table
 
 -- one step of the rules that change tables
 unfoldable pub table_step : Circuit → Option Circuit
@@ -53,7 +58,7 @@ table_step circuit = option_or (tidy_rule circuit) (option_or (constant_rule cir
 abbrev pub IsNext : Circuit → Option (Rule × ℕ) → Type 0
 IsNext circuit None = table_step circuit ≡ None
 IsNext circuit (Some (rule, place)) =
-    (table : Table) × (slice_get circuit.tables place ≡ Some table) × (table_step circuit ≡ Some (rule_turn rule circuit table))
+    (table : Table) × (slice_get circuit.tables place ≡ Some table) × (table_step circuit ≡ Some (rule_applied rule circuit table))
     × (rule ≡ Bypass → find (passes Tidy circuit.tables) circuit.tables ≡ None)
 
 -- a table in which a signal has a bit, or gives place to another one
@@ -67,31 +72,31 @@ is_apart name (Bit bit) = true
 is_apart name (Input to inverts) = not (bytes_eq name to)
 
 -- whether a rule may apply to a table since it was written anew: any but the one that tidies, since what is written is tidy
-abbrev pub asks_of_written : Rule → Bool
-asks_of_written Tidy = false
-asks_of_written Constant = true
-asks_of_written Put = true
-asks_of_written Bypass = true
+abbrev pub may_apply_to_written : Rule → Bool
+may_apply_to_written Tidy = false
+may_apply_to_written Constant = true
+may_apply_to_written Put = true
+may_apply_to_written Bypass = true
 
 -- the places that are listed, none where there is no list
 abbrev pub listed : Option (List ℕ) → List ℕ
 listed None = []
 listed (Some places) = places
 
--- each place of an item that passes a test is marked
-abbrev pub AreMarkedBy : {X : Type 0} → (X → Bool) → (ℕ → Bool) → List X → Type 0
-AreMarkedBy {X} test marked items = (place : ℕ) (item : X) → slice_get items place ≡ Some item → test item ≡ true → marked place ≡ true
+-- each place of an item that passes a test waits
+abbrev pub AreWaiting : {X : Type 0} → (X → Bool) → (ℕ → Bool) → List X → Type 0
+AreWaiting {X} test waits items = (place : ℕ) (item : X) → slice_get items place ≡ Some item → test item ≡ true → waits place ≡ true
 
--- each place where a rule applies is marked for the rule
-abbrev pub AreMarked : (Rule → ℕ → Bool) → List Table → Type 0
-AreMarked marked tables = (rule : Rule) → AreMarkedBy (passes rule tables) (marked rule) tables
+-- each place where a rule applies is one of its candidates
+abbrev pub AreCandidates : (Rule → ℕ → Bool) → List Table → Type 0
+AreCandidates candidates tables = (rule : Rule) → AreWaiting (passes rule tables) (candidates rule) tables
 
--- the candidates of a rule
-abbrev pub marked_in : Candidates → Rule → ℕ → Bool
-marked_in candidates Tidy place = contains nat_cmp candidates.untidy place
-marked_in candidates Constant place = contains nat_cmp candidates.unwritten place
-marked_in candidates Put place = contains nat_cmp candidates.constants place
-marked_in candidates Bypass place = contains nat_cmp candidates.singles place
+-- whether a place waits for a rule
+abbrev pub is_candidate : Candidates → Rule → ℕ → Bool
+is_candidate candidates Tidy place = contains nat_cmp candidates.untidy place
+is_candidate candidates Constant place = contains nat_cmp candidates.unwritten place
+is_candidate candidates Put place = contains nat_cmp candidates.constants place
+is_candidate candidates Bypass place = contains nat_cmp candidates.singles place
 
 -- two tables that are alike in all that a rule asks of a table alone: the signal, whether it is tidy, the constant that it
 -- ought to be written as, the one that it is written as, and whether it has one input

@@ -10,12 +10,12 @@ ghost use Rattle.circuit_model.specs.declared.circuit.Table.{Table as TheTable};
 ghost use Rattle.circuit_laws.specs.Edits.{with_added, constant_table as table_of_bit};
 ghost use Rattle.circuit_model.specs.Soundness.{IsSound};
 ghost use Rattle.sweep_rules.specs.Points.{written_bit as bit_written};
-ghost use Rattle.net_sweep.specs.Settled.{listed, marked_in, AreMarked};
+ghost use Rattle.net_sweep.specs.Settled.{listed, is_candidate, AreCandidates};
 ghost use Rattle.net_readers.specs.Readers.{is_in};
 ghost use Rattle.net_sweep.specs.Latches.{left_at, with_latches, IsReady};
 
 use crate::latches::Standing;
-use crate::marks::{Candidates, mark, put_place};
+use crate::queues::{Candidates, add_candidate, put_place};
 use circuit_model::{Latch, Name};
 use indexmap::IndexMap;
 use net_needed::note_place;
@@ -67,18 +67,18 @@ pub(crate) fn wake(
 // The latches that read the table at a place, if there is one, wait where it is written as a constant.
 fn wake_at(
     alloc: Global,
-    circuit: &Wires,
+    wires: &Wires,
     place: usize,
     fed: &IndexMap<Name, Places>,
     waiting: &mut BTreeSet<usize>,
 ) -> Result<(), AllocError>
-    ensures put { OnOk result ((table : TheTable) (latch : ℕ) → slice_get circuit.now.tables place ≡ Some table → is_some (bit_written table) ≡ true → is_in (listed (get bytes_eq fed.now table.output)) latch ≡ true → contains nat_cmp waiting.new latch ≡ true) }
+    ensures put { OnOk result ((table : TheTable) (latch : ℕ) → slice_get wires.now.tables place ≡ Some table → is_some (bit_written table) ≡ true → is_in (listed (get bytes_eq fed.now table.output)) latch ≡ true → contains nat_cmp waiting.new latch ≡ true) }
     ensures kept { OnOk result ((latch : ℕ) → contains nat_cmp waiting.old latch ≡ true → contains nat_cmp waiting.new latch ≡ true) }
 {
-    if circuit.bit(place).is_none() {
+    if wires.bit(place).is_none() {
         return Ok(());
     }
-    match circuit.table(alloc, place)? {
+    match wires.table(alloc, place)? {
         None => Ok(()),
         Some(table) => wake(fed, waiting, &table.output),
     }
@@ -87,16 +87,16 @@ fn wake_at(
 // The latches that read the tables at some places wait where these are written as constants.
 pub(crate) fn wake_all(
     alloc: Global,
-    circuit: &Wires,
+    wires: &Wires,
     places: &[usize],
     fed: &IndexMap<Name, Places>,
     waiting: &mut BTreeSet<usize>,
 ) -> Result<(), AllocError>
-    ensures put { OnOk result ((place : ℕ) (table : TheTable) (latch : ℕ) → is_in places.now place ≡ true → slice_get circuit.now.tables place ≡ Some table → is_some (bit_written table) ≡ true → is_in (listed (get bytes_eq fed.now table.output)) latch ≡ true → contains nat_cmp waiting.new latch ≡ true) }
+    ensures put { OnOk result ((place : ℕ) (table : TheTable) (latch : ℕ) → is_in places.now place ≡ true → slice_get wires.now.tables place ≡ Some table → is_some (bit_written table) ≡ true → is_in (listed (get bytes_eq fed.now table.output)) latch ≡ true → contains nat_cmp waiting.new latch ≡ true) }
     ensures kept { OnOk result ((latch : ℕ) → contains nat_cmp waiting.old latch ≡ true → contains nat_cmp waiting.new latch ≡ true) }
 {
     for place in places {
-        wake_at(alloc, circuit, *place, fed, waiting)?;
+        wake_at(alloc, wires, *place, fed, waiting)?;
     }
     Ok(())
 }
@@ -106,23 +106,23 @@ pub(crate) fn fix(
     alloc: Global,
     place: usize,
     bit: bool,
-    circuit: &mut Wires,
+    wires: &mut Wires,
     candidates: &mut Candidates,
     standing: &mut Standing,
 ) -> Result<(), AllocError>
-    requires sound { IsSound (with_latches circuit.old (left_at standing.old.slots.items)) }
+    requires sound { IsSound (with_latches wires.old (left_at standing.old.slots.items)) }
     requires there { (latch : TheLatch) × (slice_get standing.old.slots.items place ≡ Some (Some latch)) }
-    requires ready { IsReady standing.old circuit.old }
-    requires marked { AreMarked (marked_in candidates.old) circuit.old.tables }
-    ensures fixed { OnOk result ((latch : TheLatch) → slice_get standing.old.slots.items place ≡ Some (Some latch) → circuit.new ≡ with_added circuit.old (table_of_bit latch.output bit)) }
+    requires ready { IsReady standing.old wires.old }
+    requires candidates { AreCandidates (is_candidate candidates.old) wires.old.tables }
+    ensures fixed { OnOk result ((latch : TheLatch) → slice_get standing.old.slots.items place ≡ Some (Some latch) → wires.new ≡ with_added wires.old (table_of_bit latch.output bit)) }
     ensures slots { OnOk result (standing.new.slots.items ≡ slice_set standing.old.slots.items place None) }
-    ensures ready { OnOk result (IsReady standing.new circuit.new) }
-    ensures marked { OnOk result (AreMarked (marked_in candidates.new) circuit.new.tables) }
+    ensures ready { OnOk result (IsReady standing.new wires.new) }
+    ensures candidates { OnOk result (AreCandidates (is_candidate candidates.new) wires.new.tables) }
 {
     let name = take_latch(&mut standing.slots, place).output;
-    let last = circuit.len();
-    circuit.add_constant(alloc, name.copy(alloc)?, bit)?;
-    mark(candidates, last)?;
-    note_place(&mut standing.tables, name.copy(alloc)?, last)?;
+    let last = wires.len();
+    wires.add_constant(alloc, name.copy(alloc)?, bit)?;
+    add_candidate(candidates, last)?;
+    note_place(&mut standing.table_places, name.copy(alloc)?, last)?;
     wake(&standing.fed, &mut standing.waiting, &name)
 }

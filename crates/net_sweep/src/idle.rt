@@ -8,8 +8,8 @@ ghost use Rattle.std.specs.Prelude.{◌≡◌, ℕ, Bool, true, false, None, byt
 ghost use Rattle.indexmap.specs.IndexMap.{get};
 ghost use Rattle.circuit_model.specs.Names.{has};
 ghost use Rattle.circuit_model.specs.Soundness.{table_inputs, IsSound};
-ghost use Rattle.net_sweep.specs.declared.marks.Rule.{Rule as TheRule};
-ghost use Rattle.net_sweep.specs.Settled.{AreMarked, HasLed};
+ghost use Rattle.net_sweep.specs.declared.queues.Rule.{Rule as TheRule};
+ghost use Rattle.net_sweep.specs.Settled.{AreCandidates, HasLed};
 ghost use Rattle.net_sweep.specs.Latches.{left_at, with_latches, IsReady};
 
 use crate::latches::Standing;
@@ -20,41 +20,41 @@ use std::alloc::{AllocError, Global};
 
 // Whether it is seen that nothing takes a signal: no table and not the don't-care part reads it, and it is no output and
 // was no latch's input at the start (a latch that has gone still counts).
-fn is_untaken(circuit: &Wires, standing: &Standing, name: &Name) -> bool
-    ensures unread { result ≡ true → has (table_inputs circuit.now.tables) name.now ≡ false }
+fn is_untaken(wires: &Wires, standing: &Standing, name: &Name) -> bool
+    ensures unread { result ≡ true → has (table_inputs wires.now.tables) name.now ≡ false }
     ensures unfed { result ≡ true → get bytes_eq standing.now.fed name.now ≡ None }
-    ensures uncared { result ≡ true → has standing.now.read.keys name.now ≡ false }
+    ensures uncared { result ≡ true → has standing.now.leaves_read.keys name.now ≡ false }
 {
-    if circuit.is_read(name) {
+    if wires.is_read(name) {
         return false;
     }
     if standing.fed.get(name).is_some() {
         return false;
     }
-    !is_among(&standing.read, name)
+    !is_among(&standing.leaves_read, name)
 }
 
 // The table at a place becomes the constant 0 where it is seen that nothing takes its signal.
 pub(crate) fn empty_untaken(
     alloc: Global,
     place: usize,
-    circuit: &mut Wires,
+    wires: &mut Wires,
     standing: &Standing,
 ) -> Result<(), AllocError>
-    requires sound { IsSound (with_latches circuit.old (left_at standing.now.slots.items)) }
-    requires ready { IsReady standing.now circuit.old }
-    ensures led { OnOk result (HasLed (with_latches circuit.old (left_at standing.now.slots.items)) (with_latches circuit.new (left_at standing.now.slots.items))) }
-    ensures marked { OnOk result ((marks : TheRule → ℕ → Bool) → AreMarked marks circuit.old.tables → AreMarked marks circuit.new.tables) }
-    ensures ready { OnOk result (IsReady standing.now circuit.new) }
+    requires sound { IsSound (with_latches wires.old (left_at standing.now.slots.items)) }
+    requires ready { IsReady standing.now wires.old }
+    ensures led { OnOk result (HasLed (with_latches wires.old (left_at standing.now.slots.items)) (with_latches wires.new (left_at standing.now.slots.items))) }
+    ensures candidates { OnOk result ((marks : TheRule → ℕ → Bool) → AreCandidates marks wires.old.tables → AreCandidates marks wires.new.tables) }
+    ensures ready { OnOk result (IsReady standing.now wires.new) }
 {
-    match circuit.table(alloc, place)? {
+    match wires.table(alloc, place)? {
         None => Ok(()),
         Some(table) => {
-            if !is_untaken(circuit, standing, &table.output) {
+            if !is_untaken(wires, standing, &table.output) {
                 return Ok(());
             }
             let constant = constant_table(alloc, table.output, false)?;
-            circuit.set(alloc, place, constant)
+            wires.set(alloc, place, constant)
         }
     }
 }

@@ -15,10 +15,10 @@ ghost use Rattle.net_needed.specs.Places.{LeadsToTables};
 ghost use Rattle.sweep_rules.specs.Points.{written_bit as bit_written};
 ghost use Rattle.sweep_rules.specs.Needed.{dont_care_reads};
 ghost use Rattle.sweep_rules.specs.Rules.{starts_at as may_start_at, fixed_bit as bit_fixed};
-ghost use Rattle.net_sweep.specs.Settled.{AreMarkedBy};
+ghost use Rattle.net_sweep.specs.Settled.{AreWaiting};
 ghost use Rattle.net_sweep.specs.Latches.{slot_bit as bit_of_slot, is_fixed, IsFirstFixed, IsReady};
 
-use crate::marks::{put_place, take_least};
+use crate::queues::{put_place, take_least};
 use circuit_model::{Latch, Name};
 use indexmap::{IndexMap, IndexSet};
 use net_needed::is_among;
@@ -27,26 +27,29 @@ use net_wires::Wires;
 use std::alloc::AllocError;
 use std::collections::BTreeSet;
 
-/// Latches at the places where they began, and what tells soon which of them always has one bit: the places of the
-/// latches that read each signal, those that have gone among them (an output has a list too, be it empty), where the tables
-/// stand, the leaves that the don't-care part reads, and the places that wait to be tried.
+/// Latches at the places where they began, and what tells soon which of them always has one bit.
 #[derive(Drop)]
 pub(crate) struct Standing {
+    // the latches that are left, each at its place
     pub(crate) slots: Vec<Option<Latch>>,
+    // the places of the latches that read each signal, those that have gone among them; an output has a list too, be it empty
     pub(crate) fed: IndexMap<Name, Places>,
-    pub(crate) tables: IndexMap<Name, usize>,
-    pub(crate) read: IndexSet<Name>,
+    // where the table of each signal stands
+    pub(crate) table_places: IndexMap<Name, usize>,
+    // the leaves that the don't-care part reads
+    pub(crate) leaves_read: IndexSet<Name>,
+    // the places of the latches that wait to be tried
     pub(crate) waiting: BTreeSet<usize>,
 }
 
 // The constant that the table of a signal is written as.
-fn driven_bit(circuit: &Wires, places: &IndexMap<Name, usize>, name: &Name) -> Option<bool>
-    requires { LeadsToTables (get bytes_eq places.now) circuit.now.tables }
-    ensures { result ≡ option_map_or bit_written (driver circuit.now.tables name.now) None }
+fn driven_bit(wires: &Wires, places: &IndexMap<Name, usize>, name: &Name) -> Option<bool>
+    requires { LeadsToTables (get bytes_eq places.now) wires.now.tables }
+    ensures { result ≡ option_map_or bit_written (driver wires.now.tables name.now) None }
 {
     match places.get(name) {
         None => None,
-        Some(place) => circuit.bit(*place),
+        Some(place) => wires.bit(*place),
     }
 }
 
@@ -63,17 +66,17 @@ fn starts_at(init: u8, bit: bool) -> bool
 // The bit that a latch always has.
 #[tactic(auto, unfolding(sweep_rules::specs::Rules::fixed_bit))]
 fn fixed_bit(
-    circuit: &Wires,
+    wires: &Wires,
     places: &IndexMap<Name, usize>,
     read: &IndexSet<Name>,
     latch: &Latch,
 ) -> Option<bool>
-    requires placed { LeadsToTables (get bytes_eq places.now) circuit.now.tables }
-    requires read { (name : List ℕ) → has read.now.keys name ≡ dont_care_reads circuit.now name }
-    ensures { result ≡ bit_fixed circuit.now latch.now }
+    requires placed { LeadsToTables (get bytes_eq places.now) wires.now.tables }
+    requires read { (name : List ℕ) → has read.now.keys name ≡ dont_care_reads wires.now name }
+    ensures { result ≡ bit_fixed wires.now latch.now }
 {
     let is_read = is_among(read, &latch.output);
-    match driven_bit(circuit, places, &latch.input) {
+    match driven_bit(wires, places, &latch.input) {
         None => None,
         Some(bit) => {
             if starts_at(latch.init, bit) && !is_read {
@@ -87,55 +90,55 @@ fn fixed_bit(
 
 // The bit that the latch at a place always has, if one is left there.
 fn slot_bit(
-    circuit: &Wires,
+    wires: &Wires,
     places: &IndexMap<Name, usize>,
     read: &IndexSet<Name>,
     slot: &Option<Latch>,
 ) -> Option<bool>
-    requires placed { LeadsToTables (get bytes_eq places.now) circuit.now.tables }
-    requires read { (name : List ℕ) → has read.now.keys name ≡ dont_care_reads circuit.now name }
-    ensures { result ≡ bit_of_slot circuit.now slot.now }
+    requires placed { LeadsToTables (get bytes_eq places.now) wires.now.tables }
+    requires read { (name : List ℕ) → has read.now.keys name ≡ dont_care_reads wires.now name }
+    ensures { result ≡ bit_of_slot wires.now slot.now }
 {
     match slot {
         None => None,
-        Some(latch) => fixed_bit(circuit, places, read, latch),
+        Some(latch) => fixed_bit(wires, places, read, latch),
     }
 }
 
 // The bit that the latch at a place always has, if the place is one and a latch is left there.
 fn bit_at(
-    circuit: &Wires,
+    wires: &Wires,
     places: &IndexMap<Name, usize>,
     read: &IndexSet<Name>,
     slots: &[Option<Latch>],
     place: usize,
 ) -> Option<bool>
-    requires placed { LeadsToTables (get bytes_eq places.now) circuit.now.tables }
-    requires read { (name : List ℕ) → has read.now.keys name ≡ dont_care_reads circuit.now name }
-    ensures { result ≡ option_map_or (bit_of_slot circuit.now) (slice_get slots.now place) None }
+    requires placed { LeadsToTables (get bytes_eq places.now) wires.now.tables }
+    requires read { (name : List ℕ) → has read.now.keys name ≡ dont_care_reads wires.now name }
+    ensures { result ≡ option_map_or (bit_of_slot wires.now) (slice_get slots.now place) None }
 {
     match slots.get(place) {
         None => None,
-        Some(slot) => slot_bit(circuit, places, read, slot),
+        Some(slot) => slot_bit(wires, places, read, slot),
     }
 }
 
 // The place of the first latch that always has one bit, with the bit; the place stays among those that wait.
 fn first_fixed(
-    circuit: &Wires,
+    wires: &Wires,
     places: &IndexMap<Name, usize>,
     read: &IndexSet<Name>,
     slots: &[Option<Latch>],
     waiting: &mut BTreeSet<usize>,
 ) -> Result<Option<(usize, bool)>, AllocError>
-    requires placed { LeadsToTables (get bytes_eq places.now) circuit.now.tables }
-    requires read { (name : List ℕ) → has read.now.keys name ≡ dont_care_reads circuit.now name }
-    requires waiting { AreMarkedBy (is_fixed circuit.now) (contains nat_cmp waiting.old) slots.now }
-    ensures first { IfOk result (λ first. IsFirstFixed circuit.now slots.now first) }
-    ensures waiting { OnOk result (AreMarkedBy (is_fixed circuit.now) (contains nat_cmp waiting.new) slots.now) }
+    requires placed { LeadsToTables (get bytes_eq places.now) wires.now.tables }
+    requires read { (name : List ℕ) → has read.now.keys name ≡ dont_care_reads wires.now name }
+    requires waiting { AreWaiting (is_fixed wires.now) (contains nat_cmp waiting.old) slots.now }
+    ensures first { IfOk result (λ first. IsFirstFixed wires.now slots.now first) }
+    ensures waiting { OnOk result (AreWaiting (is_fixed wires.now) (contains nat_cmp waiting.new) slots.now) }
 {
     while let Some(place) = take_least(waiting) {
-        if let Some(bit) = bit_at(circuit, places, read, slots, place) {
+        if let Some(bit) = bit_at(wires, places, read, slots, place) {
             put_place(waiting, place)?;
             return Ok(Some((place, bit)));
         }
@@ -145,19 +148,19 @@ fn first_fixed(
 
 // The place of the first latch that always has one bit, with the bit.
 pub(crate) fn next_fixed(
-    circuit: &Wires,
+    wires: &Wires,
     standing: &mut Standing,
 ) -> Result<Option<(usize, bool)>, AllocError>
-    requires differ { all_different (outputs_of circuit.now.tables) ≡ true }
-    requires ready { IsReady standing.old circuit.now }
-    ensures first { IfOk result (λ first. IsFirstFixed circuit.now standing.old.slots.items first) }
+    requires differ { all_different (outputs_of wires.now.tables) ≡ true }
+    requires ready { IsReady standing.old wires.now }
+    ensures first { IfOk result (λ first. IsFirstFixed wires.now standing.old.slots.items first) }
     ensures slots { OnOk result (standing.new.slots.items ≡ standing.old.slots.items) }
-    ensures ready { OnOk result (IsReady standing.new circuit.now) }
+    ensures ready { OnOk result (IsReady standing.new wires.now) }
 {
     first_fixed(
-        circuit,
-        &standing.tables,
-        &standing.read,
+        wires,
+        &standing.table_places,
+        &standing.leaves_read,
         standing.slots.as_slice(),
         &mut standing.waiting,
     )

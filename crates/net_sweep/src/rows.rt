@@ -6,7 +6,7 @@ ghost use Rattle.circuit_model.specs.Names.{has};
 ghost use Rattle.circuit_model.specs.Values.{table_value};
 ghost use Rattle.circuit_model.specs.declared.circuit.Tri.TheVariants.{Free};
 ghost use Rattle.net_core.specs.Tables.{HasCharacters};
-ghost use Rattle.net_sweep.specs.Turns.{opens_at_one, row_at_marks};
+ghost use Rattle.net_sweep.specs.Columns.{opens_at_one, row_at_marks};
 ghost use Rattle.sweep_rules.specs.Rules.{asks_against, at_bit as table_at_bit, renamed as name_for, row_turned as turned_row, rewired as table_rewired, is_inverter as inverts_input};
 
 use circuit_model::{Name, Names, Row, Rows, Table, Tri};

@@ -12,7 +12,7 @@ ghost use Rattle.net_readers.specs.Readers.{is_in};
 ghost use Rattle.net_sweep.specs.Latches.{left_at, with_latches, IsPlaced, IsReady};
 
 use crate::latches::Standing;
-use crate::marks::{add_place, all_places, put_list};
+use crate::queues::{add_place, all_places, put_list};
 use circuit_model::{Circuit, Latch, Latches, Name, Table, Timing};
 use indexmap::IndexMap;
 use net_needed::{leaves_read, note_place};
@@ -101,8 +101,8 @@ pub(crate) fn standing_of(alloc: Global, circuit: &Circuit) -> Result<Standing, 
     Ok(Standing {
         slots,
         fed,
-        tables,
-        read,
+        table_places: tables,
+        leaves_read: read,
         waiting,
     })
 }

@@ -11,9 +11,9 @@ ghost use Rattle.net_sweep.specs.Settled.{table_step, HasLed};
 ghost use Rattle.net_sweep.specs.declared.sweeping.SweepFault.TheVariants.{Memory};
 
 use crate::counting::{count_undriven, outputs};
-use crate::marks::all_marked;
+use crate::queues::all_candidates;
 use crate::standing::{standing_of, with_standing};
-use crate::steps::{empty_turned, next_step, take_step};
+use crate::steps::{empty_at_step, next_step, take_step};
 use circuit_model::{Circuit, Name};
 use cube_cover::Row;
 use net_core::Network;
@@ -24,13 +24,16 @@ use std::alloc::{AllocError, Global};
 /// How many tables and latches a sweep took away; a latch that became a table counts as a latch alone.
 #[derive(Clone, Copy, Debug, PartialEq, Eq)]
 pub struct Swept {
+    /// How many of the tables' signals no table drives any more.
     pub tables: usize,
+    /// How many fewer latches there are.
     pub latches: usize,
 }
 
 /// Why a sweep gave no answer.
 #[derive(Clone, Copy, Debug, PartialEq, Eq, Drop)]
 pub enum SweepFault {
+    /// Memory was wanting.
     Memory,
 }
 
@@ -50,11 +53,11 @@ fn settled<R: Row>(alloc: Global, circuit: Circuit) -> Result<Circuit, AllocErro
     ensures latches { IfOk result (λ end. latch_rule end ≡ None) }
 {
     let mut standing = standing_of(alloc, &circuit)?;
-    let mut candidates = all_marked(alloc, circuit.tables.len())?;
+    let mut candidates = all_candidates(alloc, circuit.tables.len())?;
     let mut wires = Wires::from_circuit(alloc, circuit)?;
     while let Some(step) = next_step::<R>(alloc, &wires, &mut candidates, &mut standing)? {
         take_step::<R>(alloc, step, &mut wires, &mut candidates, &mut standing)?;
-        empty_turned(alloc, step, &mut wires, &standing)?;
+        empty_at_step(alloc, step, &mut wires, &standing)?;
     }
     let end = wires.into_circuit(alloc)?;
     with_standing(alloc, end, &standing)
@@ -73,7 +76,7 @@ fn finished<R: Row>(alloc: Global, circuit: Circuit) -> Result<Circuit, AllocErr
     Ok(end)
 }
 
-// What went between tables and latches, given by the tables' names and the latches' number, and those of a circuit.
+// How many of the named tables, and of so many latches, a circuit has no more.
 fn gone(alloc: Global, tables: &[Name], latches: usize, end: &Circuit) -> Result<Swept, AllocError>
     ensures tables { IfOk result (λ swept. swept.tables ≡ count_by (λ name. not (has (outputs_of end.now.tables) name)) tables.now) }
     ensures latches { IfOk result (λ swept. swept.latches ≡ latches - length end.now.latches) }

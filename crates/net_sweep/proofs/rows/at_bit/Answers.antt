@@ -1,6 +1,6 @@
 use Rattle.std.proofs.Common.{◌∙◌, sym, ap, bytes_eq, map}
 use Rattle.std.specs.List.{filter_map}
-use Rattle.net_sweep.specs.Turns.{row_at_marks}
+use Rattle.net_sweep.specs.Columns.{row_at_marks}
 use Rattle.net_sweep.proofs.RowSteps.{at_marked}
 use Rattle.net_wires.proofs.Carried.{on_value}
 use Rattle.net_sweep.proofs.rows.at_bit.Goals as goal

@@ -1,6 +1,6 @@
 use Rattle.std.proofs.Common.{false, Some, ◌+◌, ◌∙◌, get_or, refl, sym, ap, drop}
 use Rattle.circuit_model.specs.declared.circuit.Tri.TheVariants.{Zero}
-use Rattle.net_sweep.specs.Turns.{row_at_marks}
+use Rattle.net_sweep.specs.Columns.{row_at_marks}
 use Rattle.net_sweep.proofs.RowSteps.{place_for, bit_more, bit_done, bit_next, bit_gone, bit_all}
 use Rattle.net_sweep.proofs.rows.row_at_bit.Goals as goal
 

@@ -1,5 +1,5 @@
 use Rattle.std.proofs.Common.{◌≡◌, drop}
-use Rattle.net_sweep.specs.Turns.{row_at_marks}
+use Rattle.net_sweep.specs.Columns.{row_at_marks}
 use Rattle.net_sweep.proofs.RowSteps.{behind}
 use Rattle.net_sweep.proofs.rows.row_at_bit.Given as goal
 

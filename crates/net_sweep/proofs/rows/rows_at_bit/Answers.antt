@@ -1,4 +1,4 @@
-use Rattle.net_sweep.specs.Turns.{row_at_marks}
+use Rattle.net_sweep.specs.Columns.{row_at_marks}
 use Rattle.table_fold.proofs.Steps.{rows_more}
 use Rattle.net_sweep.proofs.rows.rows_at_bit.Goals as goal
 

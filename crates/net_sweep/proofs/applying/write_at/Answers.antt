@@ -1,0 +1,11 @@
+use Rattle.std.proofs.Common.{sym, ◌∙◌}
+use Rattle.net_sweep.proofs.Changing.{constant_applied, set_others}
+use Rattle.net_sweep.proofs.applying.write_at.Goals as goal
+
+pub returns-in_ok-set-in-Some-clause-applied : goal.returns-in_ok-set-in-Some-clause-applied
+returns-in_ok-set-in-Some-clause-applied g c =
+    constant_applied c.args.wires.now c.set.new.self c.args.place c.in_ok-table.table c.in_ok-constant-in-Some.constant c.in-Some.bit c.requires.sound c.in_ok-table.ensures
+    (sym c.in_ok-unwritten_bit.ensures ∙ c.in-Some.is) c.in_ok-constant-in-Some.ensures c.in_ok-set-in-Some.ensures
+
+pub returns-in_ok-set-in-Some-clause-others : goal.returns-in_ok-set-in-Some-clause-others
+returns-in_ok-set-in-Some-clause-others g c = set_others c.args.wires.now c.set.new.self c.args.place c.in_ok-constant-in-Some.constant c.in_ok-places.places c.in_ok-set-in-Some.ensures c.in_ok-places.ensures

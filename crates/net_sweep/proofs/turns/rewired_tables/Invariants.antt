@@ -1,7 +1,0 @@
-use Rattle.std.proofs.Common.{◌≡◌, Some, map, take, slice_get}
-use Rattle.std.specs.Option.{option_map}
-use Rattle.sweep_rules.specs.Rules.{rewired}
-use Rattle.net_sweep.proofs.turns.rewired_tables.Given as goal
-
-abbrev pub invariant-loop-place : goal.invariant-loop-place
-invariant-loop-place l = map Some l.made.items ≡ map (λ place. option_map (rewired l.from l.to l.inverts) (slice_get l.circuit.tables place)) (take l.place-index l.places)

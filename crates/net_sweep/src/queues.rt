@@ -1,0 +1,148 @@
+//! Where rules of sweep may apply: for each rule the places that wait; and lists of places by name.
+//!
+//! Candidates are too many rather than too few: each is tried again before it counts.
+
+ghost use Rattle.std.specs.Prelude.{◌≡◌, ℕ, ◌+◌, ◌≤◌, ◌<◌, ◌==◌, ◌&&◌, ◌||◌, not, Bool, true, false, Option, Some, None, List, [], ◌∷◌, ◌++◌, is_some, bytes_eq, length, if◌then◌else◌, IfOk, OnOk, IfSome, IfNone};
+ghost use Rattle.std.specs.Ordering.{nat_cmp};
+ghost use Rattle.std.specs.BTreeSet.{contains, btree_set_len};
+ghost use Rattle.indexmap.specs.IndexMap.{get};
+ghost use Rattle.net_sweep.specs.declared.queues.Rule.{Rule as TheRule};
+ghost use Rattle.net_sweep.specs.Settled.{listed, is_candidate, may_apply_to_written};
+ghost use Rattle.net_readers.specs.Readers.{is_in};
+
+use circuit_model::Name;
+use indexmap::IndexMap;
+use net_readers::Places;
+use sis_base::{Copied, Sequence};
+use std::alloc::{AllocError, Global};
+use std::collections::BTreeSet;
+
+/// A rule of sweep that changes tables.
+#[derive(Clone, Copy)]
+pub(crate) enum Rule {
+    // a table that is not tidy is tidied
+    Tidy,
+    // a table that is constant is written as the constant
+    Constant,
+    // a written constant is put into the tables that read it
+    Put,
+    // the tables that read a table of one input read that input in its place
+    Bypass,
+}
+
+/// For each rule the places of tables to which it may apply.
+#[derive(Drop)]
+pub(crate) struct Candidates {
+    // for `Tidy`
+    pub(crate) untidy: BTreeSet<usize>,
+    // for `Constant`
+    pub(crate) unwritten: BTreeSet<usize>,
+    // for `Put`
+    pub(crate) constants: BTreeSet<usize>,
+    // for `Bypass`
+    pub(crate) singles: BTreeSet<usize>,
+}
+
+// Takes the least place out.
+pub(crate) fn take_least(set: &mut BTreeSet<usize>) -> Option<usize>
+    ensures none { IfNone result ((place : ℕ) → contains nat_cmp set.old place ≡ false) }
+    ensures within { IfSome result (λ least. contains nat_cmp set.old least ≡ true) }
+    ensures least { IfSome result (λ least. (place : ℕ) → contains nat_cmp set.old place ≡ true → least ≤ place) }
+    ensures rest { IfSome result (λ least. (place : ℕ) → contains nat_cmp set.new place ≡ (not (least == place) && contains nat_cmp set.old place)) }
+    ensures len { btree_set_len set.new + (if is_some result then 1 else 0) ≡ btree_set_len set.old }
+{
+    set.pop_first()
+}
+
+// Puts a place in.
+pub(crate) fn put_place(set: &mut BTreeSet<usize>, put: usize) -> Result<(), AllocError>
+    ensures { OnOk result ((place : ℕ) → contains nat_cmp set.new place ≡ (put == place || contains nat_cmp set.old place)) }
+{
+    set.insert(put)?;
+    Ok(())
+}
+
+// Puts in the place of a table that was written anew, and so is tidy, for each rule but the one that tidies.
+pub(crate) fn add_candidate(candidates: &mut Candidates, put: usize) -> Result<(), AllocError>
+    ensures { OnOk result ((rule : TheRule) (place : ℕ) → is_candidate candidates.new rule place ≡ ((may_apply_to_written rule && put == place) || is_candidate candidates.old rule place)) }
+{
+    put_place(&mut candidates.unwritten, put)?;
+    put_place(&mut candidates.constants, put)?;
+    put_place(&mut candidates.singles, put)?;
+    Ok(())
+}
+
+// Puts in the places of tables that were written anew, for each rule but the one that tidies.
+pub(crate) fn add_candidates(
+    candidates: &mut Candidates,
+    places: &[usize],
+) -> Result<(), AllocError>
+    ensures put { OnOk result ((rule : TheRule) (place : ℕ) → may_apply_to_written rule ≡ true → is_in places.now place ≡ true → is_candidate candidates.new rule place ≡ true) }
+    ensures kept { OnOk result ((rule : TheRule) (place : ℕ) → is_candidate candidates.old rule place ≡ true → is_candidate candidates.new rule place ≡ true) }
+{
+    for put in places {
+        add_candidate(candidates, *put)?;
+    }
+    Ok(())
+}
+
+// So many places, from 0 on.
+pub(crate) fn all_places(alloc: Global, count: usize) -> Result<BTreeSet<usize>, AllocError>
+    ensures { IfOk result (λ places. (place : ℕ) → place < count → contains nat_cmp places place ≡ true) }
+{
+    let mut places = BTreeSet::new(alloc);
+    for place in 0..count {
+        put_place(&mut places, place)?;
+    }
+    Ok(places)
+}
+
+// The candidates where each of so many places, from 0 on, waits for each rule.
+pub(crate) fn all_candidates(alloc: Global, count: usize) -> Result<Candidates, AllocError>
+    ensures { IfOk result (λ candidates. (rule : TheRule) (place : ℕ) → place < count → is_candidate candidates rule place ≡ true) }
+{
+    Ok(Candidates {
+        untidy: all_places(alloc, count)?,
+        unwritten: all_places(alloc, count)?,
+        constants: all_places(alloc, count)?,
+        singles: all_places(alloc, count)?,
+    })
+}
+
+// Takes the list of a signal out.
+pub(crate) fn take_list(alloc: Global, lists: &mut IndexMap<Name, Places>, name: &Name) -> Places
+    ensures list { result ≡ listed (get bytes_eq lists.old name.now) }
+    ensures rest { (other : List ℕ) → get bytes_eq lists.new other ≡ (if bytes_eq name.now other then None else get bytes_eq lists.old other) }
+{
+    match lists.swap_remove(name) {
+        Some(places) => places,
+        None => Sequence::new(alloc),
+    }
+}
+
+// Puts the list of a signal in.
+pub(crate) fn put_list(
+    lists: &mut IndexMap<Name, Places>,
+    name: Name,
+    places: Places,
+) -> Result<(), AllocError>
+    ensures { OnOk result ((other : List ℕ) → get bytes_eq lists.new other ≡ (if bytes_eq name other then Some places else get bytes_eq lists.old other)) }
+{
+    let _list = lists.insert(name, places)?;
+    Ok(())
+}
+
+// Puts a place behind the last of a signal.
+pub(crate) fn add_place(
+    alloc: Global,
+    lists: &mut IndexMap<Name, Places>,
+    name: &Name,
+    place: usize,
+) -> Result<(), AllocError>
+    ensures { OnOk result ((other : List ℕ) → listed (get bytes_eq lists.new other) ≡ (if bytes_eq name.now other then listed (get bytes_eq lists.old other) ++ place ∷ [] else listed (get bytes_eq lists.old other))) }
+{
+    let key = name.copy(alloc)?;
+    let mut places = take_list(alloc, lists, name);
+    places.push(place)?;
+    put_list(lists, key, places)
+}
