@@ -262,18 +262,19 @@ fn keeps_limits(rt: HostRuntime) -> Result<(), Fail> {
     Ok(())
 }
 
-/// What stands behind 65,535 latches, and the fault that it makes.
-const NODES: [(usize, usize, &str); 3] = [
-    (1, 2, "tables 65536"),
-    (1, 1001, "tables 65536"),
-    (1024, 1001, "long 1024"),
+/// How many latches stand before a table, how long the name of its signal is, how many inputs it has, and its fault.
+const NODES: [(usize, usize, usize, &str); 4] = [
+    (65535, 1024, 2, "long 1024"),
+    (65535, 1, 1001, "tables 65536"),
+    (0, 1024, 1001, "long 1024"),
+    (65535, 1024, 1001, "long 1024"),
 ];
 
 #[test]
 fn tells_the_first_of_two_limits(rt: HostRuntime) -> Result<(), Fail> {
-    for (letters, inputs, wanted) in NODES {
+    for (latches, letters, inputs, wanted) in NODES {
         let mut text = String::new(rt.alloc());
-        add_times(&mut text, ".latch n n\n", 65535)?;
+        add_times(&mut text, ".latch n n\n", latches)?;
         text.push_str(".names")?;
         add_times(&mut text, " a", inputs)?;
         text.push(' ')?;

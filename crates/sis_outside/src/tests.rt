@@ -1,3 +1,5 @@
+//! The doubles in memory: what they tell, and where they fail as they are told to.
+
 ghost use Rattle.std.specs.Prelude.{◌-◌, ◌^◌, ◌<◌, ◌≤◌};
 
 use crate::{

@@ -174,7 +174,7 @@ Writes counts (Some options) before status end =
     → EndsAt counts options.keep (begun text before) (behind options.script before).left status end machine
     → AllByRecursion (IsFaithful options.keep (begun text before)) machine.place.written
 
--- a run comes to a machine whose next command may be refused
+-- the next command may be refused at this place
 abbrev pub MayBeRefused : Place → List Command → Type 0
 MayBeRefused place [] = ⊥
 MayBeRefused place (command ∷ rest) = (why : Refusal) × Step place.files place.held command.op (Refuses why)
@@ -212,7 +212,7 @@ abbrev pub NoneGrew : Counts → Type 0
 NoneGrew counts =
     (counts.store_after ≡ counts.store) × (counts.input_after ≡ counts.input) × (counts.out_after ≡ counts.out) × (counts.err_after ≡ counts.err)
 
--- no count of faults rose; a count that stands at its greatest number may have, and is not taken for sure
+-- no count of faults rose, and none stands at its greatest number, where a rise is not seen
 abbrev pub NoneRose : Counts → Type 0
 NoneRose counts = (what : Failed) → HasFailed counts what → ⊥
 

@@ -110,8 +110,7 @@ Reaches goes_on from to = Comes (Advances goes_on) from to
 abbrev pub MayReach : Bool → Machine → Machine → Type 0
 MayReach goes_on from to = Comes (MayAdvance goes_on) from to
 
--- What stands where the next command's call on the outside failed, or memory was wanting.
--- The store failed: at the load of a command that loads, with all as it was; or at a save, of which a front may stand.
+-- the store failed: at the load of a command that loads, with all as it was; or at a save, of which a front may stand
 abbrev pub StoreCut : Place → List Command → Place → Type 0
 StoreCut place [] cut = ⊥
 StoreCut place (command ∷ rest) cut =

@@ -179,7 +179,7 @@ IsDenied Fault before now = Rose before now
 IsDenied Memory before now = before ≤ now
 IsDenied status before now = ⊥
 
--- what the reading of a script from the input leaves of it: its whole rest, just one byte more than the longest, or,
+-- what the reading of a script takes off the input: its whole rest; of one too long just one byte more than the longest;
 -- where a take failed or memory was wanting, no more than that
 abbrev pub TakesScript : List ℕ → Result (Vec ℕ) Unread → List ℕ → Type 0
 TakesScript old (Ok text) new = (old ≡ text.items) × (new ≡ drop (MAX_BYTES + 1) old) × (length old ≤ MAX_BYTES)

@@ -85,6 +85,13 @@ const FILES: &[(&str, &str, usize, &str, &str)] = &[
     (".inputs a\n.model m\n", "", 0, "", "line 2: second model"),
     (".inputs ", "n", 1024, "\n", "limit name 1024"),
     ("", ".latch n n\n", 65536, "", "limit tables 65536"),
+    (
+        "",
+        ".latch n n\n",
+        65535,
+        ".names a b y\n",
+        "limit tables 65536",
+    ),
     (".names y\n", "1\n", 32768, "", "limit rows 32768"),
     (".names", " a", 1001, " y\n", "limit inputs 1001"),
     // two faults of one line
@@ -92,6 +99,23 @@ const FILES: &[(&str, &str, usize, &str, &str)] = &[
     (".names y\n.end\n11\n", "", 0, "", "line 3: unknown word"),
     (".end\n.latch n\n", "", 0, "", "line 2: unknown word"),
     (".end\n.outputs ", "n", 1024, "\n", "line 2: unknown word"),
+    (".end\n.names ", "n", 1024, "\n", "line 2: unknown word"),
+    (".end\n.latch n ", "n", 1024, "\n", "line 2: unknown word"),
+    (".end\n.names", " a", 1001, " y\n", "line 2: unknown word"),
+    (
+        "",
+        ".latch n n\n",
+        65535,
+        ".end\n.latch n q\n",
+        "line 65537: unknown word",
+    ),
+    (
+        "",
+        ".latch n n\n",
+        65535,
+        ".end\n.names y\n",
+        "line 65537: unknown word",
+    ),
     (".inputs a\n.model a b\n", "", 0, "", "line 2: bad arity"),
     (".model b ", "n", 1024, "\n", "line 1: bad arity"),
     (
@@ -105,14 +129,14 @@ const FILES: &[(&str, &str, usize, &str, &str)] = &[
     (".names y\n", "1\n", 32767, "11\n", "line 32769: bad row"),
     (".names y\n", "1\n", 32767, "0\n", "line 32769: mixed phase"),
     (".latch ", "n", 1024, " q 4\n", "line 1: bad latch"),
-    (".inputs\n.model ", "n", 1024, "\n", "line 2: second model"),
     (
         "",
         ".latch n n\n",
         65535,
-        ".names a b y\n",
-        "limit tables 65536",
+        ".latch n\n",
+        "line 65536: bad latch",
     ),
+    (".inputs\n.model ", "n", 1024, "\n", "line 2: second model"),
     // two lines: the first in the file
     (
         ".names a y\n1 1\n0 0\n.frob\n",

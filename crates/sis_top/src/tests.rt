@@ -1,3 +1,6 @@
+//! Runs of the whole program over the doubles in memory, worked out by hand: what each leaves in the store and on both
+//! outputs, and its status.
+
 use crate::{Status, run_sis};
 use sis_outside::{MemSink, MemSource, MemStore};
 use sis_text::Word;

@@ -1,3 +1,5 @@
+//! Words of the command line, and the options that they give.
+
 use crate::{
     Options, ScriptFrom, WordsFault, options_are_asked_for, other_words_are_refused, read_words,
 };
