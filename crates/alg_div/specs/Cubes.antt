@@ -23,7 +23,7 @@ times [] row = row
 times (place ∷ places) [] = place ∷ places
 times (place ∷ places) (other ∷ others) = times_at place other ∷ times places others
 
--- the products of a cube and each row; of each of the cubes and each row
+-- the products of a cube and each row
 unfoldable pub products_by : List (Option Bool) → List (List (Option Bool)) → List (List (Option Bool))
 products_by cube [] = []
 products_by cube (row ∷ rows) = times cube row ∷ products_by cube rows

@@ -31,6 +31,7 @@ abbrev pub first_form : List Form → Form
 first_form [] = Sum []
 first_form (form ∷ forms) = form
 
+-- a law that the code needs: the parts of a form lead back to it
 pub forms_of-parts_before : (form : Form) (parts : List Part) → forms_of (parts_before form parts) ≡ form ∷ forms_of parts
 forms_of-parts_before (Sum rows) parts = refl
 forms_of-parts_before (Split place bit quotient rest) parts =

@@ -11,7 +11,7 @@ use Rattle.cube_cover.specs.Covers.{Shape}
 use Rattle.alg_div.specs.Cubes.{Has}
 use Rattle.alg_div.specs.Quotient.{IsTerm}
 
--- rows place by place, a dash before the negative and that before the positive literal; lists of rows row by row
+-- rows place by place, a dash before the negative and that before the positive literal
 abbrev pub row_cmp : List (Option Bool) → List (Option Bool) → Ordering
 row_cmp = slice_cmp (option_cmp bool_cmp)
 

@@ -120,7 +120,7 @@ abbrev pub TooMany : (List (List (Option Bool)) → Type 0) → List (List (List
 TooMany P seen =
     (ks : List (List (List (Option Bool)))) × (limit < length ks) × Ascends rows_cmp ks × ((k : List (List (Option Bool))) → Has k ks → Has k seen ⊎ P k)
 
--- all kernels of a sum whose rows rise, and more of them than are listed
+-- all kernels of a sum whose rows rise and no other, each once, in rising order
 pub record AreFound (width : ℕ) (f : List (List (Option Bool))) (ks : List (List (List (Option Bool)))) : Type 0 where
   pub only : (k : List (List (Option Bool))) → Has k ks → IsFound width f k
   pub every : (k : List (List (Option Bool))) → IsFound width f k → Has k ks

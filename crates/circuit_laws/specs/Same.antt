@@ -27,7 +27,7 @@ pub record KeepsValues (old new : Circuit) : Type 0 where
   pub kept : (state row : List Bool) → IsAssignment old state row → (signal : List ℕ)
       → has (given old) signal ≡ true → has (given new) signal ≡ true → value_in old state row signal ≡ value_in new state row signal
 
--- the same circuit, and at each leaf assignment each signal has the same value in both
+-- the same circuit, and each signal has the same value in both, whatever the bits of state and row
 pub record KeepsEach (old new : Circuit) : Type 0 where
   pub same : IsSame old new
   pub values : (state row : List Bool) (signal : List ℕ) → value_in old state row signal ≡ value_in new state row signal

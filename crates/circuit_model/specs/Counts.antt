@@ -26,13 +26,13 @@ literals_of_table table = sum_by literals_of_row table.rows
 unfoldable pub literals_of : Circuit → ℕ
 literals_of circuit = sum_by literals_of_table circuit.tables
 
--- a table of at most 32,767 rows over at most 1,000 inputs, each row with a character for each
+-- a table of at most 32,767 rows over at most 1,000 inputs, each row of at most 1,000 characters
 pub record IsSmallTable (table : Table) : Type 0 where
   pub rows : length table.rows ≤ 32767
   pub inputs : length table.inputs ≤ 1000
   pub widths : AllByRecursion (λ (row : List Tri). length row ≤ 1000) table.rows
 
--- at most 65,535 tables and latches, those of the don't-care part with them, and each table small
+-- at most 65,535 tables and latches, those of the don't-care part with them, and each of the circuit's own tables small
 pub record IsWithinLimits (circuit : Circuit) : Type 0 where
   pub nodes : length circuit.tables + length circuit.latches + length circuit.dont_care ≤ 65535
   pub tables : AllByRecursion IsSmallTable circuit.tables

@@ -17,11 +17,11 @@ use Rattle.net_core.specs.declared.network.Sizes.{Sizes}
 unfoldable pub readers_of : List Table → List ℕ → List (List ℕ)
 readers_of tables name = map (λ (table : Table). table.output) (filter (λ (table : Table). has table.inputs name) tables)
 
--- the rows with a literal at a place
+-- how many rows have a literal at a place
 unfoldable pub rows_with : ℕ → List (List Tri) → ℕ
 rows_with place rows = count_by (λ (row : List Tri). is_literal (slice_index_or row place Free)) rows
 
--- the rows of a table with a literal of a signal, which is one of its inputs or none
+-- how many rows of a table have a literal of a signal, which is one of its inputs or none
 abbrev pub rows_at : Option ℕ → List (List Tri) → ℕ
 rows_at None rows = 0
 rows_at (Some place) rows = rows_with place rows

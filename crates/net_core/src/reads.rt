@@ -218,7 +218,7 @@ impl<R: Row> Network<R> {
         Ok(Sequence::from_vec(made))
     }
 
-    /// What the table of a name is worth: n * l - n - l for its n uses and its l literals, none where there is no table.
+    /// What the table of a name is worth: n * l - n - l for its n uses and its l literals; 0 literals where there is no table.
     #[tactic(auto, unfolding(crate::specs::Reads::value_of))]
     pub fn value(&self, name: &Name) -> i128
         requires { HasBounds self.now }

@@ -101,6 +101,7 @@ fn reached(
     ensures { IfOk result (λ names. IsReached roots.keys tables.now latches.now names.keys) }
 {
     let mut names = roots;
+    // no set holds so many names, so that the loop does not come to its end
     for next in 0..usize::MAX {
         match name_at(alloc, &names, next)? {
             None => return Ok(names),

@@ -20,12 +20,12 @@ begins_with byte (first ∷ bytes) = first == byte
 abbrev pub is_file_word : List ℕ → Bool
 is_file_word word = is_utf8 word && not (begins_with 45 word)
 
--- no word
+-- the command where no word stands behind its name, else a bad option
 abbrev pub alone : Op → List (List ℕ) → Op
 alone op [] = op
 alone op (word ∷ words) = Bad BadOption
 
--- a file
+-- the command where a word can name a file, else a bad option
 abbrev pub if_file : List ℕ → Op → Op
 if_file word op = if is_file_word word then op else Bad BadOption
 
@@ -35,13 +35,13 @@ read_op [] = Bad MissingWord
 read_op (file ∷ []) = if_file file (ReadBlif file)
 read_op (file ∷ word ∷ words) = Bad BadOption
 
--- a file or nothing
+-- `write_blif` and its words: a file or nothing
 abbrev pub write_op : List (List ℕ) → Op
 write_op [] = WriteBlif None
 write_op (file ∷ []) = if_file file (WriteBlif (Some file))
 write_op (file ∷ word ∷ words) = Bad BadOption
 
--- any name or nothing; no option may stand there
+-- `print` and its words: any name or nothing; no option may stand there
 abbrev pub print_op : List (List ℕ) → Op
 print_op [] = Print None
 print_op (name ∷ []) = Print (Some name)

@@ -38,6 +38,7 @@ pub record Effect : Type 0 where
   pub call : Call
   pub onward : Next
 
+-- the outcome of a command: what it does, or why it is refused
 pub data Outcome : Type 0 where
   Does : Effect → Outcome
   Refuses : Refusal → Outcome

@@ -41,7 +41,7 @@ numbers_line name stats =
 abbrev pub stats_line : Circuit → List ℕ
 stats_line circuit = numbers_line circuit.name (stats_of circuit)
 
--- what is wrong with a line, what limit is passed, and what else is wrong with a file
+-- what is wrong with a line, behind its number
 unfoldable pub line_fault_text : ℕ → List ℕ → List ℕ
 line_fault_text line what = codes "line " ++ (decimal line ++ (codes ": " ++ what))
 

@@ -39,7 +39,8 @@ pub record AreAskedFor : Type 0 where
   pub parted : (keep : Bool) (script : TheScript) → HasPlainValue script
       → options_of (keep_words keep ++ parted_words script) ≡ Some (record { keep = keep; script = script })
 
--- words that are not taken, whatever stands behind them
+-- words that are not taken: a file and a text together, alone; a flag twice, a long option or a stray word, whatever stands
+-- behind them
 pub record AreRefused : Type 0 where
   -- a file and a text together
   pub both : (name text : Text) → options_of (joined_words (InFile name) ++ joined_words (AsText text)) ≡ None

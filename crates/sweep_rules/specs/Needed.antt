@@ -21,7 +21,7 @@ needed_within circuit (suc steps) name =
     || list_any (λ (table : Table). needed_within circuit steps table.output && has table.inputs name) circuit.tables
     || list_any (λ (latch : Latch). needed_within circuit steps latch.output && bytes_eq latch.input name) circuit.latches
 
--- as many steps as there are tables and latches are enough to see it
+-- whether a signal is needed; as many steps as there are tables and latches are enough to see it
 unfoldable pub is_needed : Circuit → List ℕ → Bool
 is_needed circuit name = needed_within circuit (length circuit.tables + length circuit.latches) name
 

@@ -37,7 +37,7 @@ constant_rule circuit = option_map (with_constant circuit) (find (λ table. is_s
 abbrev pub tables_read : Circuit → List ℕ → Bool
 tables_read circuit name = has (table_inputs circuit.tables) name
 
--- a character at the place of a signal that has this bit: no row is left where it asks for the other bit
+-- whether a character asks a signal that has this bit for the other one
 abbrev pub asks_against : Bool → Tri → Bool
 asks_against true Zero = true
 asks_against false One = true
@@ -128,7 +128,8 @@ input_bit circuit latch = option_map_or written_bit (driver circuit.tables latch
 abbrev pub bit_from_start : Circuit → Latch → Bool → Option Bool
 bit_from_start circuit latch bit = if starts_at latch.init bit && not (dont_care_reads circuit latch.output) then Some bit else None
 
--- the bit that a latch always has: it may start there and takes it at each step; and the don't-care part does not read it
+-- the bit that a latch always has: it may start there, need not start at the other one, and takes it at each step; and the
+-- don't-care part does not read it
 unfoldable pub fixed_bit : Circuit → Latch → Option Bool
 fixed_bit circuit latch = option_map_or (bit_from_start circuit latch) (input_bit circuit latch) None
 

@@ -13,8 +13,8 @@ use Rattle.sweep_rules.specs.Points.{constant_bit, written_bit}
 use Rattle.sweep_rules.specs.Rules.{tables_read, starts_at}
 use Rattle.sweep_rules.specs.Needed.{dont_care_reads, is_needed}
 
--- a table that sweep leaves: tidy; written as a constant where it is one; and neither constant nor of one input where
--- tables read it
+-- a table that sweep leaves: tidy; written as a constant where it is one; neither constant nor of one input where tables
+-- read it; and needed
 pub record IsSweptTable (circuit : Circuit) (table : Table) : Type 0 where
   pub tidy : is_tidy table ≡ true
   pub written : constant_bit table ≡ written_bit table
@@ -22,8 +22,8 @@ pub record IsSweptTable (circuit : Circuit) (table : Table) : Type 0 where
   pub not_single : tables_read circuit table.output ≡ true → length table.inputs ≡ 1 → ⊥
   pub needed : is_needed circuit table.output ≡ true
 
--- a latch that sweep leaves: where it may start at a bit and its input is a table that is this constant, the don't-care
--- part reads it; and it is needed
+-- a latch that sweep leaves: where it may start at a bit and need not start at the other one, and its input is a table that
+-- is this constant, the don't-care part reads it; and it is needed
 pub record IsSweptLatch (circuit : Circuit) (latch : Latch) : Type 0 where
   pub not_fixed : (bit : Bool) (table : Table) → starts_at latch.init bit ≡ true → driver circuit.tables latch.input ≡ Some table → constant_bit table ≡ Some bit
       → dont_care_reads circuit latch.output ≡ true
@@ -34,7 +34,7 @@ pub record IsSwept (circuit : Circuit) : Type 0 where
   pub tables : AllByRecursion (IsSweptTable circuit) circuit.tables
   pub latches : AllByRecursion (IsSweptLatch circuit) circuit.latches
 
--- how many tables and latches went: a latch that became a table counts as a latch alone
+-- how many of the old tables' signals no table drives any more; a latch that became a table is none of them
 abbrev pub tables_gone : Circuit → Circuit → ℕ
 tables_gone old new = count_by (λ name. not (has (outputs_of new.tables) name)) (outputs_of old.tables)
 

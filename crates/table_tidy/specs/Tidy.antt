@@ -37,7 +37,7 @@ rows_differ (row ∷ rows) = not (list_any (same_row row) rows) && rows_differ r
 abbrev pub row_text : List Tri → List ℕ
 row_text row = map character row
 
--- the characters at the first place of rows, and the rows behind it
+-- the first character of a row, a dash where there is none
 abbrev pub front_place : List Tri → Tri
 front_place [] = Free
 front_place (place ∷ row) = place
@@ -57,7 +57,7 @@ abbrev pub some_row_or_phase_one : List (List Tri) → Bool → Bool
 some_row_or_phase_one [] phase = phase
 some_row_or_phase_one (row ∷ rows) phase = true
 
--- a tidy table: each input once, each with a literal; no row twice; phase 1 where there is no row
+-- whether a table is tidy: each input once, each with a literal; no row twice; phase 1 where there is no row
 unfoldable pub is_tidy : Table → Bool
 is_tidy table =
     all_different table.inputs && list_all (λ used. used) (used_places table.inputs table.rows) && rows_differ table.rows
@@ -86,7 +86,7 @@ narrowed table = record table {
 unfoldable pub with_phase_one : Table → Table
 with_phase_one table = if some_row_or_phase_one table.rows table.phase then table else constant_one table.output
 
--- a table without rows that stand in front of them already
+-- a table without the rows that equal one in front of them
 abbrev pub with_rows_once : Table → Table
 with_rows_once table = record table { rows = rows_once [] table.rows }
 
