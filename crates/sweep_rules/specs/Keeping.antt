@@ -22,8 +22,8 @@ may_begin circuit held = list_any (λ (latch : Latch). bytes_eq held.0 latch.out
 abbrev pub HaveBits : Circuit → List Held → List Bool → Type 0
 HaveBits circuit held state = AllByRecursion (λ (latch : Held). bit_of (latch_outputs circuit) state latch.0 ≡ Some latch.1) held
 
--- the new circuit is sound and refines the old one; what is left keeps its value at each leaf assignment in which
--- some latches that became constants have their bits; those are different ones, each may have started at its bit, once
+-- the new circuit is sound and refines the old one; what is left keeps its value at each leaf assignment in which some
+-- latches have given bits; these are different ones, each may start at its bit and need not start at the other one, once
 -- they have their bits they keep them at each step, and they are no latches any more
 pub record IsKept (old new : Circuit) : Type 0 where
   pub sound : IsSound new
