@@ -29,16 +29,16 @@ random() {
   python3 - "$1" <<'PY'
 import sys
 tables, x = int(sys.argv[1]), 1
-def draw(m):
+def pick(m):
     global x
     x = (x * 6364136223846793005 + 1442695040888963407) % 2**64
     return (x >> 33) % m
 signals = [f"i{k}" for k in range(16)] + [f"l{k}" for k in range(8)]
 lines = []
 for k in range(tables):
-    a, b = draw(24 + k), draw(24 + k)
+    a, b = pick(24 + k), pick(24 + k)
     if a == b: b = (a + 1) % (24 + k)
-    rows = [["11 1"], ["11 0"], ["1- 1", "-1 1"], ["10 1", "01 1"]][draw(4)]
+    rows = [["11 1"], ["11 0"], ["1- 1", "-1 1"], ["10 1", "01 1"]][pick(4)]
     lines += [f".names {signals[a]} {signals[b]} t{k}"] + rows
     signals.append(f"t{k}")
 last = [f"t{k}" for k in range(tables - 8, tables)]
