@@ -1,7 +1,8 @@
 -- What a logical line is, by its first word.
 -- Source: BLIF appendix of the SIS report (UCB/ERL M92/41): a line that begins with `.` is a declaration, any
 -- other one a row of a table.
-use Rattle.std.specs.Prelude.{ℕ, Bool, true, false, ◌==◌, List, [], ◌∷◌, bytes_eq, codes, if◌then◌else◌}
+use Rattle.std.specs.Prelude.{ℕ, Bool, true, false, List, [], ◌∷◌, bytes_eq, codes, if◌then◌else◌}
+use Rattle.sis_text.specs.Words.{begins_with}
 use Rattle.sis_text.specs.Entries.{Entry}
 use Rattle.blif_read.specs.declared.keyword.Keyword.{Keyword}
 use Rattle.blif_read.specs.declared.keyword.Keyword.TheVariants.{Model, Inputs, Outputs, Names, Latch, End, Row, Other}
@@ -15,11 +16,6 @@ first_word (word ∷ words) = word
 abbrev pub other_words : List (List ℕ) → List (List ℕ)
 other_words [] = []
 other_words (word ∷ words) = words
-
--- whether the first byte is this one
-abbrev pub begins_with : ℕ → List ℕ → Bool
-begins_with byte [] = false
-begins_with byte (first ∷ bytes) = first == byte
 
 -- the kind of a line by its first word
 unfoldable pub keyword_of : List ℕ → Keyword

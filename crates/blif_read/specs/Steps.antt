@@ -1,6 +1,7 @@
 -- The reader's own steps: what it keeps of the lines that it has taken, and what one more line makes of that.
 -- Source: BLIF appendix of the SIS report (UCB/ERL M92/41). What a file says is defined in Lines and Reader; these are
 -- the steps of the code, which goes through the lines once. A law says that both come to the same.
+-- Clauses of private functions alone cite this module; no public clause needs it.
 use Rattle.std.specs.Prelude.{◌≡◌, ℕ, ◌+◌, Bool, true, false, not, ◌==◌, nat_le, Option, Some, None, Result, Ok, Err, List, [], ◌∷◌, ◌++◌, map, length, codes}
 use Rattle.std.specs.Borrow.{Bor}
 use Rattle.std.specs.Option.{option_map}

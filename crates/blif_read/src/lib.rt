@@ -15,8 +15,6 @@ mod line_fault;
 mod reading;
 pub mod reading_laws;
 mod row;
-#[cfg(test)]
-mod tests;
 mod word_list;
 
 pub use fault::{BlifFault, LimitKind, ReadFault};

@@ -12,10 +12,9 @@ ghost use Rattle.blif_read.specs.Steps.{take_entry, take_entries, no_lines, fini
 use crate::draft::{Draft, with_reading};
 use crate::fault::ReadFault;
 use crate::file_fault::lists_fault;
-use crate::word_list::words_at;
 use circuit_model::{Circuit, Tables};
 use sis_base::Sequence;
-use sis_text::{Line, logical_lines};
+use sis_text::{Line, logical_lines, texts_at};
 use std::alloc::{AllocError, Global};
 use table_fold::fold_table;
 
@@ -23,7 +22,7 @@ use table_fold::fold_table;
 fn take_line(alloc: Global, source: &[u8], line: &Line, draft: &mut Draft) -> Result<(), ReadFault>
     ensures { Takes result draft.new (take_entry draft.old (entry_at source.now line.now)) }
 {
-    let words = words_at(alloc, source, line.words.as_slice())?;
+    let words = texts_at(alloc, source, line.words.as_slice())?;
     draft.take(alloc, line.number, words.as_slice())
 }
 

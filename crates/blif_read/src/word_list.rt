@@ -1,8 +1,8 @@
 //! The words of one line, as they stand in the text that is read.
 
-ghost use Rattle.std.specs.Prelude.{◌≡◌, ◌++◌, map, take, IfOk, OnOk, if◌then◌else◌};
-ghost use Rattle.sis_text.specs.Words.{bytes_at as bytes_of};
-ghost use Rattle.blif_read.specs.Keyword.{keyword_of as kind_by, begins_with, first_word as first_of, other_words as others_of};
+ghost use Rattle.std.specs.Prelude.{◌≡◌, ◌++◌, take, IfOk, OnOk, if◌then◌else◌};
+ghost use Rattle.sis_text.specs.Words.{begins_with};
+ghost use Rattle.blif_read.specs.Keyword.{keyword_of as kind_by, first_word as first_of, other_words as others_of};
 ghost use Rattle.blif_read.specs.Lines.{input_words, last_word as last_of, joined as all_bytes};
 ghost use Rattle.blif_read.specs.Reader.{latch_input as input_of, latch_output as output_of};
 ghost use Rattle.blif_read.specs.Steps.{texts};
@@ -10,7 +10,6 @@ ghost use Rattle.blif_read.specs.Steps.{texts};
 use crate::keyword::Keyword;
 use circuit_model::{Name, Names};
 use sis_base::Sequence;
-use sis_text::{Span, bytes_at};
 use std::alloc::{AllocError, Global};
 
 /// What a line is, by its first word.
@@ -135,19 +134,4 @@ pub fn joined(alloc: Global, words: &[&[u8]]) -> Result<Vec<u8>, AllocError>
         bytes.extend_from_slice(word)?;
     }
     Ok(bytes)
-}
-
-/// The words at some spans of a text; an error only for want of memory.
-pub fn words_at<'a>(
-    alloc: Global,
-    source: &'a [u8],
-    spans: &[Span],
-) -> Result<Vec<&'a [u8]>, AllocError>
-    ensures { IfOk result (λ words. texts words.items ≡ map (bytes_of source.now) spans.now) }
-{
-    let mut words = Vec::with_capacity(alloc, spans.len())?;
-    for span in spans {
-        words.push(bytes_at(source, *span))?;
-    }
-    Ok(words)
 }

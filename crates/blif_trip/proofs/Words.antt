@@ -3,7 +3,7 @@ use Rattle.std.proofs.Common.{◌≡◌, ℕ, zero, suc, Bool, true, false, List
 use Rattle.std.specs.List.{All, AllByRecursion, list_all}
 use Rattle.std.proofs.lemmas.List.Elements.{All-from_recursion}
 use Rattle.sis_base.specs.Written.{is_word, is_word_byte, Written}
-use Rattle.sis_text.specs.Written.{IsWritten}
+use Rattle.sis_text.specs.Written.{IsLineOfWords}
 use Rattle.circuit_model.specs.declared.circuit.Tri.{Tri}
 use Rattle.circuit_model.specs.declared.circuit.Tri.TheVariants.{Zero, One, Free}
 use Rattle.circuit_model.specs.declared.circuit.Table.{Table}
@@ -141,9 +141,9 @@ plain_words circuit h = (
   ),
 )
 
-written : (lines : List Written) → AllByRecursion HasWords lines → AllByRecursion IsWritten lines
+written : (lines : List Written) → AllByRecursion HasWords lines → AllByRecursion IsLineOfWords lines
 written [] h = tt
 written (line ∷ lines) h = (All-from_recursion (λ (word : List ℕ). is_word word ≡ true) (line.first ∷ line.others) h.0, written lines h.1)
 
-pub lines_written : (circuit : Circuit) → OfNames IsName circuit → All IsWritten (plain_lines circuit)
-lines_written circuit h = All-from_recursion IsWritten (plain_lines circuit) (written (plain_lines circuit) (plain_words circuit h))
+pub lines_written : (circuit : Circuit) → OfNames IsName circuit → All IsLineOfWords (plain_lines circuit)
+lines_written circuit h = All-from_recursion IsLineOfWords (plain_lines circuit) (written (plain_lines circuit) (plain_words circuit h))

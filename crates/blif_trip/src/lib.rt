@@ -23,14 +23,3 @@ pub fn read_circuit_is_read_again()
     ensures { (source : List ℕ) (circuit : TheCircuit) → read_lines (entries_of source) ≡ Ok circuit
         → read_lines (entries_of (text_of circuit)) ≡ Ok circuit }
 {}
-
-#[cfg(test)]
-mod tests {
-    use super::*;
-
-    #[test]
-    fn laws_are_called() {
-        written_text_is_read();
-        read_circuit_is_read_again();
-    }
-}

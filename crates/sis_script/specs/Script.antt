@@ -2,18 +2,14 @@
 -- Source: the SIS manual's command language (UCB/ERL M92/41): commands are parted by `;` and line ends, words by
 -- blanks, and `#` begins a comment. No quotes or escapes. The words behind a command's name are judged from left to
 -- right, and the first that is wrong counts; that a word lacks is found behind the last.
-use Rattle.std.specs.Prelude.{ℕ, Bool, false, not, ◌==◌, ◌&&◌, Option, Some, None, List, [], ◌∷◌, bytes_eq, codes, if◌then◌else◌}
+use Rattle.std.specs.Prelude.{ℕ, Bool, not, ◌&&◌, Some, None, List, [], ◌∷◌, bytes_eq, codes, if◌then◌else◌}
 use Rattle.std.specs.Str.{is_utf8}
+use Rattle.sis_text.specs.Words.{begins_with}
 use Rattle.sis_text.specs.Entries.{Entry}
 use Rattle.sis_script.specs.declared.command.Op.{Op}
 use Rattle.sis_script.specs.declared.command.Op.TheVariants.{Echo, Quit, ReadBlif, WriteBlif, PrintStats, Print, PrintLatch, Sweep, Undo, Bad}
 use Rattle.sis_script.specs.declared.command.ScriptFault.TheVariants.{BadCommand, BadOption, MissingWord}
 use Rattle.sis_script.specs.declared.command.Command.{Command}
-
--- whether the first byte is this one
-abbrev pub begins_with : ℕ → List ℕ → Bool
-begins_with byte [] = false
-begins_with byte (first ∷ bytes) = first == byte
 
 -- a word that may stand where a file or an option may: text, and none that begins as an option does, since no command
 -- so far has one

@@ -1,11 +1,10 @@
 //! The commands of a script.
 
 ghost use Rattle.std.specs.Prelude.{◌≡◌, ℕ, List, Some, None, map, IfOk, if◌then◌else◌};
-ghost use Rattle.sis_text.specs.Words.{bytes_at};
+ghost use Rattle.sis_text.specs.Words.{begins_with, bytes_at};
 ghost use Rattle.sis_text.specs.Entries.{entry_at, script_entries_of};
 ghost use Rattle.sis_script.specs.Script.{
   alone,
-  begins_with,
   command_of,
   is_file_word,
   op_by,

@@ -4,11 +4,11 @@ use Rattle.std.specs.List.{filter, prefix_len, suffix_len, flat_map}
 use Rattle.std.proofs.lemmas.List.{length-take, append_assoc}
 use Rattle.std.proofs.lemmas.List.Folds.{length-prefix_len}
 use Rattle.std.proofs.lemmas.List.Sums.{prefix_len-le-length}
-use Rattle.sis_base.specs.Written.{is_blank}
+use Rattle.sis_base.specs.Written.{is_blank, ends_open}
 use Rattle.sis_text.specs.declared.places.Span.{Span}
 use Rattle.sis_text.specs.declared.places.Line.{Line}
 use Rattle.sis_text.specs.Words.{bytes_at, word_len, words_from, part_len, parts_from}
-use Rattle.sis_text.specs.Lines.{uncommented, trimmed, kept, closed, is_open, words_at, before, joined, has_words, not_empty, lines_of, physical_lines}
+use Rattle.sis_text.specs.Lines.{cut_comment, trim_returns, content, cut_joint, words_at, prepend, join_lines, has_words, not_empty, lines_of, physical_lines}
 use Rattle.sis_text.specs.Pieces.{piece_at, line_pieces, pieces_from, pieces_of}
 use Rattle.sis_text.specs.Order.{AreInOrder, words_in}
 
@@ -89,37 +89,37 @@ pub words_in_order : (line : List ℕ) → AreInOrder 0 (length line) (words_fro
 words_in_order line = order_wider 0 0 (0 + length line) (length line) (words_from 0 true line) (omega arith) (omega arith) (words_order 0 true line)
 
 -- the words of a line lie in it
-kept_shorter : (line : List ℕ) → length (closed (kept line)) ≤ length line
-unfolding closed trimmed uncommented
-kept_shorter line =
-    step (is_open (kept line)) (omega (arith, length-take (length (uncommented line) - suffix_len (λ byte. eqb byte 13) (uncommented line)) (uncommented line), length-take (prefix_len (λ byte. not (eqb byte 35)) line) line))
+content_shorter : (line : List ℕ) → length (cut_joint (content line)) ≤ length line
+unfolding cut_joint trim_returns cut_comment
+content_shorter line =
+    step (ends_open (content line)) (omega (arith, length-take (length (cut_comment line) - suffix_len (λ byte. eqb byte 13) (cut_comment line)) (cut_comment line), length-take (prefix_len (λ byte. not (eqb byte 35)) line) line))
   where
-    step : (b : Bool) → length (kept line) ≤ length line → length (cond b (take (length (kept line) - 1) (kept line)) (kept line)) ≤ length line
-    step true h = omega (arith, length-take (length (kept line) - 1) (kept line))
+    step : (b : Bool) → length (content line) ≤ length line → length (cond b (take (length (content line) - 1) (content line)) (content line)) ≤ length line
+    step true h = omega (arith, length-take (length (content line) - 1) (content line))
     step false h = h
 
 words_at_order : (source : List ℕ) (line : Span) → AreInOrder line.place (line.place + line.len) (words_at source line)
 unfolding words_at
 words_at_order source line =
-    order_wider line.place line.place (line.place + length (closed (kept (bytes_at source line)))) (line.place + line.len) (words_at source line) (omega arith) (omega (arith, kept_shorter (bytes_at source line), length-take line.len (drop line.place source))) (words_order line.place true (closed (kept (bytes_at source line))))
+    order_wider line.place line.place (line.place + length (cut_joint (content (bytes_at source line)))) (line.place + line.len) (words_at source line) (omega arith) (omega (arith, content_shorter (bytes_at source line), length-take line.len (drop line.place source))) (words_order line.place true (cut_joint (content (bytes_at source line))))
 
 pub lines_order : (source : List ℕ) → AreInOrder 0 (length source) (physical_lines source)
 lines_order source = order_wider 0 0 (0 + length source) (length source) (physical_lines source) (omega arith) (omega arith) (parts_order 10 0 true source)
 
 -- all words of logical lines are those of the physical lines
-before_words : (number : ℕ) (words : List Span) (lines : List Line) → words_in (before number words lines) ≡ words ++ words_in lines
-unfolding before
-before_words number words [] = refl
-before_words number words (l ∷ lines) = append_assoc words l.words (words_in lines)
+prepend_words : (number : ℕ) (words : List Span) (lines : List Line) → words_in (prepend number words lines) ≡ words ++ words_in lines
+unfolding prepend
+prepend_words number words [] = refl
+prepend_words number words (l ∷ lines) = append_assoc words l.words (words_in lines)
 
-pub joined_words : (source : List ℕ) (number : ℕ) (lines : List Span) → words_in (joined source number lines) ≡ flat_map (words_at source) lines
-unfolding joined
-joined_words source number [] = refl
-joined_words source number (line ∷ lines) =
-    step (is_open (kept (bytes_at source line))) (joined_words source (number + 1) lines)
+pub join_lines_words : (source : List ℕ) (number : ℕ) (lines : List Span) → words_in (join_lines source number lines) ≡ flat_map (words_at source) lines
+unfolding join_lines
+join_lines_words source number [] = refl
+join_lines_words source number (line ∷ lines) =
+    step (ends_open (content (bytes_at source line))) (join_lines_words source (number + 1) lines)
   where
-    step : (b : Bool) → words_in (joined source (number + 1) lines) ≡ flat_map (words_at source) lines → words_in (cond b (before number (words_at source line) (joined source (number + 1) lines)) (record { number = number; words = words_at source line } ∷ joined source (number + 1) lines)) ≡ words_at source line ++ flat_map (words_at source) lines
-    step true e = before_words number (words_at source line) (joined source (number + 1) lines) ∙ ap (λ ws. words_at source line ++ ws) e
+    step : (b : Bool) → words_in (join_lines source (number + 1) lines) ≡ flat_map (words_at source) lines → words_in (cond b (prepend number (words_at source line) (join_lines source (number + 1) lines)) (record { number = number; words = words_at source line } ∷ join_lines source (number + 1) lines)) ≡ words_at source line ++ flat_map (words_at source) lines
+    step true e = prepend_words number (words_at source line) (join_lines source (number + 1) lines) ∙ ap (λ ws. words_at source line ++ ws) e
     step false e = ap (λ ws. words_at source line ++ ws) e
 
 pub filtered_words : (lines : List Line) → words_in (filter has_words lines) ≡ words_in lines
@@ -133,7 +133,7 @@ filtered_words (l ∷ lines) = step l.words refl (filtered_words lines)
 
 pub lines_words : (source : List ℕ) → words_in (lines_of source) ≡ flat_map (words_at source) (physical_lines source)
 unfolding lines_of
-lines_words source = filtered_words (joined source 1 (physical_lines source)) ∙ joined_words source 1 (physical_lines source)
+lines_words source = filtered_words (join_lines source 1 (physical_lines source)) ∙ join_lines_words source 1 (physical_lines source)
 
 pub lines_in_order : (source : List ℕ) → AreInOrder 0 (length source) (words_in (lines_of source))
 lines_in_order source =
@@ -145,7 +145,7 @@ abbrev pub piece_words : List ℕ → Span → List Span
 piece_words source part = words_from part.place true (bytes_at source part)
 
 abbrev pub line_piece_words : List ℕ → Span → List Span
-line_piece_words source line = flat_map (piece_words source) (parts_from 59 line.place true (uncommented (bytes_at source line)))
+line_piece_words source line = flat_map (piece_words source) (parts_from 59 line.place true (cut_comment (bytes_at source line)))
 
 parts_words : (source : List ℕ) (number : ℕ) (parts : List Span) → words_in (map (piece_at source number) parts) ≡ flat_map (piece_words source) parts
 unfolding piece_at
@@ -160,7 +160,7 @@ pieces_from_words : (source : List ℕ) (number : ℕ) (lines : List Span) → w
 unfolding pieces_from line_pieces
 pieces_from_words source number [] = refl
 pieces_from_words source number (line ∷ lines) =
-    words_in-append (line_pieces source number line) (pieces_from source (number + 1) lines) ∙ ap (λ ws. ws ++ words_in (pieces_from source (number + 1) lines)) (parts_words source number (parts_from 59 line.place true (uncommented (bytes_at source line)))) ∙ ap (λ ws. line_piece_words source line ++ ws) (pieces_from_words source (number + 1) lines)
+    words_in-append (line_pieces source number line) (pieces_from source (number + 1) lines) ∙ ap (λ ws. ws ++ words_in (pieces_from source (number + 1) lines)) (parts_words source number (parts_from 59 line.place true (cut_comment (bytes_at source line)))) ∙ ap (λ ws. line_piece_words source line ++ ws) (pieces_from_words source (number + 1) lines)
 
 pub pieces_words : (source : List ℕ) → words_in (pieces_of source) ≡ flat_map (line_piece_words source) (physical_lines source)
 unfolding pieces_of
@@ -171,11 +171,11 @@ piece_order source part =
     order_wider part.place part.place (part.place + length (bytes_at source part)) (part.place + part.len) (piece_words source part) (omega arith) (omega (arith, length-take part.len (drop part.place source))) (words_order part.place true (bytes_at source part))
 
 line_piece_order : (source : List ℕ) (line : Span) → AreInOrder line.place (line.place + line.len) (line_piece_words source line)
-unfolding uncommented
+unfolding cut_comment
 line_piece_order source line =
-    let parts : AreInOrder line.place (line.place + line.len) (parts_from 59 line.place true (uncommented (bytes_at source line))) =
-    order_wider line.place line.place (line.place + length (uncommented (bytes_at source line))) (line.place + line.len) (parts_from 59 line.place true (uncommented (bytes_at source line))) (omega arith) (omega (arith, length-take (prefix_len (λ byte. not (eqb byte 35)) (bytes_at source line)) (bytes_at source line), length-take line.len (drop line.place source))) (parts_order 59 line.place true (uncommented (bytes_at source line))) in
-    order_flat (piece_words source) line.place (line.place + line.len) (parts_from 59 line.place true (uncommented (bytes_at source line))) (piece_order source) parts
+    let parts : AreInOrder line.place (line.place + line.len) (parts_from 59 line.place true (cut_comment (bytes_at source line))) =
+    order_wider line.place line.place (line.place + length (cut_comment (bytes_at source line))) (line.place + line.len) (parts_from 59 line.place true (cut_comment (bytes_at source line))) (omega arith) (omega (arith, length-take (prefix_len (λ byte. not (eqb byte 35)) (bytes_at source line)) (bytes_at source line), length-take line.len (drop line.place source))) (parts_order 59 line.place true (cut_comment (bytes_at source line))) in
+    order_flat (piece_words source) line.place (line.place + line.len) (parts_from 59 line.place true (cut_comment (bytes_at source line))) (piece_order source) parts
 
 pub pieces_in_order : (source : List ℕ) → AreInOrder 0 (length source) (words_in (pieces_of source))
 pieces_in_order source =

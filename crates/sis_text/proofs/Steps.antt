@@ -1,13 +1,13 @@
 -- One step of each walk over a text, and its end, as loops take them.
-use Rattle.std.proofs.Common.{◌≡◌, ℕ, ◌+◌, ◌<◌, ◌≤◌, Bool, cond, List, [], ◌∷◌, ◌++◌, length, get_or, drop, refl, eqb, add_assoc, ◌&&◌, not, take, ap, map, arith}
+use Rattle.std.proofs.Common.{◌≡◌, ℕ, ◌+◌, ◌<◌, ◌≤◌, Bool, false, cond, List, [], ◌∷◌, ◌++◌, length, get_or, drop, refl, eqb, add_assoc, ◌&&◌, not, take, ap, map, arith, sym, ◌∙◌, ◌-◌, suc}
 use Rattle.std.specs.List.{take_while, filter}
 use Rattle.std.proofs.lemmas.List.Elements.{filter-append}
 use Rattle.std.proofs.lemmas.List.Folds.{length-prefix_len}
 use Rattle.std.proofs.lemmas.Bool.Decides.{nat_tests}
 use Rattle.std.proofs.lemmas.List.{drop_more, drop_all}
-use Rattle.sis_base.specs.Written.{is_blank}
+use Rattle.sis_base.specs.Written.{is_blank, ends_open}
 use Rattle.sis_text.specs.declared.places.Span.{Span}
-use Rattle.sis_text.specs.Lines.{joined, has_words, not_empty}
+use Rattle.sis_text.specs.Lines.{join_lines, has_words, not_empty}
 use Rattle.sis_text.specs.Pieces.{piece_at, line_pieces, pieces_from}
 use Rattle.sis_text.specs.Words.{word_len, words_from, part_len, parts_from}
 
@@ -31,9 +31,9 @@ parts_done mark place i after_mark xs h = rw (drop_all i xs h) refl
 pub front_taken : (p : ℕ → Bool) (xs : List ℕ) → take (length (take_while p xs)) xs ≡ take_while p xs
 front_taken p xs = ap (λ n. take n xs) (length-prefix_len p xs)
 
-pub joined_done : (source : List ℕ) (number i : ℕ) (lines : List Span) → length lines ≤ i → joined source number (drop i lines) ≡ []
-unfolding joined
-joined_done source number i lines h = rw (drop_all i lines h) refl
+pub join_lines_done : (source : List ℕ) (number i : ℕ) (lines : List Span) → length lines ≤ i → join_lines source number (drop i lines) ≡ []
+unfolding join_lines
+join_lines_done source number i lines h = rw (drop_all i lines h) refl
 
 abbrev nowhere : Span
 nowhere = record { place = 0; len = 0 }
@@ -53,6 +53,20 @@ pieces_more source number i lines h =
 pub pieces_done : (source : List ℕ) (number i : ℕ) (lines : List Span) → length lines ≤ i → filter has_words (pieces_from source number (drop i lines)) ≡ []
 unfolding pieces_from
 pieces_done source number i lines h = rw (drop_all i lines h) refl
+
+-- the last byte is that before the length
+pub open_tested : (text : List ℕ) → ends_open text ≡ eqb (get_or text (length text - 1) 0) 92
+unfolding ends_open
+open_tested [] = refl
+open_tested (byte ∷ []) = refl
+open_tested (byte ∷ next ∷ bytes) =
+    let e : length (byte ∷ next ∷ bytes) - 1 ≡ suc (length (next ∷ bytes) - 1) = omega arith in
+    open_tested (next ∷ bytes) ∙ sym (ap (λ n. eqb (get_or (byte ∷ next ∷ bytes) n 0) 92) e)
+
+pub none_open : (text : List ℕ) → length text ≡ 0 → ends_open text ≡ false
+unfolding ends_open
+none_open [] e = refl
+none_open (byte ∷ bytes) e = absurd (omega arith)
 
 -- a list is empty where its length is 0
 pub empty_tested : {A : Type 0} (xs : List A) → eqb (length xs) 0 ≡ not (not_empty xs)

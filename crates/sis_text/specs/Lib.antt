@@ -5,3 +5,4 @@ pub mod Pieces
 pub mod Entries
 pub mod Order
 pub mod Written
+pub mod Decimals

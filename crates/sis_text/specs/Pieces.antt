@@ -6,7 +6,7 @@ use Rattle.std.specs.List.{filter}
 use Rattle.sis_text.specs.declared.places.Span.{Span}
 use Rattle.sis_text.specs.declared.places.Line.{Line}
 use Rattle.sis_text.specs.Words.{bytes_at, words_from, parts_from}
-use Rattle.sis_text.specs.Lines.{uncommented, physical_lines, has_words}
+use Rattle.sis_text.specs.Lines.{cut_comment, physical_lines, has_words}
 
 -- one piece with the number of its line
 unfoldable pub piece_at : List ℕ → ℕ → Span → Line
@@ -15,7 +15,7 @@ piece_at source number part = record { number = number; words = words_from part.
 -- the pieces of one physical line
 unfoldable pub line_pieces : List ℕ → ℕ → Span → List Line
 line_pieces source number line =
-    map (piece_at source number) (parts_from 59 line.place true (uncommented (bytes_at source line)))
+    map (piece_at source number) (parts_from 59 line.place true (cut_comment (bytes_at source line)))
 
 -- the pieces of physical lines, numbered from `number` on
 unfoldable pub pieces_from : List ℕ → ℕ → List Span → List Line

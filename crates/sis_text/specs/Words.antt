@@ -1,7 +1,7 @@
 -- The words of a line, and the parts of a text between marks, each as a span: a place and a length.
 -- Source: "Berkeley Logic Interchange Format (BLIF)", appendix of the SIS report (UCB/ERL M92/41): words
 -- are parted by blanks (tab, carriage return, space).
-use Rattle.std.specs.Prelude.{ℕ, ◌+◌, ◌==◌, ◌&&◌, not, Bool, true, List, [], ◌∷◌, ◌++◌, length, take, drop, if◌then◌else◌}
+use Rattle.std.specs.Prelude.{ℕ, ◌+◌, ◌==◌, ◌&&◌, not, Bool, true, false, List, [], ◌∷◌, ◌++◌, length, take, drop, if◌then◌else◌}
 use Rattle.std.specs.List.{take_while}
 use Rattle.sis_base.specs.Written.{is_blank}
 use Rattle.sis_text.specs.declared.places.Span.{Span}
@@ -9,6 +9,11 @@ use Rattle.sis_text.specs.declared.places.Span.{Span}
 -- the bytes of a text that a span names
 abbrev pub bytes_at : List ℕ → Span → List ℕ
 bytes_at source span = take span.len (drop span.place source)
+
+-- whether the first byte of a word is this one
+abbrev pub begins_with : ℕ → List ℕ → Bool
+begins_with byte [] = false
+begins_with byte (first ∷ bytes) = first == byte
 
 -- how many bytes stand before the first blank
 unfoldable pub word_len : List ℕ → ℕ

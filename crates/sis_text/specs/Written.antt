@@ -7,8 +7,8 @@ use Rattle.sis_base.specs.Written.{Written, is_word}
 use Rattle.sis_text.specs.Entries.{Entry}
 
 -- each word of the line is a word: no reader takes a byte of it for a blank, a line end or a comment
-abbrev pub IsWritten : Written → Type 0
-IsWritten line = All (λ word. is_word word ≡ true) (line.first ∷ line.others)
+abbrev pub IsLineOfWords : Written → Type 0
+IsLineOfWords line = All (λ word. is_word word ≡ true) (line.first ∷ line.others)
 
 -- the lines with their numbers, from `number` on
 unfoldable pub numbered : ℕ → List Written → List Entry

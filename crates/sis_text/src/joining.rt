@@ -4,8 +4,9 @@ ghost use Rattle.std.specs.Prelude.{◌≡◌, List, map, ◌==◌, ◌+◌, ◌
 ghost use Rattle.std.specs.List.{take_while, suffix_len, filter};
 ghost use Rattle.sis_text.specs.declared.places.Span.{Span};
 ghost use Rattle.sis_text.specs.Words.{bytes_at, parts_from};
-ghost use Rattle.sis_text.specs.Lines.{uncommented, trimmed, kept, is_open, closed, words_at, joined, has_words, lines_of};
-ghost use Rattle.sis_text.specs.Joining.{started, resume};
+ghost use Rattle.sis_base.specs.Written.{ends_open};
+ghost use Rattle.sis_text.specs.Lines.{cut_comment, trim_returns, content, cut_joint, words_at, join_lines, has_words, lines_of};
+ghost use Rattle.sis_text.specs.Joining.{current_line, resume};
 ghost use Rattle.sis_text.specs.Entries.{entry_at, entries_of};
 ghost use Rattle.sis_text.specs.Order.{AreInOrder, AreWordsOf, HaveWords, words_in, is_plain};
 
@@ -22,9 +23,9 @@ fn front_len(line: &[u8]) -> usize
 }
 
 /// What stands before the first `#`.
-#[tactic(auto, unfolding(crate::specs::Lines::uncommented), using(crate::proofs::Steps::front_taken, std::proofs::lemmas::Grind::common_steps))]
-pub(crate) fn uncommented(line: &[u8]) -> &[u8]
-    ensures value { result.now ≡ uncommented line.now }
+#[tactic(auto, unfolding(crate::specs::Lines::cut_comment), using(crate::proofs::Steps::front_taken, std::proofs::lemmas::Grind::common_steps))]
+pub(crate) fn cut_comment(line: &[u8]) -> &[u8]
+    ensures value { result.now ≡ cut_comment line.now }
     ensures shorter { length result.now ≤ length line.now }
 {
     &line[..front_len(line)]
@@ -39,30 +40,30 @@ fn returns_len(text: &[u8]) -> usize
 }
 
 /// `text` without the carriage returns at its end.
-#[tactic(auto, unfolding(crate::specs::Lines::trimmed))]
-fn trimmed(text: &[u8]) -> &[u8]
-    ensures value { result.now ≡ trimmed text.now }
+#[tactic(auto, unfolding(crate::specs::Lines::trim_returns))]
+fn trim_returns(text: &[u8]) -> &[u8]
+    ensures value { result.now ≡ trim_returns text.now }
     ensures shorter { length result.now ≤ length text.now }
 {
     &text[..text.len() - returns_len(text)]
 }
 
 /// Whether the last byte is a `\`.
-#[tactic(auto, unfolding(crate::specs::Lines::is_open))]
-fn is_open(text: &[u8]) -> bool
-    ensures value { result ≡ is_open text.now }
+#[tactic(auto, using(crate::proofs::Steps::open_tested, crate::proofs::Steps::none_open))]
+fn ends_open(text: &[u8]) -> bool
+    ensures value { result ≡ ends_open text.now }
     ensures some { result ≡ true → 1 ≤ length text.now }
 {
     !text.is_empty() && text[text.len() - 1] == b'\\'
 }
 
 /// `text` without a `\` at its end.
-#[tactic(auto, unfolding(crate::specs::Lines::closed))]
-fn closed(text: &[u8]) -> &[u8]
-    ensures value { result.now ≡ closed text.now }
+#[tactic(auto, unfolding(crate::specs::Lines::cut_joint))]
+fn cut_joint(text: &[u8]) -> &[u8]
+    ensures value { result.now ≡ cut_joint text.now }
     ensures shorter { length result.now ≤ length text.now }
 {
-    if is_open(text) {
+    if ends_open(text) {
         &text[..text.len() - 1]
     } else {
         text
@@ -70,17 +71,17 @@ fn closed(text: &[u8]) -> &[u8]
 }
 
 /// What is kept of the physical line at `line`.
-fn kept_at(source: &[u8], line: Span) -> &[u8]
-    ensures value { result.now ≡ kept (bytes_at source.now line) }
+fn content_at(source: &[u8], line: Span) -> &[u8]
+    ensures value { result.now ≡ content (bytes_at source.now line) }
     ensures within { line.place + length result.now < 2 ^ 64 }
 {
-    trimmed(uncommented(bytes_at(source, line)))
+    trim_returns(cut_comment(bytes_at(source, line)))
 }
 
 /// The line that has begun, or one with this number.
-#[tactic(auto, unfolding(crate::specs::Joining::started))]
-fn started(alloc: Global, begun: Option<Line>, number: usize) -> Line
-    ensures { result ≡ started begun number }
+#[tactic(auto, unfolding(crate::specs::Joining::current_line))]
+fn current_line(alloc: Global, begun: Option<Line>, number: usize) -> Line
+    ensures { result ≡ current_line begun number }
 {
     match begun {
         Some(line) => line,
@@ -112,12 +113,12 @@ fn take_line(
     source: &[u8],
     line: Span,
 ) -> Result<Option<Line>, AllocError>
-    ensures { IfOk result (λ next. (rest : List Span) → lines.new ++ filter has_words (resume next (joined source.now (number + 1) rest)) ≡ lines.old ++ filter has_words (resume begun (joined source.now number (line ∷ rest)))) }
+    ensures { IfOk result (λ next. (rest : List Span) → lines.new ++ filter has_words (resume next (join_lines source.now (number + 1) rest)) ≡ lines.old ++ filter has_words (resume begun (join_lines source.now number (line ∷ rest)))) }
 {
-    let text = kept_at(source, line);
-    let mut taken = started(alloc, begun, number);
-    add_words(&mut taken.words, line.place, closed(text))?;
-    if is_open(text) {
+    let text = content_at(source, line);
+    let mut taken = current_line(alloc, begun, number);
+    add_words(&mut taken.words, line.place, cut_joint(text))?;
+    if ends_open(text) {
         return Ok(Some(taken));
     }
     finish(lines, taken)?;
@@ -125,7 +126,7 @@ fn take_line(
 }
 
 /// Puts the line that has begun, if there is one, behind `lines`.
-#[tactic(auto, unfolding(crate::specs::Joining::resume, crate::specs::Lines::before))]
+#[tactic(auto, unfolding(crate::specs::Joining::resume, crate::specs::Lines::prepend))]
 fn finish_last(lines: &mut Lines, begun: Option<Line>) -> Result<(), AllocFailed<Line>>
     ensures { OnOk result (lines.new ≡ lines.old ++ filter has_words (resume begun [])) }
 {
@@ -136,9 +137,9 @@ fn finish_last(lines: &mut Lines, begun: Option<Line>) -> Result<(), AllocFailed
 }
 
 /// The logical lines of these physical lines.
-#[tactic(auto, unfolding(crate::specs::Joining::resume), using(crate::proofs::Steps::joined_done, std::proofs::lemmas::Grind::common_steps))]
+#[tactic(auto, unfolding(crate::specs::Joining::resume), using(crate::proofs::Steps::join_lines_done, std::proofs::lemmas::Grind::common_steps))]
 fn join(alloc: Global, source: &[u8], physical: &[Span]) -> Result<Lines, AllocError>
-    ensures { IfOk result (λ lines. lines ≡ filter has_words (joined source.now 1 physical.now)) }
+    ensures { IfOk result (λ lines. lines ≡ filter has_words (join_lines source.now 1 physical.now)) }
 {
     let mut lines = Sequence::new(alloc);
     let mut begun = None;

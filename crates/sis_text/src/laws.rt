@@ -5,7 +5,7 @@ ghost use Rattle.std.specs.List.{All};
 ghost use Rattle.sis_base.specs.Written.{Written, lines_text};
 ghost use Rattle.sis_text.specs.Entries.{entries_of, script_entries_of};
 ghost use Rattle.sis_text.specs.Order.{IsProper, is_plain, is_script_plain};
-ghost use Rattle.sis_text.specs.Written.{IsWritten, numbered};
+ghost use Rattle.sis_text.specs.Written.{IsLineOfWords, numbered};
 
 /// A law, no work: each logical line has words, none empty or with a blank, a line end or a `#`; each piece
 /// of a script has words, none with a `;` either.
@@ -17,5 +17,5 @@ pub fn entries_are_proper()
 /// A law, no work: where each line has words and no word has a blank, a line end or a `#`, the logical
 /// lines of the text that is written of them are these lines, numbered 1, 2 and so on.
 pub fn written_lines_are_read()
-    ensures { (lines : List Written) → All IsWritten lines → entries_of (lines_text lines) ≡ numbered 1 lines }
+    ensures { (lines : List Written) → All IsLineOfWords lines → entries_of (lines_text lines) ≡ numbered 1 lines }
 {}

@@ -7,7 +7,7 @@ ghost use Rattle.sis_text.specs.Pieces.{piece_at, line_pieces, pieces_from, piec
 ghost use Rattle.sis_text.specs.Entries.{entry_at, script_entries_of};
 ghost use Rattle.sis_text.specs.Order.{AreInOrder, AreWordsOf, HaveWords, words_in, is_script_plain};
 
-use crate::joining::{finish, uncommented};
+use crate::joining::{cut_comment, finish};
 use crate::parting::{add_parts, add_words, parts};
 use crate::places::{Line, Lines, Span, bytes_at};
 use sis_base::Sequence;
@@ -63,7 +63,7 @@ fn add_line(
         &mut found,
         b';',
         line.place,
-        uncommented(bytes_at(source, line)),
+        cut_comment(bytes_at(source, line)),
     )?;
     add_pieces(lines, alloc, number, source, found.as_slice())?;
     Ok(())
