@@ -2,5 +2,7 @@ pub mod Trees
 pub mod Unique
 pub mod Points
 pub mod Sizes
-pub mod Numbers
-pub mod RowTrees
+pub mod Complements
+pub mod Meanings
+pub mod Steps
+pub mod PlainNumbers

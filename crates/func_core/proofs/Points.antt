@@ -15,7 +15,7 @@ test-true : (a x y : Bool) → a ≡ true → (if a then y else x) ≡ y
 test-true a x y e = rw e refl
 
 -- where the first half of a reduced node is Zero the other isn't
-high-stands : (lo hi : Tree) → (lo ≡ hi → ⊥) → is_constant_zero lo ≡ true → is_constant_zero hi ≡ false
+pub high-stands : (lo hi : Tree) → (lo ≡ hi → ⊥) → is_constant_zero lo ≡ true → is_constant_zero hi ≡ false
 high-stands lo hi different e = cases (is_constant_zero hi) refl
   where
     cases : (b : Bool) → is_constant_zero hi ≡ b → b ≡ false

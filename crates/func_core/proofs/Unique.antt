@@ -4,7 +4,7 @@ use Rattle.std.proofs.lemmas.Bool.{eqb-true, cases_order}
 use Rattle.func_core.specs.Trees.{Tree, Zero, One, Node, eval, IsReduced}
 
 -- the assignment with one variable's bit changed
-put : (ℕ → Bool) → ℕ → Bool → ℕ → Bool
+pub put : (ℕ → Bool) → ℕ → Bool → ℕ → Bool
 put point place bit n = if eqb n place then bit else point n
 
 put-same : (point : ℕ → Bool) (place : ℕ) (bit : Bool) → put point place bit place ≡ bit
@@ -41,13 +41,13 @@ test-true : (a x y : Bool) → a ≡ true → (if a then y else x) ≡ y
 test-true a x y e = rw e refl
 
 -- the halves of a tree are what it computes with the variable fixed
-eval-low : (place : ℕ) (lo hi : Tree) (point : ℕ → Bool) → IsReduced (suc place) lo →
+pub eval-low : (place : ℕ) (lo hi : Tree) (point : ℕ → Bool) → IsReduced (suc place) lo →
     eval (Node place lo hi) (put point place false) ≡ eval lo point
 unfolding eval
 eval-low place lo hi point r =
     test-false _ _ _ (put-same point place false) ∙ eval-put lo (suc place) place false point r (omega arith)
 
-eval-high : (place : ℕ) (lo hi : Tree) (point : ℕ → Bool) → IsReduced (suc place) hi →
+pub eval-high : (place : ℕ) (lo hi : Tree) (point : ℕ → Bool) → IsReduced (suc place) hi →
     eval (Node place lo hi) (put point place true) ≡ eval hi point
 unfolding eval
 eval-high place lo hi point r =

@@ -3,5 +3,4 @@ pub mod Sizes
 pub mod Points
 pub mod Numbers
 pub mod Laws
-pub mod Diagrams
-pub mod Tables
+pub mod PlainTrees

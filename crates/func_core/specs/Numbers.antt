@@ -1,16 +1,27 @@
--- Functions named by numbers of one object: what a change of the object leaves as it was.
+-- Functions named by numbers of one object: which numbers stand in a state of the object, for which trees,
+-- within which limit on their sizes.
 -- Source: R. E. Bryant, "Graph-Based Algorithms for Boolean Function Manipulation", IEEE Transactions on
 -- Computers C-35 (1986), where a function is named by a vertex of a graph.
-use Rattle.std.specs.Prelude.{◌≡◌, ℕ}
-use Rattle.func_core.specs.Trees.{Tree}
+use Rattle.std.specs.Prelude.{◌≡◌, ℕ, ◌<◌, ◌≤◌}
+use Rattle.func_core.specs.Trees.{BooleanFunction, Tree, IsTreeOf}
+use Rattle.func_core.specs.Sizes.{size}
 
--- each number that stood before stands after, for the same tree
-abbrev pub Keeps : {S : Type 0} → (S → ℕ → Type 0) → (S → ℕ → Tree) → S → S → Type 0
-Keeps holds tree before after = (n : ℕ) → holds before n → holds after n × (tree after n ≡ tree before n)
+-- a number means a function: it stands for the function's tree, whose size is within the limit
+pub record Means {S : Type 0} (holds : S → ℕ → Type 0) (tree : S → ℕ → Tree) (limit : S → ℕ) (state : S) (n : ℕ) (f : BooleanFunction) : Type 0 where
+  pub stands : holds state n
+  pub is_tree : IsTreeOf f (tree state n)
+  pub fits : size (tree state n) ≤ limit state
 
--- a number stands for a tree
-abbrev pub StandsFor : {S : Type 0} → (S → ℕ → Type 0) → (S → ℕ → Tree) → S → ℕ → Tree → Type 0
-StandsFor holds tree state n t = holds state n × (tree state n ≡ t)
+-- a function is too big for a limit: the size of its tree is above it
+pub record IsBig (limit : ℕ) (f : BooleanFunction) : Type 0 where
+  pub tree : Tree
+  pub is_tree : IsTreeOf f tree
+  pub above : limit < size tree
+
+-- each number that stood before stands after, for the same tree, and the limit stays
+pub record Stays {S : Type 0} (holds : S → ℕ → Type 0) (tree : S → ℕ → Tree) (limit : S → ℕ) (before after : S) : Type 0 where
+  pub kept : (n : ℕ) → holds before n → holds after n × (tree after n ≡ tree before n)
+  pub same : limit after ≡ limit before
 
 -- no number stands
 abbrev pub NoneStands : {S : Type 0} → (S → ℕ → Type 0) → S → Type 0

@@ -1,4 +1,4 @@
--- A point at which a function is true, as the literals on one path of its reduced tree.
+-- A point at which a function is true, as the literals on one path of its tree.
 -- Source: R. E. Bryant, "Graph-Based Algorithms for Boolean Function Manipulation", IEEE Transactions on
 -- Computers C-35 (1986), "satisfy-one".
 use Rattle.std.specs.Prelude.{◌≡◌, ℕ, suc, ◌≤◌, Bool, true, false, Option, Some, None, List, [], ◌∷◌, if◌then◌else◌}
@@ -20,7 +20,7 @@ path (Node place lo hi) = if is_constant_zero lo then (place, true) ∷ path hi 
 abbrev pub one_path : Tree → Option (List (ℕ × Bool))
 one_path t = if is_constant_zero t then None else Some (path t)
 
--- an assignment has the bits of a list of literals
+-- a valuation has the bits of a list of literals
 unfoldable pub Follows : (ℕ → Bool) → List (ℕ × Bool) → Type 0
 Follows point [] = Unit {0}
 Follows point (l ∷ ls) = (point l.0 ≡ l.1) × Follows point ls

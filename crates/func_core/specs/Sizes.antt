@@ -2,18 +2,21 @@
 -- table needs for it.
 -- Source: R. E. Bryant, "Graph-Based Algorithms for Boolean Function Manipulation", IEEE Transactions on
 -- Computers C-35 (1986).
-use Rattle.std.specs.Prelude.{ℕ, Bool, false, ◌||◌, List, [], ◌∷◌, ◌++◌, length, if◌then◌else◌}
-use Rattle.func_core.specs.Trees.{Tree, Zero, One, Node, tree_eq}
+use Rattle.std.specs.Prelude.{ℕ, Bool, true, false, ◌==◌, ◌&&◌, List, [], ◌∷◌, ◌++◌}
+use Rattle.std.specs.Set.{distinct_count}
+use Rattle.func_core.specs.Trees.{Tree, Zero, One, Node}
 
--- whether a tree stands in a list
-unfoldable pub member : Tree → List Tree → Bool
-member t [] = false
-member t (u ∷ us) = tree_eq t u || member t us
-
--- the list seen so far, and behind it each further tree that isn't in it yet
-unfoldable pub join : List Tree → List Tree → List Tree
-join seen [] = seen
-join seen (t ∷ ts) = if member t seen then join seen ts else join (seen ++ t ∷ []) ts
+-- whether two trees are one
+unfoldable pub tree_eq : Tree → Tree → Bool
+tree_eq Zero Zero = true
+tree_eq Zero One = false
+tree_eq Zero (Node w c d) = false
+tree_eq One Zero = false
+tree_eq One One = true
+tree_eq One (Node w c d) = false
+tree_eq (Node v a b) Zero = false
+tree_eq (Node v a b) One = false
+tree_eq (Node v a b) (Node w c d) = v == w && (tree_eq a c && tree_eq b d)
 
 -- the inner subtrees, each as often as it stands
 unfoldable pub inner : Tree → List Tree
@@ -23,4 +26,4 @@ inner (Node place lo hi) = Node place lo hi ∷ (inner lo ++ inner hi)
 
 -- the number of different inner subtrees
 unfoldable pub size : Tree → ℕ
-size t = length (join [] (inner t))
+size t = distinct_count tree_eq (inner t)

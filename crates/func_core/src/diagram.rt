@@ -1,10 +1,11 @@
 //! Built decision trees, and the operations on them.
 
-ghost use Rattle.std.specs.Prelude.{◌≡◌, IfOk, map, [], ◌∷◌};
-ghost use Rattle.func_core.specs.Trees.{tree_eq, constant, variable, node, on_leaves, apply};
-ghost use Rattle.func_core.specs.Sizes.{member, join, inner, size};
+ghost use Rattle.std.specs.Prelude.{◌≡◌, ℕ, suc, ◌≤◌, Bool, IfOk, map, [], ◌∷◌, if◌then◌else◌};
+ghost use Rattle.std.specs.Set.{is_member};
+ghost use Rattle.func_core.specs.Trees.{eval, IsReduced};
+ghost use Rattle.func_core.specs.Sizes.{tree_eq, inner, size};
 ghost use Rattle.func_core.specs.Points.{is_constant_zero, path};
-ghost use Rattle.func_core.specs.Diagrams.{shape, bits};
+ghost use Rattle.func_core.specs.PlainTrees.{shape, bits, Adds};
 
 use std::alloc::{AllocError, Global};
 
@@ -36,15 +37,19 @@ fn bit_of(operation: Operation, left: bool, right: bool) -> bool
 }
 
 /// The tree of a constant.
+#[tactic(auto, unfolding(crate::specs::Trees::eval, crate::specs::Trees::IsReduced))]
 pub fn leaf(bit: bool) -> Diagram
-    ensures { shape result ≡ constant bit }
+    ensures computes { (point : ℕ → Bool) → eval (shape result) point ≡ bit }
+    ensures reduced { (least : ℕ) → IsReduced least (shape result) }
 {
     if bit { Diagram::One } else { Diagram::Zero }
 }
 
 /// The tree of a variable.
+#[tactic(auto, using(crate::proofs::Steps::eval_variable, crate::proofs::Steps::reduced_variable))]
 pub fn variable_at(alloc: Global, place: usize) -> Result<Diagram, AllocError>
-    ensures { IfOk result (λ made. shape made ≡ variable place) }
+    ensures computes { IfOk result (λ made. (point : ℕ → Bool) → eval (shape made) point ≡ point place) }
+    ensures reduced { IfOk result (λ made. IsReduced 0 (shape made)) }
 {
     Ok(Diagram::Branch(
         place,
@@ -54,7 +59,7 @@ pub fn variable_at(alloc: Global, place: usize) -> Result<Diagram, AllocError>
 }
 
 /// Whether two trees are one.
-#[tactic(auto, unfolding(crate::specs::Trees::tree_eq))]
+#[tactic(auto, unfolding(crate::specs::Sizes::tree_eq))]
 pub fn is_same(a: &Diagram, b: &Diagram) -> bool
     ensures { result ≡ tree_eq (shape a.now) (shape b.now) }
 {
@@ -69,9 +74,9 @@ pub fn is_same(a: &Diagram, b: &Diagram) -> bool
 }
 
 /// A node over two trees, or the first where both are one.
-#[tactic(auto, unfolding(crate::specs::Trees::node))]
 fn join_halves(alloc: Global, place: usize, lo: Diagram, hi: Diagram) -> Result<Diagram, AllocError>
-    ensures { IfOk result (λ made. shape made ≡ node place (shape lo) (shape hi)) }
+    ensures computes { IfOk result (λ made. (point : ℕ → Bool) → eval (shape made) point ≡ (if point place then eval (shape hi) point else eval (shape lo) point)) }
+    ensures reduced { IfOk result (λ made. (least : ℕ) → least ≤ place → IsReduced (suc place) (shape lo) → IsReduced (suc place) (shape hi) → IsReduced least (shape made)) }
 {
     if is_same(&lo, &hi) {
         return Ok(lo);
@@ -79,15 +84,15 @@ fn join_halves(alloc: Global, place: usize, lo: Diagram, hi: Diagram) -> Result<
     Ok(Diagram::Branch(place, Box::new(alloc, lo)?, Box::new(alloc, hi)?))
 }
 
-/// The tree of an operation on a constant and a tree.
-#[tactic(auto, unfolding(crate::specs::Trees::on_leaves))]
+/// The tree of an operation on a constant and a tree; as the operations commute, either may come first.
 pub fn with_constant(
     alloc: Global,
     operation: Operation,
     left: bool,
     right: &Diagram,
 ) -> Result<Diagram, AllocError>
-    ensures { IfOk result (λ made. shape made ≡ on_leaves (bits operation left) (shape right.now)) }
+    ensures computes { IfOk result (λ made. (point : ℕ → Bool) → eval (shape made) point ≡ bits operation left (eval (shape right.now) point)) }
+    ensures reduced { IfOk result (λ made. (least : ℕ) → IsReduced least (shape right.now) → IsReduced least (shape made)) }
 {
     match right {
         Diagram::Zero => Ok(leaf(bit_of(operation, left, false))),
@@ -101,19 +106,21 @@ pub fn with_constant(
 }
 
 /// The tree of an operation on two trees.
-#[tactic(auto, unfolding(crate::specs::Trees::apply, crate::specs::Trees::under))]
 pub fn combine(
     alloc: Global,
     operation: Operation,
     left: &Diagram,
     right: &Diagram,
 ) -> Result<Diagram, AllocError>
-    ensures { IfOk result (λ made. shape made ≡ apply (bits operation) (shape left.now) (shape right.now)) }
+    ensures computes { IfOk result (λ made. (point : ℕ → Bool) → eval (shape made) point ≡ bits operation (eval (shape left.now) point) (eval (shape right.now) point)) }
+    ensures reduced { IfOk result (λ made. (least : ℕ) → IsReduced least (shape left.now) → IsReduced least (shape right.now) → IsReduced least (shape made)) }
 {
     match left {
         Diagram::Zero => with_constant(alloc, operation, false, right),
         Diagram::One => with_constant(alloc, operation, true, right),
         Diagram::Branch(place, lo, hi) => match right {
+            Diagram::Zero => with_constant(alloc, operation, false, left),
+            Diagram::One => with_constant(alloc, operation, true, left),
             Diagram::Branch(other, low, high) => {
                 if *place < *other {
                     let l = combine(alloc, operation, lo, right)?;
@@ -129,19 +136,13 @@ pub fn combine(
                 let h = combine(alloc, operation, hi, high)?;
                 join_halves(alloc, *place, l, h)
             }
-            _ => {
-                let l = combine(alloc, operation, lo, right)?;
-                let h = combine(alloc, operation, hi, right)?;
-                join_halves(alloc, *place, l, h)
-            }
         },
     }
 }
 
 /// Whether a tree is among some others.
-#[tactic(auto, unfolding(crate::specs::Sizes::member))]
 fn is_among(others: &[&Diagram], tree: &Diagram) -> bool
-    ensures { result ≡ member (shape tree.now) (map (λ d. shape d.now) others.now) }
+    ensures { result ≡ is_member tree_eq (map (λ d. shape d.now) others.now) (shape tree.now) }
 {
     for other in others {
         if is_same(tree, other) {
@@ -153,7 +154,7 @@ fn is_among(others: &[&Diagram], tree: &Diagram) -> bool
 
 /// The trees seen, and behind them a further one unless it is among them.
 fn see<'a>(seen: Vec<&'a Diagram>, tree: &'a Diagram) -> Result<Vec<&'a Diagram>, AllocError>
-    ensures { IfOk result (λ all. map (λ d. shape d.now) all.items ≡ join (map (λ d. shape d.now) seen.entry.items) (shape tree.now ∷ [])) }
+    ensures { IfOk result (λ all. Adds (map (λ d. shape d.now) seen.entry.items) (shape tree.now ∷ []) (map (λ d. shape d.now) all.items)) }
 {
     if is_among(&seen, tree) {
         return Ok(seen);
@@ -164,9 +165,8 @@ fn see<'a>(seen: Vec<&'a Diagram>, tree: &'a Diagram) -> Result<Vec<&'a Diagram>
 }
 
 /// The trees seen, and behind them each inner subtree of a tree that is not among them yet.
-#[tactic(auto, unfolding(crate::specs::Sizes::join, crate::specs::Sizes::inner))]
 fn see_inner<'a>(seen: Vec<&'a Diagram>, tree: &'a Diagram) -> Result<Vec<&'a Diagram>, AllocError>
-    ensures { IfOk result (λ all. map (λ d. shape d.now) all.items ≡ join (map (λ d. shape d.now) seen.entry.items) (inner (shape tree.now))) }
+    ensures { IfOk result (λ all. Adds (map (λ d. shape d.now) seen.entry.items) (inner (shape tree.now)) (map (λ d. shape d.now) all.items)) }
 {
     match tree {
         Diagram::Branch(_, lo, hi) => {
@@ -180,7 +180,6 @@ fn see_inner<'a>(seen: Vec<&'a Diagram>, tree: &'a Diagram) -> Result<Vec<&'a Di
 }
 
 /// The number of different inner subtrees.
-#[tactic(auto, unfolding(crate::specs::Sizes::size))]
 pub fn size_of(alloc: Global, tree: &Diagram) -> Result<usize, AllocError>
     ensures { IfOk result (λ count. count ≡ size (shape tree.now)) }
 {

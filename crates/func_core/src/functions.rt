@@ -1,10 +1,10 @@
 //! Functions by number: what any body owes, whether it holds plain trees or a shared table of nodes.
 
-ghost use Rattle.std.specs.Prelude.{◌≡◌, ℕ, ◌<◌, ◌≤◌, ◌↔◌, ◌&&◌, ◌||◌, not, IsTrue, IfOk, OnOk};
-ghost use Rattle.func_core.specs.Trees.{Tree, Zero, IsReduced, constant, variable, on_leaves, apply, differ};
+ghost use Rattle.std.specs.Prelude.{◌≡◌, ℕ, ◌≤◌, ◌↔◌, IsTrue, IfOk};
+ghost use Rattle.func_core.specs.Trees.{Tree, Zero, eval, IsReduced, constant, variable, complement, conjunction, disjunction, exclusive_or};
 ghost use Rattle.func_core.specs.Sizes.{size};
 ghost use Rattle.func_core.specs.Points.{one_path};
-ghost use Rattle.func_core.specs.Numbers.{Keeps, StandsFor, NoneStands};
+ghost use Rattle.func_core.specs.Numbers.{Means, IsBig, Stays, NoneStands};
 
 use sis_base::Sequence;
 use std::alloc::AllocError;
@@ -33,8 +33,8 @@ impl From<AllocError> for FuncFault {
     }
 }
 
-/// An object that names Boolean functions by numbers. Each number that stands is that of one reduced
-/// decision tree; the object has a limit on the size of a tree, which no call changes.
+/// An object that names Boolean functions by numbers. Each number that stands is that of one tree, which is
+/// reduced and within the object's limit on the size of a tree.
 pub trait Functions: Drop {
     ghost holds: { Self → ℕ → Type 0 };
 
@@ -44,58 +44,46 @@ pub trait Functions: Drop {
 
     /// The function that is the bit of the variable at a place.
     fn var(&mut self, place: usize) -> Result<Func, FuncFault>
-        ensures ok { IfOk result (λ h. StandsFor holds tree self.new h.0 (variable place)) }
-        ensures big { result ≡ Err FuncFault.TooBig → limit self.old < size (variable place) }
-        ensures within { OnOk result (size (variable place) ≤ limit self.old) }
-        ensures kept { Keeps holds tree self.old self.new }
-        ensures limit { limit self.new ≡ limit self.old };
+        ensures ok { IfOk result (λ h. Means holds tree limit self.new h.0 (variable place)) }
+        ensures big { result ≡ Err FuncFault.TooBig → IsBig (limit self.old) (variable place) }
+        ensures stays { Stays holds tree limit self.old self.new };
 
-    /// The function that is one bit everywhere.
+    /// The function that is one bit everywhere, whose size is 0: it is never too big.
     fn constant(&mut self, value: bool) -> Result<Func, FuncFault>
-        ensures ok { IfOk result (λ h. StandsFor holds tree self.new h.0 (constant value)) }
-        ensures big { result ≡ Err FuncFault.TooBig → limit self.old < size (constant value) }
-        ensures within { OnOk result (size (constant value) ≤ limit self.old) }
-        ensures kept { Keeps holds tree self.old self.new }
-        ensures limit { limit self.new ≡ limit self.old };
+        ensures ok { IfOk result (λ h. Means holds tree limit self.new h.0 (constant value)) }
+        ensures fits { result ≡ Err FuncFault.TooBig → ⊥ }
+        ensures stays { Stays holds tree limit self.old self.new };
 
-    /// The complement of a function.
+    /// The complement of a function, whose size is the function's: it is never too big.
     fn not(&mut self, f: Func) -> Result<Func, FuncFault>
         requires { holds self.old f.0 }
-        ensures ok { IfOk result (λ h. StandsFor holds tree self.new h.0 (on_leaves not (tree self.old f.0))) }
-        ensures big { result ≡ Err FuncFault.TooBig → limit self.old < size (on_leaves not (tree self.old f.0)) }
-        ensures within { OnOk result (size (on_leaves not (tree self.old f.0)) ≤ limit self.old) }
-        ensures kept { Keeps holds tree self.old self.new }
-        ensures limit { limit self.new ≡ limit self.old };
+        ensures ok { IfOk result (λ h. Means holds tree limit self.new h.0 (complement (eval (tree self.old f.0)))) }
+        ensures fits { result ≡ Err FuncFault.TooBig → ⊥ }
+        ensures stays { Stays holds tree limit self.old self.new };
 
     /// Where both functions are true.
     fn and(&mut self, f: Func, g: Func) -> Result<Func, FuncFault>
         requires f { holds self.old f.0 }
         requires g { holds self.old g.0 }
-        ensures ok { IfOk result (λ h. StandsFor holds tree self.new h.0 (apply ◌&&◌ (tree self.old f.0) (tree self.old g.0))) }
-        ensures big { result ≡ Err FuncFault.TooBig → limit self.old < size (apply ◌&&◌ (tree self.old f.0) (tree self.old g.0)) }
-        ensures within { OnOk result (size (apply ◌&&◌ (tree self.old f.0) (tree self.old g.0)) ≤ limit self.old) }
-        ensures kept { Keeps holds tree self.old self.new }
-        ensures limit { limit self.new ≡ limit self.old };
+        ensures ok { IfOk result (λ h. Means holds tree limit self.new h.0 (conjunction (eval (tree self.old f.0)) (eval (tree self.old g.0)))) }
+        ensures big { result ≡ Err FuncFault.TooBig → IsBig (limit self.old) (conjunction (eval (tree self.old f.0)) (eval (tree self.old g.0))) }
+        ensures stays { Stays holds tree limit self.old self.new };
 
     /// Where one of the functions is true, or both are.
     fn or(&mut self, f: Func, g: Func) -> Result<Func, FuncFault>
         requires f { holds self.old f.0 }
         requires g { holds self.old g.0 }
-        ensures ok { IfOk result (λ h. StandsFor holds tree self.new h.0 (apply ◌||◌ (tree self.old f.0) (tree self.old g.0))) }
-        ensures big { result ≡ Err FuncFault.TooBig → limit self.old < size (apply ◌||◌ (tree self.old f.0) (tree self.old g.0)) }
-        ensures within { OnOk result (size (apply ◌||◌ (tree self.old f.0) (tree self.old g.0)) ≤ limit self.old) }
-        ensures kept { Keeps holds tree self.old self.new }
-        ensures limit { limit self.new ≡ limit self.old };
+        ensures ok { IfOk result (λ h. Means holds tree limit self.new h.0 (disjunction (eval (tree self.old f.0)) (eval (tree self.old g.0)))) }
+        ensures big { result ≡ Err FuncFault.TooBig → IsBig (limit self.old) (disjunction (eval (tree self.old f.0)) (eval (tree self.old g.0))) }
+        ensures stays { Stays holds tree limit self.old self.new };
 
     /// Where just one of the functions is true.
     fn xor(&mut self, f: Func, g: Func) -> Result<Func, FuncFault>
         requires f { holds self.old f.0 }
         requires g { holds self.old g.0 }
-        ensures ok { IfOk result (λ h. StandsFor holds tree self.new h.0 (apply differ (tree self.old f.0) (tree self.old g.0))) }
-        ensures big { result ≡ Err FuncFault.TooBig → limit self.old < size (apply differ (tree self.old f.0) (tree self.old g.0)) }
-        ensures within { OnOk result (size (apply differ (tree self.old f.0) (tree self.old g.0)) ≤ limit self.old) }
-        ensures kept { Keeps holds tree self.old self.new }
-        ensures limit { limit self.new ≡ limit self.old };
+        ensures ok { IfOk result (λ h. Means holds tree limit self.new h.0 (exclusive_or (eval (tree self.old f.0)) (eval (tree self.old g.0)))) }
+        ensures big { result ≡ Err FuncFault.TooBig → IsBig (limit self.old) (exclusive_or (eval (tree self.old f.0)) (eval (tree self.old g.0))) }
+        ensures stays { Stays holds tree limit self.old self.new };
 
     /// Whether a function is false everywhere; takes no memory.
     fn is_zero(&self, f: Func) -> bool
@@ -120,4 +108,6 @@ pub trait Functions: Drop {
         ensures limit { limit self.new ≡ limit self.old };
 
     ghost reduced: { (state : Self) (n : ℕ) → holds state n → IsReduced 0 (tree state n) };
+
+    ghost bounded: { (state : Self) (n : ℕ) → holds state n → size (tree state n) ≤ limit state };
 }

@@ -1,31 +1,26 @@
-//! Laws of the operations on decision trees, each proved as the contract of a function that does nothing.
+//! Laws of Boolean functions and their trees, each proved as the contract of a function that does nothing.
 
-ghost use Rattle.func_core.specs.Laws.{ConstantMeans, VariableMeans, OnLeavesMeans, ApplyMeans, ConstantIsReduced, VariableIsReduced, OnLeavesIsReduced, ApplyIsReduced, OneTree, NoPointIsZero, PointIsTrue, PointRises};
+ghost use Rattle.func_core.specs.Laws.{OneTree, FittingIsNotBig, ComplementHasSize, NonzeroIsTrueSomewhere, NoPointIsZero, PointIsTrue, PointRises};
 
-/// Each operation's tree computes the operation of what its arguments' trees compute, at every assignment.
-pub fn operations_mean()
-    ensures constant { ConstantMeans }
-    ensures variable { VariableMeans }
-    ensures on_leaves { OnLeavesMeans }
-    ensures apply { ApplyMeans }
-{}
-
-/// Constants and variables are reduced, and each operation's tree is where its arguments' are.
-pub fn operations_are_reduced()
-    ensures constant { ConstantIsReduced }
-    ensures variable { VariableIsReduced }
-    ensures on_leaves { OnLeavesIsReduced }
-    ensures apply { ApplyIsReduced }
-{}
-
-/// Reduced trees that compute one function are one tree.
+/// Equal functions have one tree.
 pub fn equal_functions_have_one_tree()
     ensures { OneTree }
 {}
 
-/// The given path of a reduced tree leads to a point where the function is true, and only the constant
-/// false has none; no variable stands on it twice.
+/// No function is both within a limit and too big for it.
+pub fn fitting_functions_are_not_too_big()
+    ensures { FittingIsNotBig }
+{}
+
+/// A complement has the size of its function.
+pub fn complements_have_one_size()
+    ensures { ComplementHasSize }
+{}
+
+/// A function that is not the constant false is true somewhere. The given path of a tree leads to a point
+/// where the function is true, only the constant false has none, and no variable stands on it twice.
 pub fn given_points_are_true()
+    ensures somewhere { NonzeroIsTrueSomewhere }
     ensures none { NoPointIsZero }
     ensures one { PointIsTrue }
     ensures rises { PointRises }

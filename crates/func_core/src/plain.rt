@@ -1,10 +1,10 @@
 //! Functions as plain trees, one for each number, without sharing.
 
-ghost use Rattle.std.specs.Prelude.{◌≡◌, ℕ, ◌<◌, ◌≤◌, ◌↔◌, ◌&&◌, ◌||◌, not, zero, IsTrue, IfOk, OnOk};
-ghost use Rattle.func_core.specs.Trees.{IsReduced, apply};
+ghost use Rattle.std.specs.Prelude.{◌≡◌, ℕ, ◌<◌, IfOk};
+ghost use Rattle.func_core.specs.Trees.{eval, IsReduced};
 ghost use Rattle.func_core.specs.Sizes.{size};
-ghost use Rattle.func_core.specs.Numbers.{Keeps, StandsFor, NoneStands};
-ghost use Rattle.func_core.specs.Diagrams.{shape, bits, tree_at, StandsAt};
+ghost use Rattle.func_core.specs.Numbers.{Means, IsBig, Stays, NoneStands};
+ghost use Rattle.func_core.specs.PlainTrees.{shape, bits, plain_tree, plain_limit, PlainHolds};
 
 use crate::diagram::{self, Diagram, Operation};
 use crate::functions::{Func, FuncFault, Functions};
@@ -32,103 +32,69 @@ impl PlainFunctions {
             diagrams: Vec::new(alloc),
         }
     }
-}
 
-/// Puts a tree behind the others, unless its size is above the limit; its number is its place.
-fn keep(
-    diagrams: &mut Vec<Diagram>,
-    alloc: Global,
-    limit: usize,
-    made: Diagram,
-) -> Result<Func, FuncFault>
-    requires { IsReduced 0 (shape made) }
-    ensures ok { IfOk result (λ h. StandsFor StandsAt tree_at diagrams.new.items h.0 (shape made)) }
-    ensures big { result ≡ Err FuncFault.TooBig → limit < size (shape made) }
-    ensures within { OnOk result (size (shape made) ≤ limit) }
-    ensures kept { Keeps StandsAt tree_at diagrams.old.items diagrams.new.items }
-{
-    let count = diagram::size_of(alloc, &made)?;
-    if count > limit {
-        return Err(FuncFault::TooBig);
+    /// Puts a reduced tree behind the others, unless its size is above the limit; its number is its place.
+    fn keep(&mut self, made: Diagram) -> Result<Func, FuncFault>
+        requires { IsReduced 0 (shape made) }
+        ensures ok { IfOk result (λ h. Means PlainHolds plain_tree plain_limit self.new h.0 (eval (shape made))) }
+        ensures big { result ≡ Err FuncFault.TooBig → self.old.limit < size (shape made) }
+        ensures stays { Stays PlainHolds plain_tree plain_limit self.old self.new }
+    {
+        let count = diagram::size_of(self.alloc, &made)?;
+        if count > self.limit {
+            return Err(FuncFault::TooBig);
+        }
+        let number = self.diagrams.len();
+        self.diagrams.push(made).map_err(AllocError::from)?;
+        Ok(Func(number))
     }
-    let number = diagrams.len();
-    diagrams.push(made).map_err(AllocError::from)?;
-    Ok(Func(number))
-}
 
-/// Puts the tree of an operation on two numbers' trees behind the others, as `keep` does.
-fn operate(
-    diagrams: &mut Vec<Diagram>,
-    alloc: Global,
-    limit: usize,
-    operation: Operation,
-    f: Func,
-    g: Func,
-) -> Result<Func, FuncFault>
-    requires f { StandsAt diagrams.old.items f.0 }
-    requires g { StandsAt diagrams.old.items g.0 }
-    ensures ok { IfOk result (λ h. StandsFor StandsAt tree_at diagrams.new.items h.0 (apply (bits operation) (tree_at diagrams.old.items f.0) (tree_at diagrams.old.items g.0))) }
-    ensures big { result ≡ Err FuncFault.TooBig → limit < size (apply (bits operation) (tree_at diagrams.old.items f.0) (tree_at diagrams.old.items g.0)) }
-    ensures within { OnOk result (size (apply (bits operation) (tree_at diagrams.old.items f.0) (tree_at diagrams.old.items g.0)) ≤ limit) }
-    ensures kept { Keeps StandsAt tree_at diagrams.old.items diagrams.new.items }
-{
-    let made = diagram::combine(alloc, operation, &diagrams[f.0], &diagrams[g.0])?;
-    keep(diagrams, alloc, limit, made)
+    /// Keeps the tree of an operation on two functions.
+    fn operate(&mut self, operation: Operation, f: Func, g: Func) -> Result<Func, FuncFault>
+        requires f { PlainHolds self.old f.0 }
+        requires g { PlainHolds self.old g.0 }
+        ensures ok { IfOk result (λ h. Means PlainHolds plain_tree plain_limit self.new h.0 (λ point. bits operation (eval (plain_tree self.old f.0) point) (eval (plain_tree self.old g.0) point))) }
+        ensures big { result ≡ Err FuncFault.TooBig → IsBig self.old.limit (λ point. bits operation (eval (plain_tree self.old f.0) point) (eval (plain_tree self.old g.0) point)) }
+        ensures stays { Stays PlainHolds plain_tree plain_limit self.old self.new }
+    {
+        let left = &self.diagrams[f.0];
+        let right = &self.diagrams[g.0];
+        let made = diagram::combine(self.alloc, operation, left, right)?;
+        self.keep(made)
+    }
 }
 
 impl Functions for PlainFunctions {
-    ghost holds = { λ s n. StandsAt s.diagrams.items n };
+    ghost holds = { PlainHolds };
 
-    ghost tree = { λ s n. tree_at s.diagrams.items n };
+    ghost tree = { plain_tree };
 
-    ghost limit = { λ s. s.limit };
+    ghost limit = { plain_limit };
 
     fn var(&mut self, place: usize) -> Result<Func, FuncFault> {
         let made = diagram::variable_at(self.alloc, place)?;
-        keep(&mut self.diagrams, self.alloc, self.limit, made)
+        self.keep(made)
     }
 
     fn constant(&mut self, value: bool) -> Result<Func, FuncFault> {
-        let made = diagram::leaf(value);
-        keep(&mut self.diagrams, self.alloc, self.limit, made)
+        self.keep(diagram::leaf(value))
     }
 
     fn not(&mut self, f: Func) -> Result<Func, FuncFault> {
         let made = diagram::with_constant(self.alloc, Operation::Xor, true, &self.diagrams[f.0])?;
-        keep(&mut self.diagrams, self.alloc, self.limit, made)
+        self.keep(made)
     }
 
     fn and(&mut self, f: Func, g: Func) -> Result<Func, FuncFault> {
-        operate(
-            &mut self.diagrams,
-            self.alloc,
-            self.limit,
-            Operation::And,
-            f,
-            g,
-        )
+        self.operate(Operation::And, f, g)
     }
 
     fn or(&mut self, f: Func, g: Func) -> Result<Func, FuncFault> {
-        operate(
-            &mut self.diagrams,
-            self.alloc,
-            self.limit,
-            Operation::Or,
-            f,
-            g,
-        )
+        self.operate(Operation::Or, f, g)
     }
 
     fn xor(&mut self, f: Func, g: Func) -> Result<Func, FuncFault> {
-        operate(
-            &mut self.diagrams,
-            self.alloc,
-            self.limit,
-            Operation::Xor,
-            f,
-            g,
-        )
+        self.operate(Operation::Xor, f, g)
     }
 
     fn is_zero(&self, f: Func) -> bool {
@@ -153,4 +119,6 @@ impl Functions for PlainFunctions {
     }
 
     ghost reduced = { λ s n h. h.1 };
+
+    ghost bounded = { λ s n h. h.2 };
 }

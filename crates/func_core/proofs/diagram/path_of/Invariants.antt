@@ -1,6 +1,6 @@
 use Rattle.std.proofs.Common.{◌≡◌, ◌++◌}
 use Rattle.func_core.specs.Points.{path}
-use Rattle.func_core.specs.Diagrams.{shape}
+use Rattle.func_core.specs.PlainTrees.{shape}
 use Rattle.func_core.proofs.diagram.path_of.Given as goal
 
 -- what is collected, and behind it the path of the tree where the walk stands

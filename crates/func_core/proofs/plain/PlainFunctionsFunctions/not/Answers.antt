@@ -1,16 +1,15 @@
-use Rattle.std.proofs.Common.{◌≡◌, ap, sym, ◌∙◌, not}
-use Rattle.func_core.specs.Trees.{on_leaves}
-use Rattle.func_core.specs.Diagrams.{shape, tree_at}
-use Rattle.func_core.proofs.Trees.{IsReduced-on_leaves}
-use Rattle.func_core.proofs.Numbers.{tree_at-shape, reduced-at}
+use Rattle.std.proofs.Common.{◌≡◌, ◌<◌, ◌≤◌, arith}
+use Rattle.func_core.specs.Sizes.{size}
+use Rattle.func_core.specs.PlainTrees.{shape, plain_tree}
+use Rattle.func_core.proofs.Meanings.{complement-size, own-tree}
+use Rattle.func_core.proofs.PlainNumbers.{complement-made}
 use Rattle.func_core.proofs.plain.PlainFunctionsFunctions.not.Goals as goal
 
-pub keep-requires : goal.keep-requires
-keep-requires c =
-    rw c.in_ok-made.ensures (IsReduced-on_leaves _ 0 _ (reduced-at _ _ _ c.requires c.index.ensures))
-
-pub returns-clause-ok : goal.returns-clause-ok
-returns-clause-ok c =
-    let e : shape c.in_ok-made.made ≡ on_leaves not (tree_at c.args.self.now.diagrams.items c.args.f.0) =
-    c.in_ok-made.ensures ∙ ap (on_leaves not) (sym (tree_at-shape _ _ _ c.requires c.index.ensures)) in
-    rw (← e) c.keep.ensures.ok
+pub returns-clause-fits : goal.returns-clause-fits
+returns-clause-fits c h =
+    let above : c.args.self.now.limit < size (shape c.in_ok-made.made) = c.keep.ensures.big h in
+    let same : size (shape c.in_ok-made.made) ≡ size (plain_tree c.args.self.now c.args.f.0) =
+    complement-size _ _ (shape c.in_ok-made.made) (own-tree (plain_tree c.args.self.now c.args.f.0) c.requires.1)
+    (complement-made c.args.self.now c.args.f.0 _ _ c.requires c.index.ensures c.in_ok-made.ensures.computes c.in_ok-made.ensures.reduced) in
+    let within : size (plain_tree c.args.self.now c.args.f.0) ≤ c.args.self.now.limit = c.requires.2 in
+    omega arith
