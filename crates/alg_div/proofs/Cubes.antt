@@ -1,15 +1,16 @@
 -- Products of cubes and cubes without some literals, read place by place.
 use Rattle.std.proofs.Common.{◌≡◌, ℕ, ◌+◌, ◌<◌, zero, suc, Bool, Option, Some, None, List, [], ◌∷◌, ◌++◌, length, get_or, take, drop, set, replicate, refl, sym, ap, ◌∙◌, arith, inl, inr, ◌⊎◌}
 use Rattle.std.proofs.lemmas.List.{ext_get_or}
-use Rattle.alg_div.specs.Cubes.{Has, times_at, times}
-use Rattle.alg_div.specs.Steps.{without, strip, touched_from}
+use Rattle.cube_cover.specs.Literals.{literal_product}
+use Rattle.alg_div.specs.Cubes.{Has, times}
+use Rattle.alg_div.specs.Steps.{without, strip, support_from}
 use Rattle.alg_div.specs.Quotient.{IsApart}
 
-pub times_none : (x : Option Bool) → times_at x None ≡ x
+pub times_none : (x : Option Bool) → literal_product x None ≡ x
 times_none None = refl
 times_none (Some b) = refl
 
-pub get_or-times : (c k : List (Option Bool)) (i : ℕ) → get_or (times c k) i None ≡ times_at (get_or c i None) (get_or k i None)
+pub get_or-times : (c k : List (Option Bool)) (i : ℕ) → get_or (times c k) i None ≡ literal_product (get_or c i None) (get_or k i None)
 unfolding times
 get_or-times [] k i = refl
 get_or-times (x ∷ xs) [] i = sym (times_none (get_or (x ∷ xs) i None))
@@ -49,21 +50,21 @@ get_or-dashes (suc w) zero = refl
 get_or-dashes (suc w) (suc i) = get_or-dashes w i
 
 -- where the mask has no literal no row has one
-times_none_left : (x y : Option Bool) → times_at x y ≡ None → x ≡ None
+times_none_left : (x y : Option Bool) → literal_product x y ≡ None → x ≡ None
 times_none_left None y h = refl
 times_none_left (Some b) y h = cc
 
-times_none_right : (x y : Option Bool) → times_at x y ≡ None → y ≡ None
+times_none_right : (x y : Option Bool) → literal_product x y ≡ None → y ≡ None
 times_none_right None y h = h
 times_none_right (Some b) y h = cc
 
-untouched-mask : (v : List (Option Bool)) (ks : List (List (Option Bool))) (i : ℕ) → get_or (touched_from v ks) i None ≡ None → get_or v i None ≡ None
-unfolding touched_from
+untouched-mask : (v : List (Option Bool)) (ks : List (List (Option Bool))) (i : ℕ) → get_or (support_from v ks) i None ≡ None → get_or v i None ≡ None
+unfolding support_from
 untouched-mask v [] i h = h
 untouched-mask v (k ∷ ks) i h = times_none_left _ (get_or k i None) (sym (get_or-times v k i) ∙ untouched-mask (times v k) ks i h)
 
-pub untouched : (v : List (Option Bool)) (ks : List (List (Option Bool))) (i : ℕ) → get_or (touched_from v ks) i None ≡ None → (k : List (Option Bool)) → Has k ks → get_or k i None ≡ None
-unfolding touched_from
+pub untouched : (v : List (Option Bool)) (ks : List (List (Option Bool))) (i : ℕ) → get_or (support_from v ks) i None ≡ None → (k : List (Option Bool)) → Has k ks → get_or k i None ≡ None
+unfolding support_from
 untouched v [] i h k m = absurd m
 untouched v (first ∷ ks) i h k m =
     elim m as (λ _. get_or k i None ≡ None) [
@@ -72,25 +73,25 @@ untouched v (first ∷ ks) i h k m =
     ]
 
 -- where the mask has a literal a cube apart from the rows has none
-times_some : (x y : Option Bool) (b : Bool) → times_at x y ≡ Some b → (x ≡ Some b) ⊎ (y ≡ Some b)
+times_some : (x y : Option Bool) (b : Bool) → literal_product x y ≡ Some b → (x ≡ Some b) ⊎ (y ≡ Some b)
 times_some None y b h = inr h
 times_some (Some a) y b h = inl h
 
-pub touched-apart : (c v : List (Option Bool)) (ks : List (List (Option Bool))) (i : ℕ) (b : Bool) → ((a : Bool) → get_or v i None ≡ Some a → get_or c i None ≡ None) → IsApart c ks
-    → get_or (touched_from v ks) i None ≡ Some b → get_or c i None ≡ None
-unfolding touched_from
-touched-apart c v [] i b h a e = h b e
-touched-apart c v (k ∷ ks) i b h a e =
-    touched-apart c (times v k) ks i b
+pub support-apart : (c v : List (Option Bool)) (ks : List (List (Option Bool))) (i : ℕ) (b : Bool) → ((a : Bool) → get_or v i None ≡ Some a → get_or c i None ≡ None) → IsApart c ks
+    → get_or (support_from v ks) i None ≡ Some b → get_or c i None ≡ None
+unfolding support_from
+support-apart c v [] i b h a e = h b e
+support-apart c v (k ∷ ks) i b h a e =
+    support-apart c (times v k) ks i b
     (λ x q. elim (times_some (get_or v i None) (get_or k i None) x (sym (get_or-times v k i) ∙ q)) as (λ _. get_or c i None ≡ None) [ inl p ↦ h x p | inr p ↦ a k (inl refl) i x p ])
     (λ row m. a row (inr m)) e
 
-pub length-touched : (v : List (Option Bool)) (ks : List (List (Option Bool))) → ((k : List (Option Bool)) → Has k ks → length v ≡ length k) → length (touched_from v ks) ≡ length v
-unfolding touched_from
-length-touched v [] h = refl
-length-touched v (k ∷ ks) h =
+pub length-support : (v : List (Option Bool)) (ks : List (List (Option Bool))) → ((k : List (Option Bool)) → Has k ks → length v ≡ length k) → length (support_from v ks) ≡ length v
+unfolding support_from
+length-support v [] h = refl
+length-support v (k ∷ ks) h =
     let e : length (times v k) ≡ length v = length-times v k (h k (inl refl)) in
-    length-touched (times v k) ks (λ r m. e ∙ h r (inr m)) ∙ e
+    length-support (times v k) ks (λ r m. e ∙ h r (inr m)) ∙ e
 
 -- a list that is written place by place over another of its length
 fill-suc : {X : Type 0} (xs ys : List X) (i : ℕ) (d : X) → i < length xs → length ys ≡ length xs → set (take i xs ++ drop i ys) i (get_or xs i d) ≡ take (suc i) xs ++ drop (suc i) ys
@@ -103,6 +104,6 @@ pub fill_more : {X : Type 0} (xs ys : List X) (i : ℕ) (d : X) → i < length x
 fill_more xs ys i d h e = let n : suc i ≡ i + 1 = omega arith in fill-suc xs ys i d h e ∙ ap (λ (k : ℕ). take k xs ++ drop k ys) n
 
 -- the mask with one more row
-pub touched-more : (v : List (Option Bool)) (rows : List (List (Option Bool))) (row : List (Option Bool)) (rest : List (List (Option Bool))) → rows ≡ row ∷ rest → touched_from (times v row) rest ≡ touched_from v rows
-unfolding touched_from
-touched-more v rows row rest e = ap (λ (x : List (List (Option Bool))). touched_from v x) (sym e)
+pub support-more : (v : List (Option Bool)) (rows : List (List (Option Bool))) (row : List (Option Bool)) (rest : List (List (Option Bool))) → rows ≡ row ∷ rest → support_from (times v row) rest ≡ support_from v rows
+unfolding support_from
+support-more v rows row rest e = ap (λ (x : List (List (Option Bool))). support_from v x) (sym e)

@@ -1,24 +1,26 @@
 -- Laws of division: quotient, divisor and remainder make up the cubes that were divided, and one list is the quotient.
 use Rattle.std.proofs.Common.{◌≡◌, ℕ, ◌+◌, ◌≤◌, Bool, true, false, if◌then◌else◌, Option, Some, None, List, [], ◌∷◌, ◌++◌, length, get_or, refl, sym, ap, ◌∙◌, subst, arith, inl, inr, ◌⊎◌, ◌↔◌, is_some, true≢false, append_assoc}
+use Rattle.std.specs.List.{position_from}
+use Rattle.cube_cover.specs.Literals.{literal_product}
 use Rattle.sis_base.specs.Rows.{HasWidth}
-use Rattle.alg_div.specs.Cubes.{Has, times_at, times, products_by, products, place_from}
+use Rattle.alg_div.specs.Cubes.{Has, times, products_by, products, row_eq}
 use Rattle.alg_div.specs.Quotient.{IsTerm, Rises, IsQuotient, others, IsRemainder}
-use Rattle.alg_div.proofs.Lists.{bool_cases, Has-append, is_some-place, has-place, one-row}
+use Rattle.alg_div.proofs.Lists.{bool_cases, Has-append, is_some-position, has-position, one-row}
 use Rattle.alg_div.proofs.Cubes.{times_none, get_or-times, ext}
 use Rattle.alg_div.proofs.Terms.{width-has, width-from}
 
 -- the others of a list that is read in turn
-others-cons : (ps rows : List (List (Option Bool))) (row : List (Option Bool)) (rest : List (List (Option Bool))) → rows ≡ row ∷ rest → others rows ps ≡ (if is_some (place_from 0 row ps) then others rest ps else row ∷ others rest ps)
+others-cons : (ps rows : List (List (Option Bool))) (row : List (Option Bool)) (rest : List (List (Option Bool))) → rows ≡ row ∷ rest → others rows ps ≡ (if is_some (position_from (row_eq row) 0 ps) then others rest ps else row ∷ others rest ps)
 unfolding others
 others-cons ps rows row rest e = ap (λ (x : List (List (Option Bool))). others x ps) e
 
-pub others-new : (ps made rows : List (List (Option Bool))) (row : List (Option Bool)) (rest now all : List (List (Option Bool))) → rows ≡ row ∷ rest → is_some (place_from 0 row ps) ≡ false → now ≡ made ++ row ∷ []
+pub others-new : (ps made rows : List (List (Option Bool))) (row : List (Option Bool)) (rest now all : List (List (Option Bool))) → rows ≡ row ∷ rest → is_some (position_from (row_eq row) 0 ps) ≡ false → now ≡ made ++ row ∷ []
     → made ++ others rows ps ≡ all → now ++ others rest ps ≡ all
 others-new ps made rows row rest now all e t grown h =
     ap (λ (x : List (List (Option Bool))). x ++ others rest ps) grown ∙ append_assoc made (row ∷ []) (others rest ps)
     ∙ ap (λ (x : List (List (Option Bool))). made ++ x) (sym (others-cons ps rows row rest e ∙ ap (λ (b : Bool). if b then others rest ps else row ∷ others rest ps) t)) ∙ h
 
-pub others-old : (ps made rows : List (List (Option Bool))) (row : List (Option Bool)) (rest now all : List (List (Option Bool))) → rows ≡ row ∷ rest → is_some (place_from 0 row ps) ≡ true → now ≡ made
+pub others-old : (ps made rows : List (List (Option Bool))) (row : List (Option Bool)) (rest now all : List (List (Option Bool))) → rows ≡ row ∷ rest → is_some (position_from (row_eq row) 0 ps) ≡ true → now ≡ made
     → made ++ others rows ps ≡ all → now ++ others rest ps ≡ all
 others-old ps made rows row rest now all e t same h =
     ap (λ (x : List (List (Option Bool))). x ++ others rest ps) same
@@ -28,19 +30,19 @@ others-old ps made rows row rest now all e t same h =
 pub others-has : (f ps : List (List (Option Bool))) (r : List (Option Bool)) → Has r (others f ps) → Has r f × (Has r ps → ⊥)
 unfolding others
 others-has [] ps r h = absurd h
-others-has (row ∷ rest) ps r h = cases (is_some (place_from 0 row ps)) refl h (others-has rest ps r)
+others-has (row ∷ rest) ps r h = cases (is_some (position_from (row_eq row) 0 ps)) refl h (others-has rest ps r)
   where
-    cases : (t : Bool) → is_some (place_from 0 row ps) ≡ t → Has r (if t then others rest ps else row ∷ others rest ps) → (Has r (others rest ps) → Has r rest × (Has r ps → ⊥)) → Has r (row ∷ rest) × (Has r ps → ⊥)
+    cases : (t : Bool) → is_some (position_from (row_eq row) 0 ps) ≡ t → Has r (if t then others rest ps else row ∷ others rest ps) → (Has r (others rest ps) → Has r rest × (Has r ps → ⊥)) → Has r (row ∷ rest) × (Has r ps → ⊥)
     cases true e k next = (inr (next k).0, (next k).1)
-    cases false e k next = elim k as (λ _. Has r (row ∷ rest) × (Has r ps → ⊥)) [ inl same ↦ (inl same, λ m. true≢false (sym (is_some-place row ps (subst (λ (x : List (Option Bool)). Has x ps) same m)) ∙ e)) | inr m ↦ (inr (next m).0, (next m).1) ]
+    cases false e k next = elim k as (λ _. Has r (row ∷ rest) × (Has r ps → ⊥)) [ inl same ↦ (inl same, λ m. true≢false (sym (is_some-position row ps (subst (λ (x : List (Option Bool)). Has x ps) same m)) ∙ e)) | inr m ↦ (inr (next m).0, (next m).1) ]
 
 pub has-others : (f ps : List (List (Option Bool))) (r : List (Option Bool)) → Has r f → (Has r ps → ⊥) → Has r (others f ps)
 unfolding others
 has-others [] ps r h n = absurd h
-has-others (row ∷ rest) ps r h n = cases (is_some (place_from 0 row ps)) refl h (λ m. has-others rest ps r m n)
+has-others (row ∷ rest) ps r h n = cases (is_some (position_from (row_eq row) 0 ps)) refl h (λ m. has-others rest ps r m n)
   where
-    cases : (t : Bool) → is_some (place_from 0 row ps) ≡ t → Has r (row ∷ rest) → (Has r rest → Has r (others rest ps)) → Has r (if t then others rest ps else row ∷ others rest ps)
-    cases true e k next = elim k as (λ _. Has r (others rest ps)) [ inl same ↦ absurd (n (subst (λ (x : List (Option Bool)). Has x ps) (sym same) (has-place row ps e))) | inr m ↦ next m ]
+    cases : (t : Bool) → is_some (position_from (row_eq row) 0 ps) ≡ t → Has r (row ∷ rest) → (Has r rest → Has r (others rest ps)) → Has r (if t then others rest ps else row ∷ others rest ps)
+    cases true e k next = elim k as (λ _. Has r (others rest ps)) [ inl same ↦ absurd (n (subst (λ (x : List (Option Bool)). Has x ps) (sym same) (has-position row ps e))) | inr m ↦ next m ]
     cases false e k next = elim k as (λ _. Has r (row ∷ others rest ps)) [ inl same ↦ inl same | inr m ↦ inr (next m) ]
 
 -- what is among the products
@@ -66,9 +68,9 @@ products-in w f d q h r m = let p = products-has q d r m in subst (λ (x : List 
 
 pub parts-all : (w : ℕ) (f d q r : List (List (Option Bool))) → IsQuotient w f d q → IsRemainder f d q r → (row : List (Option Bool)) → Has row f ↔ (Has row (products q d) ⊎ Has row r)
 parts-all w f d q r h e row = (
-  λ m. elim (bool_cases (is_some (place_from 0 row (products q d)))) as (λ _. Has row (products q d) ⊎ Has row r) [
-    | inl t ↦ inl (has-place row (products q d) t)
-    | inr n ↦ inr (subst (λ (x : List (List (Option Bool))). Has row x) (sym e) (has-others f (products q d) row m (λ p. true≢false (sym (is_some-place row (products q d) p) ∙ n))))
+  λ m. elim (bool_cases (is_some (position_from (row_eq row) 0 (products q d)))) as (λ _. Has row (products q d) ⊎ Has row r) [
+    | inl t ↦ inl (has-position row (products q d) t)
+    | inr n ↦ inr (subst (λ (x : List (List (Option Bool))). Has row x) (sym e) (has-others f (products q d) row m (λ p. true≢false (sym (is_some-position row (products q d) p) ∙ n))))
   ],
   λ s. elim s as (λ _. Has row f) [ inl p ↦ products-in w f d q h row p | inr m ↦ (others-has f (products q d) row (subst (λ (x : List (List (Option Bool))). Has row x) e m)).0 ],
 )
@@ -88,8 +90,8 @@ times-cancel : (c e k : List (Option Bool)) → length c ≡ length e → ((i : 
 times-cancel c e k len apart same = ext c e len (λ i. at i (get_or k i None) refl)
   where
     at : (i : ℕ) (x : Option Bool) → get_or k i None ≡ x → get_or c i None ≡ get_or e i None
-    at i None h = sym (times_none (get_or c i None)) ∙ ap (λ (x : Option Bool). times_at (get_or c i None) x) (sym h) ∙ sym (get_or-times c k i)
-        ∙ ap (λ (r : List (Option Bool)). get_or r i None) same ∙ get_or-times e k i ∙ ap (λ (x : Option Bool). times_at (get_or e i None) x) h ∙ times_none (get_or e i None)
+    at i None h = sym (times_none (get_or c i None)) ∙ ap (λ (x : Option Bool). literal_product (get_or c i None) x) (sym h) ∙ sym (get_or-times c k i)
+        ∙ ap (λ (r : List (Option Bool)). get_or r i None) same ∙ get_or-times e k i ∙ ap (λ (x : Option Bool). literal_product (get_or e i None) x) h ∙ times_none (get_or e i None)
     at i (Some b) h = (apart i b h).0 ∙ sym (apart i b h).1
 
 -- lists of the same cubes in the same strict order are one
@@ -126,8 +128,8 @@ pub quotient-one : (w : ℕ) (f d q q' : List (List (Option Bool))) → IsQuotie
 quotient-one w f [] q q' h h' = h ∙ sym h'
 quotient-one w f (k ∷ ks) q q' h h' = rises-one 0 0 (length f) (length f) _ q q' same h.order h'.order (λ z m. h'.every z (h.only z m)) (λ z m. h.every z (h'.only z m))
   where
-    same : (x y : List (Option Bool)) → Has x q → Has y q' → place_from 0 (times x k) f ≡ place_from 0 (times y k) f → x ≡ y
-    same x y m n e = times-cancel x y k ((h.only x m).wide ∙ sym (h'.only y n).wide) (λ i b at. ((h.only x m).apart k (inl refl) i b at, (h'.only y n).apart k (inl refl) i b at)) (one-row f (times x k) (times y k) (is_some-place (times x k) f ((h.only x m).rows k (inl refl))) e)
+    same : (x y : List (Option Bool)) → Has x q → Has y q' → position_from (row_eq (times x k)) 0 f ≡ position_from (row_eq (times y k)) 0 f → x ≡ y
+    same x y m n e = times-cancel x y k ((h.only x m).wide ∙ sym (h'.only y n).wide) (λ i b at. ((h.only x m).apart k (inl refl) i b at, (h'.only y n).apart k (inl refl) i b at)) (one-row f (times x k) (times y k) (is_some-position (times x k) f ((h.only x m).rows k (inl refl))) e)
 
 -- the same facts at equal values
 pub width-moved : (w w' : ℕ) (r r' : List (List (Option Bool))) → w ≡ w' → r ≡ r' → HasWidth w r → HasWidth w' r'

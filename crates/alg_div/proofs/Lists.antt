@@ -3,7 +3,8 @@ use Rattle.std.proofs.Common.{◌≡◌, ℕ, ◌+◌, ◌<◌, ◌≤◌, zero,
 use Rattle.std.proofs.lemmas.Slice.Eq.{slice_eq-Decides}
 use Rattle.std.specs.Bool.{beq}
 use Rattle.std.specs.Option.{option_eq}
-use Rattle.alg_div.specs.Cubes.{Has, row_eq, place_from}
+use Rattle.std.specs.List.{position_from}
+use Rattle.alg_div.specs.Cubes.{Has, row_eq}
 use Rattle.alg_div.specs.Steps.{or_last}
 
 pub bool_cases : (b : Bool) → (b ≡ true) ⊎ (b ≡ false)
@@ -48,64 +49,59 @@ pub eq_from_same : (x y : List (Option Bool)) → x ≡ y → row_eq x y ≡ tru
 eq_from_same x y = (slice_eq-Decides literal_decides x y (row_eq x y) refl).1
 
 -- first numbers
-pub place-here : (n i : ℕ) (row : List (Option Bool)) (rows : List (List (Option Bool))) → place_from n row rows ≡ Some i → Has row rows
-unfolding place_from
-place-here n i row [] h = cc
-place-here n i row (first ∷ rows) h = cases (row_eq row first) refl h (place-here (n + 1) i row rows)
+pub position-here : (n i : ℕ) (row : List (Option Bool)) (rows : List (List (Option Bool))) → position_from (row_eq row) n rows ≡ Some i → Has row rows
+position-here n i row [] h = cc
+position-here n i row (first ∷ rows) h = cases (row_eq row first) refl h (position-here (n + 1) i row rows)
   where
-    cases : (t : Bool) → row_eq row first ≡ t → (if t then Some n else place_from (n + 1) row rows) ≡ Some i → (place_from (n + 1) row rows ≡ Some i → Has row rows) → Has row (first ∷ rows)
+    cases : (t : Bool) → row_eq row first ≡ t → (if t then Some n else position_from (row_eq row) (n + 1) rows) ≡ Some i → (position_from (row_eq row) (n + 1) rows ≡ Some i → Has row rows) → Has row (first ∷ rows)
     cases true e k next = inl (same_from_eq row first e)
     cases false e k next = inr (next k)
 
-pub place-number : (n i : ℕ) (row : List (Option Bool)) (rows : List (List (Option Bool))) → place_from n row rows ≡ Some i → (n ≤ i) × (i < n + length rows)
-unfolding place_from
-place-number n i row [] h = cc
-place-number n i row (first ∷ rows) h = cases (row_eq row first) h (place-number (n + 1) i row rows)
+pub position-number : (n i : ℕ) (row : List (Option Bool)) (rows : List (List (Option Bool))) → position_from (row_eq row) n rows ≡ Some i → (n ≤ i) × (i < n + length rows)
+position-number n i row [] h = cc
+position-number n i row (first ∷ rows) h = cases (row_eq row first) h (position-number (n + 1) i row rows)
   where
-    cases : (t : Bool) → (if t then Some n else place_from (n + 1) row rows) ≡ Some i → (place_from (n + 1) row rows ≡ Some i → (n + 1 ≤ i) × (i < n + 1 + length rows)) → (n ≤ i) × (i < n + length (first ∷ rows))
+    cases : (t : Bool) → (if t then Some n else position_from (row_eq row) (n + 1) rows) ≡ Some i → (position_from (row_eq row) (n + 1) rows ≡ Some i → (n + 1 ≤ i) × (i < n + 1 + length rows)) → (n ≤ i) × (i < n + length (first ∷ rows))
     cases true k next = let e : n ≡ i = cc in (omega arith, omega arith)
     cases false k next = let p = next k in (omega (arith, p.0), omega (arith, p.1))
 
 -- the number is that of an equal row
-pub place-same : (n i : ℕ) (row : List (Option Bool)) (rows : List (List (Option Bool))) → place_from n row rows ≡ Some (n + i) → get_or rows i [] ≡ row
-unfolding place_from
-place-same n i row [] h = cc
-place-same n zero row (first ∷ rows) h = cases (row_eq row first) refl h (place-number (n + 1) (n + 0) row rows)
+pub position-same : (n i : ℕ) (row : List (Option Bool)) (rows : List (List (Option Bool))) → position_from (row_eq row) n rows ≡ Some (n + i) → get_or rows i [] ≡ row
+position-same n i row [] h = cc
+position-same n zero row (first ∷ rows) h = cases (row_eq row first) refl h (position-number (n + 1) (n + 0) row rows)
   where
-    cases : (t : Bool) → row_eq row first ≡ t → (if t then Some n else place_from (n + 1) row rows) ≡ Some (n + 0) → (place_from (n + 1) row rows ≡ Some (n + 0) → (n + 1 ≤ n + 0) × (n + 0 < n + 1 + length rows)) → first ≡ row
+    cases : (t : Bool) → row_eq row first ≡ t → (if t then Some n else position_from (row_eq row) (n + 1) rows) ≡ Some (n + 0) → (position_from (row_eq row) (n + 1) rows ≡ Some (n + 0) → (n + 1 ≤ n + 0) × (n + 0 < n + 1 + length rows)) → first ≡ row
     cases true e k next = sym (same_from_eq row first e)
     cases false e k next = absurd (omega (arith, (next k).0))
-place-same n (suc i) row (first ∷ rows) h = cases (row_eq row first) h (place-same (n + 1) i row rows)
+position-same n (suc i) row (first ∷ rows) h = cases (row_eq row first) h (position-same (n + 1) i row rows)
   where
-    cases : (t : Bool) → (if t then Some n else place_from (n + 1) row rows) ≡ Some (n + suc i) → (place_from (n + 1) row rows ≡ Some (n + 1 + i) → get_or rows i [] ≡ row) → get_or rows i [] ≡ row
+    cases : (t : Bool) → (if t then Some n else position_from (row_eq row) (n + 1) rows) ≡ Some (n + suc i) → (position_from (row_eq row) (n + 1) rows ≡ Some (n + 1 + i) → get_or rows i [] ≡ row) → get_or rows i [] ≡ row
     cases true k next = let e : n ≡ n + suc i = cc in absurd (omega arith)
     cases false k next = let e : n + suc i ≡ n + 1 + i = omega arith in next (k ∙ ap (λ (m : ℕ). Some m) e)
 
 -- a row of the list has a number
-pub place-some : (n : ℕ) (row : List (Option Bool)) (rows : List (List (Option Bool))) → Has row rows → (i : ℕ) × (place_from n row rows ≡ Some i)
-unfolding place_from
-place-some n row [] h = absurd h
-place-some n row (first ∷ rows) h = cases (row_eq row first) refl h (place-some (n + 1) row rows)
+pub position-some : (n : ℕ) (row : List (Option Bool)) (rows : List (List (Option Bool))) → Has row rows → (i : ℕ) × (position_from (row_eq row) n rows ≡ Some i)
+position-some n row [] h = absurd h
+position-some n row (first ∷ rows) h = cases (row_eq row first) refl h (position-some (n + 1) row rows)
   where
-    cases : (t : Bool) → row_eq row first ≡ t → Has row (first ∷ rows) → (Has row rows → (i : ℕ) × (place_from (n + 1) row rows ≡ Some i)) → (i : ℕ) × ((if t then Some n else place_from (n + 1) row rows) ≡ Some i)
+    cases : (t : Bool) → row_eq row first ≡ t → Has row (first ∷ rows) → (Has row rows → (i : ℕ) × (position_from (row_eq row) (n + 1) rows ≡ Some i)) → (i : ℕ) × ((if t then Some n else position_from (row_eq row) (n + 1) rows) ≡ Some i)
     cases true e k next = (n, refl)
-    cases false e k next = elim k as (λ _. (i : ℕ) × (place_from (n + 1) row rows ≡ Some i)) [ inl same ↦ absurd (true≢false (sym (eq_from_same row first same) ∙ e)) | inr m ↦ next m ]
+    cases false e k next = elim k as (λ _. (i : ℕ) × (position_from (row_eq row) (n + 1) rows ≡ Some i)) [ inl same ↦ absurd (true≢false (sym (eq_from_same row first same) ∙ e)) | inr m ↦ next m ]
 
 -- the number in a list with one more row
-pub place-push : (n : ℕ) (row : List (Option Bool)) (rows : List (List (Option Bool))) (last : List (Option Bool))
-    → place_from n row (rows ++ last ∷ []) ≡ or_last (place_from n row rows) (row_eq row last) (n + length rows)
-unfolding place_from
-place-push n row [] last = cases (row_eq row last)
+pub position-push : (n : ℕ) (row : List (Option Bool)) (rows : List (List (Option Bool))) (last : List (Option Bool))
+    → position_from (row_eq row) n (rows ++ last ∷ []) ≡ or_last (position_from (row_eq row) n rows) (row_eq row last) (n + length rows)
+position-push n row [] last = cases (row_eq row last)
   where
     cases : (t : Bool) → (if t then Some n else None) ≡ (if t then Some (n + 0) else None)
     cases true = let e : n ≡ n + 0 = omega arith in ap (λ (m : ℕ). Some m) e
     cases false = refl
-place-push n row (first ∷ rows) last = cases (row_eq row first) (place-push (n + 1) row rows last)
+position-push n row (first ∷ rows) last = cases (row_eq row first) (position-push (n + 1) row rows last)
   where
-    cases : (t : Bool) → place_from (n + 1) row (rows ++ last ∷ []) ≡ or_last (place_from (n + 1) row rows) (row_eq row last) (n + 1 + length rows)
-        → (if t then Some n else place_from (n + 1) row (rows ++ last ∷ [])) ≡ or_last (if t then Some n else place_from (n + 1) row rows) (row_eq row last) (n + length (first ∷ rows))
+    cases : (t : Bool) → position_from (row_eq row) (n + 1) (rows ++ last ∷ []) ≡ or_last (position_from (row_eq row) (n + 1) rows) (row_eq row last) (n + 1 + length rows)
+        → (if t then Some n else position_from (row_eq row) (n + 1) (rows ++ last ∷ [])) ≡ or_last (if t then Some n else position_from (row_eq row) (n + 1) rows) (row_eq row last) (n + length (first ∷ rows))
     cases true rest = refl
-    cases false rest = let e : n + 1 + length rows ≡ n + length (first ∷ rows) = omega arith in rest ∙ ap (λ (m : ℕ). or_last (place_from (n + 1) row rows) (row_eq row last) m) e
+    cases false rest = let e : n + 1 + length rows ≡ n + length (first ∷ rows) = omega arith in rest ∙ ap (λ (m : ℕ). or_last (position_from (row_eq row) (n + 1) rows) (row_eq row last) m) e
 
 -- the next element of a list that is read in turn
 pub map-drop : {X Z : Type 0} (f : X → Z) (xs : List X) (i : ℕ) (x : X) → i < length xs → x ≡ get_or xs i x → map f (drop i xs) ≡ f x ∷ map f (drop (i + 1) xs)
@@ -148,15 +144,15 @@ read-map f (y ∷ ys) zero x h e = ap f e
 read-map f (y ∷ ys) (suc i) x h e = read-map f ys i x (omega arith) e
 
 -- each element of a list has a number
-pub is_some-place : (row : List (Option Bool)) (rows : List (List (Option Bool))) → Has row rows → is_some (place_from 0 row rows) ≡ true
-is_some-place row rows h = let p = place-some 0 row rows h in ap is_some p.1
+pub is_some-position : (row : List (Option Bool)) (rows : List (List (Option Bool))) → Has row rows → is_some (position_from (row_eq row) 0 rows) ≡ true
+is_some-position row rows h = let p = position-some 0 row rows h in ap is_some p.1
 
-pub has-place : (row : List (Option Bool)) (rows : List (List (Option Bool))) → is_some (place_from 0 row rows) ≡ true → Has row rows
-has-place row rows h = cases (place_from 0 row rows) refl h
+pub has-position : (row : List (Option Bool)) (rows : List (List (Option Bool))) → is_some (position_from (row_eq row) 0 rows) ≡ true → Has row rows
+has-position row rows h = cases (position_from (row_eq row) 0 rows) refl h
   where
-    cases : (o : Option ℕ) → place_from 0 row rows ≡ o → is_some o ≡ true → Has row rows
+    cases : (o : Option ℕ) → position_from (row_eq row) 0 rows ≡ o → is_some o ≡ true → Has row rows
     cases None e k = absurd (true≢false (sym k))
-    cases (Some i) e k = place-here 0 i row rows e
+    cases (Some i) e k = position-here 0 i row rows e
 
 -- a list that grows by what one more element gives, while the rest goes by
 pub grow : {X : Type 0} (made more rest now all : List X) → made ++ (more ++ rest) ≡ all → now ≡ made ++ more → now ++ rest ≡ all
@@ -170,9 +166,9 @@ pub empty : (n : ℕ) → eqb n 0 ≡ true → n ≡ 0
 empty n h = eqb-true n 0 h
 
 -- rows of one number are one
-pub one-row : (rows : List (List (Option Bool))) (x y : List (Option Bool)) → is_some (place_from 0 x rows) ≡ true → place_from 0 x rows ≡ place_from 0 y rows → x ≡ y
-one-row rows x y s e = cases (place_from 0 x rows) refl s
+pub one-row : (rows : List (List (Option Bool))) (x y : List (Option Bool)) → is_some (position_from (row_eq x) 0 rows) ≡ true → position_from (row_eq x) 0 rows ≡ position_from (row_eq y) 0 rows → x ≡ y
+one-row rows x y s e = cases (position_from (row_eq x) 0 rows) refl s
   where
-    cases : (o : Option ℕ) → place_from 0 x rows ≡ o → is_some o ≡ true → x ≡ y
+    cases : (o : Option ℕ) → position_from (row_eq x) 0 rows ≡ o → is_some o ≡ true → x ≡ y
     cases None h k = absurd (true≢false (sym k))
-    cases (Some i) h k = let z : i ≡ 0 + i = omega arith in let q : Some i ≡ Some (0 + i) = ap (λ (n : ℕ). Some n) z in sym (place-same 0 i x rows (h ∙ q)) ∙ place-same 0 i y rows (sym e ∙ h ∙ q)
+    cases (Some i) h k = let z : i ≡ 0 + i = omega arith in let q : Some i ≡ Some (0 + i) = ap (λ (n : ℕ). Some n) z in sym (position-same 0 i x rows (h ∙ q)) ∙ position-same 0 i y rows (sym e ∙ h ∙ q)

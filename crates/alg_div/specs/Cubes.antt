@@ -2,9 +2,10 @@
 -- Source: De Micheli, "Synthesis and Optimization of Digital Circuits", chapter 8 (the algebraic model);
 -- Brayton, Rudell, Sangiovanni-Vincentelli, Wang, "MIS: A Multiple-Level Logic Optimization System" (1987).
 -- A cube is a row: some bit where it has a literal, none where it has not.
-use Rattle.std.specs.Prelude.{◌≡◌, ℕ, ◌+◌, ◌⊎◌, Bool, if◌then◌else◌, Option, Some, None, List, [], ◌∷◌, ◌++◌}
+use Rattle.std.specs.Prelude.{◌≡◌, ◌⊎◌, Bool, Option, List, [], ◌∷◌, ◌++◌}
 use Rattle.std.specs.Bool.{beq}
 use Rattle.std.specs.Option.{option_eq}
+use Rattle.cube_cover.specs.Literals.{literal_product}
 use lib.Pointwise.{pointwise}
 
 -- an element of a list
@@ -12,16 +13,11 @@ abbrev pub Has : {X : Type 0} → X → List X → Type 0
 Has x [] = ⊥
 Has x (y ∷ ys) = (x ≡ y) ⊎ Has x ys
 
--- the literal of the first place where it has one, else the other place
-abbrev pub times_at : Option Bool → Option Bool → Option Bool
-times_at None other = other
-times_at (Some literal) other = Some literal
-
 -- the product of two cubes that contradict nowhere: the literals of both
 unfoldable pub times : List (Option Bool) → List (Option Bool) → List (Option Bool)
 times [] row = row
-times (place ∷ places) [] = place ∷ places
-times (place ∷ places) (other ∷ others) = times_at place other ∷ times places others
+times (literal ∷ literals) [] = literal ∷ literals
+times (literal ∷ literals) (other ∷ others) = literal_product literal other ∷ times literals others
 
 -- the products of a cube and each row
 unfoldable pub products_by : List (Option Bool) → List (List (Option Bool)) → List (List (Option Bool))
@@ -33,11 +29,6 @@ unfoldable pub products : List (List (Option Bool)) → List (List (Option Bool)
 products [] rows = []
 products (cube ∷ cubes) rows = products_by cube rows ++ products cubes rows
 
--- whether two rows have the same places
+-- whether two rows have the same literals
 abbrev pub row_eq : List (Option Bool) → List (Option Bool) → Bool
 row_eq = pointwise (option_eq beq)
-
--- the number of the first row that is the given one, counted from a number
-unfoldable pub place_from : ℕ → List (Option Bool) → List (List (Option Bool)) → Option ℕ
-place_from n row [] = None
-place_from n row (first ∷ rows) = if row_eq row first then Some n else place_from (n + 1) row rows

@@ -13,8 +13,5 @@ mod steps;
 mod weak;
 
 pub use literals::{all_literals_of, copy_of, cover_of, literals_of, row_of};
-pub use steps::stripped;
+pub use steps::strip_row;
 pub use weak::{divide, quotient_one, quotient_parts};
-
-#[cfg(test)]
-mod tests;

@@ -10,7 +10,7 @@ use std::alloc::{AllocError, Global};
 
 /// What stands at the places of a row, in order; an error only for want of memory.
 pub fn literals_of<R: Row>(alloc: Global, row: &R) -> Result<Vec<Option<bool>>, AllocError>
-    ensures { IfOk result (λ literals. literals.items ≡ R.places row.now) }
+    ensures { IfOk result (λ literals. literals.items ≡ R.literals row.now) }
 {
     let width = row.width();
     let mut literals = Vec::with_capacity(alloc, width)?;
@@ -25,7 +25,7 @@ pub fn all_literals_of<R: Row>(
     alloc: Global,
     rows: &[R],
 ) -> Result<Vec<Vec<Option<bool>>>, AllocError>
-    ensures { IfOk result (λ made. literals_in made.items ≡ map R.places rows.now) }
+    ensures { IfOk result (λ made. literals_in made.items ≡ map R.literals rows.now) }
 {
     let mut made = Vec::with_capacity(alloc, rows.len())?;
     for row in rows {
@@ -48,7 +48,7 @@ pub fn copy_of(alloc: Global, literals: &[Option<bool>]) -> Result<Vec<Option<bo
 /// The row with the given literals at its places; an error only for want of memory.
 #[tactic(auto, using(crate::proofs::Cubes::fill_more))]
 pub fn row_of<R: Row>(alloc: Global, literals: &[Option<bool>]) -> Result<R, AllocError>
-    ensures { IfOk result (λ row. R.places row ≡ literals.now) }
+    ensures { IfOk result (λ row. R.literals row ≡ literals.now) }
 {
     let mut row = R::dashes(alloc, literals.len())?;
     for (place, literal) in literals.iter().enumerate() {
@@ -59,7 +59,7 @@ pub fn row_of<R: Row>(alloc: Global, literals: &[Option<bool>]) -> Result<R, All
 
 // The rows with the given literals, in order.
 fn rows_of<R: Row>(alloc: Global, rows: &[Vec<Option<bool>>]) -> Result<Vec<R>, AllocError>
-    ensures { IfOk result (λ made. map R.places made.items ≡ literals_in rows.now) }
+    ensures { IfOk result (λ made. map R.literals made.items ≡ literals_in rows.now) }
 {
     let mut made = Vec::with_capacity(alloc, rows.len())?;
     for literals in rows {

@@ -1,18 +1,20 @@
 //! The steps of a division, on rows as vectors of optional literals.
 
 ghost use Rattle.std.specs.Prelude.{◌≡◌, ℕ, ◌<◌, ◌++◌, ◌∷◌, ◌↔◌, Bool, Option, Some, None, List, length, map, replicate, slice_index_or, IfOk, OnOk, option_map, IsTrue, IsSome};
+ghost use Rattle.std.specs.List.{position_from};
+ghost use Rattle.cube_cover.specs.Literals.{literal_product};
 ghost use Rattle.sis_base.specs.Rows.{HasWidth};
-ghost use Rattle.alg_div.specs.Cubes.{Has, times_at, times, products_by, products, row_eq, place_from};
+ghost use Rattle.alg_div.specs.Cubes.{Has, times, products_by, products, row_eq};
 ghost use Rattle.alg_div.specs.Quotient.{IsQuotient, IsQuotientBy, others};
-ghost use Rattle.alg_div.specs.Steps.{without, strip, touched, place_in, or_last, IsTheTerm, HasProducts, literals_in};
+ghost use Rattle.alg_div.specs.Steps.{without, strip, support, number_in, or_last, IsTheTerm, HasProducts, literals_in};
 
 use crate::literals::copy_of;
 use std::alloc::{AllocError, Global};
 use std::collections::HashMap;
 
-// The literal of the first where it has one, else the other.
-fn place_product(first: Option<bool>, other: Option<bool>) -> Option<bool>
-    ensures { result ≡ times_at first other }
+// The first literal, or where it is a dash the other.
+fn product_literal(first: Option<bool>, other: Option<bool>) -> Option<bool>
+    ensures { result ≡ literal_product first other }
 {
     match first {
         None => other,
@@ -32,24 +34,24 @@ pub fn product_of(
 {
     let mut made = Vec::with_capacity(alloc, cube.len())?;
     for (place, first) in cube.iter().enumerate() {
-        made.push(place_product(*first, row[place]))?;
+        made.push(product_literal(*first, row[place]))?;
     }
     Ok(made)
 }
 
-// The place without its literal where the mask has one.
-fn place_without(mask: Option<bool>, place: Option<bool>) -> Option<bool>
-    ensures { result ≡ without mask place }
+// A dash where the mask has a literal, else what stands there.
+fn literal_without(mask: Option<bool>, literal: Option<bool>) -> Option<bool>
+    ensures { result ≡ without mask literal }
 {
     match mask {
-        None => place,
+        None => literal,
         Some(_) => None,
     }
 }
 
 /// A row without its literals where the mask has one; an error only for want of memory.
 #[tactic(auto, unfolding(crate::specs::Steps::strip))]
-pub fn stripped(
+pub fn strip_row(
     alloc: Global,
     mask: &[Option<bool>],
     row: &[Option<bool>],
@@ -59,7 +61,7 @@ pub fn stripped(
 {
     let mut made = Vec::with_capacity(alloc, row.len())?;
     for (place, literal) in row.iter().enumerate() {
-        made.push(place_without(mask[place], *literal))?;
+        made.push(literal_without(mask[place], *literal))?;
     }
     Ok(made)
 }
@@ -75,15 +77,15 @@ fn dashes(alloc: Global, width: usize) -> Result<Vec<Option<bool>>, AllocError>
     Ok(made)
 }
 
-// A literal at each place where some row has one.
-#[tactic(auto, unfolding(crate::specs::Steps::touched_from))]
-pub fn touched_by(
+// The support of rows: a literal at each place where some row has one.
+#[tactic(auto, unfolding(crate::specs::Steps::support_from))]
+pub fn support_of(
     alloc: Global,
     width: usize,
     rows: &[Vec<Option<bool>>],
 ) -> Result<Vec<Option<bool>>, AllocError>
     requires { HasWidth width (literals_in rows.now) }
-    ensures { IfOk result (λ mask. mask.items ≡ touched width (literals_in rows.now)) }
+    ensures { IfOk result (λ mask. mask.items ≡ support width (literals_in rows.now)) }
 {
     let mut mask = dashes(alloc, width)?;
     for row in rows {
@@ -93,13 +95,13 @@ pub fn touched_by(
 }
 
 // Puts a row in with its number, unless it is there.
-fn add_place(
+fn add_number(
     alloc: Global,
     index: &mut HashMap<Vec<Option<bool>>, usize>,
     row: &[Option<bool>],
     number: usize,
 ) -> Result<(), AllocError>
-    ensures { OnOk result ((other : List (Option Bool)) → place_in index.new other ≡ or_last (place_in index.old other) (row_eq other row.now) number) }
+    ensures { OnOk result ((other : List (Option Bool)) → number_in index.new other ≡ or_last (number_in index.old other) (row_eq other row.now) number) }
 {
     if index.contains_key(row) {
         return Ok(());
@@ -110,15 +112,15 @@ fn add_place(
 }
 
 // The number of the first of each of the rows.
-pub fn places_of(
+pub fn numbers_of(
     alloc: Global,
     rows: &[Vec<Option<bool>>],
 ) -> Result<HashMap<Vec<Option<bool>>, usize>, AllocError>
-    ensures { IfOk result (λ index. (row : List (Option Bool)) → place_in index row ≡ place_from 0 row (literals_in rows.now)) }
+    ensures { IfOk result (λ index. (row : List (Option Bool)) → number_in index row ≡ position_from (row_eq row) 0 (literals_in rows.now)) }
 {
     let mut index = HashMap::new(alloc);
     for (number, row) in rows.iter().enumerate() {
-        add_place(alloc, &mut index, row.as_slice(), number)?;
+        add_number(alloc, &mut index, row.as_slice(), number)?;
     }
     Ok(index)
 }
@@ -155,12 +157,12 @@ pub fn term_at(
     requires number { number < length f.now }
     requires width { HasWidth (length mask.now) (literals_in f.now) }
     requires divisor { HasWidth (length mask.now) (literals_in d.now) }
-    requires mask { mask.now ≡ touched (length mask.now) (literals_in d.now) }
+    requires mask { mask.now ≡ support (length mask.now) (literals_in d.now) }
     requires first { Has first.now (literals_in d.now) }
-    requires index { (row : List (Option Bool)) → place_in index.now row ≡ place_from 0 row (literals_in f.now) }
+    requires index { (row : List (Option Bool)) → number_in index.now row ≡ position_from (row_eq row) 0 (literals_in f.now) }
     ensures { IfOk result (λ term. IsTheTerm (length mask.now) (literals_in f.now) first.now (literals_in d.now) number (option_map (λ cube. cube.items) term)) }
 {
-    let cube = stripped(alloc, mask, f[number].as_slice())?;
+    let cube = strip_row(alloc, mask, f[number].as_slice())?;
     let product = product_of(alloc, cube.as_slice(), first)?;
     match index.get(product.as_slice()) {
         None => return Ok(None),
@@ -186,11 +188,11 @@ pub fn terms_of(
 ) -> Result<Vec<Vec<Option<bool>>>, AllocError>
     requires width { HasWidth (length mask.now) (literals_in f.now) }
     requires divisor { HasWidth (length mask.now) (literals_in d.now) }
-    requires mask { mask.now ≡ touched (length mask.now) (literals_in d.now) }
+    requires mask { mask.now ≡ support (length mask.now) (literals_in d.now) }
     requires first { Has first.now (literals_in d.now) }
     ensures { IfOk result (λ terms. IsQuotientBy (length mask.now) (literals_in f.now) first.now (literals_in d.now) (literals_in terms.items)) }
 {
-    let index = places_of(alloc, f)?;
+    let index = numbers_of(alloc, f)?;
     let mut terms = Vec::new(alloc);
     for number in 0..f.len() {
         match term_at(alloc, f, d, &index, mask, first, number)? {
@@ -215,7 +217,7 @@ pub fn quotient_of(
     if d.is_empty() {
         return Ok(Vec::new(alloc));
     }
-    let mask = touched_by(alloc, width, d)?;
+    let mask = support_of(alloc, width, d)?;
     let terms = terms_of(alloc, f, d, mask.as_slice(), d[0].as_slice())?;
     Ok(terms)
 }
@@ -265,7 +267,7 @@ pub fn others_of(
 ) -> Result<Vec<Vec<Option<bool>>>, AllocError>
     ensures { IfOk result (λ made. literals_in made.items ≡ others (literals_in rows.now) (literals_in taken.now)) }
 {
-    let index = places_of(alloc, taken)?;
+    let index = numbers_of(alloc, taken)?;
     let mut made = Vec::new(alloc);
     for row in rows {
         if !index.contains_key(row.as_slice()) {

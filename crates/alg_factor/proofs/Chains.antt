@@ -1,16 +1,16 @@
 -- Products with a form behind them: one more at the end, and what they are together.
 use Rattle.std.proofs.Common.{◌≡◌, ℕ, ◌<◌, Bool, Option, List, [], ◌∷◌, ◌++◌, length, refl, ap, subst, arith}
-use Rattle.cube_cover.specs.Places.{cover_literals}
+use Rattle.cube_cover.specs.Literals.{cover_literals}
 use Rattle.alg_factor.specs.Forms.{Form, Split, with_literal, no_literal, IsChosen, NoneShared, IsFactored, Sum}
 use Rattle.alg_factor.specs.Shapes.{shape}
-use Rattle.alg_factor.specs.Chains.{chained}
+use Rattle.alg_factor.specs.Chains.{chain_form}
 use Rattle.alg_factor.specs.declared.factoring.Product.{Product}
 use Rattle.alg_factor.proofs.Laws.{literals-parts}
 
-pub chained-push : {X : Type 0} (f : X → List (Option Bool)) (products : List (Product X)) (product : Product X) (rest : Form) → chained f (products ++ product ∷ []) rest ≡ chained f products (Split product.place product.bit (shape f product.quotient) rest)
-unfolding chained
-chained-push f [] product rest = refl
-chained-push f (first ∷ products) product rest = ap (λ form. Split first.place first.bit (shape f first.quotient) form) (chained-push f products product rest)
+pub chain_form-push : {X : Type 0} (f : X → List (Option Bool)) (products : List (Product X)) (product : Product X) (rest : Form) → chain_form f (products ++ product ∷ []) rest ≡ chain_form f products (Split product.place product.bit (shape f product.quotient) rest)
+unfolding chain_form
+chain_form-push f [] product rest = refl
+chain_form-push f (first ∷ products) product rest = ap (λ form. Split first.place first.bit (shape f first.quotient) form) (chain_form-push f products product rest)
 
 -- both parts by a chosen literal have fewer literals than the rows
 pub with-fewer : (i : ℕ) (b : Bool) (rows : List (List (Option Bool))) → IsChosen i b rows → cover_literals (with_literal i b rows) < cover_literals rows

@@ -2,23 +2,23 @@
 use Rattle.std.proofs.Common.{◌≡◌, ℕ, ◌+◌, ◌*◌, ◌<◌, ◌≤◌, zero, suc, Bool, true, false, ltb, if◌then◌else◌, Option, Some, None, List, [], ◌∷◌, length, get_or, refl, arith, inl, inr, ◌⊎◌, MatchOption}
 use Rattle.std.proofs.lemmas.Bool.{ltb-true, ltb-false}
 use Rattle.sis_base.specs.Rows.{HasWidth}
-use Rattle.cube_cover.specs.Places.{rows_with}
+use Rattle.cube_cover.specs.Literals.{literal_occurrences}
 use Rattle.alg_factor.specs.Forms.{Form, Sum, Split, rank, IsChosen, NoneShared, IsFactored, IsOver, with_literal, no_literal}
 use Rattle.alg_factor.specs.Choices.{IsBestOf, IsBest, greater}
 use Rattle.alg_factor.specs.declared.choice.Best.{Best}
 use Rattle.alg_factor.proofs.Laws.{rank-one, HasWidth-with, HasWidth-no}
 
 -- a literal of the next rank is that literal
-pub rank_next : (i j : ℕ) (b d : Bool) (rows : List (List (Option Bool))) → rank i b < rank j d + 1 → (rank i b < rank j d) ⊎ (rows_with i b rows ≡ rows_with j d rows)
+pub rank_next : (i j : ℕ) (b d : Bool) (rows : List (List (Option Bool))) → rank i b < rank j d + 1 → (rank i b < rank j d) ⊎ (literal_occurrences i b rows ≡ literal_occurrences j d rows)
 rank_next i j b d rows h = cases (ltb (rank i b) (rank j d)) refl
   where
-    cases : (t : Bool) → ltb (rank i b) (rank j d) ≡ t → (rank i b < rank j d) ⊎ (rows_with i b rows ≡ rows_with j d rows)
+    cases : (t : Bool) → ltb (rank i b) (rank j d) ≡ t → (rank i b < rank j d) ⊎ (literal_occurrences i b rows ≡ literal_occurrences j d rows)
     cases true e = inl (ltb-true (rank i b) (rank j d) e)
     cases false e =
         let above : rank j d ≤ rank i b = ltb-false (rank i b) (rank j d) e in
         let one : (i ≡ j) × (b ≡ d) = rank-one i j b d (omega arith) in inr (rw (one.0, one.1) refl)
 
-pub best-first : (rows : List (List (Option Bool))) (next : Best) → next.count ≡ rows_with next.place next.bit rows → IsBest (rank next.place next.bit) rows None → IsBest (rank next.place next.bit + 1) rows (greater None next)
+pub best-first : (rows : List (List (Option Bool))) (next : Best) → next.count ≡ literal_occurrences next.place next.bit rows → IsBest (rank next.place next.bit) rows None → IsBest (rank next.place next.bit + 1) rows (greater None next)
 best-first rows next e h = cases (ltb next.count 2) refl
   where
     cases : (t : Bool) → ltb next.count 2 ≡ t → IsBest (rank next.place next.bit + 1) rows (if t then None else Some next)
@@ -33,7 +33,7 @@ best-first rows next e h = cases (ltb next.count 2) refl
           first = λ i b below. omega (arith, h i b below);
         }
 
-pub best-next : (rows : List (List (Option Bool))) (best next : Best) → next.count ≡ rows_with next.place next.bit rows → IsBestOf (rank next.place next.bit) rows best → IsBest (rank next.place next.bit + 1) rows (greater (Some best) next)
+pub best-next : (rows : List (List (Option Bool))) (best next : Best) → next.count ≡ literal_occurrences next.place next.bit rows → IsBestOf (rank next.place next.bit) rows best → IsBest (rank next.place next.bit + 1) rows (greater (Some best) next)
 best-next rows best next e h = cases (ltb best.count next.count) refl
   where
     cases : (t : Bool) → ltb best.count next.count ≡ t → IsBest (rank next.place next.bit + 1) rows (if t then Some next else Some best)
@@ -57,7 +57,7 @@ best-next rows best next e h = cases (ltb best.count next.count) refl
         }
 
 -- one literal more
-pub best-greater : (rows : List (List (Option Bool))) (best : Option Best) (next : Best) → next.count ≡ rows_with next.place next.bit rows → IsBest (rank next.place next.bit) rows best → IsBest (rank next.place next.bit + 1) rows (greater best next)
+pub best-greater : (rows : List (List (Option Bool))) (best : Option Best) (next : Best) → next.count ≡ literal_occurrences next.place next.bit rows → IsBest (rank next.place next.bit) rows best → IsBest (rank next.place next.bit + 1) rows (greater best next)
 best-greater rows None next e h = best-first rows next e h
 best-greater rows (Some best) next e h = best-next rows best next e h
 
@@ -67,10 +67,10 @@ get_or-past [] i h = refl
 get_or-past (x ∷ xs) zero h = absurd (omega arith)
 get_or-past (x ∷ xs) (suc i) h = get_or-past xs i (omega arith)
 
-pub rows_with-past : (w i : ℕ) (b : Bool) (rows : List (List (Option Bool))) → HasWidth w rows → w ≤ i → rows_with i b rows ≡ 0
-unfolding HasWidth rows_with
-rows_with-past w i b [] h le = refl
-rows_with-past w i b (row ∷ rows) h le = rw (get_or-past row i (omega (arith, h.0)), rows_with-past w i b rows h.1 le) refl
+pub literal_occurrences-past : (w i : ℕ) (b : Bool) (rows : List (List (Option Bool))) → HasWidth w rows → w ≤ i → literal_occurrences i b rows ≡ 0
+unfolding HasWidth literal_occurrences
+literal_occurrences-past w i b [] h le = refl
+literal_occurrences-past w i b (row ∷ rows) h le = rw (get_or-past row i (omega (arith, h.0)), literal_occurrences-past w i b rows h.1 le) refl
 
 pub rank-place : (i : ℕ) (b : Bool) → 2 * i ≤ rank i b
 rank-place i false = omega arith
@@ -87,9 +87,9 @@ below-rank i w true h = omega arith
 pub none-shared : (w : ℕ) (rows : List (List (Option Bool))) → HasWidth w rows → IsBest (2 * w) rows None → NoneShared rows
 none-shared w rows h best i b = cases (ltb i w) refl
   where
-    cases : (t : Bool) → ltb i w ≡ t → rows_with i b rows < 2
+    cases : (t : Bool) → ltb i w ≡ t → literal_occurrences i b rows < 2
     cases true e = best i b (below-rank i w b (ltb-true i w e))
-    cases false e = omega (arith, rows_with-past w i b rows h (ltb-false i w e))
+    cases false e = omega (arith, literal_occurrences-past w i b rows h (ltb-false i w e))
 
 pub chosen-best : (w : ℕ) (rows : List (List (Option Bool))) (best : Best) → HasWidth w rows → IsBest (2 * w) rows (Some best) → (best.place < w) × IsChosen best.place best.bit rows
 chosen-best w rows best h k = (
@@ -101,9 +101,9 @@ chosen-best w rows best h k = (
   },
 )
   where
-    cases : (i : ℕ) (b : Bool) (t : Bool) → ltb i w ≡ t → rows_with i b rows ≤ rows_with best.place best.bit rows
+    cases : (i : ℕ) (b : Bool) (t : Bool) → ltb i w ≡ t → literal_occurrences i b rows ≤ literal_occurrences best.place best.bit rows
     cases i b true e = omega (arith, k.most i b (below-rank i w b (ltb-true i w e)), k.count)
-    cases i b false e = omega (arith, rows_with-past w i b rows h (ltb-false i w e))
+    cases i b false e = omega (arith, literal_occurrences-past w i b rows h (ltb-false i w e))
 
 pub best_answer : (w : ℕ) (rows : List (List (Option Bool))) (best : Option Best) → HasWidth w rows → IsBest (2 * w) rows best
     → MatchOption best (NoneShared rows) (λ (best : Best). (best.place < w) × IsChosen best.place best.bit rows)
@@ -116,7 +116,7 @@ chosen-below w i b rows h k = cases (ltb i w) refl
   where
     cases : (t : Bool) → ltb i w ≡ t → i < w
     cases true e = ltb-true i w e
-    cases false e = absurd (omega (arith, rows_with-past w i b rows h (ltb-false i w e), k.two))
+    cases false e = absurd (omega (arith, literal_occurrences-past w i b rows h (ltb-false i w e), k.two))
 
 -- the factored form of rows of a width is over its inputs
 pub over-factored : (w : ℕ) (rows : List (List (Option Bool))) (f : Form) → HasWidth w rows → IsFactored rows f → IsOver w f

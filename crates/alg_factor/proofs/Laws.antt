@@ -4,25 +4,25 @@ use Rattle.std.proofs.lemmas.List.{length-set}
 use Rattle.std.specs.List.Sorted.{IsPermutation}
 use Rattle.std.proofs.lemmas.List.Sorted.{IsPermutation-refl, IsPermutation-trans, IsPermutation-append, IsPermutation-map, IsPermutation-middle, IsPermutation-sym}
 use Rattle.sis_base.specs.Rows.{HasWidth}
-use Rattle.cube_cover.specs.Places.{place_literals, row_literals, cover_literals, literal_count, rows_with}
-use Rattle.alg_factor.specs.Forms.{Form, Sum, Split, is_literal, with_literal, no_literal, rank, IsChosen, NoneShared, SomeShared, IsFactored, put_literal, expanded, form_literals}
+use Rattle.cube_cover.specs.Literals.{has_literal, literal_number, row_literals, cover_literals, literal_count, literal_occurrences}
+use Rattle.alg_factor.specs.Forms.{Form, Sum, Split, with_literal, no_literal, rank, IsChosen, NoneShared, SomeShared, IsFactored, put_literal, expansion_of, form_literals}
 
 -- a literal counts once where it stands
-pub count_literal : (b : Bool) (x : Option Bool) → is_literal b x ≡ true → literal_count b x ≡ 1
+pub count_literal : (b : Bool) (x : Option Bool) → has_literal x b ≡ true → literal_count b x ≡ 1
 count_literal b None h = cc
 count_literal true (Some true) h = refl
 count_literal true (Some false) h = cc
 count_literal false (Some true) h = cc
 count_literal false (Some false) h = refl
 
-pub count_other : (b : Bool) (x : Option Bool) → is_literal b x ≡ false → literal_count b x ≡ 0
+pub count_other : (b : Bool) (x : Option Bool) → has_literal x b ≡ false → literal_count b x ≡ 0
 count_other b None h = refl
 count_other true (Some true) h = cc
 count_other true (Some false) h = refl
 count_other false (Some true) h = refl
 count_other false (Some false) h = cc
 
-pub literal_is : (b : Bool) (x : Option Bool) → is_literal b x ≡ true → x ≡ Some b
+pub literal_is : (b : Bool) (x : Option Bool) → has_literal x b ≡ true → x ≡ Some b
 literal_is b None h = cc
 literal_is true (Some true) h = refl
 literal_is true (Some false) h = cc
@@ -39,19 +39,19 @@ set-back (x ∷ xs) (suc i) b h = ap (λ (ys : List (Option Bool)). x ∷ ys) (s
 pub literals-set : (row : List (Option Bool)) (i : ℕ) (b : Bool) → get_or row i None ≡ Some b → row_literals row ≡ 1 + row_literals (set row i None)
 unfolding row_literals
 literals-set [] i b h = cc
-literals-set (x ∷ xs) zero b h = let e : place_literals x ≡ 1 = ap place_literals h in omega arith
+literals-set (x ∷ xs) zero b h = let e : literal_number x ≡ 1 = ap literal_number h in omega arith
 literals-set (x ∷ xs) (suc i) b h = omega (arith, literals-set xs i b h)
 
 -- the two parts of rows, the first with its literal put back, are the rows in some order
 pub parts : (i : ℕ) (b : Bool) (rows : List (List (Option Bool))) → IsPermutation rows (put_literal i b (with_literal i b rows) ++ no_literal i b rows)
 unfolding with_literal no_literal
 parts i b [] = IsPermutation-refl []
-parts i b (row ∷ rows) = cases (is_literal b (get_or row i None)) refl (parts i b rows)
+parts i b (row ∷ rows) = cases (has_literal (get_or row i None) b) refl (parts i b rows)
   where
     tail : List (List (Option Bool))
     tail = put_literal i b (with_literal i b rows) ++ no_literal i b rows
 
-    cases : (t : Bool) → is_literal b (get_or row i None) ≡ t → IsPermutation rows (put_literal i b (with_literal i b rows) ++ no_literal i b rows)
+    cases : (t : Bool) → has_literal (get_or row i None) b ≡ t → IsPermutation rows (put_literal i b (with_literal i b rows) ++ no_literal i b rows)
         → IsPermutation (row ∷ rows) (put_literal i b (if t then set row i None ∷ with_literal i b rows else with_literal i b rows) ++ (if t then no_literal i b rows else row ∷ no_literal i b rows))
     cases true e rest =
         rw (set-back row i b (literal_is b _ e)) (IsPermutation-append (row ∷ []) (row ∷ []) _ _ (IsPermutation-refl (row ∷ [])) rest)
@@ -61,22 +61,22 @@ parts i b (row ∷ rows) = cases (is_literal b (get_or row i None)) refl (parts 
         (IsPermutation-sym _ _ (IsPermutation-middle (put_literal i b (with_literal i b rows)) row (no_literal i b rows)))
 
 -- and their literals are those of both parts, and the one that was taken out of each of the first
-pub literals-parts : (i : ℕ) (b : Bool) (rows : List (List (Option Bool))) → cover_literals rows ≡ rows_with i b rows + cover_literals (with_literal i b rows) + cover_literals (no_literal i b rows)
-unfolding with_literal no_literal rows_with cover_literals
+pub literals-parts : (i : ℕ) (b : Bool) (rows : List (List (Option Bool))) → cover_literals rows ≡ literal_occurrences i b rows + cover_literals (with_literal i b rows) + cover_literals (no_literal i b rows)
+unfolding with_literal no_literal literal_occurrences cover_literals
 literals-parts i b [] = refl
-literals-parts i b (row ∷ rows) = cases (is_literal b (get_or row i None)) refl (literals-parts i b rows)
+literals-parts i b (row ∷ rows) = cases (has_literal (get_or row i None) b) refl (literals-parts i b rows)
   where
-    cases : (t : Bool) → is_literal b (get_or row i None) ≡ t → cover_literals rows ≡ rows_with i b rows + cover_literals (with_literal i b rows) + cover_literals (no_literal i b rows)
-        → row_literals row + cover_literals rows ≡ (literal_count b (get_or row i None) + rows_with i b rows) + cover_literals (if t then set row i None ∷ with_literal i b rows else with_literal i b rows) + cover_literals (if t then no_literal i b rows else row ∷ no_literal i b rows)
+    cases : (t : Bool) → has_literal (get_or row i None) b ≡ t → cover_literals rows ≡ literal_occurrences i b rows + cover_literals (with_literal i b rows) + cover_literals (no_literal i b rows)
+        → row_literals row + cover_literals rows ≡ (literal_count b (get_or row i None) + literal_occurrences i b rows) + cover_literals (if t then set row i None ∷ with_literal i b rows else with_literal i b rows) + cover_literals (if t then no_literal i b rows else row ∷ no_literal i b rows)
     cases true e rest = omega (arith, count_literal b _ e, literals-set row i b (literal_is b _ e))
     cases false e rest = omega (arith, count_other b _ e)
 
-pub expanded-rows : (rows : List (List (Option Bool))) (f : Form) → IsFactored rows f → IsPermutation rows (expanded f)
-unfolding IsFactored expanded
-expanded-rows rows (Sum sum) h = rw h.0 (IsPermutation-refl rows)
-expanded-rows rows (Split i b q r) h =
+pub expansion_of-rows : (rows : List (List (Option Bool))) (f : Form) → IsFactored rows f → IsPermutation rows (expansion_of f)
+unfolding IsFactored expansion_of
+expansion_of-rows rows (Sum sum) h = rw h.0 (IsPermutation-refl rows)
+expansion_of-rows rows (Split i b q r) h =
     IsPermutation-trans _ _ _ (parts i b rows)
-    (IsPermutation-append _ _ _ _ (IsPermutation-map (λ row. set row i (Some b)) _ _ (expanded-rows (with_literal i b rows) q h.1)) (expanded-rows (no_literal i b rows) r h.2))
+    (IsPermutation-append _ _ _ _ (IsPermutation-map (λ row. set row i (Some b)) _ _ (expansion_of-rows (with_literal i b rows) q h.1)) (expansion_of-rows (no_literal i b rows) r h.2))
 
 -- never more literals than the rows have
 pub literals-most : (rows : List (List (Option Bool))) (f : Form) → IsFactored rows f → form_literals f ≤ cover_literals rows
@@ -128,7 +128,7 @@ factored-one rows (Split i b q r) (Split j d s t) h k =
 pub HasWidth-with : (w i : ℕ) (b : Bool) (rows : List (List (Option Bool))) → HasWidth w rows → HasWidth w (with_literal i b rows)
 unfolding HasWidth with_literal
 HasWidth-with w i b [] h = tt
-HasWidth-with w i b (row ∷ rows) h = cases (is_literal b (get_or row i None)) (HasWidth-with w i b rows h.1)
+HasWidth-with w i b (row ∷ rows) h = cases (has_literal (get_or row i None) b) (HasWidth-with w i b rows h.1)
   where
     cases : (t : Bool) → HasWidth w (with_literal i b rows) → HasWidth w (if t then set row i None ∷ with_literal i b rows else with_literal i b rows)
     cases true rest = (length-set row i None ∙ h.0, rest)
@@ -137,7 +137,7 @@ HasWidth-with w i b (row ∷ rows) h = cases (is_literal b (get_or row i None)) 
 pub HasWidth-no : (w i : ℕ) (b : Bool) (rows : List (List (Option Bool))) → HasWidth w rows → HasWidth w (no_literal i b rows)
 unfolding HasWidth no_literal
 HasWidth-no w i b [] h = tt
-HasWidth-no w i b (row ∷ rows) h = cases (is_literal b (get_or row i None)) (HasWidth-no w i b rows h.1)
+HasWidth-no w i b (row ∷ rows) h = cases (has_literal (get_or row i None) b) (HasWidth-no w i b rows h.1)
   where
     cases : (t : Bool) → HasWidth w (no_literal i b rows) → HasWidth w (if t then no_literal i b rows else row ∷ no_literal i b rows)
     cases true rest = rest

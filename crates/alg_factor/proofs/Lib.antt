@@ -4,4 +4,3 @@ pub mod Parts
 pub mod Chains
 pub mod Expansions
 pub mod Texts
-pub mod Counts

@@ -4,7 +4,7 @@
 -- those of sis_base: some bit where a literal stands (true the positive one), none for a dash.
 use Rattle.std.specs.Prelude.{◌≡◌, ℕ, ◌+◌, ◌*◌, ◌<◌, ◌≤◌, Bool, true, false, not, if◌then◌else◌, Option, Some, None, List, [], ◌∷◌, ◌++◌, map, slice_index_or, slice_set}
 use Rattle.sis_base.specs.Rows.{HasWidth}
-use Rattle.cube_cover.specs.Places.{rows_with, cover_literals}
+use Rattle.cube_cover.specs.Literals.{has_literal, literal_occurrences, cover_literals}
 
 -- a form: a sum of rows; or a literal, given by its place and its bit, times a form, and then a form that is
 -- added to the product (the sum of no rows where nothing is added)
@@ -12,23 +12,17 @@ pub data Form : Type 0 where
   Sum : List (List (Option Bool)) → Form
   Split : ℕ → Bool → Form → Form → Form
 
--- whether a place has the literal of a bit
-abbrev pub is_literal : Bool → Option Bool → Bool
-is_literal bit None = false
-is_literal true (Some literal) = literal
-is_literal false (Some literal) = not literal
-
 -- the rows that have a literal, in order, each without it
 unfoldable pub with_literal : ℕ → Bool → List (List (Option Bool)) → List (List (Option Bool))
 with_literal place bit [] = []
 with_literal place bit (row ∷ rows) =
-    if is_literal bit (slice_index_or row place None) then slice_set row place None ∷ with_literal place bit rows else with_literal place bit rows
+    if has_literal (slice_index_or row place None) bit then slice_set row place None ∷ with_literal place bit rows else with_literal place bit rows
 
 -- the rows that have not, in order
 unfoldable pub no_literal : ℕ → Bool → List (List (Option Bool)) → List (List (Option Bool))
 no_literal place bit [] = []
 no_literal place bit (row ∷ rows) =
-    if is_literal bit (slice_index_or row place None) then no_literal place bit rows else row ∷ no_literal place bit rows
+    if has_literal (slice_index_or row place None) bit then no_literal place bit rows else row ∷ no_literal place bit rows
 
 -- the order of literals: by place, then 0 before 1
 abbrev pub rank : ℕ → Bool → ℕ
@@ -37,17 +31,17 @@ rank place true = 2 * place + 1
 
 -- the literal in most rows, in two at least, and the first of those in as many
 pub record IsChosen (place : ℕ) (bit : Bool) (rows : List (List (Option Bool))) : Type 0 where
-  pub two : 2 ≤ rows_with place bit rows
-  pub most : (i : ℕ) (b : Bool) → rows_with i b rows ≤ rows_with place bit rows
-  pub first : (i : ℕ) (b : Bool) → rank i b < rank place bit → rows_with i b rows < rows_with place bit rows
+  pub two : 2 ≤ literal_occurrences place bit rows
+  pub most : (i : ℕ) (b : Bool) → literal_occurrences i b rows ≤ literal_occurrences place bit rows
+  pub first : (i : ℕ) (b : Bool) → rank i b < rank place bit → literal_occurrences i b rows < literal_occurrences place bit rows
 
 -- no literal stands in two rows
 abbrev pub NoneShared : List (List (Option Bool)) → Type 0
-NoneShared rows = (place : ℕ) (bit : Bool) → rows_with place bit rows < 2
+NoneShared rows = (place : ℕ) (bit : Bool) → literal_occurrences place bit rows < 2
 
 -- some literal stands in two rows
 abbrev pub SomeShared : List (List (Option Bool)) → Type 0
-SomeShared rows = (place : ℕ) × (bit : Bool) × (2 ≤ rows_with place bit rows)
+SomeShared rows = (place : ℕ) × (bit : Bool) × (2 ≤ literal_occurrences place bit rows)
 
 -- the factored form of rows: their sum where no literal stands in two of them; else the chosen literal times the
 -- factored form of the rows that have it, without it, and the factored form of the others
@@ -61,9 +55,9 @@ abbrev pub put_literal : ℕ → Bool → List (List (Option Bool)) → List (Li
 put_literal place bit rows = map (λ row. slice_set row place (Some bit)) rows
 
 -- a form multiplied out
-unfoldable pub expanded : Form → List (List (Option Bool))
-expanded (Sum rows) = rows
-expanded (Split place bit quotient rest) = put_literal place bit (expanded quotient) ++ expanded rest
+unfoldable pub expansion_of : Form → List (List (Option Bool))
+expansion_of (Sum rows) = rows
+expansion_of (Split place bit quotient rest) = put_literal place bit (expansion_of quotient) ++ expansion_of rest
 
 -- how many literals are written in a form
 unfoldable pub form_literals : Form → ℕ

@@ -5,9 +5,9 @@ use Rattle.std.specs.Prelude.{ℕ, ltb, Bool, true, false, if◌then◌else◌, 
 use Rattle.alg_factor.specs.Forms.{Form, Sum, Split}
 
 -- texts with a sign between them, or a text for no texts
-abbrev pub joined : List ℕ → List ℕ → List (List ℕ) → List ℕ
-joined none sign [] = none
-joined none sign (text ∷ texts) = text ++ flat_map (λ next. sign ++ next) texts
+abbrev pub join_texts : List ℕ → List ℕ → List (List ℕ) → List ℕ
+join_texts none sign [] = none
+join_texts none sign (text ∷ texts) = text ++ flat_map (λ next. sign ++ next) texts
 
 -- a literal: the name, after `!` where it is negative
 abbrev pub literal_text : Bool → List ℕ → List ℕ
@@ -15,23 +15,23 @@ literal_text true name = name
 literal_text false name = codes "!" ++ name
 
 -- the literal of a place, if there is one
-abbrev pub place_texts : List ℕ → Option Bool → List (List ℕ)
-place_texts name None = []
-place_texts name (Some literal) = literal_text literal name ∷ []
+abbrev pub texts_at : List ℕ → Option Bool → List (List ℕ)
+texts_at name None = []
+texts_at name (Some bit) = literal_text bit name ∷ []
 
 -- the literals of a row, in order
 unfoldable pub literal_texts : List (List ℕ) → List (Option Bool) → List (List ℕ)
 literal_texts names [] = []
-literal_texts [] (place ∷ places) = []
-literal_texts (name ∷ names) (place ∷ places) = place_texts name place ++ literal_texts names places
+literal_texts [] (literal ∷ literals) = []
+literal_texts (name ∷ names) (literal ∷ literals) = texts_at name literal ++ literal_texts names literals
 
 -- a row: the product of its literals, `1` where it has none
 abbrev pub row_text : List (List ℕ) → List (Option Bool) → List ℕ
-row_text names row = joined (codes "1") (codes "*") (literal_texts names row)
+row_text names row = join_texts (codes "1") (codes "*") (literal_texts names row)
 
 -- a sum, `0` where it has no summand
 abbrev pub sum_text : List (List ℕ) → List ℕ
-sum_text texts = joined (codes "0") (codes " + ") texts
+sum_text texts = join_texts (codes "0") (codes " + ") texts
 
 -- a sum as a factor: in parentheses where it has two summands or more
 abbrev pub factor_text : List (List ℕ) → List ℕ

@@ -1,13 +1,13 @@
--- A sum or a product as it is written, a text after the other.
+-- A sum or a product as it is written, a text after the other. No public clause needs these definitions.
 -- Source: the project's own order of writing.
 use Rattle.std.specs.Prelude.{ℕ, ◌+◌, Bool, true, false, if◌then◌else◌, List, [], ◌++◌, length, flat_map}
 use Rattle.alg_factor.specs.Forms.{Form, Sum, Split}
-use Rattle.alg_factor.specs.Texts.{joined}
+use Rattle.alg_factor.specs.Texts.{join_texts}
 
 -- what is written for the texts that are left: before each the sign, but before the first of all nothing; a text for
 -- none where there is none at all
 abbrev pub left_text : Bool → List ℕ → List ℕ → List (List ℕ) → List ℕ
-left_text true none sign texts = joined none sign texts
+left_text true none sign texts = join_texts none sign texts
 left_text false none sign texts = flat_map (λ next. sign ++ next) texts
 
 -- a text that is written or not

@@ -2,8 +2,8 @@
 
 ghost use Rattle.std.specs.Prelude.{◌≡◌, ℕ, ◌+◌, ◌*◌, ◌^◌, ◌<◌, ◌≤◌, Bool, true, false, Option, None, List, length, map, slice_index_or, slice_set, IfOk, MatchOption};
 ghost use Rattle.sis_base.specs.Rows.{HasWidth};
-ghost use Rattle.cube_cover.specs.Places.{rows_with, literal_count};
-ghost use Rattle.alg_factor.specs.Forms.{is_literal, with_literal, no_literal, rank, IsChosen, NoneShared};
+ghost use Rattle.cube_cover.specs.Literals.{has_literal, literal_occurrences, literal_count};
+ghost use Rattle.alg_factor.specs.Forms.{with_literal, no_literal, rank, IsChosen, NoneShared};
 ghost use Rattle.alg_factor.specs.Choices.{IsBest, greater};
 
 use cube_cover::Row;
@@ -19,47 +19,47 @@ pub(crate) struct Best {
 
 /// In how many rows the negative and the positive literal of a place stand.
 #[derive(Clone, Copy)]
-pub(crate) struct Uses {
+pub(crate) struct PolarityCounts {
     negative: usize,
     positive: usize,
 }
 
-// One use more, of the polarity that a place has.
-fn more_uses(uses: Uses, place: Option<bool>) -> Uses
-    requires negative { uses.negative + 1 < 2 ^ 64 }
-    requires positive { uses.positive + 1 < 2 ^ 64 }
-    ensures negative { result.negative ≡ uses.negative + literal_count false place }
-    ensures positive { result.positive ≡ uses.positive + literal_count true place }
+// One more of the polarity that a literal has.
+fn add_literal(counts: PolarityCounts, literal: Option<bool>) -> PolarityCounts
+    requires negative { counts.negative + 1 < 2 ^ 64 }
+    requires positive { counts.positive + 1 < 2 ^ 64 }
+    ensures negative { result.negative ≡ counts.negative + literal_count false literal }
+    ensures positive { result.positive ≡ counts.positive + literal_count true literal }
 {
-    match place {
-        None => uses,
-        Some(true) => Uses {
-            negative: uses.negative,
-            positive: uses.positive + 1,
+    match literal {
+        None => counts,
+        Some(true) => PolarityCounts {
+            negative: counts.negative,
+            positive: counts.positive + 1,
         },
-        Some(false) => Uses {
-            negative: uses.negative + 1,
-            positive: uses.positive,
+        Some(false) => PolarityCounts {
+            negative: counts.negative + 1,
+            positive: counts.positive,
         },
     }
 }
 
-// The uses of both literals of a place.
-#[tactic(auto, using(cube_cover::proofs::Points::width_read), unfolding(cube_cover::specs::Places::rows_with))]
-fn uses_at<R: Row>(width: usize, rows: &[R], place: usize) -> Uses
-    requires widths { HasWidth width (map R.places rows.now) }
+// In how many rows both literals of a place stand.
+#[tactic(auto, using(cube_cover::proofs::Points::width_read), unfolding(cube_cover::specs::Literals::literal_occurrences))]
+fn polarity_counts_at<R: Row>(width: usize, rows: &[R], place: usize) -> PolarityCounts
+    requires widths { HasWidth width (map R.literals rows.now) }
     requires place { place < width }
-    ensures negative { result.negative ≡ rows_with place false (map R.places rows.now) }
-    ensures positive { result.positive ≡ rows_with place true (map R.places rows.now) }
+    ensures negative { result.negative ≡ literal_occurrences place false (map R.literals rows.now) }
+    ensures positive { result.positive ≡ literal_occurrences place true (map R.literals rows.now) }
 {
-    let mut uses = Uses {
+    let mut counts = PolarityCounts {
         negative: 0,
         positive: 0,
     };
     for row in rows {
-        uses = more_uses(uses, row.at(place));
+        counts = add_literal(counts, row.at(place));
     }
-    uses
+    counts
 }
 
 // The later literal where it stands in two rows and in more than the best so far, else the best so far.
@@ -80,18 +80,18 @@ fn greater_of(best: Option<Best>, next: Best) -> Option<Best>
 
 // The best literal after both literals of one more place.
 fn best_after<R: Row>(width: usize, rows: &[R], place: usize, best: Option<Best>) -> Option<Best>
-    requires widths { HasWidth width (map R.places rows.now) }
+    requires widths { HasWidth width (map R.literals rows.now) }
     requires place { place < width }
-    requires best { IsBest (2 * place) (map R.places rows.now) best }
-    ensures { IsBest (2 * (place + 1)) (map R.places rows.now) result }
+    requires best { IsBest (2 * place) (map R.literals rows.now) best }
+    ensures { IsBest (2 * (place + 1)) (map R.literals rows.now) result }
 {
-    let uses = uses_at(width, rows, place);
+    let counts = polarity_counts_at(width, rows, place);
     let negative = greater_of(
         best,
         Best {
             place,
             bit: false,
-            count: uses.negative,
+            count: counts.negative,
         },
     );
     greater_of(
@@ -99,7 +99,7 @@ fn best_after<R: Row>(width: usize, rows: &[R], place: usize, best: Option<Best>
         Best {
             place,
             bit: true,
-            count: uses.positive,
+            count: counts.positive,
         },
     )
 }
@@ -107,8 +107,8 @@ fn best_after<R: Row>(width: usize, rows: &[R], place: usize, best: Option<Best>
 /// The literal in most rows, by place and then 0 before 1 among equals; none where no literal stands in two rows.
 #[tactic(auto, using(crate::proofs::Choosing::best_answer))]
 pub(crate) fn best_literal<R: Row>(width: usize, rows: &[R]) -> Option<Best>
-    requires { HasWidth width (map R.places rows.now) }
-    ensures { MatchOption result (NoneShared (map R.places rows.now)) (λ best. (best.place < width) × IsChosen best.place best.bit (map R.places rows.now)) }
+    requires { HasWidth width (map R.literals rows.now) }
+    ensures { MatchOption result (NoneShared (map R.literals rows.now)) (λ best. (best.place < width) × IsChosen best.place best.bit (map R.literals rows.now)) }
 {
     let mut best = None;
     for place in 0..width {
@@ -124,20 +124,20 @@ pub(crate) struct Parts<R: Row> {
     pub(crate) others: Vec<R>,
 }
 
-// Whether a place has the literal of a bit.
-fn has_literal(place: Option<bool>, bit: bool) -> bool
-    ensures { result ≡ is_literal bit place }
+// Whether a literal is that of a bit.
+fn is_literal(literal: Option<bool>, bit: bool) -> bool
+    ensures { result ≡ has_literal literal bit }
 {
-    match place {
+    match literal {
         None => false,
-        Some(literal) => literal == bit,
+        Some(other) => other == bit,
     }
 }
 
 // A row without its literal at a place.
-fn cleared<R: Row>(row: R, place: usize) -> R
-    requires { place < length (R.places row) }
-    ensures { R.places result ≡ slice_set (R.places row) place None }
+fn clear_literal<R: Row>(row: R, place: usize) -> R
+    requires { place < length (R.literals row) }
+    ensures { R.literals result ≡ slice_set (R.literals row) place None }
 {
     let mut made = row;
     made.set(place, None);
@@ -146,23 +146,23 @@ fn cleared<R: Row>(row: R, place: usize) -> R
 
 /// Parts rows by a literal, in order; an error only for want of memory.
 #[tactic(auto, using(cube_cover::proofs::Points::width_read, crate::proofs::Parts::with_keep, crate::proofs::Parts::with_skip, crate::proofs::Parts::others_keep, crate::proofs::Parts::others_skip), unfolding(crate::specs::Forms::with_literal, crate::specs::Forms::no_literal))]
-pub(crate) fn parted<R: Row>(
+pub(crate) fn part_rows<R: Row>(
     alloc: Global,
     width: usize,
     rows: Vec<R>,
     place: usize,
     bit: bool,
 ) -> Result<Parts<R>, AllocError>
-    requires widths { HasWidth width (map R.places rows.items) }
+    requires widths { HasWidth width (map R.literals rows.items) }
     requires place { place < width }
-    ensures with { IfOk result (λ parts. map R.places parts.with.items ≡ with_literal place bit (map R.places rows.items)) }
-    ensures others { IfOk result (λ parts. map R.places parts.others.items ≡ no_literal place bit (map R.places rows.items)) }
+    ensures with { IfOk result (λ parts. map R.literals parts.with.items ≡ with_literal place bit (map R.literals rows.items)) }
+    ensures others { IfOk result (λ parts. map R.literals parts.others.items ≡ no_literal place bit (map R.literals rows.items)) }
 {
     let mut with = Vec::new(alloc);
     let mut others = Vec::new(alloc);
     for row in rows {
-        if has_literal(row.at(place), bit) {
-            with.push(cleared(row, place))?;
+        if is_literal(row.at(place), bit) {
+            with.push(clear_literal(row, place))?;
         } else {
             others.push(row)?;
         }

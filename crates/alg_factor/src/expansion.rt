@@ -2,7 +2,7 @@
 
 ghost use Rattle.std.specs.Prelude.{◌≡◌, ℕ, ◌<◌, ◌++◌, Bool, Option, Some, List, length, map, slice_set, IfOk};
 ghost use Rattle.sis_base.specs.Rows.{HasWidth};
-ghost use Rattle.alg_factor.specs.Forms.{IsOver, put_literal, expanded};
+ghost use Rattle.alg_factor.specs.Forms.{IsOver, put_literal, expansion_of};
 ghost use Rattle.alg_factor.specs.Shapes.{shape};
 
 use crate::form::Tree;
@@ -11,7 +11,7 @@ use std::alloc::{AllocError, Global};
 
 // Rows, and copies of others behind them.
 fn followed_by<R: Row>(alloc: Global, first: Vec<R>, others: &[R]) -> Result<Vec<R>, AllocError>
-    ensures { IfOk result (λ made. map R.places made.items ≡ map R.places first.items ++ map R.places others.now) }
+    ensures { IfOk result (λ made. map R.literals made.items ≡ map R.literals first.items ++ map R.literals others.now) }
 {
     let mut made = first;
     for row in others {
@@ -22,8 +22,8 @@ fn followed_by<R: Row>(alloc: Global, first: Vec<R>, others: &[R]) -> Result<Vec
 
 // A row with a literal at a place.
 fn with_one<R: Row>(row: R, place: usize, bit: bool) -> R
-    requires { place < length (R.places row) }
-    ensures { R.places result ≡ slice_set (R.places row) place (Some bit) }
+    requires { place < length (R.literals row) }
+    ensures { R.literals result ≡ slice_set (R.literals row) place (Some bit) }
 {
     let mut made = row;
     made.set(place, Some(bit));
@@ -39,9 +39,9 @@ fn followed_with<R: Row>(
     place: usize,
     bit: bool,
 ) -> Result<Vec<R>, AllocError>
-    requires widths { HasWidth width (map R.places others.items) }
+    requires widths { HasWidth width (map R.literals others.items) }
     requires place { place < width }
-    ensures { IfOk result (λ made. map R.places made.items ≡ map R.places first.items ++ put_literal place bit (map R.places others.items)) }
+    ensures { IfOk result (λ made. map R.literals made.items ≡ map R.literals first.items ++ put_literal place bit (map R.literals others.items)) }
 {
     let mut made = first;
     for row in others {
@@ -51,15 +51,15 @@ fn followed_with<R: Row>(
 }
 
 /// The rows of a tree multiplied out; an error only for want of memory.
-#[tactic(auto, unfolding(crate::specs::Forms::expanded))]
-pub(crate) fn expanded_rows<R: Row>(
+#[tactic(auto, unfolding(crate::specs::Forms::expansion_of))]
+pub(crate) fn expand_rows<R: Row>(
     alloc: Global,
     width: usize,
     tree: &Tree<R>,
 ) -> Result<Vec<R>, AllocError>
-    requires { IsOver width (shape R.places tree.now) }
-    ensures rows { IfOk result (λ made. map R.places made.items ≡ expanded (shape R.places tree.now)) }
-    ensures widths { IfOk result (λ made. HasWidth width (map R.places made.items)) }
+    requires { IsOver width (shape R.literals tree.now) }
+    ensures rows { IfOk result (λ made. map R.literals made.items ≡ expansion_of (shape R.literals tree.now)) }
+    ensures widths { IfOk result (λ made. HasWidth width (map R.literals made.items)) }
 {
     let mut made = Vec::new(alloc);
     let mut here = tree;
@@ -70,7 +70,7 @@ pub(crate) fn expanded_rows<R: Row>(
                 return Ok(all);
             }
             Tree::Term(place, bit, quotient, rest) => {
-                let part = expanded_rows(alloc, width, quotient)?;
+                let part = expand_rows(alloc, width, quotient)?;
                 made = followed_with(width, made, part, *place, *bit)?;
                 here = rest;
             }

@@ -3,12 +3,12 @@
 ghost use Rattle.std.specs.Prelude.{◌≡◌, ℕ, ◌<◌, ◌≤◌, ◌↔◌, Option, Bool, List, map, IfOk};
 ghost use Rattle.std.specs.List.Sorted.{IsPermutation};
 ghost use Rattle.sis_base.specs.Rows.{HasWidth};
-ghost use Rattle.cube_cover.specs.Places.{cover_literals};
-ghost use Rattle.alg_factor.specs.Forms.{Form, Sum, IsFactored, IsOver, NoneShared, SomeShared, expanded, form_literals};
+ghost use Rattle.cube_cover.specs.Literals.{cover_literals};
+ghost use Rattle.alg_factor.specs.Forms.{Form, Sum, IsFactored, IsOver, NoneShared, SomeShared, expansion_of, form_literals};
 ghost use Rattle.alg_factor.specs.Shapes.{shape};
-ghost use Rattle.alg_factor.specs.Chains.{chained};
+ghost use Rattle.alg_factor.specs.Chains.{chain_form};
 
-use crate::choice::{best_literal, parted};
+use crate::choice::{best_literal, part_rows};
 use crate::form::{Factored, Tree};
 use cube_cover::{Cover, Row};
 use sis_base::Copied;
@@ -28,7 +28,7 @@ fn chain<R: Row>(
     products: Vec<Product<R>>,
     rest: Vec<R>,
 ) -> Result<Tree<R>, AllocError>
-    ensures { IfOk result (λ tree. shape R.places tree ≡ chained R.places products.items (Sum (map R.places rest.items))) }
+    ensures { IfOk result (λ tree. shape R.literals tree ≡ chain_form R.literals products.items (Sum (map R.literals rest.items))) }
 {
     let mut left = products;
     let mut tree = Tree::Rows(rest);
@@ -51,13 +51,13 @@ fn chain<R: Row>(
 // The factored form of rows. The rows without the chosen literal are left to the loop, so calls nest only into
 // quotients, which have no literal of the place any more.
 fn factored_rows<R: Row>(alloc: Global, width: usize, rows: Vec<R>) -> Result<Tree<R>, AllocError>
-    requires { HasWidth width (map R.places rows.items) }
-    ensures { IfOk result (λ tree. IsFactored (map R.places rows.items) (shape R.places tree)) }
+    requires { HasWidth width (map R.literals rows.items) }
+    ensures { IfOk result (λ tree. IsFactored (map R.literals rows.items) (shape R.literals tree)) }
 {
     let mut products = Vec::new(alloc);
     let mut rest = rows;
     while let Some(best) = best_literal(width, rest.as_slice()) {
-        let parts = parted(alloc, width, rest, best.place, best.bit)?;
+        let parts = part_rows(alloc, width, rest, best.place, best.bit)?;
         let quotient = factored_rows(alloc, width, parts.with)?;
         products.push(Product {
             place: best.place,
@@ -76,7 +76,7 @@ pub fn factor<R: Row>(alloc: Global, f: &Cover<R>) -> Result<Factored<R>, AllocE
     ensures width { IfOk result (λ made. made.width ≡ f.now.width) }
     ensures form { IfOk result (λ made. IsFactored f.now.rows made.form) }
     ensures only { IfOk result (λ made. (other : Form) → IsFactored f.now.rows other → other ≡ made.form) }
-    ensures rows { IfOk result (λ made. IsPermutation f.now.rows (expanded made.form)) }
+    ensures rows { IfOk result (λ made. IsPermutation f.now.rows (expansion_of made.form)) }
     ensures most { IfOk result (λ made. form_literals made.form ≤ cover_literals f.now.rows) }
     ensures fewer { IfOk result (λ made. form_literals made.form < cover_literals f.now.rows ↔ SomeShared f.now.rows) }
     ensures equal { IfOk result (λ made. NoneShared f.now.rows → form_literals made.form ≡ cover_literals f.now.rows) }

@@ -1,11 +1,11 @@
 //! The factored form and its tree.
 
 ghost use Rattle.std.specs.Prelude.{◌≡◌, ℕ, ◌^◌, ◌<◌, List, length, map, IfOk};
-ghost use Rattle.alg_factor.specs.Forms.{Factors, IsOver, form_literals, expanded};
+ghost use Rattle.alg_factor.specs.Forms.{Factors, IsOver, form_literals, expansion_of};
 ghost use Rattle.alg_factor.specs.Shapes.{shape};
 ghost use Rattle.alg_factor.specs.Texts.{form_text};
 
-use crate::expansion::expanded_rows;
+use crate::expansion::expand_rows;
 use crate::literals::tree_literals;
 use crate::text::put_tree;
 use circuit_model::Name;
@@ -47,16 +47,16 @@ impl<R: Row> Model for Factored<R> {
 
     ghost use Rattle.alg_factor.specs.Shapes.{shape};
 
-    ghost view = { λ factored. record { width = factored.width; form = shape R.places factored.tree } };
+    ghost view = { λ factored. record { width = factored.width; form = shape R.literals factored.tree } };
 
-    ghost invariant = { λ factored. IsOver factored.width (shape R.places factored.tree) };
+    ghost invariant = { λ factored. IsOver factored.width (shape R.literals factored.tree) };
 }
 
 impl<R: Row> Factored<R> {
     // The form of a tree over `width` inputs.
     pub(crate) fn of(width: usize, tree: Tree<R>) -> Factored<R>
-        requires { IsOver width (shape R.places tree) }
-        ensures { result ≡ record { width = width; form = shape R.places tree } }
+        requires { IsOver width (shape R.literals tree) }
+        ensures { result ≡ record { width = width; form = shape R.literals tree } }
     {
         Factored { width, tree }
     }
@@ -71,9 +71,9 @@ impl<R: Row> Factored<R> {
     /// The form multiplied out: of a literal times a form each row of that form with the literal, then the rows that
     /// are added. An error only for want of memory.
     pub fn expand(&self, alloc: Global) -> Result<Cover<R>, AllocError>
-        ensures { IfOk result (λ made. made ≡ record { width = self.now.width; rows = expanded self.now.form }) }
+        ensures { IfOk result (λ made. made ≡ record { width = self.now.width; rows = expansion_of self.now.form }) }
     {
-        let rows = expanded_rows(alloc, self.width, &self.tree)?;
+        let rows = expand_rows(alloc, self.width, &self.tree)?;
         Ok(Cover::of(self.width, rows))
     }
 

@@ -14,8 +14,6 @@ mod expansion;
 mod factoring;
 mod form;
 mod literals;
-#[cfg(test)]
-mod tests;
 mod text;
 
 pub use factoring::factor;

@@ -1,41 +1,41 @@
 //! How many literals a form has.
 
 ghost use Rattle.std.specs.Prelude.{◌≡◌, ℕ, ◌+◌, ◌^◌, ◌<◌, ◌≤◌, Bool, Option, List, map};
-ghost use Rattle.cube_cover.specs.Places.{place_literals, row_literals, cover_literals};
+ghost use Rattle.cube_cover.specs.Literals.{literal_number, row_literals, cover_literals};
 ghost use Rattle.alg_factor.specs.Forms.{form_literals};
 ghost use Rattle.alg_factor.specs.Shapes.{shape};
 
 use crate::form::Tree;
 use cube_cover::Row;
 
-// How many literals stand at a place.
-fn place_count(place: Option<bool>) -> u64
-    ensures { result ≡ place_literals place }
+// 1 for a literal, 0 for a dash.
+fn literal_count(literal: Option<bool>) -> u64
+    ensures { result ≡ literal_number literal }
 {
-    match place {
+    match literal {
         None => 0,
         Some(_) => 1,
     }
 }
 
 // The literals of a row.
-#[tactic(auto, unfolding(cube_cover::specs::Places::row_literals))]
+#[tactic(auto, unfolding(cube_cover::specs::Literals::row_literals))]
 fn row_count<R: Row>(row: &R) -> u64
-    requires { row_literals (R.places row.now) < 2 ^ 64 }
-    ensures { result ≡ row_literals (R.places row.now) }
+    requires { row_literals (R.literals row.now) < 2 ^ 64 }
+    ensures { result ≡ row_literals (R.literals row.now) }
 {
     let mut count = 0;
     for place in 0..row.width() {
-        count += place_count(row.at(place));
+        count += literal_count(row.at(place));
     }
     count
 }
 
 // The literals of rows.
-#[tactic(auto, unfolding(cube_cover::specs::Places::cover_literals))]
+#[tactic(auto, unfolding(cube_cover::specs::Literals::cover_literals))]
 fn rows_count<R: Row>(rows: &[R]) -> u64
-    requires { cover_literals (map R.places rows.now) < 2 ^ 64 }
-    ensures { result ≡ cover_literals (map R.places rows.now) }
+    requires { cover_literals (map R.literals rows.now) < 2 ^ 64 }
+    ensures { result ≡ cover_literals (map R.literals rows.now) }
 {
     let mut count = 0;
     for row in rows {
@@ -47,8 +47,8 @@ fn rows_count<R: Row>(rows: &[R]) -> u64
 /// The literals of a tree, of which there are fewer than 2^64.
 #[tactic(auto, unfolding(crate::specs::Forms::form_literals))]
 pub(crate) fn tree_literals<R: Row>(tree: &Tree<R>) -> u64
-    requires { form_literals (shape R.places tree.now) < 2 ^ 64 }
-    ensures { result ≡ form_literals (shape R.places tree.now) }
+    requires { form_literals (shape R.literals tree.now) < 2 ^ 64 }
+    ensures { result ≡ form_literals (shape R.literals tree.now) }
 {
     let mut count = 0;
     let mut here = tree;

@@ -4,7 +4,7 @@ ghost use Rattle.std.specs.Prelude.{◌≡◌, ℕ, ◌+◌, ◌<◌, ◌++◌, 
 ghost use Rattle.sis_base.specs.Rows.{HasWidth};
 ghost use Rattle.alg_factor.specs.Forms.{IsOver};
 ghost use Rattle.alg_factor.specs.Shapes.{shape};
-ghost use Rattle.alg_factor.specs.Texts.{literal_text, place_texts, row_text, form_text};
+ghost use Rattle.alg_factor.specs.Texts.{literal_text, texts_at, row_text, form_text};
 ghost use Rattle.alg_factor.specs.Writing.{left_text, written_if, summands};
 
 use crate::form::Tree;
@@ -32,15 +32,15 @@ fn put_literal(text: &mut Vec<u8>, name: &Name, bit: bool) -> Result<(), AllocEr
 
 // Puts the literal of a place behind a text, if there is one, after a sign if it is not the first; and tells whether
 // there is none yet.
-fn put_place(
+fn put_literal_at(
     text: &mut Vec<u8>,
     first: bool,
     name: &Name,
-    place: Option<bool>,
+    literal: Option<bool>,
 ) -> Result<bool, AllocError>
-    ensures { IfOk result (λ none_yet. (texts : List (List ℕ)) → text.new.items ++ left_text none_yet (codes "1") (codes "*") texts ≡ text.old.items ++ left_text first (codes "1") (codes "*") (place_texts name.now place ++ texts)) }
+    ensures { IfOk result (λ none_yet. (texts : List (List ℕ)) → text.new.items ++ left_text none_yet (codes "1") (codes "*") texts ≡ text.old.items ++ left_text first (codes "1") (codes "*") (texts_at name.now literal ++ texts)) }
 {
-    let Some(bit) = place else {
+    let Some(bit) = literal else {
         return Ok(first);
     };
     put_if(text, !first, b"*")?;
@@ -51,12 +51,12 @@ fn put_place(
 // Puts a row behind a text.
 #[tactic(auto, unfolding(crate::specs::Texts::literal_texts))]
 fn put_row<R: Row>(text: &mut Vec<u8>, row: &R, names: &[Name]) -> Result<(), AllocError>
-    requires { length names.now ≡ length (R.places row.now) }
-    ensures { OnOk result (text.new.items ≡ text.old.items ++ row_text names.now (R.places row.now)) }
+    requires { length names.now ≡ length (R.literals row.now) }
+    ensures { OnOk result (text.new.items ≡ text.old.items ++ row_text names.now (R.literals row.now)) }
 {
     let mut first = true;
     for (place, name) in names.iter().enumerate() {
-        first = put_place(text, first, name, row.at(place))?;
+        first = put_literal_at(text, first, name, row.at(place))?;
     }
     put_if(text, first, b"1")
 }
@@ -69,8 +69,8 @@ fn put_rows<R: Row>(
     rows: &[R],
     names: &[Name],
 ) -> Result<(), AllocError>
-    requires { HasWidth (length names.now) (map R.places rows.now) }
-    ensures { OnOk result (text.new.items ≡ text.old.items ++ left_text first (codes "0") (codes " + ") (map (row_text names.now) (map R.places rows.now))) }
+    requires { HasWidth (length names.now) (map R.literals rows.now) }
+    ensures { OnOk result (text.new.items ≡ text.old.items ++ left_text first (codes "0") (codes " + ") (map (row_text names.now) (map R.literals rows.now))) }
 {
     let mut none_yet = first;
     for row in rows {
@@ -84,7 +84,7 @@ fn put_rows<R: Row>(
 // Whether a form has a summand.
 #[tactic(auto, unfolding(crate::specs::Writing::summands))]
 fn has_summand<R: Row>(tree: &Tree<R>) -> bool
-    ensures { IsTrue result ↔ (0 < summands (shape R.places tree.now)) }
+    ensures { IsTrue result ↔ (0 < summands (shape R.literals tree.now)) }
 {
     match tree {
         Tree::Rows(rows) => !rows.is_empty(),
@@ -95,7 +95,7 @@ fn has_summand<R: Row>(tree: &Tree<R>) -> bool
 // Whether a form has two summands or more.
 #[tactic(auto, unfolding(crate::specs::Writing::summands))]
 fn is_sum<R: Row>(tree: &Tree<R>) -> bool
-    ensures { result ≡ ltb 1 (summands (shape R.places tree.now)) }
+    ensures { result ≡ ltb 1 (summands (shape R.literals tree.now)) }
 {
     match tree {
         Tree::Rows(rows) => rows.len() > 1,
@@ -125,8 +125,8 @@ pub(crate) fn put_tree<R: Row>(
     tree: &Tree<R>,
     names: &[Name],
 ) -> Result<(), AllocError>
-    requires { IsOver (length names.now) (shape R.places tree.now) }
-    ensures { OnOk result (text.new.items ≡ text.old.items ++ form_text names.now (shape R.places tree.now)) }
+    requires { IsOver (length names.now) (shape R.literals tree.now) }
+    ensures { OnOk result (text.new.items ≡ text.old.items ++ form_text names.now (shape R.literals tree.now)) }
 {
     let mut first = true;
     let mut here = tree;

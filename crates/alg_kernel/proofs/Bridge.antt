@@ -4,15 +4,16 @@ use Rattle.std.specs.Ordering.{bool_cmp, ordering_then}
 use Rattle.std.specs.Option.{option_cmp}
 use Rattle.std.specs.Cmp.Lexicographic.{slice_cmp}
 use Rattle.sis_base.specs.Rows.{HasWidth}
-use Rattle.alg_div.specs.Cubes.{Has, times_at, times}
+use Rattle.alg_div.specs.Cubes.{Has, times}
 use Rattle.alg_div.specs.Steps.{without, strip}
 use Rattle.alg_div.specs.Quotient.{IsTerm}
 use Rattle.alg_div.proofs.Cubes.{times_none, get_or-times, length-times, get_or-strip, length-strip, ext}
 use Rattle.alg_div.proofs.Terms.{width-has, width-from}
 use Rattle.alg_kernel.specs.Kernels.{row_cmp, rows_cmp, Ascends, IsKernel, AreKernels, MoreKernels}
-use Rattle.alg_kernel.specs.Search.{alike, holds, over, IsFound, limit, AreFound, MoreFound, AreSame}
+use Rattle.cube_cover.specs.Literals.{has_literal, literal_product}
+use Rattle.alg_kernel.specs.Search.{holds, over, IsFound, limit, AreFound, MoreFound, AreSame}
 use Rattle.alg_kernel.proofs.Orders.{row_total, rows_total, same-ascending, fewer-ascending}
-use Rattle.alg_kernel.proofs.Parts.{and_left, and_right, alike-is, holds-at, holds-from, Has-over, over-has, over-width}
+use Rattle.alg_kernel.proofs.Parts.{and_left, and_right, has_literal-is, holds-at, holds-from, Has-over, over-has, over-width}
 use Rattle.alg_kernel.proofs.Found.{none-found}
 
 some_none : (b : Bool) (x : Option Bool) → x ≡ Some b → x ≡ None → ⊥
@@ -35,8 +36,8 @@ strip-cmp (x ∷ xs) [] (z ∷ zs) h k = refl
 strip-cmp (x ∷ xs) (y ∷ ys) [] h k = refl
 strip-cmp (None ∷ xs) (y ∷ ys) (z ∷ zs) h k = ap (ordering_then (option_cmp bool_cmp y z)) (strip-cmp xs ys zs h k)
 strip-cmp (Some b ∷ xs) (y ∷ ys) (z ∷ zs) h k =
-    strip-cmp xs ys zs (and_right (alike y b) (holds xs ys) h) (and_right (alike z b) (holds xs zs) k)
-    ∙ ap (λ (o : Ordering). ordering_then o (slice_cmp (option_cmp bool_cmp) ys zs)) (sym (literal-equal b y z (alike-is y b (and_left (alike y b) (holds xs ys) h)) (alike-is z b (and_left (alike z b) (holds xs zs) k))))
+    strip-cmp xs ys zs (and_right (has_literal y b) (holds xs ys) h) (and_right (has_literal z b) (holds xs zs) k)
+    ∙ ap (λ (o : Ordering). ordering_then o (slice_cmp (option_cmp bool_cmp) ys zs)) (sym (literal-equal b y z (has_literal-is y b (and_left (has_literal y b) (holds xs ys) h)) (has_literal-is z b (and_left (has_literal z b) (holds xs zs) k))))
 
 pub over-ascends : (c : List (Option Bool)) (f : List (List (Option Bool))) → Ascends row_cmp f → Ascends row_cmp (over c f)
 unfolding over Ascends
@@ -51,11 +52,11 @@ over-ascends c (row ∷ rows) h = cases (holds c row) refl (over-ascends c rows 
 pub over-terms : (w : ℕ) (f : List (List (Option Bool))) (c r : List (Option Bool)) → HasWidth w f → length c ≡ w → Has r (over c f) ↔ IsTerm w f (c ∷ []) r
 over-terms w f c r wide len = (forth, back)
   where
-    back-at : (x y : Option Bool) → ((b : Bool) → x ≡ Some b → y ≡ None) → without x (times_at y x) ≡ y
+    back-at : (x y : Option Bool) → ((b : Bool) → x ≡ Some b → y ≡ None) → without x (literal_product y x) ≡ y
     back-at None y h = times_none y
     back-at (Some b) y h = sym (h b refl)
 
-    forth-at : (x s : Option Bool) → ((b : Bool) → x ≡ Some b → s ≡ Some b) → times_at (without x s) x ≡ s
+    forth-at : (x s : Option Bool) → ((b : Bool) → x ≡ Some b → s ≡ Some b) → literal_product (without x s) x ≡ s
     forth-at None s h = times_none s
     forth-at (Some b) s h = sym (h b refl)
 
@@ -64,7 +65,7 @@ over-terms w f c r wide len = (forth, back)
         let p = Has-over c f r m in
         let wide-s : length p.0 ≡ w = width-has w f p.0 wide p.1 in
         let whole : times r c ≡ p.0 = ap (λ (x : List (Option Bool)). times x c) p.3 ∙ ext (times (strip c p.0) c) p.0 (length-times (strip c p.0) c (length-strip c p.0 ∙ wide-s ∙ sym len) ∙ length-strip c p.0) (λ i. get_or-times (strip c p.0) c i
-        ∙ ap (λ (x : Option Bool). times_at x (get_or c i None)) (get_or-strip c p.0 i) ∙ forth-at (get_or c i None) (get_or p.0 i None) (λ b e. holds-at c p.0 i b p.2 e)) in
+        ∙ ap (λ (x : Option Bool). literal_product x (get_or c i None)) (get_or-strip c p.0 i) ∙ forth-at (get_or c i None) (get_or p.0 i None) (λ b e. holds-at c p.0 i b p.2 e)) in
         record {
           wide = ap length p.3 ∙ length-strip c p.0 ∙ wide-s;
           apart = λ k n i b e. elim n as (λ _. get_or r i None ≡ None) [
@@ -77,9 +78,9 @@ over-terms w f c r wide len = (forth, back)
     back : IsTerm w f (c ∷ []) r → Has r (over c f)
     back t =
         let apart : (i : ℕ) (b : Bool) → get_or c i None ≡ Some b → get_or r i None ≡ None = t.apart c (inl refl) in
-        let holding : holds c (times r c) ≡ true = holds-from c (times r c) (λ i b e. get_or-times r c i ∙ ap (λ (x : Option Bool). times_at x (get_or c i None)) (apart i b e) ∙ e) in
+        let holding_rows : holds c (times r c) ≡ true = holds-from c (times r c) (λ i b e. get_or-times r c i ∙ ap (λ (x : Option Bool). literal_product x (get_or c i None)) (apart i b e) ∙ e) in
         let whole : strip c (times r c) ≡ r = ext (strip c (times r c)) r (length-strip c (times r c) ∙ length-times r c (t.wide ∙ sym len)) (λ i. get_or-strip c (times r c) i ∙ ap (without (get_or c i None)) (get_or-times r c i) ∙ back-at (get_or c i None) (get_or r i None) (apart i)) in
-        subst (λ (x : List (Option Bool)). Has x (over c f)) whole (over-has c f (times r c) (t.rows c (inl refl)) holding)
+        subst (λ (x : List (Option Bool)). Has x (over c f)) whole (over-has c f (times r c) (t.rows c (inl refl)) holding_rows)
 
 term-same : (w : ℕ) (f g : List (List (Option Bool))) (d : List (List (Option Bool))) (r : List (Option Bool)) → AreSame f g → IsTerm w f d r → IsTerm w g d r
 term-same w f g d r same t = record { wide = t.wide; apart = t.apart; rows = λ k m. (same _).0 (t.rows k m) }

@@ -2,13 +2,14 @@
 use Rattle.std.proofs.Common.{◌≡◌, ℕ, ◌+◌, ◌<◌, ◌≤◌, zero, suc, Bool, true, false, if◌then◌else◌, Option, Some, None, List, [], ◌∷◌, length, get_or, refl, sym, ap, ◌∙◌, subst, arith, inl, inr, ◌⊎◌}
 use Rattle.std.proofs.lemmas.List.{length-map}
 use Rattle.sis_base.specs.Rows.{HasWidth}
-use Rattle.alg_div.specs.Cubes.{Has, times_at, times}
+use Rattle.alg_div.specs.Cubes.{Has, times}
 use Rattle.alg_div.specs.Steps.{without, strip}
 use Rattle.alg_div.proofs.Cubes.{get_or-times, length-times, get_or-strip, length-strip, ext}
 use Rattle.alg_div.proofs.Terms.{width-has}
 use Rattle.alg_kernel.specs.Kernels.{NoCommon}
-use Rattle.alg_kernel.specs.Search.{alike, holds, over, holding, common, IsFree, IsFound, kernel_at, IsExplored}
-use Rattle.alg_kernel.proofs.Parts.{is-alike, holds-at, holds-from, Has-over, over-width, Has-holding, holding-has, common-at, common-all, common-length, kernel-rows, start-rows, free-of-common, AreApart, over-over}
+use Rattle.cube_cover.specs.Literals.{has_literal, literal_product}
+use Rattle.alg_kernel.specs.Search.{holds, over, holding_rows, common_cube, IsCubeFree, IsFound, kernel_at, IsExplored}
+use Rattle.alg_kernel.proofs.Parts.{is-has_literal, holds-at, holds-from, Has-over, over-width, Has-holding_rows, holding_rows-has, common_cube-at, common_cube-all, common_cube-length, kernel-rows, start-rows, free-of-common_cube, AreApart, over-over}
 
 some_none : (b : Bool) (x : Option Bool) → x ≡ Some b → x ≡ None → ⊥
 some_none b x h k = cc
@@ -67,17 +68,17 @@ over-none c (row ∷ rows) h =
     ap (λ (x : Bool). if x then strip c row ∷ over c rows else over c rows) t ∙ ap (λ (x : List (Option Bool)). x ∷ over c rows) s ∙ ap (λ (l : List (List (Option Bool))). row ∷ l) rest
 
 -- the rows with a cube are no more than those with one of its literals
-over-count : (c : List (Option Bool)) (i : ℕ) (b : Bool) (rs : List (List (Option Bool))) → get_or c i None ≡ Some b → length (over c rs) ≤ length (holding i b rs)
-unfolding over holding
+over-count : (c : List (Option Bool)) (i : ℕ) (b : Bool) (rs : List (List (Option Bool))) → get_or c i None ≡ Some b → length (over c rs) ≤ length (holding_rows i b rs)
+unfolding over holding_rows
 over-count c i b [] e = omega arith
 over-count c i b (row ∷ rows) e = cases (holds c row) refl (over-count c i b rows e)
   where
-    cases : (t : Bool) → holds c row ≡ t → length (over c rows) ≤ length (holding i b rows)
-        → length (if t then strip c row ∷ over c rows else over c rows) ≤ length (if alike (get_or row i None) b then row ∷ holding i b rows else holding i b rows)
-    cases true h rest = subst (λ (t : Bool). length (strip c row ∷ over c rows) ≤ length (if t then row ∷ holding i b rows else holding i b rows)) (sym (is-alike (get_or row i None) b (holds-at c row i b h e))) (omega arith)
-    cases false h rest = other (alike (get_or row i None) b) rest
+    cases : (t : Bool) → holds c row ≡ t → length (over c rows) ≤ length (holding_rows i b rows)
+        → length (if t then strip c row ∷ over c rows else over c rows) ≤ length (if has_literal (get_or row i None) b then row ∷ holding_rows i b rows else holding_rows i b rows)
+    cases true h rest = subst (λ (t : Bool). length (strip c row ∷ over c rows) ≤ length (if t then row ∷ holding_rows i b rows else holding_rows i b rows)) (sym (is-has_literal (get_or row i None) b (holds-at c row i b h e))) (omega arith)
+    cases false h rest = other (has_literal (get_or row i None) b) rest
       where
-        other : (t : Bool) → length (over c rows) ≤ length (holding i b rows) → length (over c rows) ≤ length (if t then row ∷ holding i b rows else holding i b rows)
+        other : (t : Bool) → length (over c rows) ≤ length (holding_rows i b rows) → length (over c rows) ≤ length (if t then row ∷ holding_rows i b rows else holding_rows i b rows)
         other true r = omega arith
         other false r = r
 
@@ -104,7 +105,7 @@ first-of (row ∷ rows) lt = (row, inl refl)
 
 -- a quotient by a cube that is free of common literals goes through any cube that its rows have too
 pub through : (w : ℕ) (h : List (List (Option Bool))) (c u : List (Option Bool)) → HasWidth w h → length c ≡ w → length u ≡ w
-    → ((r : List (Option Bool)) → Has r h → holds c r ≡ true → holds u r ≡ true) → IsFree (over c h) → over (strip u c) (over u h) ≡ over c h
+    → ((r : List (Option Bool)) → Has r h → holds c r ≡ true → holds u r ≡ true) → IsCubeFree (over c h) → over (strip u c) (over u h) ≡ over c h
 through w h c u wide lc lu both free = over-over u (strip u c) h apart ∙ ap (λ (x : List (Option Bool)). over x h) whole
   where
     -- a literal of u is one of c, else the quotient's rows would share it
@@ -122,13 +123,13 @@ through w h c u wide lc lu both free = over-over u (strip u c) h apart ∙ ap (�
 
     whole : times u (strip u c) ≡ c
     whole = ext (times u (strip u c)) c (length-times u (strip u c) (lu ∙ sym (length-strip u c ∙ lc)) ∙ lu ∙ sym lc) (λ i. elim (some-or (get_or u i None)) as (λ _. get_or (times u (strip u c)) i None ≡ get_or c i None) [
-      | inl n ↦ get_or-times u (strip u c) i ∙ ap (λ (x : Option Bool). times_at x (get_or (strip u c) i None)) n ∙ get_or-strip u c i ∙ ap (λ (x : Option Bool). without x (get_or c i None)) n
-      | inr s ↦ get_or-times u (strip u c) i ∙ ap (λ (x : Option Bool). times_at x (get_or (strip u c) i None)) s.1 ∙ sym (inside i s.0 s.1)
+      | inl n ↦ get_or-times u (strip u c) i ∙ ap (λ (x : Option Bool). literal_product x (get_or (strip u c) i None)) n ∙ get_or-strip u c i ∙ ap (λ (x : Option Bool). without x (get_or c i None)) n
+      | inr s ↦ get_or-times u (strip u c) i ∙ ap (λ (x : Option Bool). literal_product x (get_or (strip u c) i None)) s.1 ∙ sym (inside i s.0 s.1)
     ])
 
 -- what is seen with all that it leads to has each free quotient of what is seen
 pub complete : (w : ℕ) (seen : List (List (List (Option Bool)))) → ((k : List (List (Option Bool))) → Has k seen → IsExplored seen k) → (n : ℕ) (c : List (Option Bool)) (h : List (List (Option Bool)))
-    → literals c ≤ n → length c ≡ w → HasWidth w h → Has h seen → IsFree (over c h) → Has (over c h) seen
+    → literals c ≤ n → length c ≡ w → HasWidth w h → Has h seen → IsCubeFree (over c h) → Has (over c h) seen
 complete w seen all zero c h less lc wide m free = elim (literal-or c) as (λ _. Has (over c h) seen) [
   | inl none ↦ subst (λ (k : List (List (Option Bool))). Has k seen) (sym (over-none c h none)) m
   | inr p ↦ absurd (omega (arith, less, literals-less c c p.0 p.1 p.1 p.2 p.2))
@@ -136,56 +137,56 @@ complete w seen all zero c h less lc wide m free = elim (literal-or c) as (λ _.
 complete w seen all (suc n) c h less lc wide m free = elim (literal-or c) as (λ _. Has (over c h) seen) [
   | inl none ↦ subst (λ (k : List (List (Option Bool))). Has k seen) (sym (over-none c h none)) m
   | inr p ↦ (
-      let two : 2 ≤ length (holding p.0 p.1 h) = omega (arith, free.0, over-count c p.0 p.1 h p.2) in
-      let u : List (Option Bool) = common (holding p.0 p.1 h) in
-      let at : get_or u p.0 None ≡ Some p.1 = common-all (holding p.0 p.1 h) p.0 p.1 (omega arith) (λ r k. (Has-holding p.0 p.1 h r k).1) in
-      let lu : length u ≡ w = common-length w (holding p.0 p.1 h) (omega arith) (λ r k. width-has w h r wide (Has-holding p.0 p.1 h r k).0) in
+      let two : 2 ≤ length (holding_rows p.0 p.1 h) = omega (arith, free.0, over-count c p.0 p.1 h p.2) in
+      let u : List (Option Bool) = common_cube (holding_rows p.0 p.1 h) in
+      let at : get_or u p.0 None ≡ Some p.1 = common_cube-all (holding_rows p.0 p.1 h) p.0 p.1 (omega arith) (λ r k. (Has-holding_rows p.0 p.1 h r k).1) in
+      let lu : length u ≡ w = common_cube-length w (holding_rows p.0 p.1 h) (omega arith) (λ r k. width-has w h r wide (Has-holding_rows p.0 p.1 h r k).0) in
       let e : over (strip u c) (over u h) ≡ over c h = through w h c u wide lc lu
-      (λ r k t. holds-from u r (λ j a q. common-at (holding p.0 p.1 h) j a q r (holding-has p.0 p.1 h r k (holds-at c r p.0 p.1 t p.2)))) free in
+      (λ r k t. holds-from u r (λ j a q. common_cube-at (holding_rows p.0 p.1 h) j a q r (holding_rows-has p.0 p.1 h r k (holds-at c r p.0 p.1 t p.2)))) free in
       subst (λ (k : List (List (Option Bool))). Has k seen) e
-      (complete w seen all n (strip u c) (over u h) (omega (arith, less, literals-less u c p.0 p.1 p.1 at p.2)) (length-strip u c ∙ lc) (over-width w u h wide) (all h m p.0 p.1 two) (subst IsFree (sym e) free)))
+      (complete w seen all n (strip u c) (over u h) (omega (arith, less, literals-less u c p.0 p.1 p.1 at p.2)) (length-strip u c ∙ lc) (over-width w u h wide) (all h m p.0 p.1 two) (subst IsCubeFree (sym e) free)))
 ]
 
 -- each kernel of f is seen, where f without what its rows share is
-pub all-found : (w : ℕ) (f : List (List (Option Bool))) (seen : List (List (List (Option Bool)))) → HasWidth w f → ((k : List (List (Option Bool))) → Has k seen → IsExplored seen k) → Has (over (common f) f) seen
+pub all-found : (w : ℕ) (f : List (List (Option Bool))) (seen : List (List (List (Option Bool)))) → HasWidth w f → ((k : List (List (Option Bool))) → Has k seen → IsExplored seen k) → Has (over (common_cube f) f) seen
     → (k : List (List (Option Bool))) → IsFound w f k → Has k seen
 all-found w f seen wide all start k found =
     let c : List (Option Bool) = found.cube.0 in
-    let free : IsFree (over c f) = subst IsFree found.cube.2 found.free in
+    let free : IsCubeFree (over c f) = subst IsCubeFree found.cube.2 found.free in
     let first = first-of (over c f) (omega (arith, free.0)) in
     let p = Has-over c f first.0 first.1 in
     let some : 0 < length f = has-length p.0 f p.1 in
-    let u : List (Option Bool) = common f in
-    let e : over (strip u c) (over u f) ≡ over c f = through w f c u wide found.cube.1 (common-length w f some (λ r m. width-has w f r wide m)) (λ r m t. holds-from u r (λ j a q. common-at f j a q r m)) free in
+    let u : List (Option Bool) = common_cube f in
+    let e : over (strip u c) (over u f) ≡ over c f = through w f c u wide found.cube.1 (common_cube-length w f some (λ r m. width-has w f r wide m)) (λ r m t. holds-from u r (λ j a q. common_cube-at f j a q r m)) free in
     subst (λ (x : List (List (Option Bool))). Has x seen) (e ∙ sym found.cube.2)
-    (complete w seen all (literals (strip u c)) (strip u c) (over u f) (omega arith) (length-strip u c ∙ found.cube.1) (over-width w u f wide) start (subst IsFree (sym e) free))
+    (complete w seen all (literals (strip u c)) (strip u c) (over u f) (omega arith) (length-strip u c ∙ found.cube.1) (over-width w u f wide) start (subst IsCubeFree (sym e) free))
 
 -- the kernels that one leads to are kernels of f
-pub kernel-step : (w : ℕ) (f h : List (List (Option Bool))) (i : ℕ) (b : Bool) → HasWidth w f → IsFound w f h → 2 ≤ length (holding i b h) → IsFound w f (kernel_at i b h)
+pub kernel-step : (w : ℕ) (f h : List (List (Option Bool))) (i : ℕ) (b : Bool) → HasWidth w f → IsFound w f h → 2 ≤ length (holding_rows i b h) → IsFound w f (kernel_at i b h)
 kernel-step w f h i b wide found two =
     let a : List (Option Bool) = found.cube.0 in
-    let u : List (Option Bool) = common (holding i b h) in
-    let lu : length u ≡ w = common-length w (holding i b h) (omega arith) (λ r m. width-has w h r (subst (HasWidth w) (sym found.cube.2) (over-width w a f wide)) (Has-holding i b h r m).0) in
+    let u : List (Option Bool) = common_cube (holding_rows i b h) in
+    let lu : length u ≡ w = common_cube-length w (holding_rows i b h) (omega arith) (λ r m. width-has w h r (subst (HasWidth w) (sym found.cube.2) (over-width w a f wide)) (Has-holding_rows i b h r m).0) in
     let apart : AreApart a u = λ j x e.
-    (let first = first-of (holding i b h) (omega arith) in
-    let r : get_or first.0 j None ≡ Some x = common-at (holding i b h) j x e first.0 first.1 in
-    let p = Has-over a f first.0 (subst (λ (l : List (List (Option Bool))). Has first.0 l) found.cube.2 (Has-holding i b h first.0 first.1).0) in
+    (let first = first-of (holding_rows i b h) (omega arith) in
+    let r : get_or first.0 j None ≡ Some x = common_cube-at (holding_rows i b h) j x e first.0 first.1 in
+    let p = Has-over a f first.0 (subst (λ (l : List (List (Option Bool))). Has first.0 l) found.cube.2 (Has-holding_rows i b h first.0 first.1).0) in
     (without-some (get_or a j None) (get_or p.0 j None) x (sym (get_or-strip a p.0 j) ∙ sym (ap (λ (y : List (Option Bool)). get_or y j None) p.3) ∙ r))) in
     record {
       cube = (times a u, length-times a u (found.cube.1 ∙ sym lu) ∙ found.cube.1, ap (over u) found.cube.2 ∙ over-over a u f apart);
       free = (
-        subst (λ (k : List (List (Option Bool))). 2 ≤ length k) (sym (kernel-rows i b h (omega arith))) (omega (arith, two, length-map (holding i b h) (strip u))),
-        subst NoCommon (sym (kernel-rows i b h (omega arith))) (free-of-common (holding i b h) (omega arith)),
+        subst (λ (k : List (List (Option Bool))). 2 ≤ length k) (sym (kernel-rows i b h (omega arith))) (omega (arith, two, length-map (holding_rows i b h) (strip u))),
+        subst NoCommon (sym (kernel-rows i b h (omega arith))) (free-of-common_cube (holding_rows i b h) (omega arith)),
       );
     }
 
 -- so is f without what its rows share, where it has two rows
-pub start-found : (w : ℕ) (f : List (List (Option Bool))) → HasWidth w f → 2 ≤ length f → IsFound w f (over (common f) f)
+pub start-found : (w : ℕ) (f : List (List (Option Bool))) → HasWidth w f → 2 ≤ length f → IsFound w f (over (common_cube f) f)
 start-found w f wide two = record {
-  cube = (common f, common-length w f (omega arith) (λ r m. width-has w f r wide m), refl);
+  cube = (common_cube f, common_cube-length w f (omega arith) (λ r m. width-has w f r wide m), refl);
   free = (
-    subst (λ (k : List (List (Option Bool))). 2 ≤ length k) (sym (start-rows f)) (omega (arith, two, length-map f (strip (common f)))),
-    subst NoCommon (sym (start-rows f)) (free-of-common f (omega arith)),
+    subst (λ (k : List (List (Option Bool))). 2 ≤ length k) (sym (start-rows f)) (omega (arith, two, length-map f (strip (common_cube f)))),
+    subst NoCommon (sym (start-rows f)) (free-of-common_cube f (omega arith)),
   );
 }
 

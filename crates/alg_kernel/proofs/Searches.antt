@@ -6,7 +6,8 @@ use Rattle.sis_base.specs.Rows.{HasWidth}
 use Rattle.alg_div.specs.Cubes.{Has}
 use Rattle.alg_div.proofs.Lists.{Has-left, Has-right, Has-append}
 use Rattle.alg_kernel.specs.Kernels.{rows_cmp, Ascends}
-use Rattle.alg_kernel.specs.Search.{alike, holding, over, common, IsFound, kernel_at, IsExplored, IsSearch, IsStep, limit, IsMore, TooMany, AreFound, MoreFound, IsBetween, IsExploredTo}
+use Rattle.cube_cover.specs.Literals.{has_literal}
+use Rattle.alg_kernel.specs.Search.{holding_rows, over, common_cube, IsFound, kernel_at, IsExplored, IsSearch, IsStep, limit, IsMore, TooMany, AreFound, MoreFound, IsBetween, IsExploredTo}
 use Rattle.alg_kernel.proofs.Orders.{rows_total, insert-ascends, Has-taken, Has-dropped, Has-parts}
 use Rattle.alg_kernel.proofs.Parts.{over-width}
 use Rattle.alg_kernel.proofs.Found.{all-found, kernel-step, start-found}
@@ -142,7 +143,7 @@ search-popped w f h s t a = record {
 }
 
 -- the first kernel alone
-pub search-start : (w : ℕ) (f : List (List (Option Bool))) (s t : List (List (List (Option Bool)))) → HasWidth w f → 2 ≤ length f → IsMore (λ z. z ≡ over (common f) f) [] [] s t → Has (over (common f) f) s → IsSearch w f s t
+pub search-start : (w : ℕ) (f : List (List (Option Bool))) (s t : List (List (List (Option Bool)))) → HasWidth w f → 2 ≤ length f → IsMore (λ z. z ≡ over (common_cube f) f) [] [] s t → Has (over (common_cube f) f) s → IsSearch w f s t
 search-start w f s t wide two b m = record {
   found = λ k n. elim (b.only k n) as (λ _. IsFound w f k) [ inl x ↦ absurd x | inr e ↦ subst (IsFound w f) (sym e) (start-found w f wide two) ];
   order = b.order;
@@ -170,10 +171,10 @@ search-done w f s wide a = record {
 }
 
 -- literals past the width stand nowhere
-pub holding-beyond : (w i : ℕ) (b : Bool) (rs : List (List (Option Bool))) → HasWidth w rs → w ≤ i → length (holding i b rs) ≡ 0
-unfolding holding HasWidth
-holding-beyond w i b [] h le = refl
-holding-beyond w i b (row ∷ rows) h le = ap (λ (x : Option Bool). length (if alike x b then row ∷ holding i b rows else holding i b rows)) (past row i (omega (arith, h.0))) ∙ holding-beyond w i b rows h.1 le
+pub holding_rows-beyond : (w i : ℕ) (b : Bool) (rs : List (List (Option Bool))) → HasWidth w rs → w ≤ i → length (holding_rows i b rs) ≡ 0
+unfolding holding_rows HasWidth
+holding_rows-beyond w i b [] h le = refl
+holding_rows-beyond w i b (row ∷ rows) h le = ap (λ (x : Option Bool). length (if has_literal x b then row ∷ holding_rows i b rows else holding_rows i b rows)) (past row i (omega (arith, h.0))) ∙ holding_rows-beyond w i b rows h.1 le
   where
     past : (r : List (Option Bool)) (i : ℕ) → length r ≤ i → get_or r i None ≡ None
     past [] i le = refl
@@ -182,13 +183,13 @@ holding-beyond w i b (row ∷ rows) h le = ap (λ (x : Option Bool). length (if 
 
 -- all literals below the width are all that stand in two rows
 pub explored-all : (w : ℕ) (seen : List (List (List (Option Bool)))) (k : List (List (Option Bool))) (n : ℕ) → HasWidth w k → w ≤ n → IsExploredTo n seen k → IsExplored seen k
-explored-all w seen k n wide le to i bit two = elim (cases_lt i n) as (λ _. Has (kernel_at i bit k) seen) [ inl lt ↦ to i bit lt two | inr ge ↦ absurd (omega (arith, two, holding-beyond w i bit k wide (omega arith))) ]
+explored-all w seen k n wide le to i bit two = elim (cases_lt i n) as (λ _. Has (kernel_at i bit k) seen) [ inl lt ↦ to i bit lt two | inr ge ↦ absurd (omega (arith, two, holding_rows-beyond w i bit k wide (omega arith))) ]
 
 pub explored-more : (seen after : List (List (List (Option Bool)))) (k : List (List (Option Bool))) (n : ℕ) → ((z : List (List (Option Bool))) → Has z seen → Has z after) → IsExploredTo n seen k
-    → ((bit : Bool) → 2 ≤ length (holding n bit k) → Has (kernel_at n bit k) after) → IsExploredTo (n + 1) after k
+    → ((bit : Bool) → 2 ≤ length (holding_rows n bit k) → Has (kernel_at n bit k) after) → IsExploredTo (n + 1) after k
 explored-more seen after k n kept to here i bit lt two = elim (cases_lt i n) as (λ _. Has (kernel_at i bit k) after) [
   | inl l ↦ kept _ (to i bit l two)
-  | inr ge ↦ (let e : n ≡ i = omega arith in subst (λ (j : ℕ). Has (kernel_at j bit k) after) e (here bit (subst (λ (j : ℕ). 2 ≤ length (holding j bit k)) (sym e) two)))
+  | inr ge ↦ (let e : n ≡ i = omega arith in subst (λ (j : ℕ). Has (kernel_at j bit k) after) e (here bit (subst (λ (j : ℕ). 2 ≤ length (holding_rows j bit k)) (sym e) two)))
 ]
 
 pub both-bits : (P : Bool → Type 0) → P false → P true → (bit : Bool) → P bit
@@ -200,7 +201,7 @@ pub search-width : (w : ℕ) (f h : List (List (Option Bool))) (s t : List (List
 search-width w f h s t wide a = let found = a.found h (a.inside h (inl refl)) in subst (HasWidth w) (sym found.cube.2) (over-width w found.cube.0 f wide)
 
 -- the first kernel alone is not too many, but if it were
-pub start-many : (w : ℕ) (f k : List (List (Option Bool))) → HasWidth w f → 2 ≤ length f → k ≡ over (common f) f → TooMany (λ z. z ≡ k) [] → MoreFound w f
+pub start-many : (w : ℕ) (f k : List (List (Option Bool))) → HasWidth w f → 2 ≤ length f → k ≡ over (common_cube f) f → TooMany (λ z. z ≡ k) [] → MoreFound w f
 start-many w f k wide two e (ks, more, order, from) = (ks, more, order, λ z m. elim (from z m) as (λ _. IsFound w f z) [ inl n ↦ absurd n | inr q ↦ subst (IsFound w f) (sym (q ∙ e)) (start-found w f wide two) ])
 
 pub map-empty : {X Z : Type 0} (f : X → Z) (xs : List X) → length xs ≡ 0 → map f xs ≡ []

@@ -1,34 +1,29 @@
--- What the steps of a search for kernels compute, on a sum whose rows rise.
+-- What the steps of a search for kernels compute, on a sum whose rows rise. No public clause needs these definitions.
 -- Source: Brayton and McMullen, "The Decomposition and Factorization of Boolean Expressions" (1982);
 -- De Micheli, "Synthesis and Optimization of Digital Circuits", chapter 8 (kernels by recursion over literals).
 use Rattle.std.specs.Prelude.{◌≡◌, ℕ, ◌+◌, ◌<◌, ◌≤◌, ◌↔◌, ◌⊎◌, Bool, true, false, not, ◌&&◌, if◌then◌else◌, Option, Some, None, List, [], ◌∷◌, map, length, slice_index_or}
 use Rattle.std.proofs.Common.{take, drop}
 use Rattle.std.specs.declared.cmp.Ordering.TheVariants.{Less}
 use Rattle.std.specs.declared.vec.Vec.{Vec}
+use Rattle.cube_cover.specs.Literals.{has_literal}
 use Rattle.alg_div.specs.Cubes.{Has}
 use Rattle.alg_div.specs.Steps.{strip, literals_in}
 use Rattle.alg_kernel.specs.Kernels.{NoCommon, Ascends, rows_cmp}
 
--- lists of rows as lists of places
+-- lists of rows as lists of literals
 abbrev pub kernels_in : {Y Z : Type 0} → List (Vec (Vec (Option Bool) Y) Z) → List (List (List (Option Bool)))
 kernels_in kernels = map (λ kernel. literals_in kernel.items) kernels
 
--- a place has the literal
-abbrev pub alike : Option Bool → Bool → Bool
-alike None bit = false
-alike (Some true) bit = bit
-alike (Some false) bit = not bit
-
--- a place has the literal of the other, where that has one
+-- the second literal is the first one, where that is no dash
 abbrev pub within : Option Bool → Option Bool → Bool
-within None place = true
-within (Some bit) place = alike place bit
+within None literal = true
+within (Some bit) literal = has_literal literal bit
 
 -- the row has each literal of the cube
 unfoldable pub holds : List (Option Bool) → List (Option Bool) → Bool
 holds [] row = true
 holds (literal ∷ literals) [] = within literal None && holds literals []
-holds (literal ∷ literals) (place ∷ places) = within literal place && holds literals places
+holds (literal ∷ literals) (other ∷ others) = within literal other && holds literals others
 
 -- the rows that have the cube, without it
 unfoldable pub over : List (Option Bool) → List (List (Option Bool)) → List (List (Option Bool))
@@ -36,34 +31,34 @@ over cube [] = []
 over cube (row ∷ rows) = if holds cube row then strip cube row ∷ over cube rows else over cube rows
 
 -- the rows with a literal
-unfoldable pub holding : ℕ → Bool → List (List (Option Bool)) → List (List (Option Bool))
-holding i bit [] = []
-holding i bit (row ∷ rows) = if alike (slice_index_or row i None) bit then row ∷ holding i bit rows else holding i bit rows
+unfoldable pub holding_rows : ℕ → Bool → List (List (Option Bool)) → List (List (Option Bool))
+holding_rows i bit [] = []
+holding_rows i bit (row ∷ rows) = if has_literal (slice_index_or row i None) bit then row ∷ holding_rows i bit rows else holding_rows i bit rows
 
--- the literal of two places where both have it
+-- the literal that two places share, if they do
 abbrev pub both : Option Bool → Option Bool → Option Bool
 both None other = None
-both (Some bit) other = if alike other bit then Some bit else None
+both (Some bit) other = if has_literal other bit then Some bit else None
 
 -- what two rows have in common
 unfoldable pub both_rows : List (Option Bool) → List (Option Bool) → List (Option Bool)
 both_rows [] row = []
-both_rows (place ∷ places) [] = []
-both_rows (place ∷ places) (other ∷ others) = both place other ∷ both_rows places others
+both_rows (literal ∷ literals) [] = []
+both_rows (literal ∷ literals) (other ∷ others) = both literal other ∷ both_rows literals others
 
--- the literals that all rows have
-unfoldable pub common_from : List (Option Bool) → List (List (Option Bool)) → List (Option Bool)
-common_from cube [] = cube
-common_from cube (row ∷ rows) = common_from (both_rows cube row) rows
+-- the literals of a cube that all rows have
+unfoldable pub common_cube_from : List (Option Bool) → List (List (Option Bool)) → List (Option Bool)
+common_cube_from cube [] = cube
+common_cube_from cube (row ∷ rows) = common_cube_from (both_rows cube row) rows
 
--- the literals that all of some rows have
-abbrev pub common : List (List (Option Bool)) → List (Option Bool)
-common [] = []
-common (row ∷ rows) = common_from row rows
+-- the common cube of rows: the literals that all of them have
+abbrev pub common_cube : List (List (Option Bool)) → List (Option Bool)
+common_cube [] = []
+common_cube (row ∷ rows) = common_cube_from row rows
 
--- two rows or more, and no common literal
-abbrev pub IsFree : List (List (Option Bool)) → Type 0
-IsFree k = (2 ≤ length k) × NoCommon k
+-- cube-free: two rows or more, and no common literal
+abbrev pub IsCubeFree : List (List (Option Bool)) → Type 0
+IsCubeFree k = (2 ≤ length k) × NoCommon k
 
 -- sums of the same rows
 abbrev pub AreSame : List (List (Option Bool)) → List (List (Option Bool)) → Type 0
@@ -72,20 +67,20 @@ AreSame f g = (row : List (Option Bool)) → Has row f ↔ Has row g
 -- a kernel of a sum whose rows rise
 pub record IsFound (width : ℕ) (f k : List (List (Option Bool))) : Type 0 where
   pub cube : (c : List (Option Bool)) × (length c ≡ width) × (k ≡ over c f)
-  pub free : IsFree k
+  pub free : IsCubeFree k
 
 -- the kernel that the rows with a literal make, without all that they share
 abbrev pub kernel_at : ℕ → Bool → List (List (Option Bool)) → List (List (Option Bool))
-kernel_at i bit k = over (common (holding i bit k)) k
+kernel_at i bit k = over (common_cube (holding_rows i bit k)) k
 
 -- that kernel where two rows or more have the literal, else none
 abbrev pub IsKernelAt : List (List (Option Bool)) → ℕ → Bool → Option (List (List (Option Bool))) → Type 0
-IsKernelAt k i bit None = length (holding i bit k) < 2
-IsKernelAt k i bit (Some kernel) = (2 ≤ length (holding i bit k)) × (kernel ≡ kernel_at i bit k)
+IsKernelAt k i bit None = length (holding_rows i bit k) < 2
+IsKernelAt k i bit (Some kernel) = (2 ≤ length (holding_rows i bit k)) × (kernel ≡ kernel_at i bit k)
 
 -- the kernels of each literal that stands in two rows are seen
 abbrev pub IsExplored : List (List (List (Option Bool))) → List (List (Option Bool)) → Type 0
-IsExplored seen k = (i : ℕ) (bit : Bool) → 2 ≤ length (holding i bit k) → Has (kernel_at i bit k) seen
+IsExplored seen k = (i : ℕ) (bit : Bool) → 2 ≤ length (holding_rows i bit k) → Has (kernel_at i bit k) seen
 
 -- a search: kernels of f in rising order, each explored or open, among them f without what all its rows share
 pub record IsSearch (width : ℕ) (f : List (List (Option Bool))) (seen open_ : List (List (List (Option Bool)))) : Type 0 where
@@ -93,11 +88,11 @@ pub record IsSearch (width : ℕ) (f : List (List (Option Bool))) (seen open_ : 
   pub order : Ascends rows_cmp seen
   pub inside : (k : List (List (Option Bool))) → Has k open_ → Has k seen
   pub explored : (k : List (List (Option Bool))) → Has k seen → Has k open_ ⊎ IsExplored seen k
-  pub start : Has (over (common f) f) seen
+  pub start : Has (over (common_cube f) f) seen
 
 -- one of the kernels that h leads to
 abbrev pub IsStep : List (List (Option Bool)) → List (List (Option Bool)) → Type 0
-IsStep h k = (i : ℕ) × (bit : Bool) × (2 ≤ length (holding i bit h)) × (k ≡ kernel_at i bit h)
+IsStep h k = (i : ℕ) × (bit : Bool) × (2 ≤ length (holding_rows i bit h)) × (k ≡ kernel_at i bit h)
 
 -- the most kernels that are listed
 abbrev pub limit : ℕ
@@ -133,7 +128,7 @@ MoreFound width f =
 
 -- the kernels of the literals below a place are seen
 abbrev pub IsExploredTo : ℕ → List (List (List (Option Bool))) → List (List (Option Bool)) → Type 0
-IsExploredTo n seen k = (i : ℕ) (bit : Bool) → i < n → 2 ≤ length (holding i bit k) → Has (kernel_at i bit k) seen
+IsExploredTo n seen k = (i : ℕ) (bit : Bool) → i < n → 2 ≤ length (holding_rows i bit k) → Has (kernel_at i bit k) seen
 
 -- a place in the seen list between what is below a kernel and what is above it
 abbrev pub IsBetween : List (List (List (Option Bool))) → ℕ → List (List (Option Bool)) → Type 0

@@ -14,6 +14,3 @@ mod search;
 
 pub use list::kernels;
 pub use search::{KernelFault, LIMIT};
-
-#[cfg(test)]
-mod tests;

@@ -9,7 +9,7 @@ ghost use Rattle.alg_div.specs.Steps.{literals_in};
 ghost use Rattle.alg_kernel.specs.Kernels.{AreKernels, MoreKernels, rows_in};
 ghost use Rattle.alg_kernel.specs.Search.{kernels_in};
 
-use crate::rows::rising;
+use crate::rows::sort_rows;
 use crate::search::{KernelFault, search};
 use alg_div::{all_literals_of, cover_of};
 use cube_cover::{Cover, Row};
@@ -44,7 +44,7 @@ pub fn kernels<R: Row>(alloc: Global, f: &Cover<R>) -> Result<Vec<Cover<R>>, Ker
     ensures over { IsErrOf result KernelFault.KernelLimit → MoreKernels 10000 f.now.width f.now.rows }
 {
     let width = f.width();
-    let rows = rising(all_literals_of(alloc, f.rows())?);
+    let rows = sort_rows(all_literals_of(alloc, f.rows())?);
     if rows.len() < 2 {
         return Ok(Vec::new(alloc));
     }

@@ -4,13 +4,14 @@ ghost use Rattle.std.specs.Prelude.{◌≡◌, ℕ, ◌<◌, Bool, Option, None,
 ghost use Rattle.sis_base.specs.Rows.{HasWidth};
 ghost use Rattle.alg_div.specs.Steps.{strip, literals_in};
 ghost use Rattle.alg_kernel.specs.Kernels.{row_cmp, Ascends};
-ghost use Rattle.alg_kernel.specs.Search.{alike, holding, both, both_rows, common, AreSame};
+ghost use Rattle.cube_cover.specs.Literals.{has_literal};
+ghost use Rattle.alg_kernel.specs.Search.{holding_rows, both, both_rows, common_cube, AreSame};
 
-use alg_div::{copy_of, stripped};
+use alg_div::{copy_of, strip_row};
 use std::alloc::{AllocError, Global};
 
 // The rows in rising order, each once.
-pub fn rising(rows: Vec<Vec<Option<bool>>>) -> Vec<Vec<Option<bool>>>
+pub fn sort_rows(rows: Vec<Vec<Option<bool>>>) -> Vec<Vec<Option<bool>>>
     ensures order { Ascends row_cmp (literals_in result.items) }
     ensures same { AreSame (literals_in rows.items) (literals_in result.items) }
 {
@@ -20,34 +21,34 @@ pub fn rising(rows: Vec<Vec<Option<bool>>>) -> Vec<Vec<Option<bool>>>
     sorted
 }
 
-// Whether a place has the literal.
-fn is_literal(place: Option<bool>, bit: bool) -> bool
-    ensures { result ≡ alike place bit }
+// Whether a literal is that of a bit.
+fn is_literal(literal: Option<bool>, bit: bool) -> bool
+    ensures { result ≡ has_literal literal bit }
 {
-    match place {
+    match literal {
         None => false,
-        Some(literal) => literal == bit,
+        Some(other) => other == bit,
     }
 }
 
 // Whether a row has a literal.
-fn has_literal(row: &[Option<bool>], place: usize, bit: bool) -> bool
+fn row_has_literal(row: &[Option<bool>], place: usize, bit: bool) -> bool
     requires { place < length row.now }
-    ensures { result ≡ alike (slice_index_or row.now place None) bit }
+    ensures { result ≡ has_literal (slice_index_or row.now place None) bit }
 {
     is_literal(row[place], bit)
 }
 
 // How many rows have a literal.
-#[tactic(auto, unfolding(crate::specs::Search::holding))]
+#[tactic(auto, unfolding(crate::specs::Search::holding_rows))]
 pub fn count_at(width: usize, rows: &[Vec<Option<bool>>], place: usize, bit: bool) -> usize
     requires width { HasWidth width (literals_in rows.now) }
     requires place { place < width }
-    ensures { result ≡ length (holding place bit (literals_in rows.now)) }
+    ensures { result ≡ length (holding_rows place bit (literals_in rows.now)) }
 {
     let mut count = 0;
     for row in rows {
-        if has_literal(row.as_slice(), place, bit) {
+        if row_has_literal(row.as_slice(), place, bit) {
             count += 1;
         }
     }
@@ -55,7 +56,7 @@ pub fn count_at(width: usize, rows: &[Vec<Option<bool>>], place: usize, bit: boo
 }
 
 // Copies of the rows that have a literal.
-#[tactic(auto, unfolding(crate::specs::Search::holding))]
+#[tactic(auto, unfolding(crate::specs::Search::holding_rows))]
 pub fn rows_at(
     alloc: Global,
     width: usize,
@@ -65,11 +66,11 @@ pub fn rows_at(
 ) -> Result<Vec<Vec<Option<bool>>>, AllocError>
     requires width { HasWidth width (literals_in rows.now) }
     requires place { place < width }
-    ensures { IfOk result (λ made. literals_in made.items ≡ holding place bit (literals_in rows.now)) }
+    ensures { IfOk result (λ made. literals_in made.items ≡ holding_rows place bit (literals_in rows.now)) }
 {
     let mut made = Vec::new(alloc);
     for row in rows {
-        if has_literal(row.as_slice(), place, bit) {
+        if row_has_literal(row.as_slice(), place, bit) {
             made.push(copy_of(alloc, row.as_slice())?)?;
         }
     }
@@ -91,12 +92,18 @@ pub fn copies_of(
 }
 
 // The literal that two places share.
-fn shared(place: Option<bool>, other: Option<bool>) -> Option<bool>
-    ensures { result ≡ both place other }
+fn shared_literal(literal: Option<bool>, other: Option<bool>) -> Option<bool>
+    ensures { result ≡ both literal other }
 {
-    match place {
+    match literal {
         None => None,
-        Some(bit) => { if is_literal(other, bit) { place } else { None } }
+        Some(bit) => {
+            if is_literal(other, bit) {
+                literal
+            } else {
+                None
+            }
+        }
     }
 }
 
@@ -106,7 +113,7 @@ fn meet(cube: &mut Vec<Option<bool>>, row: &[Option<bool>])
     ensures { cube.new.items ≡ both_rows cube.old.items row.now }
 {
     for (place, other) in row.iter().enumerate() {
-        cube[place] = shared(cube[place], *other);
+        cube[place] = shared_literal(cube[place], *other);
     }
 }
 
@@ -118,7 +125,7 @@ pub fn common_of(
 ) -> Result<Vec<Option<bool>>, AllocError>
     requires width { HasWidth width (literals_in rows.now) }
     requires some { 0 < length rows.now }
-    ensures { IfOk result (λ cube. cube.items ≡ common (literals_in rows.now)) }
+    ensures { IfOk result (λ cube. cube.items ≡ common_cube (literals_in rows.now)) }
 {
     let mut cube = copy_of(alloc, rows[0].as_slice())?;
     for row in rows {
@@ -128,19 +135,19 @@ pub fn common_of(
 }
 
 // The rows without the literals that all of them share, of which there is one or more.
-pub fn freed(
+pub fn make_cube_free(
     alloc: Global,
     width: usize,
     rows: &[Vec<Option<bool>>],
 ) -> Result<Vec<Vec<Option<bool>>>, AllocError>
     requires width { HasWidth width (literals_in rows.now) }
     requires some { 0 < length rows.now }
-    ensures { IfOk result (λ made. literals_in made.items ≡ map (strip (common (literals_in rows.now))) (literals_in rows.now)) }
+    ensures { IfOk result (λ made. literals_in made.items ≡ map (strip (common_cube (literals_in rows.now))) (literals_in rows.now)) }
 {
     let cube = common_of(alloc, width, rows)?;
     let mut made = Vec::with_capacity(alloc, rows.len())?;
     for row in rows {
-        made.push(stripped(alloc, cube.as_slice(), row.as_slice())?)?;
+        made.push(strip_row(alloc, cube.as_slice(), row.as_slice())?)?;
     }
     Ok(made)
 }

@@ -7,9 +7,9 @@ ghost use Rattle.sis_base.specs.Rows.{HasWidth};
 ghost use Rattle.alg_div.specs.Cubes.{Has};
 ghost use Rattle.alg_div.specs.Steps.{literals_in};
 ghost use Rattle.alg_kernel.specs.Kernels.{row_cmp, rows_cmp, Ascends};
-ghost use Rattle.alg_kernel.specs.Search.{kernels_in, holding, kernel_at, limit, IsKernelAt, IsBetween, IsStep, IsExplored, IsMore, TooMany, AreFound, MoreFound};
+ghost use Rattle.alg_kernel.specs.Search.{kernels_in, holding_rows, kernel_at, limit, IsKernelAt, IsBetween, IsStep, IsExplored, IsMore, TooMany, AreFound, MoreFound};
 
-use crate::rows::{copies_of, count_at, freed, rows_at};
+use crate::rows::{copies_of, count_at, make_cube_free, rows_at};
 use std::alloc::{AllocError, Global};
 
 /// The most kernels that are listed.
@@ -48,7 +48,7 @@ fn kernel_of(
         return Ok(None);
     }
     let chosen = rows_at(alloc, width, rows, place, bit)?;
-    let kernel = freed(alloc, width, chosen.as_slice())?;
+    let kernel = make_cube_free(alloc, width, chosen.as_slice())?;
     Ok(Some(kernel))
 }
 
@@ -91,7 +91,7 @@ fn enter_new(
 }
 
 // Where in rising order a kernel stands, or belongs.
-fn place_of(
+fn find_kernel(
     seen: &[Vec<Vec<Option<bool>>>],
     kernel: &Vec<Vec<Option<bool>>>,
 ) -> Result<usize, usize>
@@ -114,7 +114,7 @@ fn enter(
     ensures has { OnOk result (Has (literals_in kernel.items) (kernels_in seen.new.items)) }
     ensures over { IsErrOf result KernelFault.KernelLimit → TooMany (λ other. other ≡ literals_in kernel.items) (kernels_in seen.old.items) }
 {
-    match place_of(seen.as_slice(), &kernel) {
+    match find_kernel(seen.as_slice(), &kernel) {
         Ok(_) => Ok(()),
         Err(place) => enter_new(alloc, kernel, place, seen, todo),
     }
@@ -135,7 +135,7 @@ fn step(
     requires order { Ascends rows_cmp (kernels_in seen.old.items) }
     requires room { length (kernels_in seen.old.items) ≤ limit }
     ensures more { OnOk result (IsMore (IsStep (literals_in kernel.now)) (kernels_in seen.old.items) (kernels_in todo.old.items) (kernels_in seen.new.items) (kernels_in todo.new.items)) }
-    ensures has { OnOk result (2 ≤ length (holding place bit (literals_in kernel.now)) → Has (kernel_at place bit (literals_in kernel.now)) (kernels_in seen.new.items)) }
+    ensures has { OnOk result (2 ≤ length (holding_rows place bit (literals_in kernel.now)) → Has (kernel_at place bit (literals_in kernel.now)) (kernels_in seen.new.items)) }
     ensures over { IsErrOf result KernelFault.KernelLimit → TooMany (IsStep (literals_in kernel.now)) (kernels_in seen.old.items) }
 {
     match kernel_of(alloc, width, kernel, place, bit)? {
@@ -180,7 +180,7 @@ pub fn search(
 {
     let mut seen = Vec::new(alloc);
     let mut todo = Vec::new(alloc);
-    let first = freed(alloc, width, rows)?;
+    let first = make_cube_free(alloc, width, rows)?;
     enter(alloc, first, &mut seen, &mut todo)?;
     while let Some(kernel) = todo.pop() {
         explore(alloc, width, kernel.as_slice(), &mut seen, &mut todo)?;

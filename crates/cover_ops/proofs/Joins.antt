@@ -2,11 +2,12 @@
 use Rattle.std.proofs.Common.{◌≡◌, ℕ, ◌<◌, ◌≤◌, ◌+◌, zero, suc, Bool, true, false, not, ◌&&◌, ◌||◌, if◌then◌else◌, Option, Some, None, List, [], ◌∷◌, ◌++◌, length, get_or, set, drop, map, replicate, refl, sym, ap, ◌∙◌, subst, arith, ◌-◌, add-one, inl, inr, length-append}
 use Rattle.std.proofs.lemmas.List.{length-map, length-replicate, replicate-append-replicate, map-append}
 use Rattle.sis_base.specs.Rows.{agrees, matches, some_matches, phase_value, value_by_phase, HasWidth}
-use Rattle.cube_cover.specs.Places.{has_literal, not_dash, all_dashes, some_dashes}
+use Rattle.cube_cover.specs.Literals.{some_literal, not_dash, all_dashes, some_dashes}
 use Rattle.cube_cover.proofs.Points.{HasWidth-append}
 use Rattle.cube_cover.proofs.Splits.{matches_some_dashes}
 use Rattle.cover_ops.specs.Shannon.{same, shannon, list_rows}
-use Rattle.cover_ops.specs.Halves.{constant_list, list_from, part_rows, marked, IsJoined}
+use Rattle.cube_cover.specs.Covers.{agreeing_rows}
+use Rattle.cover_ops.specs.Halves.{constant_list, list_from, marked_rows, IsJoined}
 use Rattle.cover_ops.proofs.Expansion.{same_respects, same_points, lists_same, shannon_respects, shannon_constant, value_shannon}
 
 -- the function that rows give from a place on
@@ -57,36 +58,36 @@ drop_row zero (l ∷ ls) h = refl
 drop_row (suc i) [] h = absurd (omega arith)
 drop_row (suc i) (l ∷ ls) h = drop_row i ls (omega arith)
 
-rows_step : (w i : ℕ) (rows : List (List (Option Bool))) (b : Bool) (p : List Bool) → HasWidth w rows → i < w → some_matches (map (drop i) rows) (b ∷ p) ≡ some_matches (map (drop (suc i)) (part_rows i b rows)) p
-unfolding some_matches part_rows HasWidth matches
+rows_step : (w i : ℕ) (rows : List (List (Option Bool))) (b : Bool) (p : List Bool) → HasWidth w rows → i < w → some_matches (map (drop i) rows) (b ∷ p) ≡ some_matches (map (drop (suc i)) (agreeing_rows i b rows)) p
+unfolding some_matches agreeing_rows HasWidth matches
 rows_step w i [] b p h lt = refl
 rows_step w i (row ∷ rows) b p h lt =
     rw (drop_row i row (omega (arith, h.0)), rows_step w i rows b p h.1 lt) (cases (agrees (get_or row i None) b))
   where
-    cases : (t : Bool) → ((t && matches (drop (suc i) row) p) || some_matches (map (drop (suc i)) (part_rows i b rows)) p) ≡ some_matches (map (drop (suc i)) (if t then row ∷ part_rows i b rows else part_rows i b rows)) p
+    cases : (t : Bool) → ((t && matches (drop (suc i) row) p) || some_matches (map (drop (suc i)) (agreeing_rows i b rows)) p) ≡ some_matches (map (drop (suc i)) (if t then row ∷ agreeing_rows i b rows else agreeing_rows i b rows)) p
     cases true = refl
     cases false = refl
 
-pub HasWidth-part : (w i : ℕ) (b : Bool) (rows : List (List (Option Bool))) → HasWidth w rows → HasWidth w (part_rows i b rows)
-unfolding HasWidth part_rows
+pub HasWidth-part : (w i : ℕ) (b : Bool) (rows : List (List (Option Bool))) → HasWidth w rows → HasWidth w (agreeing_rows i b rows)
+unfolding HasWidth agreeing_rows
 HasWidth-part w i b [] h = tt
 HasWidth-part w i b (row ∷ rows) h = cases (agrees (get_or row i None) b) (HasWidth-part w i b rows h.1)
   where
-    cases : (t : Bool) → HasWidth w (part_rows i b rows) → HasWidth w (if t then row ∷ part_rows i b rows else part_rows i b rows)
+    cases : (t : Bool) → HasWidth w (agreeing_rows i b rows) → HasWidth w (if t then row ∷ agreeing_rows i b rows else agreeing_rows i b rows)
     cases true rest = (h.0, rest)
     cases false rest = rest
 
 -- where no row has a literal at the place, both parts are all rows
-part_all : (i : ℕ) (b : Bool) (rows : List (List (Option Bool))) → has_literal i rows ≡ false → part_rows i b rows ≡ rows
-unfolding part_rows has_literal
+part_all : (i : ℕ) (b : Bool) (rows : List (List (Option Bool))) → some_literal i rows ≡ false → agreeing_rows i b rows ≡ rows
+unfolding agreeing_rows some_literal
 part_all i b [] h = refl
 part_all i b (row ∷ rows) h = cases (get_or row i None) h (λ k. part_all i b rows k)
   where
-    cases : (l : Option Bool) → (not_dash l || has_literal i rows) ≡ false → (has_literal i rows ≡ false → part_rows i b rows ≡ rows) → (if agrees l b then row ∷ part_rows i b rows else part_rows i b rows) ≡ row ∷ rows
+    cases : (l : Option Bool) → (not_dash l || some_literal i rows) ≡ false → (some_literal i rows ≡ false → agreeing_rows i b rows ≡ rows) → (if agrees l b then row ∷ agreeing_rows i b rows else agreeing_rows i b rows) ≡ row ∷ rows
     cases None h rest = ap (λ (xs : List (List (Option Bool))). row ∷ xs) (rest h)
     cases (Some x) h rest = cc
 
-value_step : (w i : ℕ) (phase : Bool) (rows : List (List (Option Bool))) (b : Bool) (p : List Bool) → HasWidth w rows → i < w → rest_value i phase rows (b ∷ p) ≡ rest_value (suc i) phase (part_rows i b rows) p
+value_step : (w i : ℕ) (phase : Bool) (rows : List (List (Option Bool))) (b : Bool) (p : List Bool) → HasWidth w rows → i < w → rest_value i phase rows (b ∷ p) ≡ rest_value (suc i) phase (agreeing_rows i b rows) p
 unfolding value_by_phase
 value_step w i phase rows b p h lt = ap (phase_value phase) (rows_step w i rows b p h lt)
 
@@ -102,7 +103,7 @@ set_next : (i : ℕ) (b : Bool) (row : List (Option Bool)) → set (replicate (s
 set_next zero b row = refl
 set_next (suc i) b row = ap (λ (xs : List (Option Bool)). None ∷ xs) (set_next i b row)
 
-prefixed_marked : (i : ℕ) (b : Bool) (rows : List (List (Option Bool))) → marked i b (prefixed (suc i) rows) ≡ prefixed i (map (λ row. Some b ∷ row) rows)
+prefixed_marked : (i : ℕ) (b : Bool) (rows : List (List (Option Bool))) → marked_rows i b (prefixed (suc i) rows) ≡ prefixed i (map (λ row. Some b ∷ row) rows)
 prefixed_marked i b [] = refl
 prefixed_marked i b (row ∷ rows) = rw (set_next i b row, prefixed_marked i b rows) refl
 
@@ -117,10 +118,10 @@ drop_prefixed i (row ∷ rows) = rw (prefix_drop i row, drop_prefixed i rows) re
 -- the list of the whole, where the halves agree and where they do not
 
 abbrev half_list : ℕ → ℕ → Bool → List (List (Option Bool)) → Bool → List (List (Option Bool))
-half_list i n phase rows b = shannon n (λ p. value_by_phase phase (map (drop (suc i)) (part_rows i b rows)) p)
+half_list i n phase rows b = shannon n (λ p. value_by_phase phase (map (drop (suc i)) (agreeing_rows i b rows)) p)
 
 abbrev half_same : ℕ → ℕ → Bool → List (List (Option Bool)) → Bool
-half_same i n phase rows = same n (λ p. value_by_phase phase (map (drop (suc i)) (part_rows i false rows)) p) (λ p. value_by_phase phase (map (drop (suc i)) (part_rows i true rows)) p)
+half_same i n phase rows = same n (λ p. value_by_phase phase (map (drop (suc i)) (agreeing_rows i false rows)) p) (λ p. value_by_phase phase (map (drop (suc i)) (agreeing_rows i true rows)) p)
 
 whole_same : (w i n : ℕ) (phase : Bool) (rows : List (List (Option Bool))) → HasWidth w rows → i < w
     → same n (λ p. value_by_phase phase (map (drop i) rows) (false ∷ p)) (λ p. value_by_phase phase (map (drop i) rows) (true ∷ p)) ≡ half_same i n phase rows
@@ -136,7 +137,7 @@ unfolding list_from shannon
 whole_list w i n phase rows h lt = rw (whole_same w i n phase rows h lt, whole_half w i n phase rows false h lt, whole_half w i n phase rows true h lt) refl
 
 pub joined_list : (w i n : ℕ) (phase : Bool) (rows made : List (List (Option Bool))) → HasWidth w rows → i < w
-    → IsJoined i (list_from (suc i) n phase (part_rows i false rows)) (list_from (suc i) n phase (part_rows i true rows)) made → made ≡ list_from i (suc n) phase rows
+    → IsJoined i (list_from (suc i) n phase (agreeing_rows i false rows)) (list_from (suc i) n phase (agreeing_rows i true rows)) made → made ≡ list_from i (suc n) phase rows
 unfolding list_from
 joined_list w i n phase rows made h lt (inl (e, is)) =
     let s : half_list i n phase rows false ≡ half_list i n phase rows true = sym (drop_prefixed (suc i) _) ∙ ap (map (drop (suc i))) e ∙ drop_prefixed (suc i) _ in
@@ -149,14 +150,14 @@ joined_list w i n phase rows made h lt (inr (ne, is)) = cases (half_same i n pha
         is ∙ rw (prefixed_marked i false (half_list i n phase rows false), prefixed_marked i true (half_list i n phase rows true))
         (sym (whole_list w i n phase rows h lt ∙ rw e (map-append (λ (row : List (Option Bool)). replicate i None ++ row) (map (λ row. Some false ∷ row) (half_list i n phase rows false)) (map (λ row. Some true ∷ row) (half_list i n phase rows true)))))
 
-pub skipped_list : (w i n : ℕ) (phase : Bool) (rows : List (List (Option Bool))) → HasWidth w rows → i < w → has_literal i rows ≡ false → list_from (suc i) n phase rows ≡ list_from i (suc n) phase rows
+pub skipped_list : (w i n : ℕ) (phase : Bool) (rows : List (List (Option Bool))) → HasWidth w rows → i < w → some_literal i rows ≡ false → list_from (suc i) n phase rows ≡ list_from i (suc n) phase rows
 skipped_list w i n phase rows h lt none =
-    let low : part_rows i false rows ≡ rows = part_all i false rows none in
-    let high : part_rows i true rows ≡ rows = part_all i true rows none in
+    let low : agreeing_rows i false rows ≡ rows = part_all i false rows none in
+    let high : agreeing_rows i true rows ≡ rows = part_all i true rows none in
     joined_list w i n phase rows _ h lt (inl (rw (low, high) refl, rw low refl))
 
 -- a half's list is no longer than the whole's
-pub low_within : (w i n : ℕ) (phase : Bool) (rows : List (List (Option Bool))) → HasWidth w rows → i < w → length (list_from (suc i) n phase (part_rows i false rows)) ≤ length (list_from i (suc n) phase rows)
+pub low_within : (w i n : ℕ) (phase : Bool) (rows : List (List (Option Bool))) → HasWidth w rows → i < w → length (list_from (suc i) n phase (agreeing_rows i false rows)) ≤ length (list_from i (suc n) phase rows)
 unfolding list_from
 low_within w i n phase rows h lt = rw (whole_list w i n phase rows h lt) (cases (half_same i n phase rows))
   where
@@ -164,7 +165,7 @@ low_within w i n phase rows h lt = rw (whole_list w i n phase rows h lt) (cases 
     cases true = simp (length-map, length-append) (omega arith)
     cases false = simp (length-map, length-append) (omega arith)
 
-pub high_within : (w i n : ℕ) (phase : Bool) (rows : List (List (Option Bool))) → HasWidth w rows → i < w → length (list_from (suc i) n phase (part_rows i true rows)) ≤ length (list_from i (suc n) phase rows)
+pub high_within : (w i n : ℕ) (phase : Bool) (rows : List (List (Option Bool))) → HasWidth w rows → i < w → length (list_from (suc i) n phase (agreeing_rows i true rows)) ≤ length (list_from i (suc n) phase rows)
 unfolding list_from
 high_within w i n phase rows h lt = rw (whole_list w i n phase rows h lt) (cases (half_same i n phase rows) refl)
   where
@@ -176,10 +177,10 @@ high_within w i n phase rows h lt = rw (whole_list w i n phase rows h lt) (cases
 
 -- halves that differ have together as many rows as the whole
 pub sum_of_halves : (w i n : ℕ) (phase : Bool) (rows : List (List (Option Bool))) → HasWidth w rows → i < w
-    → (list_from (suc i) n phase (part_rows i false rows) ≡ list_from (suc i) n phase (part_rows i true rows) → ⊥)
-    → length (list_from i (suc n) phase rows) ≡ length (list_from (suc i) n phase (part_rows i false rows)) + length (list_from (suc i) n phase (part_rows i true rows))
+    → (list_from (suc i) n phase (agreeing_rows i false rows) ≡ list_from (suc i) n phase (agreeing_rows i true rows) → ⊥)
+    → length (list_from i (suc n) phase rows) ≡ length (list_from (suc i) n phase (agreeing_rows i false rows)) + length (list_from (suc i) n phase (agreeing_rows i true rows))
 sum_of_halves w i n phase rows h lt ne =
-    rw (sym (joined_list w i n phase rows (marked i false (list_from (suc i) n phase (part_rows i false rows)) ++ marked i true (list_from (suc i) n phase (part_rows i true rows))) h lt (inr (ne, refl))))
+    rw (sym (joined_list w i n phase rows (marked_rows i false (list_from (suc i) n phase (agreeing_rows i false rows)) ++ marked_rows i true (list_from (suc i) n phase (agreeing_rows i true rows))) h lt (inr (ne, refl))))
     (simp (length-append, length-map) refl)
 
 -- from the first place the list is that of the function
@@ -244,36 +245,36 @@ last_at w i left phase rows h lt z s =
     free_at w i left phase rows (subst (λ (k : ℕ). some_dashes (map (drop k) rows) ≡ true) e (all_free w rows h lt)) s
 
 pub joined_at : (w i left : ℕ) (phase : Bool) (rows made : List (List (Option Bool))) → HasWidth w rows → 0 < left → i + left ≡ w
-    → IsJoined i (list_from (i + 1) (left - 1) phase (part_rows i false rows)) (list_from (i + 1) (left - 1) phase (part_rows i true rows)) made → made ≡ list_from i left phase rows
+    → IsJoined i (list_from (i + 1) (left - 1) phase (agreeing_rows i false rows)) (list_from (i + 1) (left - 1) phase (agreeing_rows i true rows)) made → made ≡ list_from i left phase rows
 joined_at w i left phase rows made h lt s j =
     let e : suc (left - 1) ≡ left = omega arith in
     subst (λ (k : ℕ). made ≡ list_from i k phase rows) e
     (joined_list w i (left - 1) phase rows made h (omega arith)
-    (subst (λ (k : ℕ). IsJoined i (list_from k (left - 1) phase (part_rows i false rows)) (list_from k (left - 1) phase (part_rows i true rows)) made) (add-one i) j))
+    (subst (λ (k : ℕ). IsJoined i (list_from k (left - 1) phase (agreeing_rows i false rows)) (list_from k (left - 1) phase (agreeing_rows i true rows)) made) (add-one i) j))
 
-pub skipped_at : (w i left : ℕ) (phase : Bool) (rows : List (List (Option Bool))) → HasWidth w rows → 0 < left → i + left ≡ w → has_literal i rows ≡ false → list_from i left phase rows ≡ list_from (i + 1) (left - 1) phase rows
+pub skipped_at : (w i left : ℕ) (phase : Bool) (rows : List (List (Option Bool))) → HasWidth w rows → 0 < left → i + left ≡ w → some_literal i rows ≡ false → list_from i left phase rows ≡ list_from (i + 1) (left - 1) phase rows
 skipped_at w i left phase rows h lt s none =
     let e : suc (left - 1) ≡ left = omega arith in
     sym (subst (λ (k : ℕ). list_from (i + 1) (left - 1) phase rows ≡ list_from i k phase rows) e
     (subst (λ (k : ℕ). list_from k (left - 1) phase rows ≡ list_from i (suc (left - 1)) phase rows) (sym (add-one i)) (skipped_list w i (left - 1) phase rows h (omega arith) none)))
 
-pub half_at : (w i left : ℕ) (phase : Bool) (rows : List (List (Option Bool))) (b : Bool) → HasWidth w rows → 0 < left → i + left ≡ w → length (list_from (i + 1) (left - 1) phase (part_rows i b rows)) ≤ length (list_from i left phase rows)
+pub half_at : (w i left : ℕ) (phase : Bool) (rows : List (List (Option Bool))) (b : Bool) → HasWidth w rows → 0 < left → i + left ≡ w → length (list_from (i + 1) (left - 1) phase (agreeing_rows i b rows)) ≤ length (list_from i left phase rows)
 half_at w i left phase rows b h lt s =
     let e : suc (left - 1) ≡ left = omega arith in
-    subst (λ (k : ℕ). length (list_from (i + 1) (left - 1) phase (part_rows i b rows)) ≤ length (list_from i k phase rows)) e
-    (subst (λ (k : ℕ). length (list_from k (left - 1) phase (part_rows i b rows)) ≤ length (list_from i (suc (left - 1)) phase rows)) (sym (add-one i)) (by_bit b))
+    subst (λ (k : ℕ). length (list_from (i + 1) (left - 1) phase (agreeing_rows i b rows)) ≤ length (list_from i k phase rows)) e
+    (subst (λ (k : ℕ). length (list_from k (left - 1) phase (agreeing_rows i b rows)) ≤ length (list_from i (suc (left - 1)) phase rows)) (sym (add-one i)) (by_bit b))
   where
-    by_bit : (b : Bool) → length (list_from (suc i) (left - 1) phase (part_rows i b rows)) ≤ length (list_from i (suc (left - 1)) phase rows)
+    by_bit : (b : Bool) → length (list_from (suc i) (left - 1) phase (agreeing_rows i b rows)) ≤ length (list_from i (suc (left - 1)) phase rows)
     by_bit false = low_within w i (left - 1) phase rows h (omega arith)
     by_bit true = high_within w i (left - 1) phase rows h (omega arith)
 
 pub sum_at : (w i left : ℕ) (phase : Bool) (rows : List (List (Option Bool))) → HasWidth w rows → 0 < left → i + left ≡ w
-    → (list_from (i + 1) (left - 1) phase (part_rows i false rows) ≡ list_from (i + 1) (left - 1) phase (part_rows i true rows) → ⊥)
-    → length (list_from i left phase rows) ≡ length (list_from (i + 1) (left - 1) phase (part_rows i false rows)) + length (list_from (i + 1) (left - 1) phase (part_rows i true rows))
+    → (list_from (i + 1) (left - 1) phase (agreeing_rows i false rows) ≡ list_from (i + 1) (left - 1) phase (agreeing_rows i true rows) → ⊥)
+    → length (list_from i left phase rows) ≡ length (list_from (i + 1) (left - 1) phase (agreeing_rows i false rows)) + length (list_from (i + 1) (left - 1) phase (agreeing_rows i true rows))
 sum_at w i left phase rows h lt s ne =
-    joined_length (marked i false (list_from (i + 1) (left - 1) phase (part_rows i false rows)) ++ marked i true (list_from (i + 1) (left - 1) phase (part_rows i true rows))) (joined_at w i left phase rows (marked i false (list_from (i + 1) (left - 1) phase (part_rows i false rows)) ++ marked i true (list_from (i + 1) (left - 1) phase (part_rows i true rows))) h lt s (inr (ne, refl))) (simp (length-append, length-map) refl)
+    joined_length (marked_rows i false (list_from (i + 1) (left - 1) phase (agreeing_rows i false rows)) ++ marked_rows i true (list_from (i + 1) (left - 1) phase (agreeing_rows i true rows))) (joined_at w i left phase rows (marked_rows i false (list_from (i + 1) (left - 1) phase (agreeing_rows i false rows)) ++ marked_rows i true (list_from (i + 1) (left - 1) phase (agreeing_rows i true rows))) h lt s (inr (ne, refl))) (simp (length-append, length-map) refl)
   where
-    joined_length : (made : List (List (Option Bool))) → made ≡ list_from i left phase rows → length made ≡ length (list_from (i + 1) (left - 1) phase (part_rows i false rows)) + length (list_from (i + 1) (left - 1) phase (part_rows i true rows)) → length (list_from i left phase rows) ≡ length (list_from (i + 1) (left - 1) phase (part_rows i false rows)) + length (list_from (i + 1) (left - 1) phase (part_rows i true rows))
+    joined_length : (made : List (List (Option Bool))) → made ≡ list_from i left phase rows → length made ≡ length (list_from (i + 1) (left - 1) phase (agreeing_rows i false rows)) + length (list_from (i + 1) (left - 1) phase (agreeing_rows i true rows)) → length (list_from i left phase rows) ≡ length (list_from (i + 1) (left - 1) phase (agreeing_rows i false rows)) + length (list_from (i + 1) (left - 1) phase (agreeing_rows i true rows))
     joined_length made e k = sym (ap length e) ∙ k
 
 -- the list as a cover of the function, and of the complement

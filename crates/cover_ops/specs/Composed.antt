@@ -4,7 +4,7 @@
 -- The outer cover reads the inner table at place x. Inputs that the outer cover lacks take x's place, in order.
 use Rattle.std.specs.Prelude.{◌≡◌, ◌≢◌, ℕ, ◌+◌, ◌-◌, ◌<◌, suc, ltb, eqb, Bool, true, false, not, ◌||◌, if◌then◌else◌, Option, Some, None, List, [], ◌∷◌, ◌++◌, map, take, drop, replicate, slice_index_or, slice_set, length, ◌⊎◌}
 use Rattle.cube_cover.specs.Covers.{Shape, product_of}
-use Rattle.cube_cover.specs.Places.{all_go}
+use Rattle.cube_cover.specs.Literals.{has_literal, rows_intersect}
 use Rattle.cover_ops.specs.Shannon.{bits_equal, list_rows}
 
 -- how many inputs the outer cover lacks
@@ -26,14 +26,14 @@ AreEntries width x (None ∷ places) = AreEntries width x places
 AreEntries width x (Some place ∷ places) = (place < width) × (place ≢ x) × (is_entry place places ≡ false) × AreEntries width x places
 
 -- where a place of the outer cover other than x stands in the result
-abbrev pub moved : ℕ → ℕ → ℕ → ℕ
-moved x added place = if ltb place x then place else place + added - 1
+abbrev pub outer_place : ℕ → ℕ → ℕ → ℕ
+outer_place x added place = if ltb place x then place else place + added - 1
 
 -- where each input of the inner table stands in the result, the new ones from `next` on
 unfoldable pub targets : ℕ → ℕ → ℕ → List (Option ℕ) → List ℕ
 targets x added next [] = []
 targets x added next (None ∷ places) = next ∷ targets x added (next + 1) places
-targets x added next (Some place ∷ places) = moved x added place ∷ targets x added next places
+targets x added next (Some place ∷ places) = outer_place x added place ∷ targets x added next places
 
 -- all targets are below a width
 unfoldable pub AreBelow : ℕ → List ℕ → Type 0
@@ -41,52 +41,47 @@ AreBelow width [] = Unit {0}
 AreBelow width (target ∷ others) = (target < width) × AreBelow width others
 
 -- an outer row in the result: dashes for the new inputs in x's place
-abbrev pub opened : ℕ → ℕ → List (Option Bool) → List (Option Bool)
-opened x added row = take x row ++ replicate added None ++ drop (suc x) row
+abbrev pub outer_row : ℕ → ℕ → List (Option Bool) → List (Option Bool)
+outer_row x added row = take x row ++ replicate added None ++ drop (suc x) row
 
 -- an inner row in the result: each literal at its input's target
-unfoldable pub placed : List (Option Bool) → List ℕ → List (Option Bool) → List (Option Bool)
-placed row [] literals = row
-placed row (target ∷ others) [] = row
-placed row (target ∷ others) (literal ∷ literals) = placed (slice_set row target literal) others literals
+unfoldable pub inner_row : List (Option Bool) → List ℕ → List (Option Bool) → List (Option Bool)
+inner_row row [] literals = row
+inner_row row (target ∷ others) [] = row
+inner_row row (target ∷ others) (literal ∷ literals) = inner_row (slice_set row target literal) others literals
 
 -- the products of a row with rows in order; contradictions go
-unfoldable pub products : List (Option Bool) → List (List (Option Bool)) → List (List (Option Bool))
-products row [] = []
-products row (other ∷ others) = if all_go row other then product_of row other ∷ products row others else products row others
+unfoldable pub row_products : List (Option Bool) → List (List (Option Bool)) → List (List (Option Bool))
+row_products row [] = []
+row_products row (other ∷ others) = if rows_intersect row other then product_of row other ∷ row_products row others else row_products row others
 
 -- what a row becomes, by its literal of x
 abbrev pub composed_row : Option Bool → List (Option Bool) → List (List (Option Bool)) → List (List (Option Bool)) → List (List (Option Bool))
 composed_row None row on off = row ∷ []
-composed_row (Some true) row on off = products row on
-composed_row (Some false) row on off = products row off
+composed_row (Some true) row on off = row_products row on
+composed_row (Some false) row on off = row_products row off
 
 -- what all outer rows become, in order
 unfoldable pub composed_rows : ℕ → ℕ → List (List (Option Bool)) → List (List (Option Bool)) → List (List (Option Bool)) → List (List (Option Bool))
 composed_rows x added on off [] = []
-composed_rows x added on off (row ∷ rows) = composed_row (slice_index_or row x None) (opened x added row) on off ++ composed_rows x added on off rows
+composed_rows x added on off (row ∷ rows) = composed_row (slice_index_or row x None) (outer_row x added row) on off ++ composed_rows x added on off rows
 
 -- the inner cover for a value: its rows where they give that value, else its list for that value
 abbrev pub cover_for : Shape → Bool → Bool → List (List (Option Bool))
 cover_for inner phase bit = if bits_equal bit phase then inner.rows else list_rows inner.width false inner.rows
 
--- a place has the literal of a bit
-abbrev pub is_literal : Bool → Option Bool → Bool
-is_literal bit None = false
-is_literal bit (Some literal) = bits_equal bit literal
-
 -- some row has the literal of a bit at x, so the cover for that bit is asked for
 unfoldable pub asks : ℕ → Bool → List (List (Option Bool)) → Bool
 asks x bit [] = false
-asks x bit (row ∷ rows) = is_literal bit (slice_index_or row x None) || asks x bit rows
+asks x bit (row ∷ rows) = has_literal (slice_index_or row x None) bit || asks x bit rows
 
 -- the inner cover's rows for a value in a result of a width
 abbrev pub placed_rows : ℕ → List ℕ → List (List (Option Bool)) → List (List (Option Bool))
-placed_rows width places rows = map (λ row. placed (replicate width None) places row) rows
+placed_rows width places rows = map (λ row. inner_row (replicate width None) places row) rows
 
 -- the outer cover with the inner table put in the place of its input x
-abbrev pub composed : Shape → ℕ → Shape → Bool → List (Option ℕ) → Shape
-composed outer x inner phase places =
+abbrev pub composition : Shape → ℕ → Shape → Bool → List (Option ℕ) → Shape
+composition outer x inner phase places =
     let added = count_new places in
     let width = outer.width + added - 1 in
     let at = targets x added x places in
@@ -106,4 +101,4 @@ outer_point x added value point = take x point ++ value ∷ drop (x + added) poi
 -- a list that is asked for, or the result, has more rows than the limit
 abbrev pub IsTooLong : ℕ → Shape → ℕ → Shape → Bool → List (Option ℕ) → Type 0
 IsTooLong limit outer x inner phase places =
-    ((asks x (not phase) outer.rows ≡ true) × (limit < length (list_rows inner.width false inner.rows))) ⊎ (limit < length (composed outer x inner phase places).rows)
+    ((asks x (not phase) outer.rows ≡ true) × (limit < length (list_rows inner.width false inner.rows))) ⊎ (limit < length (composition outer x inner phase places).rows)

@@ -1,7 +1,8 @@
--- What the body computes from a place on: the rows that are left, and how the lists of two halves are joined.
+-- What the body computes from a place on: the rows that are left, and how the lists of two halves are joined. No public
+-- clause needs these definitions.
 -- Source: Brayton et al., "Logic Minimization Algorithms for VLSI Synthesis" (recursion on cofactors).
-use Rattle.std.specs.Prelude.{◌≡◌, ℕ, Bool, true, false, if◌then◌else◌, Option, Some, None, List, [], ◌∷◌, ◌++◌, map, drop, replicate, slice_index_or, slice_set, ◌⊎◌}
-use Rattle.sis_base.specs.Rows.{agrees, value_by_phase}
+use Rattle.std.specs.Prelude.{◌≡◌, ℕ, Bool, true, false, Option, Some, None, List, [], ◌∷◌, ◌++◌, map, drop, replicate, slice_set, ◌⊎◌}
+use Rattle.sis_base.specs.Rows.{value_by_phase}
 use Rattle.cover_ops.specs.Shannon.{shannon}
 
 -- one row of dashes, or no row
@@ -13,15 +14,10 @@ constant_list width false = []
 unfoldable pub list_from : ℕ → ℕ → Bool → List (List (Option Bool)) → List (List (Option Bool))
 list_from place left phase rows = map (λ row. replicate place None ++ row) (shannon left (λ point. value_by_phase phase (map (drop place) rows) point))
 
--- the rows that agree with a bit at a place
-unfoldable pub part_rows : ℕ → Bool → List (List (Option Bool)) → List (List (Option Bool))
-part_rows place bit [] = []
-part_rows place bit (row ∷ rows) = if agrees (slice_index_or row place None) bit then row ∷ part_rows place bit rows else part_rows place bit rows
-
 -- rows with a literal put at a place
-abbrev pub marked : ℕ → Bool → List (List (Option Bool)) → List (List (Option Bool))
-marked place bit rows = map (λ row. slice_set row place (Some bit)) rows
+abbrev pub marked_rows : ℕ → Bool → List (List (Option Bool)) → List (List (Option Bool))
+marked_rows place bit rows = map (λ row. slice_set row place (Some bit)) rows
 
 -- equal halves are the list of both; else the low half with literal 0 and then the high half with literal 1
 abbrev pub IsJoined : ℕ → List (List (Option Bool)) → List (List (Option Bool)) → List (List (Option Bool)) → Type 0
-IsJoined place low high rows = ((low ≡ high) × (rows ≡ low)) ⊎ ((low ≡ high → ⊥) × (rows ≡ marked place false low ++ marked place true high))
+IsJoined place low high rows = ((low ≡ high) × (rows ≡ low)) ⊎ ((low ≡ high → ⊥) × (rows ≡ marked_rows place false low ++ marked_rows place true high))

@@ -2,10 +2,10 @@
 
 ghost use Rattle.std.specs.Prelude.{[], ◌∷◌, ◌≡◌, ◌≢◌, ℕ, ◌+◌, ◌-◌, ◌^◌, ◌<◌, ◌≤◌, ◌↔◌, Bool, true, false, not, Option, None, List, ◌++◌, length, map, replicate, slice_index_or, IfSome, IfOk, OnOk, IsTrue};
 ghost use Rattle.sis_base.specs.Rows.{HasWidth, IsPoint, some_matches, value_by_phase};
-ghost use Rattle.cube_cover.specs.Covers.{Meets};
-ghost use Rattle.cube_cover.specs.Places.{all_go};
+ghost use Rattle.cube_cover.specs.Covers.{Intersects};
+ghost use Rattle.cube_cover.specs.Literals.{has_literal, rows_intersect};
 ghost use Rattle.cover_ops.specs.Shannon.{bits_equal, list_rows};
-ghost use Rattle.cover_ops.specs.Composed.{AreBelow, AreEntries, IsTooLong, count_new, moved, targets, opened, placed, products, composed_row, composed_rows, cover_for, asks, is_literal, placed_rows, composed, inner_point, outer_point};
+ghost use Rattle.cover_ops.specs.Composed.{AreBelow, AreEntries, IsTooLong, count_new, outer_place, targets, outer_row, inner_row, row_products, composed_row, composed_rows, cover_for, asks, placed_rows, composition, inner_point, outer_point};
 
 use crate::list::{ListFault, on_list};
 use cube_cover::{Cover, Row};
@@ -51,7 +51,7 @@ fn result_width(width: usize, added: usize) -> Option<usize>
 fn moved_place(x: usize, added: usize, place: usize) -> usize
     requires fits { place + added < 2 ^ 64 }
     requires apart { place ≢ x }
-    ensures { result ≡ moved x added place }
+    ensures { result ≡ outer_place x added place }
 {
     if place < x { place } else { place + added - 1 }
 }
@@ -90,10 +90,10 @@ fn target_list(
 // What stands at a place of an outer row in the result.
 #[tactic(auto, using(crate::proofs::Compositions::opened_front, crate::proofs::Compositions::opened_middle, crate::proofs::Compositions::opened_back))]
 fn opened_place<R: Row>(row: &R, x: usize, added: usize, place: usize) -> Option<bool>
-    requires x { x < length (R.places row.now) }
-    requires fits { length (R.places row.now) + added < 2 ^ 64 }
-    requires place { place < length (R.places row.now) + added - 1 }
-    ensures { result ≡ slice_index_or (opened x added (R.places row.now)) place None }
+    requires x { x < length (R.literals row.now) }
+    requires fits { length (R.literals row.now) + added < 2 ^ 64 }
+    requires place { place < length (R.literals row.now) + added - 1 }
+    ensures { result ≡ slice_index_or (outer_row x added (R.literals row.now)) place None }
 {
     if place < x {
         return row.at(place);
@@ -112,10 +112,10 @@ fn opened_row<R: Row>(
     added: usize,
     width: usize,
 ) -> Result<R, AllocError>
-    requires x { x < length (R.places row.now) }
-    requires fits { length (R.places row.now) + added < 2 ^ 64 }
-    requires width { width ≡ length (R.places row.now) + added - 1 }
-    ensures { IfOk result (λ made. R.places made ≡ opened x added (R.places row.now)) }
+    requires x { x < length (R.literals row.now) }
+    requires fits { length (R.literals row.now) + added < 2 ^ 64 }
+    requires width { width ≡ length (R.literals row.now) + added - 1 }
+    ensures { IfOk result (λ made. R.literals made ≡ outer_row x added (R.literals row.now)) }
 {
     let mut made = R::dashes(alloc, width)?;
     for place in 0..width {
@@ -125,16 +125,16 @@ fn opened_row<R: Row>(
 }
 
 // An inner row in the result.
-#[tactic(auto, using(crate::proofs::Compositions::below_at), unfolding(crate::specs::Composed::placed))]
+#[tactic(auto, using(crate::proofs::Compositions::below_at), unfolding(crate::specs::Composed::inner_row))]
 fn placed_row<R: Row>(
     alloc: Global,
     row: &R,
     places: &[usize],
     width: usize,
 ) -> Result<R, AllocError>
-    requires many { length (R.places row.now) ≡ length places.now }
+    requires many { length (R.literals row.now) ≡ length places.now }
     requires below { AreBelow width places.now }
-    ensures { IfOk result (λ made. R.places made ≡ placed (replicate width None) places.now (R.places row.now)) }
+    ensures { IfOk result (λ made. R.literals made ≡ inner_row (replicate width None) places.now (R.literals row.now)) }
 {
     let mut made = R::dashes(alloc, width)?;
     for (i, place) in places.iter().enumerate() {
@@ -151,9 +151,9 @@ fn place_rows<R: Row>(
     places: &[usize],
     width: usize,
 ) -> Result<Vec<R>, AllocError>
-    requires widths { HasWidth (length places.now) (map R.places rows.now) }
+    requires widths { HasWidth (length places.now) (map R.literals rows.now) }
     requires below { AreBelow width places.now }
-    ensures { IfOk result (λ made. map R.places made.items ≡ placed_rows width places.now (map R.places rows.now)) }
+    ensures { IfOk result (λ made. map R.literals made.items ≡ placed_rows width places.now (map R.literals rows.now)) }
 {
     let mut made = Vec::new(alloc);
     for row in rows {
@@ -162,43 +162,43 @@ fn place_rows<R: Row>(
     Ok(made)
 }
 
-// Whether a place has the literal of a bit.
-fn is_bit(place: Option<bool>, bit: bool) -> bool
-    ensures { result ≡ is_literal bit place }
+// Whether a literal is that of a bit.
+fn is_literal(literal: Option<bool>, bit: bool) -> bool
+    ensures { result ≡ has_literal literal bit }
 {
-    match place {
+    match literal {
         None => false,
-        Some(literal) => bit == literal,
+        Some(other) => bit == other,
     }
 }
 
 // Whether some row has the literal of a bit at a place.
 #[tactic(auto, using(cube_cover::proofs::Points::width_read), unfolding(crate::specs::Composed::asks))]
 fn asks_for<R: Row>(rows: &[R], width: usize, x: usize, bit: bool) -> bool
-    requires widths { HasWidth width (map R.places rows.now) }
+    requires widths { HasWidth width (map R.literals rows.now) }
     requires place { x < width }
-    ensures { result ≡ asks x bit (map R.places rows.now) }
+    ensures { result ≡ asks x bit (map R.literals rows.now) }
 {
     for row in rows {
-        if is_bit(row.at(x), bit) {
+        if is_literal(row.at(x), bit) {
             return true;
         }
     }
     false
 }
 
-// Whether no places of two rows contradict.
-#[tactic(auto, using(crate::proofs::Compositions::go_answer))]
-fn rows_go<R: Row>(row: &R, other: &R) -> bool
-    requires { length (R.places row.now) ≡ length (R.places other.now) }
-    ensures go { result ≡ all_go (R.places row.now) (R.places other.now) }
-    ensures meets { IsTrue result → Meets (R.places row.now) (R.places other.now) }
+// Whether no literals of two rows contradict.
+#[tactic(auto, using(crate::proofs::Compositions::intersects_test))]
+fn are_intersecting<R: Row>(row: &R, other: &R) -> bool
+    requires { length (R.literals row.now) ≡ length (R.literals other.now) }
+    ensures by_literals { result ≡ rows_intersect (R.literals row.now) (R.literals other.now) }
+    ensures points { IsTrue result → Intersects (R.literals row.now) (R.literals other.now) }
 {
-    row.meets(other)
+    row.intersects(other)
 }
 
 // A list with the products of a row and other rows behind it, contradictions left out.
-#[tactic(auto, using(cube_cover::proofs::Points::width_read), unfolding(crate::specs::Composed::products))]
+#[tactic(auto, using(cube_cover::proofs::Points::width_read), unfolding(crate::specs::Composed::row_products))]
 fn with_products<R: Row>(
     alloc: Global,
     list: Vec<R>,
@@ -206,15 +206,15 @@ fn with_products<R: Row>(
     others: &[R],
     limit: usize,
 ) -> Result<Vec<R>, ListFault>
-    requires widths { HasWidth (length (R.places row.now)) (map R.places others.now) }
+    requires widths { HasWidth (length (R.literals row.now)) (map R.literals others.now) }
     requires within { length list.items ≤ limit }
-    ensures ok { IfOk result (λ made. map R.places made.items ≡ map R.places list.items ++ products (R.places row.now) (map R.places others.now)) }
+    ensures ok { IfOk result (λ made. map R.literals made.items ≡ map R.literals list.items ++ row_products (R.literals row.now) (map R.literals others.now)) }
     ensures within { IfOk result (λ made. length made.items ≤ limit) }
-    ensures limit { result ≡ Err ListFault.CubeLimit → limit < length list.items + length (products (R.places row.now) (map R.places others.now)) }
+    ensures limit { result ≡ Err ListFault.CubeLimit → limit < length list.items + length (row_products (R.literals row.now) (map R.literals others.now)) }
 {
     let mut made = list;
     for other in others {
-        if rows_go(row, other) {
+        if are_intersecting(row, other) {
             if made.len() >= limit {
                 return Err(ListFault::CubeLimit);
             }
@@ -227,7 +227,7 @@ fn with_products<R: Row>(
 
 // A list with a row behind it.
 fn with_row<R: Row>(list: Vec<R>, row: R, limit: usize) -> Result<Vec<R>, ListFault>
-    ensures ok { IfOk result (λ made. map R.places made.items ≡ map R.places list.items ++ R.places row ∷ []) }
+    ensures ok { IfOk result (λ made. map R.literals made.items ≡ map R.literals list.items ++ R.literals row ∷ []) }
     ensures within { IfOk result (λ made. length made.items ≤ limit) }
     ensures limit { result ≡ Err ListFault.CubeLimit → limit < length list.items + 1 }
 {
@@ -250,14 +250,14 @@ fn with_composed<R: Row>(
     off: &[R],
     limit: usize,
 ) -> Result<Vec<R>, ListFault>
-    requires x { x < length (R.places row.now) }
-    requires fits { length (R.places row.now) + added < 2 ^ 64 }
-    requires on { HasWidth (length (R.places row.now) + added - 1) (map R.places on.now) }
-    requires off { HasWidth (length (R.places row.now) + added - 1) (map R.places off.now) }
+    requires x { x < length (R.literals row.now) }
+    requires fits { length (R.literals row.now) + added < 2 ^ 64 }
+    requires on { HasWidth (length (R.literals row.now) + added - 1) (map R.literals on.now) }
+    requires off { HasWidth (length (R.literals row.now) + added - 1) (map R.literals off.now) }
     requires within { length list.items ≤ limit }
-    ensures ok { IfOk result (λ made. map R.places made.items ≡ map R.places list.items ++ composed_row (slice_index_or (R.places row.now) x None) (opened x added (R.places row.now)) (map R.places on.now) (map R.places off.now)) }
+    ensures ok { IfOk result (λ made. map R.literals made.items ≡ map R.literals list.items ++ composed_row (slice_index_or (R.literals row.now) x None) (outer_row x added (R.literals row.now)) (map R.literals on.now) (map R.literals off.now)) }
     ensures within { IfOk result (λ made. length made.items ≤ limit) }
-    ensures limit { result ≡ Err ListFault.CubeLimit → limit < length list.items + length (composed_row (slice_index_or (R.places row.now) x None) (opened x added (R.places row.now)) (map R.places on.now) (map R.places off.now)) }
+    ensures limit { result ≡ Err ListFault.CubeLimit → limit < length list.items + length (composed_row (slice_index_or (R.literals row.now) x None) (outer_row x added (R.literals row.now)) (map R.literals on.now) (map R.literals off.now)) }
 {
     let width = row.width() + added - 1;
     let wide = opened_row(alloc, row, x, added, width)?;
@@ -279,14 +279,14 @@ fn all_composed<R: Row>(
     off: &[R],
     limit: usize,
 ) -> Result<Vec<R>, ListFault>
-    requires widths { HasWidth width (map R.places rows.now) }
+    requires widths { HasWidth width (map R.literals rows.now) }
     requires x { x < width }
     requires fits { width + added < 2 ^ 64 }
-    requires on { HasWidth (width + added - 1) (map R.places on.now) }
-    requires off { HasWidth (width + added - 1) (map R.places off.now) }
-    ensures ok { IfOk result (λ made. map R.places made.items ≡ composed_rows x added (map R.places on.now) (map R.places off.now) (map R.places rows.now)) }
-    ensures within { OnOk result (length (composed_rows x added (map R.places on.now) (map R.places off.now) (map R.places rows.now)) ≤ limit) }
-    ensures limit { result ≡ Err ListFault.CubeLimit → limit < length (composed_rows x added (map R.places on.now) (map R.places off.now) (map R.places rows.now)) }
+    requires on { HasWidth (width + added - 1) (map R.literals on.now) }
+    requires off { HasWidth (width + added - 1) (map R.literals off.now) }
+    ensures ok { IfOk result (λ made. map R.literals made.items ≡ composed_rows x added (map R.literals on.now) (map R.literals off.now) (map R.literals rows.now)) }
+    ensures within { OnOk result (length (composed_rows x added (map R.literals on.now) (map R.literals off.now) (map R.literals rows.now)) ≤ limit) }
+    ensures limit { result ≡ Err ListFault.CubeLimit → limit < length (composed_rows x added (map R.literals on.now) (map R.literals off.now) (map R.literals rows.now)) }
 {
     let mut made = Vec::new(alloc);
     for row in rows {
@@ -310,8 +310,8 @@ fn inner_rows<R: Row>(
     requires x { x < outer.now.width }
     requires many { length places.now ≡ inner.now.width }
     requires below { AreBelow width places.now }
-    ensures ok { IfOk result (λ made. asks x bit outer.now.rows ≡ true → map R.places made.items ≡ placed_rows width places.now (cover_for inner.now phase bit)) }
-    ensures widths { IfOk result (λ made. HasWidth width (map R.places made.items)) }
+    ensures ok { IfOk result (λ made. asks x bit outer.now.rows ≡ true → map R.literals made.items ≡ placed_rows width places.now (cover_for inner.now phase bit)) }
+    ensures widths { IfOk result (λ made. HasWidth width (map R.literals made.items)) }
     ensures inner { HasWidth inner.now.width inner.now.rows }
     ensures within { OnOk result (asks x bit outer.now.rows ≡ true → bits_equal bit phase ≡ false → length (list_rows inner.now.width false inner.now.rows) ≤ limit) }
     ensures limit { result ≡ Err ListFault.CubeLimit → (asks x bit outer.now.rows ≡ true) × (bits_equal bit phase ≡ false) × (limit < length (list_rows inner.now.width false inner.now.rows)) }
@@ -348,7 +348,7 @@ pub fn compose<R: Row>(
     requires x { x < outer.now.width }
     requires many { length places.now ≡ inner.now.width }
     requires entries { AreEntries outer.now.width x places.now }
-    ensures ok { IfOk result (λ made. made ≡ composed outer.now x inner.now phase places.now) }
+    ensures ok { IfOk result (λ made. made ≡ composition outer.now x inner.now phase places.now) }
     ensures value { IfOk result (λ made. (point : List Bool) → IsPoint made.width point → some_matches made.rows point ≡ some_matches outer.now.rows (outer_point x (count_new places.now) (value_by_phase phase inner.now.rows (inner_point (targets x (count_new places.now) x places.now) point)) point)) }
     ensures within { OnOk result (IsTooLong limit outer.now x inner.now phase places.now → ⊥) }
     ensures limit { result ≡ Err ListFault.CubeLimit → IsTooLong limit outer.now x inner.now phase places.now }

@@ -9,8 +9,6 @@
 
 mod composing;
 mod list;
-#[cfg(test)]
-mod tests;
 
 pub use composing::compose;
 pub use list::{ListFault, off_list, on_list};

@@ -2,9 +2,10 @@
 
 ghost use Rattle.std.specs.Prelude.{◌≡◌, ℕ, ◌+◌, ◌^◌, ◌<◌, ◌≤◌, ◌↔◌, Bool, true, false, not, Option, List, ◌++◌, length, map, drop, IfOk, OnOk, IsTrue};
 ghost use Rattle.sis_base.specs.Rows.{HasWidth, IsPoint, agrees, some_matches, value_by_phase};
-ghost use Rattle.cube_cover.specs.Places.{has_literal, all_dashes, some_dashes};
+ghost use Rattle.cube_cover.specs.Covers.{agreeing_rows};
+ghost use Rattle.cube_cover.specs.Literals.{some_literal, all_dashes, some_dashes};
 ghost use Rattle.cover_ops.specs.Shannon.{list_rows};
-ghost use Rattle.cover_ops.specs.Halves.{constant_list, list_from, part_rows, marked, IsJoined};
+ghost use Rattle.cover_ops.specs.Halves.{constant_list, list_from, marked_rows, IsJoined};
 
 use cube_cover::{Cover, Row, equal_rows};
 use std::alloc::{AllocError, AllocFailed, Global};
@@ -47,7 +48,7 @@ fn constant_rows<R: Row>(
     value: bool,
     limit: usize,
 ) -> Result<Vec<R>, ListFault>
-    ensures ok { IfOk result (λ list. map R.places list.items ≡ constant_list width value) }
+    ensures ok { IfOk result (λ list. map R.literals list.items ≡ constant_list width value) }
     ensures within { OnOk result (length (constant_list width value) ≤ limit) }
     ensures limit { result ≡ Err ListFault.CubeLimit → limit < length (constant_list width value) }
 {
@@ -64,10 +65,10 @@ fn constant_rows<R: Row>(
 }
 
 // Whether a row has no literal from a place on.
-#[tactic(auto, unfolding(cube_cover::specs::Places::all_dashes))]
+#[tactic(auto, unfolding(cube_cover::specs::Literals::all_dashes))]
 fn is_free<R: Row>(row: &R, place: usize) -> bool
-    requires { place ≤ length (R.places row.now) }
-    ensures { result ≡ all_dashes (drop place (R.places row.now)) }
+    requires { place ≤ length (R.literals row.now) }
+    ensures { result ≡ all_dashes (drop place (R.literals row.now)) }
 {
     for next in place..row.width() {
         if row.at(next).is_some() {
@@ -78,11 +79,11 @@ fn is_free<R: Row>(row: &R, place: usize) -> bool
 }
 
 // Whether some row has no literal from a place on.
-#[tactic(auto, using(cube_cover::proofs::Points::width_read), unfolding(cube_cover::specs::Places::some_dashes))]
+#[tactic(auto, using(cube_cover::proofs::Points::width_read), unfolding(cube_cover::specs::Literals::some_dashes))]
 fn some_free<R: Row>(rows: &[&R], width: usize, place: usize) -> bool
-    requires widths { HasWidth width (map (λ row. R.places row.now) rows.now) }
+    requires widths { HasWidth width (map (λ row. R.literals row.now) rows.now) }
     requires place { place ≤ width }
-    ensures { result ≡ some_dashes (map (drop place) (map (λ row. R.places row.now) rows.now)) }
+    ensures { result ≡ some_dashes (map (drop place) (map (λ row. R.literals row.now) rows.now)) }
 {
     for row in rows {
         if is_free(*row, place) {
@@ -93,11 +94,11 @@ fn some_free<R: Row>(rows: &[&R], width: usize, place: usize) -> bool
 }
 
 // Whether some row has a literal at a place.
-#[tactic(auto, using(cube_cover::proofs::Points::width_read), unfolding(cube_cover::specs::Places::has_literal))]
+#[tactic(auto, using(cube_cover::proofs::Points::width_read), unfolding(cube_cover::specs::Literals::some_literal))]
 fn any_literal<R: Row>(rows: &[&R], width: usize, place: usize) -> bool
-    requires widths { HasWidth width (map (λ row. R.places row.now) rows.now) }
+    requires widths { HasWidth width (map (λ row. R.literals row.now) rows.now) }
     requires place { place < width }
-    ensures { result ≡ has_literal place (map (λ row. R.places row.now) rows.now) }
+    ensures { result ≡ some_literal place (map (λ row. R.literals row.now) rows.now) }
 {
     for row in rows {
         if row.at(place).is_some() {
@@ -107,28 +108,28 @@ fn any_literal<R: Row>(rows: &[&R], width: usize, place: usize) -> bool
     false
 }
 
-// Whether a place is a dash or the literal of a bit.
-fn agrees_with(place: Option<bool>, bit: bool) -> bool
-    ensures { result ≡ agrees place bit }
+// Whether a literal agrees with a bit; a dash does with each.
+fn agrees_with(literal: Option<bool>, bit: bool) -> bool
+    ensures { result ≡ agrees literal bit }
 {
-    match place {
+    match literal {
         None => true,
-        Some(literal) => literal == bit,
+        Some(other) => other == bit,
     }
 }
 
 // The rows that agree with a bit at a place.
-#[tactic(auto, using(cube_cover::proofs::Points::width_read), unfolding(crate::specs::Halves::part_rows))]
-fn agreeing<'a, R: Row>(
+#[tactic(auto, using(cube_cover::proofs::Points::width_read), unfolding(cube_cover::specs::Covers::agreeing_rows))]
+fn rows_agreeing<'a, R: Row>(
     alloc: Global,
     rows: &[&'a R],
     width: usize,
     place: usize,
     bit: bool,
 ) -> Result<Vec<&'a R>, AllocError>
-    requires widths { HasWidth width (map (λ row. R.places row.now) rows.now) }
+    requires widths { HasWidth width (map (λ row. R.literals row.now) rows.now) }
     requires place { place < width }
-    ensures { IfOk result (λ part. map (λ row. R.places row.now) part.items ≡ part_rows place bit (map (λ row. R.places row.now) rows.now)) }
+    ensures { IfOk result (λ part. map (λ row. R.literals row.now) part.items ≡ agreeing_rows place bit (map (λ row. R.literals row.now) rows.now)) }
 {
     let mut part = Vec::new(alloc);
     for row in rows {
@@ -141,9 +142,9 @@ fn agreeing<'a, R: Row>(
 
 // Whether two lists have equal rows.
 fn equal_lists<R: Row>(low: &[R], high: &[R], width: usize) -> bool
-    requires low { HasWidth width (map R.places low.now) }
-    requires high { HasWidth width (map R.places high.now) }
-    ensures { IsTrue result ↔ (map R.places low.now ≡ map R.places high.now) }
+    requires low { HasWidth width (map R.literals low.now) }
+    requires high { HasWidth width (map R.literals high.now) }
+    ensures { IsTrue result ↔ (map R.literals low.now ≡ map R.literals high.now) }
 {
     if low.len() != high.len() {
         return false;
@@ -165,9 +166,9 @@ fn with_marked<R: Row>(
     place: usize,
     bit: bool,
 ) -> Result<Vec<R>, AllocError>
-    requires widths { HasWidth width (map R.places rows.items) }
+    requires widths { HasWidth width (map R.literals rows.items) }
     requires place { place < width }
-    ensures { IfOk result (λ made. map R.places made.items ≡ map R.places list.items ++ marked place bit (map R.places rows.items)) }
+    ensures { IfOk result (λ made. map R.literals made.items ≡ map R.literals list.items ++ marked_rows place bit (map R.literals rows.items)) }
 {
     let mut made = list;
     for row in rows {
@@ -187,13 +188,13 @@ fn join_halves<R: Row>(
     place: usize,
     limit: usize,
 ) -> Result<Vec<R>, ListFault>
-    requires low { HasWidth width (map R.places low.items) }
-    requires high { HasWidth width (map R.places high.items) }
+    requires low { HasWidth width (map R.literals low.items) }
+    requires high { HasWidth width (map R.literals high.items) }
     requires place { place < width }
     requires within { length low.items ≤ limit }
-    ensures ok { IfOk result (λ list. IsJoined place (map R.places low.items) (map R.places high.items) (map R.places list.items)) }
+    ensures ok { IfOk result (λ list. IsJoined place (map R.literals low.items) (map R.literals high.items) (map R.literals list.items)) }
     ensures within { IfOk result (λ list. length list.items ≤ limit) }
-    ensures limit { result ≡ Err ListFault.CubeLimit → (map R.places low.items ≡ map R.places high.items → ⊥) × (limit < length low.items + length high.items) }
+    ensures limit { result ≡ Err ListFault.CubeLimit → (map R.literals low.items ≡ map R.literals high.items → ⊥) × (limit < length low.items + length high.items) }
 {
     if equal_lists(low.as_slice(), high.as_slice(), width) {
         return Ok(low);
@@ -216,11 +217,11 @@ fn rows_from<R: Row>(
     left: usize,
     limit: usize,
 ) -> Result<Vec<R>, ListFault>
-    requires widths { HasWidth width (map (λ row. R.places row.now) rows.now) }
+    requires widths { HasWidth width (map (λ row. R.literals row.now) rows.now) }
     requires places { place + left ≡ width }
-    ensures ok { IfOk result (λ list. map R.places list.items ≡ list_from place left phase (map (λ row. R.places row.now) rows.now)) }
-    ensures within { OnOk result (length (list_from place left phase (map (λ row. R.places row.now) rows.now)) ≤ limit) }
-    ensures limit { result ≡ Err ListFault.CubeLimit → limit < length (list_from place left phase (map (λ row. R.places row.now) rows.now)) }
+    ensures ok { IfOk result (λ list. map R.literals list.items ≡ list_from place left phase (map (λ row. R.literals row.now) rows.now)) }
+    ensures within { OnOk result (length (list_from place left phase (map (λ row. R.literals row.now) rows.now)) ≤ limit) }
+    ensures limit { result ≡ Err ListFault.CubeLimit → limit < length (list_from place left phase (map (λ row. R.literals row.now) rows.now)) }
 {
     if rows.len() == 0 {
         return constant_rows(alloc, width, !phase, limit);
@@ -234,7 +235,7 @@ fn rows_from<R: Row>(
     if !any_literal(rows, width, place) {
         return rows_from(alloc, rows, width, phase, place + 1, left - 1, limit);
     }
-    let low_rows = agreeing(alloc, rows, width, place, false)?;
+    let low_rows = rows_agreeing(alloc, rows, width, place, false)?;
     let low = rows_from(
         alloc,
         low_rows.as_slice(),
@@ -244,7 +245,7 @@ fn rows_from<R: Row>(
         left - 1,
         limit,
     )?;
-    let high_rows = agreeing(alloc, rows, width, place, true)?;
+    let high_rows = rows_agreeing(alloc, rows, width, place, true)?;
     let high = rows_from(
         alloc,
         high_rows.as_slice(),
@@ -260,7 +261,7 @@ fn rows_from<R: Row>(
 
 // References to the rows, in order.
 fn references<'a, R: Row>(alloc: Global, rows: &'a [R]) -> Result<Vec<&'a R>, AllocError>
-    ensures { IfOk result (λ made. map (λ row. R.places row.now) made.items ≡ map R.places rows.now) }
+    ensures { IfOk result (λ made. map (λ row. R.literals row.now) made.items ≡ map R.literals rows.now) }
 {
     let mut made = Vec::with_capacity(alloc, rows.len())?;
     for row in rows {

@@ -3,18 +3,18 @@ use Rattle.std.proofs.Common.{◌≡◌, ℕ, ◌<◌, ◌+◌, Bool, true, fals
 use Rattle.std.proofs.lemmas.List.{set-get_or, length-set}
 use Rattle.sis_base.specs.Rows.{agrees, matches, some_matches, HasWidth}
 use Rattle.cube_cover.specs.Covers.{cofactor_rows, agreeing_rows, IsCovered}
-use Rattle.cube_cover.specs.Places.{literal_count, rows_with, dashed_rows}
-use Rattle.cube_cover.specs.Thinner.{IsThinner}
+use Rattle.cube_cover.specs.Literals.{literal_count, literal_occurrences, dashed_rows}
+use Rattle.cube_cover.specs.Reductions.{IsUnateReduction}
 use Rattle.cube_cover.proofs.Points.{matches-cofactor, value-cofactor}
-use Rattle.cube_cover.proofs.Splits.{HasWidth-agreeing, agreeing_covered}
+use Rattle.cube_cover.proofs.Splits.{HasWidth-pick_agreeing, agreeing_covered}
 
 -- where no row has the literal of a bit, the cofactor at that bit is the rows with a dash there
-pub cofactor_of_dashed : (i : ℕ) (b : Bool) (rows : List (List (Option Bool))) → rows_with i b rows ≡ 0 → cofactor_rows i b rows ≡ dashed_rows i rows
-unfolding cofactor_rows dashed_rows rows_with
+pub cofactor_of_dashed : (i : ℕ) (b : Bool) (rows : List (List (Option Bool))) → literal_occurrences i b rows ≡ 0 → cofactor_rows i b rows ≡ dashed_rows i rows
+unfolding cofactor_rows dashed_rows literal_occurrences
 cofactor_of_dashed i b [] e = refl
 cofactor_of_dashed i b (row ∷ rows) e = cases (get_or row i None) b refl e (λ k. cofactor_of_dashed i b rows k)
   where
-    cases : (l : Option Bool) (b : Bool) → get_or row i None ≡ l → literal_count b l + rows_with i b rows ≡ 0 → (rows_with i b rows ≡ 0 → cofactor_rows i b rows ≡ dashed_rows i rows)
+    cases : (l : Option Bool) (b : Bool) → get_or row i None ≡ l → literal_count b l + literal_occurrences i b rows ≡ 0 → (literal_occurrences i b rows ≡ 0 → cofactor_rows i b rows ≡ dashed_rows i rows)
         → (if agrees l b then set row i None ∷ cofactor_rows i b rows else cofactor_rows i b rows) ≡ (if is_none l then row ∷ dashed_rows i rows else dashed_rows i rows)
     cases None b a e rest =
         let same : set row i None ≡ row = ap (set row i) (sym a) ∙ set-get_or row i None in
@@ -35,10 +35,10 @@ dashed_match i (row ∷ rows) p h = cases (is_none (get_or row i None)) (matches
     cases true false e h rest = rest (rw e at h)
     cases false false e h rest = rest h
 
-pub HasWidth-dashed : (w i : ℕ) (rows : List (List (Option Bool))) → HasWidth w rows → HasWidth w (dashed_rows i rows)
+pub HasWidth-pick_dashed : (w i : ℕ) (rows : List (List (Option Bool))) → HasWidth w rows → HasWidth w (dashed_rows i rows)
 unfolding HasWidth dashed_rows
-HasWidth-dashed w i [] h = tt
-HasWidth-dashed w i (row ∷ rows) h = cases (is_none (get_or row i None)) (HasWidth-dashed w i rows h.1)
+HasWidth-pick_dashed w i [] h = tt
+HasWidth-pick_dashed w i (row ∷ rows) h = cases (is_none (get_or row i None)) (HasWidth-pick_dashed w i rows h.1)
   where
     cases : (t : Bool) → HasWidth w (dashed_rows i rows) → HasWidth w (if t then row ∷ dashed_rows i rows else dashed_rows i rows)
     cases true rest = (h.0, rest)
@@ -49,12 +49,12 @@ none_is None h = refl
 none_is (Some x) h = cc
 
 -- without the rows that have the other literal at a dash of the given row
-pub dashed_thinner : (given : List (Option Bool)) (i : ℕ) (b : Bool) (rows : List (List (Option Bool))) → HasWidth (length given) rows → i < length given → is_none (get_or given i None) ≡ true → rows_with i b rows ≡ 0 → IsThinner given rows (dashed_rows i rows)
-dashed_thinner given i b rows h lt n z =
+pub dashed_reduction : (given : List (Option Bool)) (i : ℕ) (b : Bool) (rows : List (List (Option Bool))) → HasWidth (length given) rows → i < length given → is_none (get_or given i None) ≡ true → literal_occurrences i b rows ≡ 0 → IsUnateReduction given rows (dashed_rows i rows)
+dashed_reduction given i b rows h lt n z =
     let e : get_or given i None ≡ None = none_is (get_or given i None) n in
     let same : set given i None ≡ given = ap (set given i) (sym e) ∙ set-get_or given i None in
     let free : agrees (get_or given i None) b ≡ true = ap (λ (x : Option Bool). agrees x b) e in record {
-      widths = HasWidth-dashed (length given) i rows h;
+      widths = HasWidth-pick_dashed (length given) i rows h;
       answer = (
         λ t p d m. dashed_match i rows p (t p d m),
         λ t p d m.
@@ -65,17 +65,17 @@ dashed_thinner given i b rows h lt n z =
     }
 
 -- the rows that go with a literal of the given row
-pub agreeing_thinner : (given : List (Option Bool)) (i : ℕ) (b : Bool) (rows : List (List (Option Bool))) → HasWidth (length given) rows → i < length given → get_or given i None ≡ Some b → IsThinner given rows (agreeing_rows i b rows)
-agreeing_thinner given i b rows w lt e = record { widths = HasWidth-agreeing (length given) rows i b w; answer = agreeing_covered given rows i b w lt e }
+pub agreeing_reduction : (given : List (Option Bool)) (i : ℕ) (b : Bool) (rows : List (List (Option Bool))) → HasWidth (length given) rows → i < length given → get_or given i None ≡ Some b → IsUnateReduction given rows (agreeing_rows i b rows)
+agreeing_reduction given i b rows w lt e = record { widths = HasWidth-pick_agreeing (length given) rows i b w; answer = agreeing_covered given rows i b w lt e }
 
-pub thinner_same : (given : List (Option Bool)) (rows : List (List (Option Bool))) → HasWidth (length given) rows → IsThinner given rows rows
-thinner_same given rows h = record { widths = h; answer = (λ t. t, λ t. t) }
+pub reduction_same : (given : List (Option Bool)) (rows : List (List (Option Bool))) → HasWidth (length given) rows → IsUnateReduction given rows rows
+reduction_same given rows h = record { widths = h; answer = (λ t. t, λ t. t) }
 
-pub thinner_more : (given : List (Option Bool)) (rows between made : List (List (Option Bool))) → IsThinner given rows between → IsThinner given between made → IsThinner given rows made
-thinner_more given rows between made h k = record {
+pub reduction_more : (given : List (Option Bool)) (rows between made : List (List (Option Bool))) → IsUnateReduction given rows between → IsUnateReduction given between made → IsUnateReduction given rows made
+reduction_more given rows between made h k = record {
   widths = k.widths;
   answer = (λ t. h.answer.0 (k.answer.0 t), λ t. k.answer.1 (h.answer.1 t));
 }
 
-pub thinner_answer : (given : List (Option Bool)) (rows made : List (List (Option Bool))) (a : Bool) → IsThinner given rows made → IsTrue a ↔ IsCovered given made → IsTrue a ↔ IsCovered given rows
-thinner_answer given rows made a h k = (λ t. h.answer.0 (k.0 t), λ t. k.1 (h.answer.1 t))
+pub reduction_answer : (given : List (Option Bool)) (rows made : List (List (Option Bool))) (a : Bool) → IsUnateReduction given rows made → IsTrue a ↔ IsCovered given made → IsTrue a ↔ IsCovered given rows
+reduction_answer given rows made a h k = (λ t. h.answer.0 (k.0 t), λ t. k.1 (h.answer.1 t))

@@ -2,7 +2,7 @@
 use Rattle.std.proofs.Common.{◌≡◌, ℕ, ◌<◌, ◌≤◌, zero, suc, Bool, Option, List, [], ◌∷◌, length, get_or, map, refl, sym, ap, ◌∙◌, arith}
 use Rattle.std.proofs.lemmas.List.{get_or-map, get_or_past, length-map}
 use Rattle.sis_base.specs.Rows.{HasWidth}
-use Rattle.cube_cover.specs.Covers.{picked}
+use Rattle.cube_cover.specs.Covers.{picked_rows}
 use Rattle.cube_cover.proofs.Points.{width_read}
 
 -- the row of a number that was read
@@ -23,5 +23,5 @@ pub number_is : (numbers : List ℕ) (i : ℕ) → i < length numbers → get_or
 number_is numbers i lt = number_read numbers i (get_or numbers i 0) lt
 
 -- the width of the row of a number that was read
-pub width_picked : (w : ℕ) (rows : List (List (Option Bool))) (numbers : List ℕ) (i : ℕ) → HasWidth w (picked rows numbers) → i < length numbers → length (get_or rows (get_or numbers i 0) []) ≡ w
+pub width_picked : (w : ℕ) (rows : List (List (Option Bool))) (numbers : List ℕ) (i : ℕ) → HasWidth w (picked_rows rows numbers) → i < length numbers → length (get_or rows (get_or numbers i 0) []) ≡ w
 width_picked w rows numbers i h lt = width_read (λ (n : ℕ). get_or rows n []) w numbers i (get_or numbers i 0) h lt (number_is numbers i lt)

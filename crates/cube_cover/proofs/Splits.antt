@@ -3,9 +3,9 @@ use Rattle.std.proofs.Common.{◌≡◌, ℕ, ◌<◌, ◌+◌, zero, suc, Bool,
 use Rattle.std.proofs.lemmas.List.{length-set, set-get_or, length-replicate}
 use Rattle.sis_base.specs.Rows.{agrees, matches, some_matches, HasWidth}
 use Rattle.cube_cover.specs.Covers.{agreeing_rows, IsCovered, IsTautology}
-use Rattle.cube_cover.specs.Places.{all_dashes, some_dashes, no_dash, is_wider, all_wider, some_wider}
+use Rattle.cube_cover.specs.Literals.{all_dashes, some_dashes, no_dash, literal_contains, row_contains, some_contains}
 use Rattle.cube_cover.proofs.Points.{and_left, and_right, and_both, matches-other}
-use Rattle.cube_cover.proofs.Products.{point_of, length-point_of, matches-point_of, covers_at_point}
+use Rattle.cube_cover.proofs.Products.{point_of, length-point_of, matches-point_of, contains_at_point}
 
 matches_dashes : (row : List (Option Bool)) (point : List Bool) → all_dashes row ≡ true → matches row point ≡ true
 unfolding matches all_dashes
@@ -53,48 +53,48 @@ empty_answer given rows e =
     (λ h. cc, λ h. sym (ap (λ (x : List (List (Option Bool))). some_matches x (point_of given)) e) ∙ h (point_of given) (length-point_of given) (matches-point_of given))
 
 -- a row that is as wide as the given one
-pub some_wider_at : {X : Type 0} (f : X → List (Option Bool)) (given : List (Option Bool)) (rows : List X) (i : ℕ) (row : X) → i < length rows → row ≡ get_or rows i row → all_wider (f row) given ≡ true → some_wider given (map f rows) ≡ true
-unfolding some_wider
-some_wider_at f given [] i row lt e h = absurd (omega arith)
-some_wider_at f given (first ∷ rows) zero row lt e h = rw (sym (ap (λ x. all_wider (f x) given) e) ∙ h) refl
-some_wider_at f given (first ∷ rows) (suc i) row lt e h = or_second (all_wider (f first) given) _ (some_wider_at f given rows i row (omega arith) e h)
+pub some_contains_at : {X : Type 0} (f : X → List (Option Bool)) (given : List (Option Bool)) (rows : List X) (i : ℕ) (row : X) → i < length rows → row ≡ get_or rows i row → row_contains (f row) given ≡ true → some_contains given (map f rows) ≡ true
+unfolding some_contains
+some_contains_at f given [] i row lt e h = absurd (omega arith)
+some_contains_at f given (first ∷ rows) zero row lt e h = rw (sym (ap (λ x. row_contains (f x) given) e) ∙ h) refl
+some_contains_at f given (first ∷ rows) (suc i) row lt e h = or_second (row_contains (f first) given) _ (some_contains_at f given rows i row (omega arith) e h)
 
-some_wider_point : (given : List (Option Bool)) (rows : List (List (Option Bool))) (p : List Bool) → HasWidth (length given) rows → length p ≡ length given → some_wider given rows ≡ true → matches given p ≡ true → some_matches rows p ≡ true
-unfolding some_matches some_wider HasWidth
-some_wider_point given [] p w d h m = cc
-some_wider_point given (row ∷ rows) p w d h m = cases (all_wider row given) refl h (λ k. some_wider_point given rows p w.1 d k m)
+some_contains_point : (given : List (Option Bool)) (rows : List (List (Option Bool))) (p : List Bool) → HasWidth (length given) rows → length p ≡ length given → some_contains given rows ≡ true → matches given p ≡ true → some_matches rows p ≡ true
+unfolding some_matches some_contains HasWidth
+some_contains_point given [] p w d h m = cc
+some_contains_point given (row ∷ rows) p w d h m = cases (row_contains row given) refl h (λ k. some_contains_point given rows p w.1 d k m)
   where
-    cases : (t : Bool) → all_wider row given ≡ t → (t || some_wider given rows) ≡ true → (some_wider given rows ≡ true → some_matches rows p ≡ true) → (matches row p || some_matches rows p) ≡ true
-    cases true e h rest = rw (covers_at_point row given p (d ∙ sym w.0) w.0 e m) refl
+    cases : (t : Bool) → row_contains row given ≡ t → (t || some_contains given rows) ≡ true → (some_contains given rows ≡ true → some_matches rows p ≡ true) → (matches row p || some_matches rows p) ≡ true
+    cases true e h rest = rw (contains_at_point row given p (d ∙ sym w.0) w.0 e m) refl
     cases false e h rest = or_second (matches row p) _ (rest h)
 
-pub wider_answer : (given : List (Option Bool)) (rows : List (List (Option Bool))) → HasWidth (length given) rows → some_wider given rows ≡ true → IsTrue true ↔ IsCovered given rows
-wider_answer given rows w h = (λ t p d m. some_wider_point given rows p w d h m, λ k. refl)
+pub contained_answer : (given : List (Option Bool)) (rows : List (List (Option Bool))) → HasWidth (length given) rows → some_contains given rows ≡ true → IsTrue true ↔ IsCovered given rows
+contained_answer given rows w h = (λ t p d m. some_contains_point given rows p w d h m, λ k. refl)
 
 -- a given row without a dash has one point
-full_wider : (row given : List (Option Bool)) → length row ≡ length given → no_dash given ≡ true → matches row (point_of given) ≡ true → all_wider row given ≡ true
-unfolding matches all_wider no_dash point_of
-full_wider [] given e n m = refl
-full_wider (l ∷ ls) [] e n m = refl
-full_wider (l ∷ ls) (None ∷ gs) e n m = cc
-full_wider (l ∷ ls) (Some x ∷ gs) e n m = and_both _ _ (bit l (and_left _ _ m)) (full_wider ls gs (omega arith) n (and_right (agrees l x) _ m))
+full_contains : (row given : List (Option Bool)) → length row ≡ length given → no_dash given ≡ true → matches row (point_of given) ≡ true → row_contains row given ≡ true
+unfolding matches row_contains no_dash point_of
+full_contains [] given e n m = refl
+full_contains (l ∷ ls) [] e n m = refl
+full_contains (l ∷ ls) (None ∷ gs) e n m = cc
+full_contains (l ∷ ls) (Some x ∷ gs) e n m = and_both _ _ (bit l (and_left _ _ m)) (full_contains ls gs (omega arith) n (and_right (agrees l x) _ m))
   where
-    bit : (l : Option Bool) → agrees l x ≡ true → is_wider l (Some x) ≡ true
+    bit : (l : Option Bool) → agrees l x ≡ true → literal_contains l (Some x) ≡ true
     bit None h = refl
     bit (Some y) h = h
 
-full_some : (given : List (Option Bool)) (rows : List (List (Option Bool))) → HasWidth (length given) rows → no_dash given ≡ true → some_matches rows (point_of given) ≡ true → some_wider given rows ≡ true
-unfolding some_matches some_wider HasWidth
+full_some : (given : List (Option Bool)) (rows : List (List (Option Bool))) → HasWidth (length given) rows → no_dash given ≡ true → some_matches rows (point_of given) ≡ true → some_contains given rows ≡ true
+unfolding some_matches some_contains HasWidth
 full_some given [] w n h = cc
 full_some given (row ∷ rows) w n h = cases (matches row (point_of given)) refl h (λ k. full_some given rows w.1 n k)
   where
-    cases : (t : Bool) → matches row (point_of given) ≡ t → (t || some_matches rows (point_of given)) ≡ true → (some_matches rows (point_of given) ≡ true → some_wider given rows ≡ true) → (all_wider row given || some_wider given rows) ≡ true
-    cases true e h rest = rw (full_wider row given w.0 n e) refl
-    cases false e h rest = or_second (all_wider row given) _ (rest h)
+    cases : (t : Bool) → matches row (point_of given) ≡ t → (t || some_matches rows (point_of given)) ≡ true → (some_matches rows (point_of given) ≡ true → some_contains given rows ≡ true) → (row_contains row given || some_contains given rows) ≡ true
+    cases true e h rest = rw (full_contains row given w.0 n e) refl
+    cases false e h rest = or_second (row_contains row given) _ (rest h)
 
-pub full_answer : (given : List (Option Bool)) (rows : List (List (Option Bool))) (a : Bool) → HasWidth (length given) rows → no_dash given ≡ true → a ≡ some_wider given rows → IsTrue a ↔ IsCovered given rows
+pub full_answer : (given : List (Option Bool)) (rows : List (List (Option Bool))) (a : Bool) → HasWidth (length given) rows → no_dash given ≡ true → a ≡ some_contains given rows → IsTrue a ↔ IsCovered given rows
 full_answer given rows a w n e = (
-  λ t p d m. some_wider_point given rows p w d (sym e ∙ t) m,
+  λ t p d m. some_contains_point given rows p w d (sym e ∙ t) m,
   λ k. e ∙ full_some given rows w n (k (point_of given) (length-point_of given) (matches-point_of given)),
 )
 
@@ -143,10 +143,10 @@ agreeing_value w (row ∷ rows) p i b h lt d s = cases (agrees (get_or row i Non
         let no : matches row p ≡ false = ap (matches row) (sym s) ∙ matches-other row p i b (omega (arith, h.0)) (omega (arith, h.0)) a in
         rw no rest
 
-pub HasWidth-agreeing : (w : ℕ) (rows : List (List (Option Bool))) (i : ℕ) (b : Bool) → HasWidth w rows → HasWidth w (agreeing_rows i b rows)
+pub HasWidth-pick_agreeing : (w : ℕ) (rows : List (List (Option Bool))) (i : ℕ) (b : Bool) → HasWidth w rows → HasWidth w (agreeing_rows i b rows)
 unfolding agreeing_rows HasWidth
-HasWidth-agreeing w [] i b h = tt
-HasWidth-agreeing w (row ∷ rows) i b h = cases (agrees (get_or row i None) b) (HasWidth-agreeing w rows i b h.1)
+HasWidth-pick_agreeing w [] i b h = tt
+HasWidth-pick_agreeing w (row ∷ rows) i b h = cases (agrees (get_or row i None) b) (HasWidth-pick_agreeing w rows i b h.1)
   where
     cases : (t : Bool) → HasWidth w (agreeing_rows i b rows) → HasWidth w (if t then row ∷ agreeing_rows i b rows else agreeing_rows i b rows)
     cases true rest = (h.0, rest)

@@ -3,7 +3,7 @@ use Rattle.std.proofs.Common.{◌≡◌, ℕ, ◌<◌, ◌≤◌, ◌+◌, ◌-�
 use Rattle.std.proofs.Math.Nat.{mul-add, add-mul, mul-le-mul_left, mul-le-mul_right}
 use Rattle.sis_base.specs.Rows.{agrees, matches, some_matches, HasWidth}
 use Rattle.cube_cover.specs.Covers.{IsTautology}
-use Rattle.cube_cover.specs.Places.{row_literals}
+use Rattle.cube_cover.specs.Literals.{row_literals}
 use Rattle.cube_cover.specs.Volumes.{cover_shares}
 
 -- the powers of two, by doubling

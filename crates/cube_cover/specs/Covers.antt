@@ -11,13 +11,13 @@ pub record Shape : Type 0 where
   pub rows : List (List (Option Bool))
 
 -- some point lies in both rows
-abbrev pub Meets : List (Option Bool) → List (Option Bool) → Type 0
-Meets row other =
+abbrev pub Intersects : List (Option Bool) → List (Option Bool) → Type 0
+Intersects row other =
     (point : List Bool) × IsPoint (length row) point × (matches row point ≡ true) × (matches other point ≡ true)
 
 -- each point of the other lies in the row
-abbrev pub Covers : List (Option Bool) → List (Option Bool) → Type 0
-Covers row other =
+abbrev pub ContainsRow : List (Option Bool) → List (Option Bool) → Type 0
+ContainsRow row other =
     (point : List Bool) → IsPoint (length row) point → matches other point ≡ true → matches row point ≡ true
 
 -- a third row has just the points that the two share
@@ -25,12 +25,12 @@ abbrev pub IsProduct : List (Option Bool) → List (Option Bool) → List (Optio
 IsProduct row other product =
     (point : List Bool) → IsPoint (length row) point → matches product point ≡ (matches row point && matches other point)
 
--- the product place by place: the first row's literal where it has one, else the other's place
+-- the product literal by literal: the first row's where it has one, else the other's
 unfoldable pub product_of : List (Option Bool) → List (Option Bool) → List (Option Bool)
 product_of [] others = []
-product_of (place ∷ places) [] = []
-product_of (None ∷ places) (other ∷ others) = other ∷ product_of places others
-product_of (Some literal ∷ places) (other ∷ others) = Some literal ∷ product_of places others
+product_of (literal ∷ literals) [] = []
+product_of (None ∷ literals) (other ∷ others) = other ∷ product_of literals others
+product_of (Some bit ∷ literals) (other ∷ others) = Some bit ∷ product_of literals others
 
 -- the rows that agree with a bit at a place, without their literal there
 unfoldable pub cofactor_rows : ℕ → Bool → List (List (Option Bool)) → List (List (Option Bool))
@@ -49,8 +49,8 @@ agreeing_rows place bit (row ∷ rows) =
     if agrees (slice_index_or row place None) bit then row ∷ agreeing_rows place bit rows else agreeing_rows place bit rows
 
 -- the rows of some numbers, counted from 0
-abbrev pub picked : List (List (Option Bool)) → List ℕ → List (List (Option Bool))
-picked rows numbers = map (λ number. slice_index_or rows number []) numbers
+abbrev pub picked_rows : List (List (Option Bool)) → List ℕ → List (List (Option Bool))
+picked_rows rows numbers = map (λ number. slice_index_or rows number []) numbers
 
 -- some row matches at each point that a given row has
 abbrev pub IsCovered : List (Option Bool) → List (List (Option Bool)) → Type 0

@@ -1,4 +1,4 @@
 pub mod Covers
-pub mod Places
+pub mod Literals
 pub mod Volumes
-pub mod Thinner
+pub mod Reductions

@@ -17,7 +17,7 @@ pub struct Counts {
 
 /// Where to look: which of some rows has no literal at an open place, where there is one, and a place to split at.
 #[derive(Clone, Copy)]
-pub struct Wish {
+pub struct SplitChoice {
     pub row: Option<usize>,
     pub place: usize,
 }
@@ -45,7 +45,7 @@ pub fn literals_of_rows<R: Row>(alloc: Global, rows: &[R]) -> Result<Vec<Vec<u32
 }
 
 // The places of the literals of the row of a number.
-fn places_of(literals: &[Vec<u32>], number: usize) -> &[u32] {
+fn literal_places(literals: &[Vec<u32>], number: usize) -> &[u32] {
     if number < literals.len() {
         return literals[number].as_slice();
     }
@@ -95,7 +95,7 @@ pub fn counts_of<R: Row>(
             count_row(
                 given,
                 &rows[*number],
-                places_of(literals, *number),
+                literal_places(literals, *number),
                 &mut counts,
             );
         }
@@ -150,7 +150,7 @@ fn count_short<R: Row>(
 ) -> Option<usize> {
     let mut least = usize::MAX;
     for (i, number) in numbers.iter().enumerate() {
-        let places = places_of(literals, *number);
+        let places = literal_places(literals, *number);
         let open = open_count(given, places);
         if open == 0 {
             return Some(i);
@@ -181,14 +181,14 @@ fn greatest_at(counts: &[usize]) -> usize {
 
 /// Which of some rows has no literal at an open place; and an open place to split at, the one where the rows with the fewest
 /// open literals have most of them, since the halves there decide soonest; an error only for want of memory.
-pub fn wish_of<R: Row>(
+pub fn choose_split<R: Row>(
     alloc: Global,
     given: &R,
     literals: &[Vec<u32>],
     numbers: &[usize],
-) -> Result<Wish, AllocError> {
+) -> Result<SplitChoice, AllocError> {
     let mut counts = vec![in alloc; 0; given.width()]?;
     let row = count_short(given, literals, numbers, counts.as_mut_slice());
     let place = greatest_at(counts.as_slice());
-    Ok(Wish { row, place })
+    Ok(SplitChoice { row, place })
 }

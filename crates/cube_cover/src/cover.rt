@@ -9,7 +9,7 @@ use sis_base::Copied;
 use std::alloc::{AllocError, Global};
 use std::marker::Model;
 
-/// A list of rows of one width. Contracts see it as the width and the list of the rows' places.
+/// A list of rows of one width. Contracts see it as the width and the list of the rows' literals.
 #[derive(Drop)]
 pub struct Cover<R: Row> {
     width: usize,
@@ -23,9 +23,9 @@ impl<R: Row> Model for Cover<R> {
 
     ghost Value = { Shape };
 
-    ghost view = { λ cover. record { width = cover.width; rows = map R.places cover.rows.items } };
+    ghost view = { λ cover. record { width = cover.width; rows = map R.literals cover.rows.items } };
 
-    ghost invariant = { λ cover. HasWidth cover.width (map R.places cover.rows.items) };
+    ghost invariant = { λ cover. HasWidth cover.width (map R.literals cover.rows.items) };
 }
 
 impl<R: Row> Cover<R> {
@@ -41,8 +41,8 @@ impl<R: Row> Cover<R> {
 
     /// The cover of rows that have `width` places each; takes no memory.
     pub fn of(width: usize, rows: Vec<R>) -> Cover<R>
-        requires { HasWidth width (map R.places rows.items) }
-        ensures { result ≡ record { width = width; rows = map R.places rows.items } }
+        requires { HasWidth width (map R.literals rows.items) }
+        ensures { result ≡ record { width = width; rows = map R.literals rows.items } }
     {
         Cover { width, rows }
     }
@@ -56,7 +56,7 @@ impl<R: Row> Cover<R> {
 
     /// The rows, in order.
     pub fn rows(&self) -> &[R]
-        ensures items { map R.places result.now ≡ self.now.rows }
+        ensures items { map R.literals result.now ≡ self.now.rows }
         ensures widths { HasWidth self.now.width self.now.rows }
     {
         self.rows.as_slice()
@@ -64,7 +64,7 @@ impl<R: Row> Cover<R> {
 
     /// The rows as a vector, in order; takes no memory.
     pub fn into_rows(self) -> Vec<R>
-        ensures items { map R.places result.items ≡ self.rows }
+        ensures items { map R.literals result.items ≡ self.rows }
         ensures widths { HasWidth self.width self.rows }
     {
         let Cover { width: _, rows } = self;
@@ -73,8 +73,8 @@ impl<R: Row> Cover<R> {
 
     /// Puts a row of the cover's width behind the last; an error only for want of memory, and then nothing changed.
     pub fn push(&mut self, row: R) -> Result<(), AllocError>
-        requires { length (R.places row) ≡ self.old.width }
-        ensures ok { OnOk result (self.new ≡ record self.old { rows = self.old.rows ++ R.places row ∷ [] }) }
+        requires { length (R.literals row) ≡ self.old.width }
+        ensures ok { OnOk result (self.new ≡ record self.old { rows = self.old.rows ++ R.literals row ∷ [] }) }
         ensures err { OnErr result (self.new ≡ self.old) }
     {
         self.rows.push(row)?;
@@ -115,7 +115,7 @@ impl<R: Row> Copied for Cover<R> {
 
 // Copies of rows, in order.
 pub(crate) fn rows_copied<R: Row>(alloc: Global, rows: &[R]) -> Result<Vec<R>, AllocError>
-    ensures { IfOk result (λ made. map R.places made.items ≡ map R.places rows.now) }
+    ensures { IfOk result (λ made. map R.literals made.items ≡ map R.literals rows.now) }
 {
     let mut made = Vec::with_capacity(alloc, rows.len())?;
     for row in rows {
@@ -124,24 +124,24 @@ pub(crate) fn rows_copied<R: Row>(alloc: Global, rows: &[R]) -> Result<Vec<R>, A
     Ok(made)
 }
 
-// Whether a place agrees with a bit.
-pub(crate) fn place_agrees(place: Option<bool>, bit: bool) -> bool
-    ensures { result ≡ agrees place bit }
+// Whether a literal agrees with a bit; a dash does with each.
+pub(crate) fn literal_agrees(literal: Option<bool>, bit: bool) -> bool
+    ensures { result ≡ agrees literal bit }
 {
-    match place {
+    match literal {
         None => true,
-        Some(literal) => literal == bit,
+        Some(other) => other == bit,
     }
 }
 
 // Whether a row matches a point.
 #[tactic(auto, unfolding(sis_base::specs::Rows::matches))]
 fn row_matches<R: Row>(row: &R, point: &[bool]) -> bool
-    requires { length point.now ≡ length (R.places row.now) }
-    ensures { result ≡ matches (R.places row.now) point.now }
+    requires { length point.now ≡ length (R.literals row.now) }
+    ensures { result ≡ matches (R.literals row.now) point.now }
 {
     for (place, bit) in point.iter().enumerate() {
-        if !place_agrees(row.at(place), *bit) {
+        if !literal_agrees(row.at(place), *bit) {
             return false;
         }
     }
@@ -151,8 +151,8 @@ fn row_matches<R: Row>(row: &R, point: &[bool]) -> bool
 // Whether some row matches a point.
 #[tactic(auto, using(crate::proofs::Points::width_read), unfolding(sis_base::specs::Rows::some_matches))]
 fn rows_match<R: Row>(rows: &[R], point: &[bool]) -> bool
-    requires { HasWidth (length point.now) (map R.places rows.now) }
-    ensures { result ≡ some_matches (map R.places rows.now) point.now }
+    requires { HasWidth (length point.now) (map R.literals rows.now) }
+    ensures { result ≡ some_matches (map R.literals rows.now) point.now }
 {
     for row in rows {
         if row_matches(row, point) {
@@ -164,8 +164,8 @@ fn rows_match<R: Row>(rows: &[R], point: &[bool]) -> bool
 
 // A copy of a row, without the literal at a place.
 fn row_without<R: Row>(alloc: Global, row: &R, place: usize) -> Result<R, AllocError>
-    requires { place < length (R.places row.now) }
-    ensures { IfOk result (λ made. R.places made ≡ slice_set (R.places row.now) place None) }
+    requires { place < length (R.literals row.now) }
+    ensures { IfOk result (λ made. R.literals made ≡ slice_set (R.literals row.now) place None) }
 {
     let mut made = row.copy(alloc)?;
     made.set(place, None);
@@ -181,13 +181,13 @@ pub(crate) fn rows_at<R: Row>(
     place: usize,
     bit: bool,
 ) -> Result<Vec<R>, AllocError>
-    requires widths { HasWidth width (map R.places rows.now) }
+    requires widths { HasWidth width (map R.literals rows.now) }
     requires place { place < width }
-    ensures { IfOk result (λ made. map R.places made.items ≡ cofactor_rows place bit (map R.places rows.now)) }
+    ensures { IfOk result (λ made. map R.literals made.items ≡ cofactor_rows place bit (map R.literals rows.now)) }
 {
     let mut made = Vec::new(alloc);
     for row in rows {
-        if place_agrees(row.at(place), bit) {
+        if literal_agrees(row.at(place), bit) {
             made.push(row_without(alloc, row, place)?)?;
         }
     }

@@ -3,10 +3,10 @@
 //! Source: Brayton, Hachtel, McMullen, Sangiovanni-Vincentelli, "Logic Minimization Algorithms for VLSI
 //! Synthesis", and De Micheli, "Synthesis and Optimization of Digital Circuits", chapter 7.
 //! A row has a place for each input: a positive literal, a negative one or a dash. `Row` is the trait of
-//! all representations of rows; its contracts speak of the places and of the points that a row matches, so
+//! all representations of rows; its contracts speak of the literals and of the points that a row matches, so
 //! what stands above is proved once for all of them. `Cover<R>` is a list of rows of one width, which
-//! contracts see as a width and the rows' places. Promised: each operation's exact meaning at all points.
-//! Conditions of the caller: places below the width, equal widths, and rows of a product that meet.
+//! contracts see as a width and the rows' literals. Promised: each operation's exact meaning at all points.
+//! Conditions of the caller: places below the width, equal widths, and rows of a product that intersect.
 #![tactic(auto)]
 
 mod counts;
@@ -15,9 +15,7 @@ mod picks;
 mod plain;
 mod row;
 mod tautology;
-#[cfg(test)]
-mod tests;
-mod thin;
+mod unate;
 mod volume;
 
 pub use cover::Cover;

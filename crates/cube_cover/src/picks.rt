@@ -3,18 +3,18 @@
 //! Promised: each call's exact meaning for the rows of the numbers; a number past the rows stands for a row without places.
 
 ghost use Rattle.std.specs.Prelude.{◌≡◌, Bool, Option, None, List, [], length, map, slice_index_or, IfOk, is_none};
-ghost use Rattle.cube_cover.specs.Covers.{agreeing_rows, picked};
-ghost use Rattle.cube_cover.specs.Places.{dashed_rows, all_wider};
+ghost use Rattle.cube_cover.specs.Covers.{agreeing_rows, picked_rows};
+ghost use Rattle.cube_cover.specs.Literals.{dashed_rows, row_contains};
 
-use crate::cover::place_agrees;
+use crate::cover::literal_agrees;
 use crate::row::Row;
 use std::alloc::{AllocError, Global};
 
 // Whether a row has each point of another.
-#[tactic(auto, using(crate::proofs::Products::covers_by_places))]
-fn is_as_wide<R: Row>(row: &R, other: &R) -> bool
-    requires { length (R.places row.now) ≡ length (R.places other.now) }
-    ensures { result ≡ all_wider (R.places row.now) (R.places other.now) }
+#[tactic(auto, using(crate::proofs::Products::contains_by_literals))]
+fn contains_row<R: Row>(row: &R, other: &R) -> bool
+    requires { length (R.literals row.now) ≡ length (R.literals other.now) }
+    ensures { result ≡ row_contains (R.literals row.now) (R.literals other.now) }
 {
     row.contains(other)
 }
@@ -22,7 +22,7 @@ fn is_as_wide<R: Row>(row: &R, other: &R) -> bool
 /// What stands at a place of the row of a number; a dash where there is no such row or place.
 #[tactic(auto, using(crate::proofs::Numbered::pick_is, crate::proofs::Numbered::pick_past))]
 pub fn literal_at<R: Row>(rows: &[R], number: usize, place: usize) -> Option<bool>
-    ensures { result ≡ slice_index_or (slice_index_or (map R.places rows.now) number []) place None }
+    ensures { result ≡ slice_index_or (slice_index_or (map R.literals rows.now) number []) place None }
 {
     if number >= rows.len() {
         return None;
@@ -34,15 +34,15 @@ pub fn literal_at<R: Row>(rows: &[R], number: usize, place: usize) -> Option<boo
 }
 
 /// Whether the row of a number has each point of the given one; a row that is not there has.
-#[tactic(auto, using(crate::proofs::Numbered::pick_is, crate::proofs::Numbered::pick_past), unfolding(crate::specs::Places::all_wider))]
+#[tactic(auto, using(crate::proofs::Numbered::pick_is, crate::proofs::Numbered::pick_past), unfolding(crate::specs::Literals::row_contains))]
 pub fn has_points<R: Row>(given: &R, rows: &[R], number: usize) -> bool
-    requires { length (slice_index_or (map R.places rows.now) number []) ≡ length (R.places given.now) }
-    ensures { result ≡ all_wider (slice_index_or (map R.places rows.now) number []) (R.places given.now) }
+    requires { length (slice_index_or (map R.literals rows.now) number []) ≡ length (R.literals given.now) }
+    ensures { result ≡ row_contains (slice_index_or (map R.literals rows.now) number []) (R.literals given.now) }
 {
     if number >= rows.len() {
         return true;
     }
-    is_as_wide(&rows[number], given)
+    contains_row(&rows[number], given)
 }
 
 /// Whether a place is a dash.
@@ -54,7 +54,7 @@ pub fn is_dash(place: Option<bool>) -> bool
 
 /// The numbers of all rows; an error only for want of memory.
 pub fn all_numbers<R: Row>(alloc: Global, rows: &[R]) -> Result<Vec<usize>, AllocError>
-    ensures { IfOk result (λ made. picked (map R.places rows.now) made.items ≡ map R.places rows.now) }
+    ensures { IfOk result (λ made. picked_rows (map R.literals rows.now) made.items ≡ map R.literals rows.now) }
 {
     let mut made = Vec::with_capacity(alloc, rows.len())?;
     for number in 0..rows.len() {
@@ -65,18 +65,18 @@ pub fn all_numbers<R: Row>(alloc: Global, rows: &[R]) -> Result<Vec<usize>, Allo
 
 /// Those of some rows that agree with a bit at a place; an error only for want of memory.
 #[tactic(auto, unfolding(crate::specs::Covers::agreeing_rows))]
-pub fn agreeing<R: Row>(
+pub fn pick_agreeing<R: Row>(
     alloc: Global,
     rows: &[R],
     numbers: &[usize],
     place: usize,
     bit: bool,
 ) -> Result<Vec<usize>, AllocError>
-    ensures { IfOk result (λ made. picked (map R.places rows.now) made.items ≡ agreeing_rows place bit (picked (map R.places rows.now) numbers.now)) }
+    ensures { IfOk result (λ made. picked_rows (map R.literals rows.now) made.items ≡ agreeing_rows place bit (picked_rows (map R.literals rows.now) numbers.now)) }
 {
     let mut made = Vec::new(alloc);
     for number in numbers {
-        if place_agrees(literal_at(rows, *number, place), bit) {
+        if literal_agrees(literal_at(rows, *number, place), bit) {
             made.push(*number)?;
         }
     }
@@ -84,14 +84,14 @@ pub fn agreeing<R: Row>(
 }
 
 /// Those of some rows that have a dash at a place; an error only for want of memory.
-#[tactic(auto, unfolding(crate::specs::Places::dashed_rows))]
-pub fn dashed<R: Row>(
+#[tactic(auto, unfolding(crate::specs::Literals::dashed_rows))]
+pub fn pick_dashed<R: Row>(
     alloc: Global,
     rows: &[R],
     numbers: &[usize],
     place: usize,
 ) -> Result<Vec<usize>, AllocError>
-    ensures { IfOk result (λ made. picked (map R.places rows.now) made.items ≡ dashed_rows place (picked (map R.places rows.now) numbers.now)) }
+    ensures { IfOk result (λ made. picked_rows (map R.literals rows.now) made.items ≡ dashed_rows place (picked_rows (map R.literals rows.now) numbers.now)) }
 {
     let mut made = Vec::new(alloc);
     for number in numbers {

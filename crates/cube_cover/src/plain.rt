@@ -1,17 +1,17 @@
-//! Rows as vectors, a place after the other.
+//! Rows as vectors of literals, a place after the other.
 
 ghost use Rattle.std.specs.Prelude.{◌≡◌, ℕ, ◌<◌, Bool, ◌↔◌, Option, None, List, length, map, replicate, slice_index_or, slice_set, IfOk, IsTrue};
-ghost use Rattle.cube_cover.specs.Covers.{Meets, Covers, IsProduct, product_of};
-ghost use Rattle.cube_cover.specs.Places.{goes_with, all_go, is_wider, all_wider, place_product};
+ghost use Rattle.cube_cover.specs.Covers.{Intersects, ContainsRow, IsProduct, product_of};
+ghost use Rattle.cube_cover.specs.Literals.{literals_intersect, rows_intersect, literal_contains, row_contains, literal_product};
 
 use crate::row::Row;
 use std::alloc::{AllocError, Global};
 use std::marker::Model;
 
-/// A row whose places stand in a vector; contracts see it as the list of its places.
+/// A row whose literals stand in a vector, none for a dash; contracts see it as their list.
 #[derive(Drop)]
 pub struct PlainRow {
-    places: Vec<Option<bool>>,
+    literals: Vec<Option<bool>>,
 }
 
 impl Model for PlainRow {
@@ -19,138 +19,142 @@ impl Model for PlainRow {
 
     ghost Value = { List (Option Bool) };
 
-    ghost view = { λ row. row.places.items };
+    ghost view = { λ row. row.literals.items };
 }
 
 impl PlainRow {
-    /// The row of the places given; an error only for want of memory.
-    pub fn from_places(alloc: Global, places: &[Option<bool>]) -> Result<PlainRow, AllocError>
-        ensures { IfOk result (λ row. row ≡ places.now) }
+    /// The row of the literals given, none for a dash; an error only for want of memory.
+    pub fn from_literals(alloc: Global, literals: &[Option<bool>]) -> Result<PlainRow, AllocError>
+        ensures { IfOk result (λ row. row ≡ literals.now) }
     {
-        let mut copied = Vec::with_capacity(alloc, places.len())?;
-        for place in places {
-            copied.push(*place)?;
+        let mut copied = Vec::with_capacity(alloc, literals.len())?;
+        for literal in literals {
+            copied.push(*literal)?;
         }
-        Ok(PlainRow { places: copied })
+        Ok(PlainRow { literals: copied })
     }
 }
 
 impl Row for PlainRow {
-    ghost places = { λ row. row };
+    ghost literals = { λ row. row };
 
     fn dashes(alloc: Global, width: usize) -> Result<PlainRow, AllocError> {
-        let mut places = Vec::with_capacity(alloc, width)?;
+        let mut literals = Vec::with_capacity(alloc, width)?;
         for _filled in 0..width {
-            places.push(None)?;
+            literals.push(None)?;
         }
-        Ok(PlainRow { places })
+        Ok(PlainRow { literals })
     }
 
     fn copy(&self, alloc: Global) -> Result<PlainRow, AllocError> {
-        PlainRow::from_places(alloc, self.places.as_slice())
+        PlainRow::from_literals(alloc, self.literals.as_slice())
     }
 
     fn width(&self) -> usize {
-        self.places.len()
+        self.literals.len()
     }
 
     fn at(&self, place: usize) -> Option<bool> {
-        self.places[place]
+        self.literals[place]
     }
 
     fn set(&mut self, place: usize, literal: Option<bool>) {
-        self.places[place] = literal;
+        self.literals[place] = literal;
     }
 
-    #[tactic(auto, using(crate::proofs::Products::meets_answer))]
-    fn meets(&self, other: &PlainRow) -> bool {
-        places_go(self.places.as_slice(), other.places.as_slice())
+    #[tactic(auto, using(crate::proofs::Products::intersects_answer))]
+    fn intersects(&self, other: &PlainRow) -> bool {
+        row_intersects(self.literals.as_slice(), other.literals.as_slice())
     }
 
-    #[tactic(auto, using(crate::proofs::Products::covers_answer))]
+    #[tactic(auto, using(crate::proofs::Products::contains_answer))]
     fn contains(&self, other: &PlainRow) -> bool {
-        places_wider(self.places.as_slice(), other.places.as_slice())
+        contains_literals(self.literals.as_slice(), other.literals.as_slice())
     }
 
     #[tactic(auto, using(crate::proofs::Products::product_points))]
     fn product(&self, alloc: Global, other: &PlainRow) -> Result<PlainRow, AllocError> {
-        let places = places_product(alloc, self.places.as_slice(), other.places.as_slice())?;
-        Ok(PlainRow { places })
+        let literals = product_literals(
+            alloc,
+            self.literals.as_slice(),
+            other.literals.as_slice(),
+        )?;
+        Ok(PlainRow { literals })
     }
 }
 
-// Whether two places do not contradict.
-fn place_goes(place: Option<bool>, other: Option<bool>) -> bool
-    ensures { result ≡ goes_with place other }
+// Whether two literals do not contradict.
+fn literal_intersects(literal: Option<bool>, other: Option<bool>) -> bool
+    ensures { result ≡ literals_intersect literal other }
 {
-    match (place, other) {
-        (Some(literal), Some(second)) => literal == second,
+    match (literal, other) {
+        (Some(bit), Some(second)) => bit == second,
         _ => true,
     }
 }
 
-// Whether a place is a dash or the same literal.
-fn place_wider(place: Option<bool>, other: Option<bool>) -> bool
-    ensures { result ≡ is_wider place other }
+// Whether a literal is a dash or the same as the other.
+fn contains_literal(literal: Option<bool>, other: Option<bool>) -> bool
+    ensures { result ≡ literal_contains literal other }
 {
-    match (place, other) {
+    match (literal, other) {
         (None, _) => true,
         (Some(_), None) => false,
-        (Some(literal), Some(second)) => literal == second,
+        (Some(bit), Some(second)) => bit == second,
     }
 }
 
-// A literal of the first place, else what stands at the second.
-fn product_place(place: Option<bool>, other: Option<bool>) -> Option<bool>
-    ensures { result ≡ place_product place other }
+// The first literal, or where it is a dash the other.
+fn product_literal(literal: Option<bool>, other: Option<bool>) -> Option<bool>
+    ensures { result ≡ literal_product literal other }
 {
-    match place {
-        Some(literal) => Some(literal),
+    match literal {
+        Some(bit) => Some(bit),
         None => other,
     }
 }
 
-// Whether the places of two rows nowhere contradict.
-#[tactic(auto, unfolding(crate::specs::Places::all_go))]
-fn places_go(places: &[Option<bool>], others: &[Option<bool>]) -> bool
-    requires { length places.now ≡ length others.now }
-    ensures { result ≡ all_go places.now others.now }
+// Whether the literals of two rows nowhere contradict.
+#[tactic(auto, unfolding(crate::specs::Literals::rows_intersect))]
+fn row_intersects(literals: &[Option<bool>], others: &[Option<bool>]) -> bool
+    requires { length literals.now ≡ length others.now }
+    ensures { result ≡ rows_intersect literals.now others.now }
 {
-    for (i, place) in places.iter().enumerate() {
-        if !place_goes(*place, others[i]) {
+    for (i, literal) in literals.iter().enumerate() {
+        if !literal_intersects(*literal, others[i]) {
             return false;
         }
     }
     true
 }
 
-// Whether the places of one row are everywhere dashes or the other's literals.
-#[tactic(auto, unfolding(crate::specs::Places::all_wider))]
-fn places_wider(places: &[Option<bool>], others: &[Option<bool>]) -> bool
-    requires { length places.now ≡ length others.now }
-    ensures { result ≡ all_wider places.now others.now }
+// Whether one row has at each place a dash or the other's literal.
+#[tactic(auto, unfolding(crate::specs::Literals::row_contains))]
+fn contains_literals(literals: &[Option<bool>], others: &[Option<bool>]) -> bool
+    requires { length literals.now ≡ length others.now }
+    ensures { result ≡ row_contains literals.now others.now }
 {
-    for (i, place) in places.iter().enumerate() {
-        if !place_wider(*place, others[i]) {
+    for (i, literal) in literals.iter().enumerate() {
+        if !contains_literal(*literal, others[i]) {
             return false;
         }
     }
     true
 }
 
-// The places of the product of two rows.
+// The literals of the product of two rows.
 #[tactic(auto, unfolding(crate::specs::Covers::product_of))]
-fn places_product(
+fn product_literals(
     alloc: Global,
-    places: &[Option<bool>],
+    literals: &[Option<bool>],
     others: &[Option<bool>],
 ) -> Result<Vec<Option<bool>>, AllocError>
-    requires { length places.now ≡ length others.now }
-    ensures { IfOk result (λ made. made.items ≡ product_of places.now others.now) }
+    requires { length literals.now ≡ length others.now }
+    ensures { IfOk result (λ made. made.items ≡ product_of literals.now others.now) }
 {
-    let mut made = Vec::with_capacity(alloc, places.len())?;
-    for (i, place) in places.iter().enumerate() {
-        made.push(product_place(*place, others[i]))?;
+    let mut made = Vec::with_capacity(alloc, literals.len())?;
+    for (i, literal) in literals.iter().enumerate() {
+        made.push(product_literal(*literal, others[i]))?;
     }
     Ok(made)
 }

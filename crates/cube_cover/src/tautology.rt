@@ -7,14 +7,14 @@
 
 ghost use Rattle.std.specs.Prelude.{◌≡◌, ℕ, ◌<◌, ◌↔◌, Bool, true, Option, Some, None, List, length, map, slice_index_or, slice_set, MatchOption, IfOk, IsTrue};
 ghost use Rattle.sis_base.specs.Rows.{HasWidth};
-ghost use Rattle.cube_cover.specs.Covers.{picked, IsCovered, IsTautology};
-ghost use Rattle.cube_cover.specs.Places.{some_wider, no_dash};
+ghost use Rattle.cube_cover.specs.Covers.{picked_rows, IsCovered, IsTautology};
+ghost use Rattle.cube_cover.specs.Literals.{some_contains, no_dash};
 
-use crate::counts::{literals_of_rows, wish_of};
+use crate::counts::{choose_split, literals_of_rows};
 use crate::cover::Cover;
 use crate::picks::{all_numbers, has_points};
 use crate::row::Row;
-use crate::thin::thin;
+use crate::unate::reduce;
 use crate::volume::is_too_small;
 use std::alloc::{AllocError, Global};
 
@@ -33,8 +33,8 @@ impl<R: Row> Cover<R> {
 
 // Whether some row matches each point of the width.
 fn every_point<R: Row>(alloc: Global, width: usize, rows: &[R]) -> Result<bool, AllocError>
-    requires { HasWidth width (map R.places rows.now) }
-    ensures { IfOk result (λ answer. IsTrue answer ↔ IsTautology (record { width = width; rows = map R.places rows.now })) }
+    requires { HasWidth width (map R.literals rows.now) }
+    ensures { IfOk result (λ answer. IsTrue answer ↔ IsTautology (record { width = width; rows = map R.literals rows.now })) }
 {
     let given: R = R::dashes(alloc, width)?;
     let literals = literals_of_rows(alloc, rows)?;
@@ -44,12 +44,17 @@ fn every_point<R: Row>(alloc: Global, width: usize, rows: &[R]) -> Result<bool, 
 }
 
 // Whether the row at a place among some rows, if one is named, has each point of the given one.
-#[tactic(auto, using(crate::proofs::Points::width_read, crate::proofs::Splits::some_wider_at))]
-fn wished_has_points<R: Row>(given: &R, rows: &[R], numbers: &[usize], wish: Option<usize>) -> bool
-    requires { HasWidth (length (R.places given.now)) (picked (map R.places rows.now) numbers.now) }
-    ensures { IsTrue result → some_wider (R.places given.now) (picked (map R.places rows.now) numbers.now) ≡ true }
+#[tactic(auto, using(crate::proofs::Points::width_read, crate::proofs::Splits::some_contains_at))]
+fn choice_has_points<R: Row>(
+    given: &R,
+    rows: &[R],
+    numbers: &[usize],
+    choice: Option<usize>,
+) -> bool
+    requires { HasWidth (length (R.literals given.now)) (picked_rows (map R.literals rows.now) numbers.now) }
+    ensures { IsTrue result → some_contains (R.literals given.now) (picked_rows (map R.literals rows.now) numbers.now) ≡ true }
 {
-    match wish {
+    match choice {
         None => false,
         Some(i) => {
             if i >= numbers.len() {
@@ -61,10 +66,10 @@ fn wished_has_points<R: Row>(given: &R, rows: &[R], numbers: &[usize], wish: Opt
 }
 
 // Whether one of some rows has each point of the given one.
-#[tactic(auto, using(crate::proofs::Points::width_read), unfolding(crate::specs::Places::some_wider))]
+#[tactic(auto, using(crate::proofs::Points::width_read), unfolding(crate::specs::Literals::some_contains))]
 fn some_has_points<R: Row>(given: &R, rows: &[R], numbers: &[usize]) -> bool
-    requires { HasWidth (length (R.places given.now)) (picked (map R.places rows.now) numbers.now) }
-    ensures { result ≡ some_wider (R.places given.now) (picked (map R.places rows.now) numbers.now) }
+    requires { HasWidth (length (R.literals given.now)) (picked_rows (map R.literals rows.now) numbers.now) }
+    ensures { result ≡ some_contains (R.literals given.now) (picked_rows (map R.literals rows.now) numbers.now) }
 {
     for number in numbers {
         if has_points(given, rows, *number) {
@@ -75,9 +80,9 @@ fn some_has_points<R: Row>(given: &R, rows: &[R], numbers: &[usize]) -> bool
 }
 
 // The first dash of a row, if it has one.
-#[tactic(auto, unfolding(crate::specs::Places::no_dash))]
+#[tactic(auto, unfolding(crate::specs::Literals::no_dash))]
 fn first_dash<R: Row>(row: &R) -> Option<usize>
-    ensures { MatchOption result (no_dash (R.places row.now) ≡ true) (λ place. (place < length (R.places row.now)) × (slice_index_or (R.places row.now) place None ≡ None)) }
+    ensures { MatchOption result (no_dash (R.literals row.now) ≡ true) (λ place. (place < length (R.literals row.now)) × (slice_index_or (R.literals row.now) place None ≡ None)) }
 {
     for place in 0..row.width() {
         if row.at(place).is_none() {
@@ -87,20 +92,20 @@ fn first_dash<R: Row>(row: &R) -> Option<usize>
     None
 }
 
-// The place wished for where the row has a dash there, else its first dash, if it has one.
-fn dash_of<R: Row>(row: &R, wish: usize) -> Option<usize>
-    ensures { MatchOption result (no_dash (R.places row.now) ≡ true) (λ place. (place < length (R.places row.now)) × (slice_index_or (R.places row.now) place None ≡ None)) }
+// The place chosen where the row has a dash there, else its first dash, if it has one.
+fn dash_of<R: Row>(row: &R, choice: usize) -> Option<usize>
+    ensures { MatchOption result (no_dash (R.literals row.now) ≡ true) (λ place. (place < length (R.literals row.now)) × (slice_index_or (R.literals row.now) place None ≡ None)) }
 {
-    if wish < row.width() && row.at(wish).is_none() {
-        return Some(wish);
+    if choice < row.width() && row.at(choice).is_none() {
+        return Some(choice);
     }
     first_dash(row)
 }
 
 // A copy of a row with a literal at a place.
 fn row_with<R: Row>(alloc: Global, row: &R, place: usize, bit: bool) -> Result<R, AllocError>
-    requires { place < length (R.places row.now) }
-    ensures { IfOk result (λ made. R.places made ≡ slice_set (R.places row.now) place (Some bit)) }
+    requires { place < length (R.literals row.now) }
+    ensures { IfOk result (λ made. R.literals made ≡ slice_set (R.literals row.now) place (Some bit)) }
 {
     let mut made = row.copy(alloc)?;
     made.set(place, Some(bit));
@@ -117,18 +122,18 @@ fn is_covered<R: Row>(
     numbers: &[usize],
     last: usize,
 ) -> Result<bool, AllocError>
-    requires { HasWidth (length (R.places given.now)) (picked (map R.places rows.now) numbers.now) }
-    ensures { IfOk result (λ answer. IsTrue answer ↔ IsCovered (R.places given.now) (picked (map R.places rows.now) numbers.now)) }
+    requires { HasWidth (length (R.literals given.now)) (picked_rows (map R.literals rows.now) numbers.now) }
+    ensures { IfOk result (λ answer. IsTrue answer ↔ IsCovered (R.literals given.now) (picked_rows (map R.literals rows.now) numbers.now)) }
 {
-    let kept = thin(alloc, given, rows, literals, numbers, last)?;
+    let kept = reduce(alloc, given, rows, literals, numbers, last)?;
     if kept.len() == 0 {
         return Ok(false);
     }
-    let wish = wish_of(alloc, given, literals, kept.as_slice())?;
-    if wished_has_points(given, rows, kept.as_slice(), wish.row) {
+    let choice = choose_split(alloc, given, literals, kept.as_slice())?;
+    if choice_has_points(given, rows, kept.as_slice(), choice.row) {
         return Ok(true);
     }
-    match dash_of(given, wish.place) {
+    match dash_of(given, choice.place) {
         None => Ok(some_has_points(given, rows, kept.as_slice())),
         Some(place) => {
             let low = row_with(alloc, given, place, false)?;

@@ -4,14 +4,14 @@
 //! Promised: where the answer is yes, the shares of the rows add up to less than the whole, and so some point is in none.
 
 ghost use Rattle.std.specs.Prelude.{◌≡◌, ℕ, ◌-◌, ◌^◌, ◌<◌, ◌≤◌, Bool, Option, None, List, map, slice_index_or, IsTrue};
-ghost use Rattle.cube_cover.specs.Places.{place_literals, row_literals};
+ghost use Rattle.cube_cover.specs.Literals.{literal_number, row_literals};
 ghost use Rattle.cube_cover.specs.Volumes.{cover_shares};
 
 use crate::row::Row;
 
 // How many literals stand at a place.
 fn literals_at(place: Option<bool>) -> usize
-    ensures { result ≡ place_literals place }
+    ensures { result ≡ literal_number place }
 {
     match place {
         None => 0,
@@ -20,9 +20,9 @@ fn literals_at(place: Option<bool>) -> usize
 }
 
 // How many literals a row has.
-#[tactic(auto, unfolding(crate::specs::Places::row_literals))]
+#[tactic(auto, unfolding(crate::specs::Literals::row_literals))]
 fn literals_in<R: Row>(row: &R) -> usize
-    ensures { result ≡ row_literals (R.places row.now) }
+    ensures { result ≡ row_literals (R.literals row.now) }
 {
     let mut count = 0;
     for place in 0..row.width() {
@@ -45,7 +45,7 @@ fn share_of(literals: usize) -> u64
 /// Whether the rows of a cover have less than all points together, as far as their shares say.
 #[tactic(auto, unfolding(crate::specs::Volumes::cover_shares))]
 pub fn is_too_small<R: Row>(rows: &[R]) -> bool
-    ensures { IsTrue result → cover_shares (map R.places rows.now) < 2 ^ 63 }
+    ensures { IsTrue result → cover_shares (map R.literals rows.now) < 2 ^ 63 }
 {
     let mut total: u64 = 0;
     for row in rows {

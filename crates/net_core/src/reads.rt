@@ -31,8 +31,8 @@ fn literal_count(place: Option<bool>) -> usize
 // The literals of a row.
 #[tactic(auto, using(crate::proofs::Counting::literals_more), unfolding(circuit_model::specs::Counts::literals_of_row))]
 fn row_literals<R: Row>(row: &R) -> usize
-    ensures literals { result ≡ literals_of_row (characters_of (R.places row.now)) }
-    ensures bound { result ≤ length (R.places row.now) }
+    ensures literals { result ≡ literals_of_row (characters_of (R.literals row.now)) }
+    ensures bound { result ≤ length (R.literals row.now) }
 {
     let mut count = 0;
     for place in 0..row.width() {
@@ -45,7 +45,7 @@ fn row_literals<R: Row>(row: &R) -> usize
 fn rows_literals<R: Row>(rows: &[R]) -> u128
     requires { length rows.now < 2 ^ 29 }
     ensures bound { result ≤ 2 ^ 93 }
-    ensures literals { result ≡ sum_by literals_of_row (map characters_of (map R.places rows.now)) }
+    ensures literals { result ≡ sum_by literals_of_row (map characters_of (map R.literals rows.now)) }
 {
     let mut total: u128 = 0;
     for row in rows {
@@ -56,7 +56,7 @@ fn rows_literals<R: Row>(rows: &[R]) -> u128
 
 // One for a row with a literal at a place, none for another.
 fn use_count<R: Row>(row: &R, place: usize) -> usize
-    ensures literal { result ≡ (if is_literal (slice_index_or (characters_of (R.places row.now)) place Free) then 1 else 0) }
+    ensures literal { result ≡ (if is_literal (slice_index_or (characters_of (R.literals row.now)) place Free) then 1 else 0) }
     ensures bound { result ≤ 1 }
 {
     if place < row.width() {
@@ -69,7 +69,7 @@ fn use_count<R: Row>(row: &R, place: usize) -> usize
 // How many rows have a literal at a place.
 #[tactic(auto, unfolding(crate::specs::Reads::rows_with))]
 fn rows_uses<R: Row>(rows: &[R], place: usize) -> usize
-    ensures uses { result ≡ rows_with place (map characters_of (map R.places rows.now)) }
+    ensures uses { result ≡ rows_with place (map characters_of (map R.literals rows.now)) }
     ensures bound { result ≤ length rows.now }
 {
     let mut count = 0;

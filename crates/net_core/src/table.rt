@@ -41,7 +41,7 @@ fn character_from(place: Option<bool>) -> Tri
 
 // The row with the places of some characters.
 fn row_from<R: Row>(alloc: Global, characters: &[Tri]) -> Result<R, AllocError>
-    ensures { IfOk result (λ row. R.places row ≡ places_of characters.now) }
+    ensures { IfOk result (λ row. R.literals row ≡ places_of characters.now) }
 {
     let mut row = R::dashes(alloc, characters.len())?;
     for (place, character) in characters.iter().enumerate() {
@@ -52,7 +52,7 @@ fn row_from<R: Row>(alloc: Global, characters: &[Tri]) -> Result<R, AllocError>
 
 // The rows of rows of characters, in order.
 fn rows_from<R: Row>(alloc: Global, rows: &[Characters]) -> Result<Vec<R>, AllocError>
-    ensures { IfOk result (λ made. map R.places made.items ≡ map places_of rows.now) }
+    ensures { IfOk result (λ made. map R.literals made.items ≡ map places_of rows.now) }
 {
     let mut made = Vec::with_capacity(alloc, rows.len())?;
     for characters in rows {
@@ -63,7 +63,7 @@ fn rows_from<R: Row>(alloc: Global, rows: &[Characters]) -> Result<Vec<R>, Alloc
 
 // The characters of a row.
 fn characters_from<R: Row>(alloc: Global, row: &R) -> Result<Characters, AllocError>
-    ensures { IfOk result (λ made. made ≡ characters_of (R.places row.now)) }
+    ensures { IfOk result (λ made. made ≡ characters_of (R.literals row.now)) }
 {
     let width = row.width();
     let mut made = Vec::with_capacity(alloc, width)?;
@@ -75,7 +75,7 @@ fn characters_from<R: Row>(alloc: Global, row: &R) -> Result<Characters, AllocEr
 
 // The characters of rows, in order.
 fn all_characters<R: Row>(alloc: Global, rows: &[R]) -> Result<Rows, AllocError>
-    ensures { IfOk result (λ made. made ≡ map characters_of (map R.places rows.now)) }
+    ensures { IfOk result (λ made. made ≡ map characters_of (map R.literals rows.now)) }
 {
     let mut made = Vec::with_capacity(alloc, rows.len())?;
     for row in rows {

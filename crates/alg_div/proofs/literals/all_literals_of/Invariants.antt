@@ -3,4 +3,4 @@ use Rattle.alg_div.specs.Steps.{literals_in}
 use Rattle.alg_div.proofs.literals.all_literals_of.Given as goal
 
 abbrev pub invariant-loop-row : goal.invariant-loop-row
-invariant-loop-row g l = literals_in l.made.items ≡ map g.R.Row.places (take l.row-index l.rows)
+invariant-loop-row g l = literals_in l.made.items ≡ map g.R.Row.literals (take l.row-index l.rows)

@@ -2,7 +2,7 @@ use Rattle.std.proofs.Common.{◌≡◌, ℕ, ◌<◌, Bool, Option, List, lengt
 use Rattle.std.proofs.lemmas.List.{length-map}
 use Rattle.sis_base.specs.Rows.{HasWidth}
 use Rattle.alg_div.specs.Cubes.{Has}
-use Rattle.alg_div.specs.Steps.{touched, literals_in}
+use Rattle.alg_div.specs.Steps.{support, literals_in}
 use Rattle.alg_div.proofs.Lists.{positive, empty, has-read, read-map}
 use Rattle.alg_div.proofs.Terms.{length-mask, quotient-none, quotient-by}
 use Rattle.alg_div.proofs.steps.quotient_of.Goals as goal
@@ -14,18 +14,18 @@ returns-then-is_empty c =
 
 pub terms_of-requires : goal.terms_of-requires
 terms_of-requires c =
-    let mask : c.as_slice.result.now ≡ touched c.args.width (literals_in c.args.d.now) = c.as_slice.ensures.value ∙ c.in_ok-mask.ensures in
+    let mask : c.as_slice.result.now ≡ support c.args.width (literals_in c.args.d.now) = c.as_slice.ensures.value ∙ c.in_ok-mask.ensures in
     let wide : length c.as_slice.result.now ≡ c.args.width = ap length mask ∙ length-mask c.args.width (literals_in c.args.d.now) c.requires.divisor in
     record {
       width = subst (λ (n : ℕ). HasWidth n (literals_in c.args.f.now)) (sym wide) c.requires.width;
       divisor = subst (λ (n : ℕ). HasWidth n (literals_in c.args.d.now)) (sym wide) c.requires.divisor;
-      mask = mask ∙ ap (λ (n : ℕ). touched n (literals_in c.args.d.now)) (sym wide);
+      mask = mask ∙ ap (λ (n : ℕ). support n (literals_in c.args.d.now)) (sym wide);
       first = subst (λ (x : List (Option Bool)). Has x (literals_in c.args.d.now)) (sym c.as_slice-2.ensures.value) (has-read (λ v. v.items) c.args.d.now 0 c.index-d-0.result (positive (length c.args.d.now) (sym c.is_empty.ensures ∙ c.if-is_empty.false)) c.index-d-0.is);
     }
 
 pub returns : goal.returns
 returns c =
-    let mask : c.as_slice.result.now ≡ touched c.args.width (literals_in c.args.d.now) = c.as_slice.ensures.value ∙ c.in_ok-mask.ensures in
+    let mask : c.as_slice.result.now ≡ support c.args.width (literals_in c.args.d.now) = c.as_slice.ensures.value ∙ c.in_ok-mask.ensures in
     let some : 0 < length c.args.d.now = positive (length c.args.d.now) (sym c.is_empty.ensures ∙ c.if-is_empty.false) in
     quotient-by c.args.width (length c.as_slice.result.now) (literals_in c.args.f.now) (literals_in c.args.d.now) (literals_in c.in_ok-terms.terms.items) c.as_slice-2.result.now
     (ap length mask ∙ length-mask c.args.width (literals_in c.args.d.now) c.requires.divisor)

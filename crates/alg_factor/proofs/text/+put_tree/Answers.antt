@@ -9,27 +9,27 @@ use Rattle.alg_factor.proofs.text.+put_tree.Goals as goal
 
 pub put_head-requires : goal.put_head-requires
 put_head-requires g t c =
-    let split : shape g.R.Row.places c.loop-here.here.now ≡ Split c.in-Term.place c.in-Term.bit (shape g.R.Row.places c.in-Term.quotient.value) (shape g.R.Row.places c.in-Term.rest.value) = ap (shape g.R.Row.places) c.in-Term.is in
+    let split : shape g.R.Row.literals c.loop-here.here.now ≡ Split c.in-Term.place c.in-Term.bit (shape g.R.Row.literals c.in-Term.quotient.value) (shape g.R.Row.literals c.in-Term.rest.value) = ap (shape g.R.Row.literals) c.in-Term.is in
     (split-over _ _ _ _ _ _ split c.loop-here.invariant.over).0
 
 pub put_tree-requires : goal.put_tree-requires
 put_tree-requires g t c = λ κs s.
-    let split : shape g.R.Row.places c.loop-here.here.now ≡ Split c.in-Term.place c.in-Term.bit (shape g.R.Row.places c.in-Term.quotient.value) (shape g.R.Row.places c.in-Term.rest.value) = ap (shape g.R.Row.places) c.in-Term.is in (
+    let split : shape g.R.Row.literals c.loop-here.here.now ≡ Split c.in-Term.place c.in-Term.bit (shape g.R.Row.literals c.in-Term.quotient.value) (shape g.R.Row.literals c.in-Term.rest.value) = ap (shape g.R.Row.literals) c.in-Term.is in (
       rw c.deref-in-Term.ensures (omega (arith, split-literals _ _ _ _ _ split, c.loop-here.invariant.smaller, c.decreases)),
       (s, rw c.deref-in-Term.ensures (split-over _ _ _ _ _ _ split c.loop-here.invariant.over).1),
     )
 
 pub loop-here-smaller : goal.loop-here-smaller
 loop-here-smaller g t c =
-    let split : shape g.R.Row.places c.loop-here.here.now ≡ Split c.in-Term.place c.in-Term.bit (shape g.R.Row.places c.in-Term.quotient.value) (shape g.R.Row.places c.in-Term.rest.value) = ap (shape g.R.Row.places) c.in-Term.is in
+    let split : shape g.R.Row.literals c.loop-here.here.now ≡ Split c.in-Term.place c.in-Term.bit (shape g.R.Row.literals c.in-Term.quotient.value) (shape g.R.Row.literals c.in-Term.rest.value) = ap (shape g.R.Row.literals) c.in-Term.is in
     rw c.deref-here.ensures (omega (arith, split-literals _ _ _ _ _ split))
 
 pub loop-here-preserved : goal.loop-here-preserved
 loop-here-preserved g t c =
-    let split : shape g.R.Row.places c.loop-here.here.now ≡ Split c.in-Term.place c.in-Term.bit (shape g.R.Row.places c.in-Term.quotient.value) (shape g.R.Row.places c.in-Term.rest.value) = ap (shape g.R.Row.places) c.in-Term.is in
-    let sum : c.is_sum-sum.result ≡ ltb 1 (summands (shape g.R.Row.places c.in-Term.quotient.value)) = c.is_sum-sum.ensures ∙ ap (λ tree. ltb 1 (summands (shape g.R.Row.places tree))) c.deref.ensures in
-    let body : c.put_tree.new.text.items ≡ c.put_if.new.text.items ++ sum_text (summand_texts c.args.names.now (shape g.R.Row.places c.in-Term.quotient.value)) =
-    c.in_ok-put_tree-in-Term.ensures ∙ ap (λ tree. c.put_if.new.text.items ++ sum_text (summand_texts c.args.names.now (shape g.R.Row.places tree))) c.deref-in-Term.ensures in
+    let split : shape g.R.Row.literals c.loop-here.here.now ≡ Split c.in-Term.place c.in-Term.bit (shape g.R.Row.literals c.in-Term.quotient.value) (shape g.R.Row.literals c.in-Term.rest.value) = ap (shape g.R.Row.literals) c.in-Term.is in
+    let sum : c.is_sum-sum.result ≡ ltb 1 (summands (shape g.R.Row.literals c.in-Term.quotient.value)) = c.is_sum-sum.ensures ∙ ap (λ tree. ltb 1 (summands (shape g.R.Row.literals tree))) c.deref.ensures in
+    let body : c.put_tree.new.text.items ≡ c.put_if.new.text.items ++ sum_text (summand_texts c.args.names.now (shape g.R.Row.literals c.in-Term.quotient.value)) =
+    c.in_ok-put_tree-in-Term.ensures ∙ ap (λ tree. c.put_if.new.text.items ++ sum_text (summand_texts c.args.names.now (shape g.R.Row.literals tree))) c.deref-in-Term.ensures in
     record {
       over = rw c.deref-here.ensures (split-over _ _ _ _ _ _ split c.loop-here.invariant.over).2;
       smaller = rw c.deref-here.ensures (omega (arith, split-literals _ _ _ _ _ split, c.loop-here.invariant.smaller));
@@ -41,14 +41,14 @@ loop-here-preserved g t c =
 
 pub put_rows-requires : goal.put_rows-requires
 put_rows-requires g t c =
-    rw c.as_slice.ensures.value (sum-over _ _ _ (ap (shape g.R.Row.places) c.in-Rows.is) c.loop-here.invariant.over)
+    rw c.as_slice.ensures.value (sum-over _ _ _ (ap (shape g.R.Row.literals) c.in-Rows.is) c.loop-here.invariant.over)
 
 pub returns-in-Rows : goal.returns-in-Rows
 unfolding summand_texts
 returns-in-Rows g t c =
-    let all : c.loop-here.text.items ++ left_text c.loop-here.first (codes "0") (codes " + ") (map (row_text c.args.names.now) (map g.R.Row.places c.as_slice.result.now))
-    ≡ c.args.text.now.items ++ form_text c.args.names.now (shape g.R.Row.places c.args.tree.now) =
-    ap (λ rows. c.loop-here.text.items ++ left_text c.loop-here.first (codes "0") (codes " + ") (map (row_text c.args.names.now) (map g.R.Row.places rows))) c.as_slice.ensures.value
-    ∙ ap (λ tree. c.loop-here.text.items ++ left_text c.loop-here.first (codes "0") (codes " + ") (summand_texts c.args.names.now (shape g.R.Row.places tree))) (sym c.in-Rows.is)
+    let all : c.loop-here.text.items ++ left_text c.loop-here.first (codes "0") (codes " + ") (map (row_text c.args.names.now) (map g.R.Row.literals c.as_slice.result.now))
+    ≡ c.args.text.now.items ++ form_text c.args.names.now (shape g.R.Row.literals c.args.tree.now) =
+    ap (λ rows. c.loop-here.text.items ++ left_text c.loop-here.first (codes "0") (codes " + ") (map (row_text c.args.names.now) (map g.R.Row.literals rows))) c.as_slice.ensures.value
+    ∙ ap (λ tree. c.loop-here.text.items ++ left_text c.loop-here.first (codes "0") (codes " + ") (summand_texts c.args.names.now (shape g.R.Row.literals tree))) (sym c.in-Rows.is)
     ∙ c.loop-here.invariant.written in
     rw (← all) c.put_rows.ensures

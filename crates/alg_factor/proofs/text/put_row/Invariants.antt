@@ -5,4 +5,4 @@ use Rattle.alg_factor.proofs.text.put_row.Given as goal
 
 abbrev pub invariant-loop-place : goal.invariant-loop-place
 invariant-loop-place g l =
-    l.text.items ++ left_text l.first (codes "1") (codes "*") (literal_texts (drop l.place l.names) (drop l.place (g.R.Row.places l.row))) ≡ l.fn.text.items ++ row_text l.names (g.R.Row.places l.row)
+    l.text.items ++ left_text l.first (codes "1") (codes "*") (literal_texts (drop l.place l.names) (drop l.place (g.R.Row.literals l.row))) ≡ l.fn.text.items ++ row_text l.names (g.R.Row.literals l.row)

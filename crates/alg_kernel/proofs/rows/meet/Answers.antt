@@ -14,7 +14,7 @@ loop-place-preserved c =
     let read : c.index.result.now ≡ get_or old c.loop-place.place None =
     c.index.ensures ∙ ap (λ (l : List (Option Bool)). get_or l c.loop-place.place c.index.result.now) c.loop-place.invariant
     ∙ get_or-filled new old c.loop-place.place c.index.result.now lt len ∙ default-other old c.loop-place.place c.index.result.now None here in
-    let v : c.shared.result ≡ get_or new c.loop-place.place None = c.shared.ensures ∙ ap (λ (x : Option Bool). both x (get_or c.args.row.now c.loop-place.place None)) read ∙ sym (get_or-both old c.args.row.now c.loop-place.place) in
+    let v : c.shared_literal.result ≡ get_or new c.loop-place.place None = c.shared_literal.ensures ∙ ap (λ (x : Option Bool). both x (get_or c.args.row.now c.loop-place.place None)) read ∙ sym (get_or-both old c.args.row.now c.loop-place.place) in
     ap (λ (x : Option Bool). set c.loop-place.cube.items c.loop-place.place x) v ∙ ap (λ (l : List (Option Bool)). set l c.loop-place.place (get_or new c.loop-place.place None)) c.loop-place.invariant
     ∙ fill_more new old c.loop-place.place None lt len
 

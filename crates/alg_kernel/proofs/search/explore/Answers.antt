@@ -2,7 +2,7 @@ use Rattle.std.proofs.Common.{◌≤◌, List, Option, Bool, length, arith}
 use Rattle.std.proofs.lemmas.Result.{err_from_is_err_and}
 use Rattle.alg_div.specs.Cubes.{Has}
 use Rattle.alg_div.specs.Steps.{literals_in}
-use Rattle.alg_kernel.specs.Search.{kernels_in, holding, kernel_at, IsStep}
+use Rattle.alg_kernel.specs.Search.{kernels_in, holding_rows, kernel_at, IsStep}
 use Rattle.alg_kernel.proofs.Faults.{ok-no-fault, fault-as}
 use Rattle.alg_kernel.proofs.Searches.{more-none, more-trans, many-more, explored-all, explored-more, both-bits}
 use Rattle.alg_kernel.proofs.search.explore.Goals as goal
@@ -22,7 +22,7 @@ loop-place-preserved c =
     record {
       more = more-trans (IsStep h) _ _ _ _ _ _ (more-trans (IsStep h) _ _ _ _ _ _ c.loop-place.invariant.more c.in_ok-step.ensures.more) c.in_ok-step-2.ensures.more;
       to = explored-more (kernels_in c.loop-place.seen.items) (kernels_in c.step-in-loop-place.new.seen.items) h c.loop-place.place (λ z m. c.in_ok-step-2.ensures.more.kept z (c.in_ok-step.ensures.more.kept z m)) c.loop-place.invariant.to
-          (both-bits (λ bit. 2 ≤ length (holding c.loop-place.place bit h) → Has (kernel_at c.loop-place.place bit h) (kernels_in c.step-in-loop-place.new.seen.items)) (λ two. c.in_ok-step-2.ensures.more.kept _ (c.in_ok-step.ensures.has two)) c.in_ok-step-2.ensures.has);
+          (both-bits (λ bit. 2 ≤ length (holding_rows c.loop-place.place bit h) → Has (kernel_at c.loop-place.place bit h) (kernels_in c.step-in-loop-place.new.seen.items)) (λ two. c.in_ok-step-2.ensures.more.kept _ (c.in_ok-step.ensures.has two)) c.in_ok-step-2.ensures.has);
     }
 
 pub returns : goal.returns

@@ -4,14 +4,14 @@ use Rattle.std.proofs.lemmas.Result.{err_from_is_err_and}
 use Rattle.alg_div.specs.Cubes.{Has}
 use Rattle.alg_div.specs.Steps.{literals_in}
 use Rattle.alg_kernel.specs.Kernels.{rows_cmp, Ascends}
-use Rattle.alg_kernel.specs.Search.{kernels_in, over, common, limit, IsMore, IsSearch, TooMany}
+use Rattle.alg_kernel.specs.Search.{kernels_in, over, common_cube, limit, IsMore, IsSearch, TooMany}
 use Rattle.alg_kernel.proofs.Faults.{ok-no-fault, memory-no-limit, fault-as}
 use Rattle.alg_kernel.proofs.Parts.{start-rows}
 use Rattle.alg_kernel.proofs.Searches.{search-more, search-explored, search-popped, search-start, search-many, search-done, search-width, start-many, map-empty}
 use Rattle.alg_kernel.proofs.search.search.Goals as goal
 
-pub freed-requires : goal.freed-requires
-freed-requires c = record { width = c.requires.width; some = omega (arith, c.requires.two) }
+pub make_cube_free-requires : goal.make_cube_free-requires
+make_cube_free-requires c = record { width = c.requires.width; some = omega (arith, c.requires.two) }
 
 pub enter-requires : goal.enter-requires
 unfolding Ascends
@@ -23,14 +23,14 @@ enter-requires c = record {
 pub loop-kernel-init : goal.loop-kernel-init
 loop-kernel-init c =
     let f : List (List (Option Bool)) = literals_in c.args.rows.now in
-    let first : literals_in c.in_ok-first.first.items ≡ over (common f) f = c.in_ok-first.ensures ∙ sym (start-rows f) in
+    let first : literals_in c.in_ok-first.first.items ≡ over (common_cube f) f = c.in_ok-first.ensures ∙ sym (start-rows f) in
     let two : 2 ≤ length f = omega (arith, c.requires.two, length-map c.args.rows.now (λ v. v.items)) in
-    let more : IsMore (λ z. z ≡ over (common f) f) [] [] (kernels_in c.enter.new.seen.items) (kernels_in c.enter.new.todo.items) =
+    let more : IsMore (λ z. z ≡ over (common_cube f) f) [] [] (kernels_in c.enter.new.seen.items) (kernels_in c.enter.new.todo.items) =
     subst (λ (k : List (List (Option Bool))). IsMore (λ z. z ≡ k) [] [] (kernels_in c.enter.new.seen.items) (kernels_in c.enter.new.todo.items)) first
     (subst (λ (l : List (Vec (Vec (Option Bool) Global) Global)). IsMore (λ z. z ≡ literals_in c.in_ok-first.first.items) [] (kernels_in l) (kernels_in c.enter.new.seen.items) (kernels_in c.enter.new.todo.items)) c.new-todo.ensures.items
     (subst (λ (l : List (Vec (Vec (Option Bool) Global) Global)). IsMore (λ z. z ≡ literals_in c.in_ok-first.first.items) (kernels_in l) (kernels_in c.new-todo.result.items) (kernels_in c.enter.new.seen.items) (kernels_in c.enter.new.todo.items)) c.new-seen.ensures.items
     c.in_ok-enter.ensures.more)) in
-    let has : Has (over (common f) f) (kernels_in c.enter.new.seen.items) = subst (λ (k : List (List (Option Bool))). Has k (kernels_in c.enter.new.seen.items)) first c.in_ok-enter.ensures.has in
+    let has : Has (over (common_cube f) f) (kernels_in c.enter.new.seen.items) = subst (λ (k : List (List (Option Bool))). Has k (kernels_in c.enter.new.seen.items)) first c.in_ok-enter.ensures.has in
     record { search_ = search-start c.args.width f _ _ c.requires.width two more has; room = more.room }
 
 pub explore-requires : goal.explore-requires
@@ -79,7 +79,7 @@ returns-in_err-first c = let p = err_from_is_err_and c.from_residual.result c.fr
 pub returns-in_err-enter : goal.returns-in_err-enter
 returns-in_err-enter c =
     let f : List (List (Option Bool)) = literals_in c.args.rows.now in
-    let first : literals_in c.in_ok-first.first.items ≡ over (common f) f = c.in_ok-first.ensures ∙ sym (start-rows f) in
+    let first : literals_in c.in_ok-first.first.items ≡ over (common_cube f) f = c.in_ok-first.ensures ∙ sym (start-rows f) in
     let two : 2 ≤ length f = omega (arith, c.requires.two, length-map c.args.rows.now (λ v. v.items)) in
     let p = err_from_is_err_and c.from_residual-in_err-enter.result c.from_residual-in_err-enter.ensures.1 in
     rw p.1 (record {

@@ -2,7 +2,7 @@ use Rattle.std.proofs.Common.{◌≡◌, ◌≤◌, List, Option, Some, None, Bo
 use Rattle.std.proofs.lemmas.Result.{err_from_is_err_and}
 use Rattle.alg_div.specs.Cubes.{Has}
 use Rattle.alg_div.specs.Steps.{literals_in}
-use Rattle.alg_kernel.specs.Search.{kernels_in, holding, kernel_at, IsKernelAt, IsStep, IsMore}
+use Rattle.alg_kernel.specs.Search.{kernels_in, holding_rows, kernel_at, IsKernelAt, IsStep, IsMore}
 use Rattle.alg_kernel.proofs.Faults.{ok-no-fault, memory-no-limit}
 use Rattle.alg_kernel.proofs.Spots.{ok-map}
 use Rattle.alg_kernel.proofs.Searches.{more-none, more-as, many-as}
@@ -32,7 +32,7 @@ returns-in-Some c =
     let as_step : (z : List (List (Option Bool))) → z ≡ k → IsStep h z = λ z e. (c.args.place, c.args.bit, made.0, e ∙ made.1) in
     record {
       more = ok-map (IsMore (λ z. z ≡ k) s t s' t') (IsMore (IsStep h) s t s' t') (more-as (λ z. z ≡ k) (IsStep h) as_step s t s' t') c.enter.result c.enter.ensures.more;
-      has = ok-map (Has k s') (2 ≤ length (holding c.args.place c.args.bit h) → Has (kernel_at c.args.place c.args.bit h) s') (λ m two. subst (λ (x : List (List (Option Bool))). Has x s') made.1 m) c.enter.result c.enter.ensures.has;
+      has = ok-map (Has k s') (2 ≤ length (holding_rows c.args.place c.args.bit h) → Has (kernel_at c.args.place c.args.bit h) s') (λ m two. subst (λ (x : List (List (Option Bool))). Has x s') made.1 m) c.enter.result c.enter.ensures.has;
       over = λ e. many-as (λ z. z ≡ k) (IsStep h) as_step (kernels_in c.args.seen.now.items) (c.enter.ensures.over e);
     }
 

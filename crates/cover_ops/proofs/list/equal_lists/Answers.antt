@@ -5,12 +5,12 @@ use Rattle.cover_ops.proofs.list.equal_lists.Goals as goal
 
 pub equal_rows-requires : goal.equal_rows-requires
 equal_rows-requires g c =
-    let low : length (g.R.Row.places c.index-low-i.result) ≡ c.args.width = width_read g.R.Row.places c.args.width c.args.low.now c.loop-i.i c.index-low-i.result c.requires.low (omega arith) c.index-low-i.is in
-    let high : length (g.R.Row.places c.index-high-i.result) ≡ c.args.width = width_read g.R.Row.places c.args.width c.args.high.now c.loop-i.i c.index-high-i.result c.requires.high (omega arith) c.index-high-i.is in
+    let low : length (g.R.Row.literals c.index-low-i.result) ≡ c.args.width = width_read g.R.Row.literals c.args.width c.args.low.now c.loop-i.i c.index-low-i.result c.requires.low (omega arith) c.index-low-i.is in
+    let high : length (g.R.Row.literals c.index-high-i.result) ≡ c.args.width = width_read g.R.Row.literals c.args.width c.args.high.now c.loop-i.i c.index-high-i.result c.requires.high (omega arith) c.index-high-i.is in
     low ∙ sym high
 
 pub returns-then-not-equal_rows : goal.returns-then-not-equal_rows
 returns-then-not-equal_rows g c = (
   λ h. cc,
-  λ h. sym c.if-not-equal_rows.true ∙ c.equal_rows.ensures.1 (same_read g.R.Row.places c.args.low.now c.args.high.now c.loop-i.i c.index-low-i.result c.index-high-i.result (omega arith) (omega arith) c.index-low-i.is c.index-high-i.is h),
+  λ h. sym c.if-not-equal_rows.true ∙ c.equal_rows.ensures.1 (same_read g.R.Row.literals c.args.low.now c.args.high.now c.loop-i.i c.index-low-i.result c.index-high-i.result (omega arith) (omega arith) c.index-low-i.is c.index-high-i.is h),
 )

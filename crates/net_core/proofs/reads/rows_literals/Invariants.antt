@@ -5,4 +5,4 @@ use Rattle.net_core.specs.Tables.{characters_of}
 use Rattle.net_core.proofs.reads.rows_literals.Given as goal
 
 abbrev pub invariant-loop-row : goal.invariant-loop-row
-invariant-loop-row g l = (l.total ≡ sum_by literals_of_row (map characters_of (map g.R.Row.places (take l.row-index l.rows)))) × (l.total ≤ l.row-index * 2 ^ 64)
+invariant-loop-row g l = (l.total ≡ sum_by literals_of_row (map characters_of (map g.R.Row.literals (take l.row-index l.rows)))) × (l.total ≤ l.row-index * 2 ^ 64)

@@ -7,5 +7,5 @@ use Rattle.net_core.proofs.table.row_from.Goals as goal
 
 pub loop-place-preserved : goal.loop-place-preserved
 loop-place-preserved g c =
-    c.set.ensures ∙ ap (set (g.R.Row.places c.loop-place.row) c.loop-place.place) c.place_from.ensures
+    c.set.ensures ∙ ap (set (g.R.Row.literals c.loop-place.row) c.loop-place.place) c.place_from.ensures
     ∙ fill_step place_of c.args.characters.now (replicate (length c.args.characters.now) None) _ c.loop-place.place Zero c.loop-place-test.true (length-replicate (length c.args.characters.now) None) c.loop-place.invariant

@@ -4,4 +4,4 @@ use Rattle.net_core.proofs.table.row_from.Given as goal
 
 abbrev pub invariant-loop-place : goal.invariant-loop-place
 invariant-loop-place g l =
-    g.R.Row.places l.row ≡ take l.place (places_of l.characters) ++ drop l.place (replicate (length l.characters) None)
+    g.R.Row.literals l.row ≡ take l.place (places_of l.characters) ++ drop l.place (replicate (length l.characters) None)

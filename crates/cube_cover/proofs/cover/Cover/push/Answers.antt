@@ -6,5 +6,5 @@ use Rattle.cube_cover.proofs.cover.Cover.push.Goals as goal
 
 pub invariant_of-self-2 : goal.invariant_of-self-2
 invariant_of-self-2 g c =
-    let e : length (g.R.Row.places c.args.row) ≡ c.self.inside.width = c.requires ∙ sym (ap (λ (s : Shape). s.width) c.self.view_is) in
+    let e : length (g.R.Row.literals c.args.row) ≡ c.self.inside.width = c.requires ∙ sym (ap (λ (s : Shape). s.width) c.self.view_is) in
     rw (c.in_ok-push.ensures.items, map_push) (HasWidth-push _ _ _ c.self.invariant e)

@@ -1,6 +1,0 @@
-use Rattle.std.proofs.Common.{sym, ◌∙◌, arith}
-use Rattle.cube_cover.proofs.Dashed.{agreeing_thinner}
-use Rattle.cube_cover.proofs.thin.going.Goals as goal
-
-pub returns-in-Some : goal.returns-in-Some
-returns-in-Some g c = rw c.in_ok-part-in-Some.ensures (agreeing_thinner _ c.args.place c.in-Some.bit _ c.requires (omega (arith, c.if-place-width.true, c.width.ensures)) (sym c.at.ensures ∙ c.in-Some.is))

@@ -1,5 +1,0 @@
-use Rattle.cube_cover.proofs.Dashed.{thinner_more}
-use Rattle.cube_cover.proofs.thin.thin.Goals as goal
-
-pub returns-then-len-before : goal.returns-then-len-before
-returns-then-len-before g c = thinner_more _ _ _ _ c.loop-round.invariant c.in_ok-kept-2.ensures
