@@ -1,16 +1,15 @@
 -- Names put among names, one by one.
-use Rattle.std.proofs.Common.{◌≡◌, ℕ, ◌+◌, ◌<◌, Bool, true, false, not, ◌&&◌, ◌||◌, eqb, List, [], ◌∷◌, ◌++◌, take, length, get_or, bytes_eq, if◌then◌else◌, refl, sym, ap, ◌∙◌, arith}
-use Rattle.std.proofs.lemmas.Bool.Decides.{nat_tests}
+use Rattle.std.proofs.Common.{◌≡◌, ℕ, ◌+◌, ◌<◌, Bool, true, false, not, ◌&&◌, ◌||◌, List, [], ◌∷◌, ◌++◌, take, length, get_or, bytes_eq, if◌then◌else◌, refl, sym, ap, ◌∙◌}
 use Rattle.std.proofs.lemmas.List.{take_more, map-append}
 use Rattle.std.proofs.lemmas.Grind.{flat_map-append}
-use Rattle.circuit_model.specs.Names.{has, all_different}
+use Rattle.circuit_model.specs.Names.{has}
 use Rattle.circuit_model.specs.Soundness.{outputs_of, table_inputs}
 use Rattle.circuit_model.specs.declared.circuit.Table.{Table}
 use Rattle.circuit_model.specs.declared.circuit.Circuit.{Circuit}
 use Rattle.sweep_rules.specs.Needed.{dont_care_reads}
 use Rattle.circuit_laws.proofs.Names.{same_name, has_append}
-use Rattle.table_fold.specs.Folding.{names_with, each_once}
-use Rattle.table_fold.proofs.Once.{has-names_with, full-each_once, each_once-different}
+use Rattle.table_fold.specs.Listing.{names_with}
+use Rattle.table_fold.proofs.Once.{has-names_with}
 
 or_none : (b : Bool) → (b || false) ≡ b
 or_none true = refl
@@ -111,15 +110,3 @@ roots_are circuit read keys outputs o r k name =
     turned true false = refl
     turned false true = refl
     turned false false = refl
-
--- names that are as many as they are when each is put once are all different
-pub differ_is : (names keys : List (List ℕ)) → keys ≡ names_with [] names → eqb (length keys) (length names) ≡ all_different names
-unfolding each_once
-differ_is names keys k = same_test (eqb (length keys) (length names)) (all_different names)
-    (λ e. let long : length keys ≡ length names = grind (arith, nat_tests) in full-each_once names (sym (ap length k) ∙ long))
-    (λ h. let long : length keys ≡ length names = ap length (k ∙ each_once-different names h) in grind (arith, nat_tests))
-  where
-    same_test : (a b : Bool) → (a ≡ true → b ≡ true) → (b ≡ true → a ≡ true) → a ≡ b
-    same_test true b f g = sym (f refl)
-    same_test false true f g = let z : false ≡ true = g refl in absurd cc
-    same_test false false f g = refl

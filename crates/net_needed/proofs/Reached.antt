@@ -6,7 +6,7 @@ use Rattle.circuit_model.specs.Names.{has}
 use Rattle.circuit_model.specs.declared.circuit.Table.{Table}
 use Rattle.circuit_model.specs.declared.circuit.Latch.{Latch}
 use Rattle.circuit_model.specs.declared.circuit.Circuit.{Circuit}
-use Rattle.table_fold.specs.Folding.{names_with}
+use Rattle.table_fold.specs.Listing.{names_with}
 use Rattle.table_fold.proofs.Once.{same_name, itself, has-names_with}
 use Rattle.circuit_laws.proofs.Names.{has_append}
 use Rattle.sweep_rules.specs.Needed.{dont_care_reads, needed_within, is_needed}

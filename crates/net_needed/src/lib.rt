@@ -10,8 +10,6 @@ mod leaves;
 mod needed;
 mod parts;
 mod places;
-#[cfg(test)]
-mod tests;
 
 pub use constants::{constant_table, written_bit};
 pub use leaves::{driven_names, is_among, leaves_read};

@@ -8,7 +8,7 @@ ghost use Rattle.indexmap.specs.IndexMap.{get};
 ghost use Rattle.circuit_model.specs.Names.{has, all_different};
 ghost use Rattle.circuit_model.specs.Runs.{latch_outputs};
 ghost use Rattle.circuit_model.specs.Soundness.{outputs_of};
-ghost use Rattle.table_fold.specs.Folding.{names_with};
+ghost use Rattle.table_fold.specs.Listing.{names_with};
 ghost use Rattle.sweep_rules.specs.Needed.{dont_care_reads, is_needed};
 ghost use Rattle.sweep_rules.specs.Rules.{need_rule};
 ghost use Rattle.net_needed.specs.Places.{LeadsToTables, LeadsToLatches};
@@ -23,11 +23,7 @@ use sis_base::Copied;
 use std::alloc::{AllocError, Global};
 
 // Puts names among names, each behind the last where it is new.
-pub(crate) fn add_names(
-    alloc: Global,
-    names: &mut IndexSet<Name>,
-    more: &[Name],
-) -> Result<(), AllocError>
+fn add_names(alloc: Global, names: &mut IndexSet<Name>, more: &[Name]) -> Result<(), AllocError>
     ensures { OnOk result (names.new.keys ≡ names_with names.old.keys more.now) }
 {
     for name in more {

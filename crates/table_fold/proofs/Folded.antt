@@ -10,7 +10,9 @@ use Rattle.circuit_model.specs.Values.{literal_of, table_value, driver}
 use Rattle.circuit_model.specs.Soundness.{IsShaped, IsAcyclic, Leads, outputs_of}
 use Rattle.circuit_model.specs.declared.circuit.Tri.{Tri}
 use Rattle.circuit_model.specs.declared.circuit.Table.{Table}
-use Rattle.table_fold.specs.Folding.{each_once, places_of, merge_row, dashes_of, folded_rows, constant_one, with_rows, folded}
+use Rattle.table_fold.specs.Folding.{each_once, folded_rows, constant_one, with_rows, folded}
+use Rattle.table_fold.specs.Listing.{places_of, merge_row, dashes_of, merged_rows}
+use Rattle.table_fold.proofs.Buffer.{rows_merged}
 use Rattle.table_fold.proofs.Once.{has-each_once, different-each_once, length-each_once, each_once-different, and_left, and_right}
 use Rattle.table_fold.proofs.Merging.{folded_rows_agree, widths_folded, fewer_rows}
 
@@ -185,5 +187,5 @@ folded_kept table inputs rows again i r kept =
 
 pub rows_over : (table : Table) (names : List (List ℕ)) (places : List ℕ) (rows made : List (List Tri)) → names ≡ each_once table.inputs → places ≡ places_of table.inputs → rows ≡ table.rows
     → made ≡ filter_map (merge_row (dashes_of names) places) rows → made ≡ folded_rows table.inputs table.rows
-unfolding folded_rows
-rows_over table names places rows made n p r m = m ∙ rw (n, p, r) refl
+unfolding merged_rows
+rows_over table names places rows made n p r m = m ∙ (rw (n, p, r) refl ∙ rows_merged table.inputs table.rows)

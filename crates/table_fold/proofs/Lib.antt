@@ -1,3 +1,4 @@
+pub mod Buffer
 pub mod Folded
 pub mod Mentioned
 pub mod Merging

@@ -9,8 +9,10 @@ use Rattle.circuit_model.specs.Names.{has}
 use Rattle.circuit_model.specs.Values.{literal_of}
 use Rattle.circuit_model.specs.declared.circuit.Tri.{Tri}
 use Rattle.circuit_model.specs.declared.circuit.Tri.TheVariants.{Zero, One, Free}
-use Rattle.table_fold.specs.Folding.{merged, each_once, places_of, merge_row, dashes_of, folded_rows}
-use Rattle.table_fold.proofs.Once.{has-each_once, read_place, place_within, itself}
+use Rattle.table_fold.specs.Folding.{merged, each_once, folded_rows}
+use Rattle.table_fold.specs.Listing.{places_of, merge_row, dashes_of, merged_rows}
+use Rattle.table_fold.proofs.Buffer.{all_there, rows_merged}
+use Rattle.table_fold.proofs.Once.{has-each_once, read_place, place_within}
 
 -- the row as rows are matched
 unfoldable pub fits : List Tri → List Bool → Bool
@@ -150,30 +152,20 @@ places_read : (inputs names : List (List ℕ)) (value : List ℕ → Bool) → A
 places_read [] names value h = refl
 places_read (name ∷ inputs) names value h = rw (read_place names value name h.0, places_read inputs names value h.1) refl
 
-all_there : (inputs names : List (List ℕ)) → ((name : List ℕ) → has inputs name ≡ true → has names name ≡ true) → AllByRecursion (λ name. has names name ≡ true) inputs
-all_there [] names h = tt
-all_there (name ∷ inputs) names h = (h name here, all_there inputs names (λ other k. h other (later other k)))
-  where
-    here : has (name ∷ inputs) name ≡ true
-    here = rw (itself name) refl
-
-    later : (other : List ℕ) → has inputs other ≡ true → has (name ∷ inputs) other ≡ true
-    later other k = by (bytes_eq other name)
-      where
-        by : (b : Bool) → (b || has inputs other) ≡ true
-        by true = refl
-        by false = k
-
-pub folded_rows_agree : (inputs : List (List ℕ)) (rows : List (List Tri)) (value : List ℕ → Bool)
-    → some_matches (map (map literal_of) (folded_rows inputs rows)) (map value (each_once inputs)) ≡ some_matches (map (map literal_of) rows) (map value inputs)
-unfolding folded_rows places_of
-folded_rows_agree inputs rows value =
+merged_rows_agree : (inputs : List (List ℕ)) (rows : List (List Tri)) (value : List ℕ → Bool)
+    → some_matches (map (map literal_of) (merged_rows inputs rows)) (map value (each_once inputs)) ≡ some_matches (map (map literal_of) rows) (map value inputs)
+unfolding merged_rows places_of
+merged_rows_agree inputs rows value =
     let there : AllByRecursion (λ name. has (each_once inputs) name ≡ true) inputs = all_there inputs (each_once inputs) (λ name h. has-each_once inputs name ∙ h) in
     let count : length (map value (each_once inputs)) ≡ length (each_once inputs) = length-map (each_once inputs) value in
     rows_agree (each_once inputs) (map (λ name. position_or_len (bytes_eq name) (each_once inputs)) inputs) rows (map value (each_once inputs))
     (subst (λ (n : ℕ). AllByRecursion (λ place. place < n) (map (λ name. position_or_len (bytes_eq name) (each_once inputs)) inputs)) (sym count) (places_within inputs (each_once inputs) there))
     (sym count)
     ∙ ap (some_matches (map (map literal_of) rows)) (places_read inputs (each_once inputs) value there)
+
+pub folded_rows_agree : (inputs : List (List ℕ)) (rows : List (List Tri)) (value : List ℕ → Bool)
+    → some_matches (map (map literal_of) (folded_rows inputs rows)) (map value (each_once inputs)) ≡ some_matches (map (map literal_of) rows) (map value inputs)
+folded_rows_agree inputs rows value = rw (← rows_merged inputs rows) (merged_rows_agree inputs rows value)
 
 -- widths and counts
 
@@ -195,11 +187,11 @@ width_kept (place ∷ places) (character ∷ row) out made e =
     cases None more d = absurd (let no : None ≡ Some made = d in cc)
     cases (Some u) more d = more u d
 
-pub widths_folded : (inputs : List (List ℕ)) (rows : List (List Tri)) → AllByRecursion (λ (row : List Tri). length row ≡ length (each_once inputs)) (folded_rows inputs rows)
-unfolding folded_rows
-widths_folded inputs [] = tt
-widths_folded inputs (row ∷ rows) =
-    cases (merge_row (dashes_of (each_once inputs)) (places_of inputs) row) refl (widths_folded inputs rows)
+widths_merged : (inputs : List (List ℕ)) (rows : List (List Tri)) → AllByRecursion (λ (row : List Tri). length row ≡ length (each_once inputs)) (merged_rows inputs rows)
+unfolding merged_rows
+widths_merged inputs [] = tt
+widths_merged inputs (row ∷ rows) =
+    cases (merge_row (dashes_of (each_once inputs)) (places_of inputs) row) refl (widths_merged inputs rows)
   where
     cases : (made : Option (List Tri)) → merge_row (dashes_of (each_once inputs)) (places_of inputs) row ≡ made
         → AllByRecursion (λ (other : List Tri). length other ≡ length (each_once inputs)) (filter_map (merge_row (dashes_of (each_once inputs)) (places_of inputs)) rows)
@@ -207,12 +199,18 @@ widths_folded inputs (row ∷ rows) =
     cases None e rest = rest
     cases (Some made) e rest = (width_kept (places_of inputs) row (dashes_of (each_once inputs)) made e ∙ length-map (each_once inputs) (λ (name : List ℕ). Free), rest)
 
-pub fewer_rows : (inputs : List (List ℕ)) (rows : List (List Tri)) → length (folded_rows inputs rows) ≤ length rows
-unfolding folded_rows
-fewer_rows inputs [] = omega arith
-fewer_rows inputs (row ∷ rows) = cases (merge_row (dashes_of (each_once inputs)) (places_of inputs) row) (fewer_rows inputs rows)
+fewer_merged : (inputs : List (List ℕ)) (rows : List (List Tri)) → length (merged_rows inputs rows) ≤ length rows
+unfolding merged_rows
+fewer_merged inputs [] = omega arith
+fewer_merged inputs (row ∷ rows) = cases (merge_row (dashes_of (each_once inputs)) (places_of inputs) row) (fewer_merged inputs rows)
   where
     cases : (made : Option (List Tri)) → length (filter_map (merge_row (dashes_of (each_once inputs)) (places_of inputs)) rows) ≤ length rows
         → length (cons_option made (filter_map (merge_row (dashes_of (each_once inputs)) (places_of inputs)) rows)) ≤ length (row ∷ rows)
     cases None rest = omega arith
     cases (Some made) rest = omega arith
+
+pub widths_folded : (inputs : List (List ℕ)) (rows : List (List Tri)) → AllByRecursion (λ (row : List Tri). length row ≡ length (each_once inputs)) (folded_rows inputs rows)
+widths_folded inputs rows = subst (λ made. AllByRecursion (λ (row : List Tri). length row ≡ length (each_once inputs)) made) (rows_merged inputs rows) (widths_merged inputs rows)
+
+pub fewer_rows : (inputs : List (List ℕ)) (rows : List (List Tri)) → length (folded_rows inputs rows) ≤ length rows
+fewer_rows inputs rows = rw (← rows_merged inputs rows) (fewer_merged inputs rows)

@@ -1,12 +1,13 @@
 -- Names, each once: which they are, that they are all different, and their places.
 use Rattle.std.specs.Prelude.{◌≡◌, ℕ, suc, ◌+◌, ◌<◌, ◌≤◌, Bool, true, false, not, ◌&&◌, ◌||◌, List, [], ◌∷◌, ◌++◌, map, length, bytes_eq, if◌then◌else◌}
-use Rattle.std.specs.List.{position_or_len}
+use Rattle.std.specs.List.{position_or_len, filter}
 use Rattle.std.proofs.Common.{refl, sym, subst, ◌∙◌, ap, arith, get_or, append_assoc, length-append}
 use Rattle.std.proofs.lemmas.List.{append-nil}
 use Rattle.std.proofs.lemmas.List.Folds.{list_any-append}
 use Rattle.std.proofs.lemmas.Slice.Eq.{bytes_eq-Decides}
 use Rattle.circuit_model.specs.Names.{has, all_different}
-use Rattle.table_fold.specs.Folding.{names_with, each_once}
+use Rattle.table_fold.specs.Folding.{each_once}
+use Rattle.table_fold.specs.Listing.{names_with}
 
 pub and_left : (a b : Bool) → (a && b) ≡ true → a ≡ true
 and_left true b e = refl
@@ -46,6 +47,71 @@ has-push known last name = list_any-append (bytes_eq name) known (last ∷ []) �
 has-same : (names : List (List ℕ)) (a b : List ℕ) → bytes_eq a b ≡ true → has names a ≡ has names b
 has-same names a b e = ap (has names) (same_name a b e)
 
+-- names listed one by one are the names once
+
+filter_twice : (p q : List ℕ → Bool) (names : List (List ℕ)) → filter p (filter q names) ≡ filter (λ name. q name && p name) names
+filter_twice p q [] = refl
+filter_twice p q (name ∷ names) = by (q name) (p name) (filter_twice p q names)
+  where
+    by : (t u : Bool) → filter p (filter q names) ≡ filter (λ other. q other && p other) names
+        → filter p (if t then name ∷ filter q names else filter q names)
+        ≡ (if t && p name then name ∷ filter (λ other. q other && p other) names else filter (λ other. q other && p other) names)
+    by true u rest = step (p name)
+      where
+        step : (v : Bool) → (if v then name ∷ filter p (filter q names) else filter p (filter q names))
+            ≡ (if v then name ∷ filter (λ other. q other && p other) names else filter (λ other. q other && p other) names)
+        step true = ap (λ list. name ∷ list) rest
+        step false = rest
+    by false u rest = rest
+
+filter_same : (p q : List ℕ → Bool) → ((name : List ℕ) → p name ≡ q name) → (names : List (List ℕ)) → filter p names ≡ filter q names
+filter_same p q h [] = refl
+filter_same p q h (name ∷ names) = rw (h name, filter_same p q h names) refl
+
+others-known : (known : List (List ℕ)) (first name : List ℕ) → has known first ≡ true → (not (bytes_eq first name) && not (has known name)) ≡ not (has known name)
+others-known known first name h = by (bytes_eq first name) refl
+  where
+    by : (t : Bool) → bytes_eq first name ≡ t → (not t && not (has known name)) ≡ not (has known name)
+    by true e = let k : has known name ≡ true = sym (has-same known first name e) ∙ h in rw k refl
+    by false e = refl
+
+others-new : (known : List (List ℕ)) (first name : List ℕ) → (not (bytes_eq first name) && not (has known name)) ≡ not (has (known ++ first ∷ []) name)
+others-new known first name = rw (has-push known first name, bytes_eq-sym name first) (by (bytes_eq first name) (has known name))
+  where
+    by : (t u : Bool) → (not t && not u) ≡ not (u || t)
+    by true true = refl
+    by true false = refl
+    by false true = refl
+    by false false = refl
+
+pub listed : (known names : List (List ℕ)) → names_with known names ≡ known ++ filter (λ name. not (has known name)) (each_once names)
+unfolding names_with each_once
+listed known [] = sym (append-nil known)
+listed known (first ∷ names) = cases (has known first) refl (listed known names) (listed (known ++ first ∷ []) names)
+  where
+    cases : (t : Bool) → has known first ≡ t
+        → names_with known names ≡ known ++ filter (λ name. not (has known name)) (each_once names)
+        → names_with (known ++ first ∷ []) names ≡ (known ++ first ∷ []) ++ filter (λ name. not (has (known ++ first ∷ []) name)) (each_once names)
+        → names_with (if t then known else known ++ first ∷ []) names
+        ≡ known ++ filter (λ name. not (has known name)) (first ∷ filter (λ other. not (bytes_eq first other)) (each_once names))
+    cases true h rest more = rw h (
+        rest
+        ∙ ap (λ list. known ++ list) (sym (filter_twice (λ name. not (has known name)) (λ other. not (bytes_eq first other)) (each_once names)
+        ∙ filter_same (λ name. not (bytes_eq first name) && not (has known name)) (λ name. not (has known name)) (λ name. others-known known first name h) (each_once names))))
+    cases false h rest more = rw h (
+        more
+        ∙ (append_assoc known (first ∷ []) (filter (λ name. not (has (known ++ first ∷ []) name)) (each_once names))
+        ∙ ap (λ list. known ++ first ∷ list) (sym (filter_twice (λ name. not (has known name)) (λ other. not (bytes_eq first other)) (each_once names)
+        ∙ filter_same (λ name. not (bytes_eq first name) && not (has known name)) (λ name. not (has (known ++ first ∷ []) name)) (λ name. others-new known first name) (each_once names)))))
+
+filter_all : (names : List (List ℕ)) → filter (λ name. not (has [] name)) names ≡ names
+filter_all [] = refl
+filter_all (name ∷ names) = ap (λ list. name ∷ list) (filter_all names)
+
+-- behind no name they are just the names once
+pub listed_once : (names : List (List ℕ)) → names_with [] names ≡ each_once names
+listed_once names = listed [] names ∙ filter_all (each_once names)
+
 pub has-names_with : (known names : List (List ℕ)) (name : List ℕ) → has (names_with known names) name ≡ (has known name || has names name)
 unfolding names_with
 has-names_with known [] name = or_none (has known name)
@@ -72,8 +138,7 @@ has-names_with known (first ∷ names) name =
         by false b c = refl
 
 pub has-each_once : (names : List (List ℕ)) (name : List ℕ) → has (each_once names) name ≡ has names name
-unfolding each_once
-has-each_once names name = has-names_with [] names name
+has-each_once names name = rw (← listed_once names) (has-names_with [] names name)
 
 -- they are all different
 
@@ -102,8 +167,8 @@ different-names_with known (first ∷ names) h = cases (has known first) refl (d
     cases false e rest more = more (different-push known first ∙ rw (h, e) refl)
 
 pub different-each_once : (names : List (List ℕ)) → all_different (each_once names) ≡ true
-unfolding each_once all_different
-different-each_once names = different-names_with [] names refl
+unfolding all_different
+different-each_once names = rw (← listed_once names) (different-names_with [] names refl)
 
 -- names that are all different are the names once, and only they are as many
 
@@ -119,9 +184,8 @@ length-names_with known (first ∷ names) = cases (has known first) (length-name
     cases false rest more = omega (arith, more, length-append known (first ∷ []))
 
 pub length-each_once : (names : List (List ℕ)) → length (each_once names) ≤ length names
-unfolding each_once
 length-each_once names =
-    let h : length (names_with [] names) ≤ 0 + length names = length-names_with [] names in omega (arith, h)
+    let h : length (names_with [] names) ≤ 0 + length names = length-names_with [] names in rw (← listed_once names) (omega (arith, h))
 
 full-names_with : (known names : List (List ℕ)) → length (names_with known names) ≡ length known + length names → names_with known names ≡ known ++ names
 unfolding names_with
@@ -137,8 +201,7 @@ full-names_with known (first ∷ names) e =
     cases false more d = more (omega (arith, d, length-append known (first ∷ []))) ∙ append_assoc known (first ∷ []) names
 
 all-each_once : (names : List (List ℕ)) → length (each_once names) ≡ length names → each_once names ≡ names
-unfolding each_once
-all-each_once names e = full-names_with [] names (e ∙ omega arith)
+all-each_once names e = sym (listed_once names) ∙ full-names_with [] names (ap length (listed_once names) ∙ (e ∙ omega arith))
 
 pub full-each_once : (names : List (List ℕ)) → length (each_once names) ≡ length names → all_different names ≡ true
 full-each_once names e = subst (λ (list : List (List ℕ)). all_different list ≡ true) (all-each_once names e) (different-each_once names)
@@ -173,12 +236,11 @@ different-names known (first ∷ names) h =
     fresh false e = refl
 
 pub each_once-different : (names : List (List ℕ)) → all_different names ≡ true → each_once names ≡ names
-unfolding each_once
-each_once-different names h = different-names [] names h
+each_once-different names h = sym (listed_once names) ∙ different-names [] names h
 
 -- places
 
-first_place : (first : List ℕ) (names : List (List ℕ)) (name : List ℕ) → bytes_eq name first ≡ false
+pub first_place : (first : List ℕ) (names : List (List ℕ)) (name : List ℕ) → bytes_eq name first ≡ false
     → position_or_len (bytes_eq name) (first ∷ names) ≡ suc (position_or_len (bytes_eq name) names)
 first_place first names name e = let one : (n : ℕ) → 1 + n ≡ suc n = λ n. omega arith in rw e (one (position_or_len (bytes_eq name) names))
 

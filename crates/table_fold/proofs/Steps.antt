@@ -8,7 +8,8 @@ use Rattle.std.proofs.lemmas.List.Elements.{filter_map-append}
 use Rattle.circuit_model.specs.Names.{has}
 use Rattle.circuit_model.specs.declared.circuit.Tri.{Tri}
 use Rattle.circuit_model.specs.declared.circuit.Tri.TheVariants.{Zero, Free}
-use Rattle.table_fold.specs.Folding.{merged, names_with, merge_row}
+use Rattle.table_fold.specs.Folding.{merged}
+use Rattle.table_fold.specs.Listing.{names_with, merge_row}
 use Rattle.table_fold.proofs.Once.{place_stays}
 
 pub merge_short : (out : List Tri) (places : List ℕ) (row : List Tri) (i : ℕ) → length row ≤ i → merge_row out (drop i places) (drop i row) ≡ Some out

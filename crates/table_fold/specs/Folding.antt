@@ -2,10 +2,10 @@
 -- Source: BLIF appendix of the SIS report (UCB/ERL M92/41), `.names`: each character of a row asks for a bit of the input
 -- that it stands under; De Micheli, "Synthesis and Optimization of Digital Circuits", chapter 7: a product of literals
 -- that asks for both values of a variable is empty.
-use Rattle.std.specs.Prelude.{ℕ, true, Option, Some, None, List, [], ◌∷◌, ◌++◌, map, bytes_eq, slice_index_or, slice_set, if◌then◌else◌}
-use Rattle.std.specs.List.{filter_map, position_or_len}
-use Rattle.std.specs.Option.{option_map_or}
-use Rattle.circuit_model.specs.Names.{has, all_different}
+use Rattle.std.specs.Prelude.{ℕ, true, not, Option, Some, None, List, [], ◌∷◌, bytes_eq, if◌then◌else◌}
+use Rattle.std.specs.List.{filter, filter_map}
+use Rattle.std.specs.Option.{option_map, option_map_or}
+use Rattle.circuit_model.specs.Names.{all_different}
 use Rattle.circuit_model.specs.declared.circuit.Tri.{Tri}
 use Rattle.circuit_model.specs.declared.circuit.Tri.TheVariants.{Zero, One, Free}
 use Rattle.circuit_model.specs.declared.circuit.Table.{Table}
@@ -20,33 +20,31 @@ merged One Zero = None
 merged One One = Some One
 merged One Free = Some One
 
--- some names and, behind them, each other name where it comes first
-unfoldable pub names_with : List (List ℕ) → List (List ℕ) → List (List ℕ)
-names_with known [] = known
-names_with known (name ∷ names) = names_with (if has known name then known else known ++ name ∷ []) names
+-- what characters ask for together; a dash where there are none
+abbrev pub all_merged : List Tri → Option Tri
+all_merged [] = Some Free
+all_merged (character ∷ characters) = option_map_or (merged character) (all_merged characters) None
+
+-- the characters of a row that stand under a name
+unfoldable pub under : List ℕ → List (List ℕ) → List Tri → List Tri
+under name [] row = []
+under name (input ∷ inputs) [] = []
+under name (input ∷ inputs) (character ∷ row) = if bytes_eq input name then character ∷ under name inputs row else under name inputs row
 
 -- the names, each once, where it comes first
 unfoldable pub each_once : List (List ℕ) → List (List ℕ)
-each_once names = names_with [] names
+each_once [] = []
+each_once (name ∷ names) = name ∷ filter (λ other. not (bytes_eq name other)) (each_once names)
 
--- the place that each of the inputs has among them once
-unfoldable pub places_of : List (List ℕ) → List ℕ
-places_of inputs = map (λ name. position_or_len (bytes_eq name) (each_once inputs)) inputs
-
--- a row whose characters are put at places, together with what stands there; none where a place is asked for both bits
-unfoldable pub merge_row : List Tri → List ℕ → List Tri → Option (List Tri)
-merge_row out [] row = Some out
-merge_row out (place ∷ places) [] = Some out
-merge_row out (place ∷ places) (character ∷ row) =
-    option_map_or (λ both. merge_row (slice_set out place both) places row) (merged (slice_index_or out place Free) character) None
-
--- the row that asks for nothing
-abbrev pub dashes_of : List (List ℕ) → List Tri
-dashes_of names = map (λ (name : List ℕ). Free) names
+-- what a row over the inputs asks of each of some names; none where it asks one of them for both bits
+unfoldable pub asked_of : List (List ℕ) → List Tri → List (List ℕ) → Option (List Tri)
+asked_of inputs row [] = Some []
+asked_of inputs row (name ∷ names) =
+    option_map_or (λ character. option_map (λ others. character ∷ others) (asked_of inputs row names)) (all_merged (under name inputs row)) None
 
 -- the rows over the inputs once, without those that ask an input for both bits
 unfoldable pub folded_rows : List (List ℕ) → List (List Tri) → List (List Tri)
-folded_rows inputs rows = filter_map (merge_row (dashes_of (each_once inputs)) (places_of inputs)) rows
+folded_rows inputs rows = filter_map (λ row. asked_of inputs row (each_once inputs)) rows
 
 -- no inputs, and one row that always matches
 abbrev pub constant_one : List ℕ → Table

@@ -3,7 +3,8 @@
 ghost use Rattle.std.specs.Prelude.{◌≡◌, ◌==◌, ◌&&◌, not, Some, None, ◌++◌, map, length, replicate, slice_index_or, slice_set, bytes_eq, option_to_list, IfOk, OnOk, if◌then◌else◌};
 ghost use Rattle.std.specs.List.{filter_map};
 ghost use Rattle.circuit_model.specs.declared.circuit.Tri.TheVariants.{Free};
-ghost use Rattle.table_fold.specs.Folding.{merged, each_once, places_of, merge_row, dashes_of, folded_rows as rows_over, constant_one as one_of, with_rows as over_rows, folded};
+ghost use Rattle.table_fold.specs.Folding.{merged, each_once, folded_rows as rows_over, constant_one as one_of, with_rows as over_rows, folded};
+ghost use Rattle.table_fold.specs.Listing.{places_of, merge_row, dashes_of};
 
 use circuit_model::{Name, Names, Row, Rows, Table, Tri};
 use indexmap::IndexSet;

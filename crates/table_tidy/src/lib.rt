@@ -6,8 +6,6 @@
 
 pub mod laws;
 mod rows;
-#[cfg(test)]
-mod tests;
 mod tidiness;
 mod tidying;
 

@@ -1,5 +1,5 @@
 use Rattle.std.proofs.Common.{◌≡◌, ℕ, Some, None, List, OnOk, sym, ◌∙◌, subst}
-use Rattle.table_fold.specs.Folding.{names_with}
+use Rattle.table_fold.specs.Listing.{names_with}
 use Rattle.net_needed.proofs.Searching.{read_of_table}
 use Rattle.net_needed.proofs.Putting.{nothing_read}
 use Rattle.net_needed.proofs.needed.add_inputs.Goals as goal

@@ -1,5 +1,5 @@
 use Rattle.std.proofs.Common.{◌≡◌, drop}
-use Rattle.table_fold.specs.Folding.{names_with}
+use Rattle.table_fold.specs.Listing.{names_with}
 use Rattle.net_needed.proofs.needed.add_names.Given as goal
 
 abbrev pub invariant-loop-name : goal.invariant-loop-name

@@ -1,5 +1,5 @@
 use Rattle.std.proofs.Common.{ℕ, List, ap, sym, ◌∙◌}
-use Rattle.table_fold.specs.Folding.{names_with}
+use Rattle.table_fold.specs.Listing.{names_with}
 use Rattle.net_needed.specs.Reading.{read_by_latches}
 use Rattle.net_needed.proofs.Reached.{reaching_begun, reaching_more, reaching_ends}
 use Rattle.net_needed.proofs.needed.reached.Goals as goal

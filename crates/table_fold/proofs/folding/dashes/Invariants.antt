@@ -1,5 +1,5 @@
 use Rattle.std.proofs.Common.{◌≡◌, take}
-use Rattle.table_fold.specs.Folding.{dashes_of}
+use Rattle.table_fold.specs.Listing.{dashes_of}
 use Rattle.table_fold.proofs.folding.dashes.Given as goal
 
 abbrev pub invariant-loop-name : goal.invariant-loop-name

@@ -1,5 +1,6 @@
 use Rattle.std.proofs.Common.{◌≡◌, sym, ap, ◌∙◌, length}
-use Rattle.table_fold.specs.Folding.{each_once, places_of}
+use Rattle.table_fold.specs.Folding.{each_once}
+use Rattle.table_fold.specs.Listing.{places_of}
 use Rattle.table_fold.proofs.Once.{full-each_once}
 use Rattle.table_fold.proofs.Folded.{folded_same, folded_constant, folded_kept, rows_over}
 use Rattle.table_fold.proofs.folding.fold_table.Goals as goal

@@ -1,6 +1,6 @@
 use Rattle.std.proofs.Common.{Some, None, ◌+◌, ◌∙◌, List, sym, ap, drop}
 use Rattle.circuit_model.specs.declared.circuit.Tri.{Tri}
-use Rattle.table_fold.specs.Folding.{merge_row}
+use Rattle.table_fold.specs.Listing.{merge_row}
 use Rattle.table_fold.proofs.Steps.{merge_short, merge_more, merge_done}
 use Rattle.table_fold.proofs.folding.merge_into.Goals as goal
 

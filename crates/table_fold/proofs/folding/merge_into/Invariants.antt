@@ -1,5 +1,5 @@
 use Rattle.std.proofs.Common.{◌≡◌, drop}
-use Rattle.table_fold.specs.Folding.{merge_row}
+use Rattle.table_fold.specs.Listing.{merge_row}
 use Rattle.table_fold.proofs.folding.merge_into.Given as goal
 
 abbrev pub invariant-loop-i : goal.invariant-loop-i

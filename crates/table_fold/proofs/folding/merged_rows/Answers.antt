@@ -1,4 +1,4 @@
-use Rattle.table_fold.specs.Folding.{merge_row, dashes_of}
+use Rattle.table_fold.specs.Listing.{merge_row, dashes_of}
 use Rattle.table_fold.proofs.Steps.{rows_more}
 use Rattle.table_fold.proofs.folding.merged_rows.Goals as goal
 

@@ -1,13 +1,14 @@
 use Rattle.std.proofs.Common.{sym, refl, ◌∙◌, map, ap, bytes_eq}
 use Rattle.std.specs.List.{position_or_len}
 use Rattle.std.proofs.lemmas.List.{take_all}
-use Rattle.table_fold.specs.Folding.{each_once, places_of}
+use Rattle.table_fold.specs.Folding.{each_once}
+use Rattle.table_fold.specs.Listing.{places_of}
+use Rattle.table_fold.proofs.Once.{listed_once}
 use Rattle.table_fold.proofs.Steps.{names_more, places_more, names_done}
 use Rattle.table_fold.proofs.folding.once_of.Goals as goal
 
 pub loop-name-init : goal.loop-name-init
-unfolding each_once
-loop-name-init c = record { rest = rw c.new-names.ensures.empty refl; so_far = c.in_ok-places.ensures.items }
+loop-name-init c = record { rest = rw c.new-names.ensures.empty (listed_once c.args.inputs.now); so_far = c.in_ok-places.ensures.items }
 
 pub loop-name-preserved : goal.loop-name-preserved
 loop-name-preserved c = record {

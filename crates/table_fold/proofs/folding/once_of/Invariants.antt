@@ -1,6 +1,7 @@
 use Rattle.std.proofs.Common.{◌≡◌, map, take, drop, bytes_eq}
 use Rattle.std.specs.List.{position_or_len}
-use Rattle.table_fold.specs.Folding.{names_with, each_once}
+use Rattle.table_fold.specs.Folding.{each_once}
+use Rattle.table_fold.specs.Listing.{names_with}
 use Rattle.table_fold.proofs.folding.once_of.Given as goal
 
 abbrev pub invariant-loop-name : goal.invariant-loop-name

@@ -1,12 +1,12 @@
 use Rattle.std.proofs.Common.{ℕ, eqb, length, refl, sym, ap, ◌∙◌}
 use Rattle.table_fold.specs.Folding.{each_once}
+use Rattle.table_fold.proofs.Once.{listed_once}
 use Rattle.table_fold.proofs.Steps.{names_more, names_done}
 use Rattle.table_tidy.proofs.Steps.{all_once}
 use Rattle.table_tidy.proofs.tidiness.names_differ.Goals as goal
 
 pub loop-name-init : goal.loop-name-init
-unfolding each_once
-loop-name-init c = rw c.new-seen.ensures.empty refl
+loop-name-init c = rw c.new-seen.ensures.empty (listed_once c.args.names.now)
 
 pub loop-name-preserved : goal.loop-name-preserved
 loop-name-preserved c =

@@ -1,5 +1,6 @@
 use Rattle.std.proofs.Common.{◌≡◌, drop}
-use Rattle.table_fold.specs.Folding.{names_with, each_once}
+use Rattle.table_fold.specs.Folding.{each_once}
+use Rattle.table_fold.specs.Listing.{names_with}
 use Rattle.table_tidy.proofs.tidiness.names_differ.Given as goal
 
 abbrev pub invariant-loop-name : goal.invariant-loop-name
