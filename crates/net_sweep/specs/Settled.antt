@@ -1,6 +1,7 @@
 -- The first four rules of sweep, which change tables and leave their number, their outputs and their places; and what is
 -- kept to see soon where one of them applies: places where a rule may apply.
 -- Source: the SIS manual (UCB/ERL M92/41), `sweep`.
+-- Clauses of private functions alone need this module; no public clause does.
 use Rattle.std.specs.Prelude.{◌≡◌, ℕ, ◌<◌, ◌&&◌, Bool, true, false, not, Option, Some, None, is_some, List, [], ◌∷◌, ◌⊎◌, find, slice_get, length, bytes_eq, ⊤}
 use Rattle.std.specs.Option.{option_or}
 use Rattle.std.specs.List.{AllByRecursion}

@@ -191,13 +191,13 @@ pub(crate) fn table_over(
 pub(crate) fn tables_over(
     alloc: Global,
     leads: &IndexMap<Name, Lead>,
-    tables: &[Table],
+    tables: Tables,
 ) -> Result<Tables, AllocError>
-    ensures { IfOk result (λ made. made ≡ map (over_leads (lead_of (get bytes_eq leads.now))) tables.now) }
+    ensures { IfOk result (λ made. made ≡ map (over_leads (lead_of (get bytes_eq leads.now))) tables) }
 {
     let mut made = Vec::with_capacity(alloc, tables.len())?;
-    for table in tables {
-        made.push(table_over(alloc, leads, table.copy(alloc)?)?)?;
+    for table in tables.into_vec() {
+        made.push(table_over(alloc, leads, table)?)?;
     }
     Ok(Sequence::from_vec(made))
 }

@@ -9,8 +9,6 @@
 #![tactic(auto)]
 
 mod leads;
-#[cfg(test)]
-mod tests;
 mod wires;
 
 pub use leads::rows_over;

@@ -179,9 +179,9 @@ impl Wires {
     pub fn into_circuit(self, alloc: Global) -> Result<Circuit, AllocError>
         ensures { IfOk result (λ circuit. circuit ≡ self) }
     {
-        let tables = tables_over(alloc, &self.signal_of, self.circuit.tables.as_slice())?;
         let mut circuit = self.circuit;
-        circuit.tables = tables;
+        let tables = mem::replace(&mut circuit.tables, Sequence::new(alloc));
+        circuit.tables = tables_over(alloc, &self.signal_of, tables)?;
         Ok(circuit)
     }
 
