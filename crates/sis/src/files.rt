@@ -2,6 +2,7 @@
 
 ghost use Rattle.std.specs.Prelude.{◌≡◌, ◌<◌, ◌-◌, ◌^◌, ℕ, false, IsTrue};
 ghost use Rattle.std.specs.FinMap.{empty};
+ghost use Rattle.sis_outside.specs.Calls.{StoreKeeps, Load, Save, bytes_of};
 ghost use Rattle.sis_outside.specs.Store.{IsLoadWithin};
 
 use crate::streams::write_whole;
@@ -62,6 +63,10 @@ impl<R: Files> Store for RealStore<'_, R> {
     ghost faults = { λ store. store.faults };
 
     ghost misses = { λ store. store.misses };
+
+    ghost calls = { StoreKeeps (λ _. false) (λ _. empty) (λ store. store.faults) (λ store. store.misses) };
+
+    ghost keeps = { λ old call new kept. kept };
 
     fn load(&mut self, alloc: Global, name: &str, max: usize) -> Result<Vec<u8>, LoadFault> {
         let loaded = match fs::open(self.rt, name) {

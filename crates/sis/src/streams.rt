@@ -1,6 +1,7 @@
 //! The standard streams as a source and as sinks. They tell no bytes, and count their faults.
 
 ghost use Rattle.std.specs.Prelude.{◌≡◌, ◌≤◌, ◌^◌, ℕ, false, [], IsTrue};
+ghost use Rattle.sis_outside.specs.Calls.{SourceKeeps, SinkKeeps, bytes_of};
 ghost use Rattle.sis_outside.specs.Source.{Takes, IsTakeWithin, TakeFaults};
 ghost use Rattle.sis_outside.specs.Sink.{Puts, PutFaults};
 
@@ -31,6 +32,10 @@ impl<R: Read> Source for StdSource<R> {
     ghost left = { λ _. [] };
 
     ghost faults = { λ source. source.faults };
+
+    ghost calls = { SourceKeeps (λ _. false) (λ _. []) (λ source. source.faults) };
+
+    ghost keeps = { λ old call new kept. kept };
 
     fn take(&mut self, alloc: Global, max: usize) -> Result<Vec<u8>, TakeFault> {
         let mut piece = [0u8; PIECE];
@@ -65,6 +70,10 @@ impl<W: Write> Sink for StdSink<W> {
     ghost written = { λ _. [] };
 
     ghost faults = { λ sink. sink.faults };
+
+    ghost calls = { SinkKeeps (λ _. false) (λ _. []) (λ sink. sink.faults) };
+
+    ghost keeps = { λ old call new kept. kept };
 
     fn put(&mut self, piece: &[u8]) -> Result<(), PutFault> {
         if write_whole(&mut self.writer, piece) {

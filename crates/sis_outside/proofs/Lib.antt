@@ -1,3 +1,4 @@
 pub mod Entries
 pub mod Pieces
 pub mod Rises
+pub mod Following

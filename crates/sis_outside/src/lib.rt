@@ -7,6 +7,7 @@
 //! were planned.
 #![tactic(auto)]
 
+mod calls;
 mod counts;
 mod mem_sink;
 mod mem_source;
@@ -15,9 +16,8 @@ mod plan;
 mod sink;
 mod source;
 mod store;
-#[cfg(test)]
-mod tests;
 
+pub use calls::{files_are_saved, sinks_went, sources_went, stores_went};
 pub use counts::risen_counts_stay;
 pub use mem_sink::MemSink;
 pub use mem_source::MemSource;

@@ -1,6 +1,7 @@
 //! A sink in memory.
 
 ghost use Rattle.std.specs.Prelude.{◌≡◌, [], true, OnOk, OnErr, IsTrue};
+ghost use Rattle.sis_outside.specs.Calls.{SinkKeeps};
 ghost use Rattle.sis_outside.specs.MemSink.{PutsByPlan};
 ghost use Rattle.sis_outside.specs.Plan.{with_failure, nothing_planned};
 ghost use Rattle.sis_outside.specs.Sink.{Puts, PutFaults};
@@ -67,6 +68,10 @@ impl Sink for MemSink {
     ghost written = { λ s. s.written };
 
     ghost faults = { λ s. s.faults };
+
+    ghost calls = { SinkKeeps (λ s. true) (λ s. s.written) (λ s. s.faults) };
+
+    ghost keeps = { λ old call new kept. kept };
 
     fn put(&mut self, piece: &[u8]) -> Result<(), PutFault>
         ensures faults { PutFaults result self.old.faults self.new.faults }

@@ -1,6 +1,7 @@
 //! A source in memory.
 
 ghost use Rattle.std.specs.Prelude.{◌≡◌, ◌-◌, ◌^◌, ◌≤◌, true, [], IfOk, OnOk, OnErr, IsTrue};
+ghost use Rattle.sis_outside.specs.Calls.{SourceKeeps, bytes_of};
 ghost use Rattle.sis_outside.specs.MemSource.{TakesByPlan};
 ghost use Rattle.sis_outside.specs.Plan.{with_failure, nothing_planned};
 ghost use Rattle.sis_outside.specs.Source.{Takes, IsTakeWithin, TakeFaults};
@@ -83,6 +84,10 @@ impl Source for MemSource {
     ghost left = { λ s. s.left };
 
     ghost faults = { λ s. s.faults };
+
+    ghost calls = { SourceKeeps (λ s. true) (λ s. s.left) (λ s. s.faults) };
+
+    ghost keeps = { λ old call new kept. kept };
 
     fn take(&mut self, alloc: Global, max: usize) -> Result<Vec<u8>, TakeFault>
         requires { 1 ≤ max }

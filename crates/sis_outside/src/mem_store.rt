@@ -5,6 +5,7 @@ ghost use Rattle.std.specs.Ordering.{nat_cmp};
 ghost use Rattle.std.specs.Cmp.Lexicographic.{slice_cmp};
 ghost use Rattle.std.specs.FinMap as map;
 ghost use Rattle.std.specs.Option.{option_map};
+ghost use Rattle.sis_outside.specs.Calls.{StoreKeeps, Load, Save, bytes_of};
 ghost use Rattle.sis_outside.specs.Files.{file_at, with_file};
 ghost use Rattle.sis_outside.specs.MemStore.{LoadsByPlan, SavesByPlan};
 ghost use Rattle.sis_outside.specs.Plan.{with_failure, nothing_planned};
@@ -166,6 +167,10 @@ impl Store for MemStore {
     ghost faults = { λ s. s.faults };
 
     ghost misses = { λ s. s.misses };
+
+    ghost calls = { StoreKeeps (λ s. true) (λ s. s.files) (λ s. s.faults) (λ s. s.misses) };
+
+    ghost keeps = { λ old call new kept. kept };
 
     fn load(&mut self, alloc: Global, name: &str, max: usize) -> Result<Vec<u8>, LoadFault>
         requires { max < 2 ^ 64 - 1 }

@@ -81,7 +81,8 @@ fn tell_usage<E: Sink>(err: &mut E) -> Status
     ensures cause { IsUsage result }
 {
     match err.put(b"sis: usage: sis [-k] [-f FILE | -c TEXT]\n") {
-        Ok(()) | Err(PutFault::Failed) => Status::Usage,
+        Ok(()) => Status::Usage,
+        Err(PutFault::Failed) => Status::Usage,
         Err(PutFault::Memory) => Status::Memory,
     }
 }

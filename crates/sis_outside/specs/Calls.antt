@@ -1,0 +1,166 @@
+-- Calls on the objects of the outside, each with its answer; what one call leaves of what an object tells and counts, and
+-- what a list of calls leaves.
+-- Source: the project's own rule for the outside, after read(2), write(2) and their errors in POSIX.
+use Rattle.std.specs.Prelude.{◌≡◌, ℕ, ◌<◌, ◌≤◌, ◌↔◌, ◌⊎◌, Bool, true, false, ◌||◌, IsTrue, List, [], ◌∷◌, ◌++◌, length, take, drop, Option, Some, None, Result, Ok, Err}
+use Rattle.std.specs.Global.{Vec}
+use Rattle.sis_outside.specs.Counts.{Rose}
+use Rattle.sis_outside.specs.Files.{Files, file_at, with_file}
+use Rattle.sis_outside.specs.declared.store.LoadFault.{LoadFault}
+use Rattle.sis_outside.specs.declared.store.LoadFault.TheVariants as load
+use Rattle.sis_outside.specs.declared.store.SaveFault.{SaveFault}
+use Rattle.sis_outside.specs.declared.store.SaveFault.TheVariants as save
+use Rattle.sis_outside.specs.declared.source.TakeFault.{TakeFault}
+use Rattle.sis_outside.specs.declared.source.TakeFault.TheVariants as source
+use Rattle.sis_outside.specs.declared.sink.PutFault.{PutFault}
+use Rattle.sis_outside.specs.declared.sink.PutFault.TheVariants as sink
+
+-- the answer of a call that gives bytes, with the bytes alone
+abbrev pub bytes_of : {F : Type 0} → Result (Vec ℕ) F → Result (List ℕ) F
+bytes_of (Ok bytes) = Ok bytes.items
+bytes_of (Err fault) = Err fault
+
+-- a call on a store: a load of at most `max` bytes, or a save
+pub data StoreCall : Type 0 where
+  Load : (name : List ℕ) (max : ℕ) (answer : Result (List ℕ) LoadFault) → StoreCall
+  Save : (name bytes : List ℕ) (answer : Result (Unit {0}) SaveFault) → StoreCall
+
+-- a take of at most `max` bytes from a source
+pub record TakeCall : Type 0 where
+  pub max : ℕ
+  pub answer : Result (List ℕ) TakeFault
+
+-- a put of a piece into a sink
+pub record PutCall : Type 0 where
+  pub piece : List ℕ
+  pub answer : Result (Unit {0}) PutFault
+
+-- whether a call answers Failed, or Missing
+abbrev pub load_failed : Result (List ℕ) LoadFault → Bool
+load_failed (Err load.Failed) = true
+load_failed other = false
+
+abbrev pub store_failed : StoreCall → Bool
+store_failed (Load name max answer) = load_failed answer
+store_failed (Save name bytes (Err save.Failed)) = true
+store_failed (Save name bytes other) = false
+
+abbrev pub load_missed : Result (List ℕ) LoadFault → Bool
+load_missed (Err load.Missing) = true
+load_missed other = false
+
+abbrev pub store_missed : StoreCall → Bool
+store_missed (Load name max answer) = load_missed answer
+store_missed (Save name bytes answer) = false
+
+abbrev pub is_take_failed : Result (List ℕ) TakeFault → Bool
+is_take_failed (Err source.Failed) = true
+is_take_failed other = false
+
+abbrev pub take_failed : TakeCall → Bool
+take_failed call = is_take_failed call.answer
+
+abbrev pub is_put_failed : Result (Unit {0}) PutFault → Bool
+is_put_failed (Err sink.Failed) = true
+is_put_failed other = false
+
+abbrev pub put_failed : PutCall → Bool
+put_failed call = is_put_failed call.answer
+
+-- a count rises with what is counted, and stays without it
+abbrev pub Counted : Bool → ℕ → ℕ → Type 0
+Counted true before now = Rose before now
+Counted false before now = now ≡ before
+
+-- what a load of at most `max` bytes answers of the file that stands under the name, or of none
+abbrev pub Tells : Option (List ℕ) → ℕ → Result (List ℕ) LoadFault → Type 0
+Tells file max (Ok bytes) = file ≡ Some bytes
+Tells file max (Err load.Missing) = file ≡ None
+Tells file max (Err (load.TooLong reached)) = (bytes : List ℕ) × (file ≡ Some bytes) × (max < length bytes)
+Tells file max (Err load.Failed) = Unit {0}
+Tells file max (Err load.Memory) = Unit {0}
+
+-- what a call leaves of the files: a load all of them, a save its file in place; after a failure as before, or with a front
+abbrev pub FilesGo : Files → StoreCall → Files → Type 0
+FilesGo old (Load name max answer) new = (new ≡ old) × Tells (file_at old name) max answer
+FilesGo old (Save name bytes (Ok done)) new = new ≡ with_file old name bytes
+FilesGo old (Save name bytes (Err save.Failed)) new = (new ≡ old) ⊎ ((count : ℕ) × (new ≡ with_file old name (take count bytes)))
+FilesGo old (Save name bytes (Err save.Memory)) new = new ≡ old
+
+-- what a take leaves: the piece was in front, none exactly at the end; a failure takes off at most `max` bytes
+abbrev pub TakenOff : List ℕ → ℕ → Result (List ℕ) TakeFault → List ℕ → Type 0
+TakenOff old max (Ok piece) new = (old ≡ piece ++ new) × (piece ≡ [] ↔ old ≡ [])
+TakenOff old max (Err source.Failed) new = (count : ℕ) × (count ≤ max) × (new ≡ drop count old)
+TakenOff old max (Err source.Memory) new = new ≡ old
+
+abbrev pub LeftGoes : List ℕ → TakeCall → List ℕ → Type 0
+LeftGoes old call new = TakenOff old call.max call.answer new
+
+-- what a put leaves: the piece behind the rest; after a failure a front of it
+abbrev pub PutBehind : List ℕ → List ℕ → Result (Unit {0}) PutFault → List ℕ → Type 0
+PutBehind old piece (Ok done) new = new ≡ old ++ piece
+PutBehind old piece (Err sink.Failed) new = (count : ℕ) × (new ≡ old ++ take count piece)
+PutBehind old piece (Err sink.Memory) new = new ≡ old
+
+abbrev pub WrittenGoes : List ℕ → PutCall → List ℕ → Type 0
+WrittenGoes old call new = PutBehind old call.piece call.answer new
+
+-- one call of a store: it still tells its files or tells none, the files go by the call where they are told, and the counts
+-- rise with a failure and with a miss alone
+pub record StoreKeeps {S : Type 0} (tells : S → Bool) (files : S → Files) (faults misses : S → ℕ) (old : S) (call : StoreCall) (new : S) : Type 0 where
+  pub told : tells new ≡ tells old
+  pub contents : IsTrue (tells old) → FilesGo (files old) call (files new)
+  pub failed : Counted (store_failed call) (faults old) (faults new)
+  pub missed : Counted (store_missed call) (misses old) (misses new)
+
+-- the same of a source, of what is left
+pub record SourceKeeps {S : Type 0} (tells : S → Bool) (left : S → List ℕ) (faults : S → ℕ) (old : S) (call : TakeCall) (new : S) : Type 0 where
+  pub told : tells new ≡ tells old
+  pub contents : IsTrue (tells old) → LeftGoes (left old) call (left new)
+  pub failed : Counted (take_failed call) (faults old) (faults new)
+
+-- the same of a sink, of what was written
+pub record SinkKeeps {S : Type 0} (tells : S → Bool) (written : S → List ℕ) (faults : S → ℕ) (old : S) (call : PutCall) (new : S) : Type 0 where
+  pub told : tells new ≡ tells old
+  pub contents : IsTrue (tells old) → WrittenGoes (written old) call (written new)
+  pub failed : Counted (put_failed call) (faults old) (faults new)
+
+-- some calls, one after the other, lead from one state to another; each goes by the relation of one call
+abbrev pub Follows : {X C : Type 0} → (X → C → X → Type 0) → X → X → List C → Type 0
+Follows goes old new [] = new ≡ old
+Follows {X} goes old new (call ∷ calls) = (next : X) × goes old call next × Follows goes next new calls
+
+-- whether some call is of a kind
+abbrev pub any_of : {C : Type 0} → (C → Bool) → List C → Bool
+any_of is [] = false
+any_of is (call ∷ calls) = is call || any_of is calls
+
+-- a list of calls of a store: what is said of one call, of all of them together
+pub record StoreWent {S : Type 0} (tells : S → Bool) (files : S → Files) (faults misses : S → ℕ) (old new : S) (calls : List StoreCall) : Type 0 where
+  pub told : tells new ≡ tells old
+  pub contents : IsTrue (tells old) → Follows FilesGo (files old) (files new) calls
+  pub failed : Counted (any_of store_failed calls) (faults old) (faults new)
+  pub missed : Counted (any_of store_missed calls) (misses old) (misses new)
+
+-- the same of a source
+pub record SourceWent {S : Type 0} (tells : S → Bool) (left : S → List ℕ) (faults : S → ℕ) (old new : S) (calls : List TakeCall) : Type 0 where
+  pub told : tells new ≡ tells old
+  pub contents : IsTrue (tells old) → Follows LeftGoes (left old) (left new) calls
+  pub failed : Counted (any_of take_failed calls) (faults old) (faults new)
+
+-- the same of a sink
+pub record SinkWent {S : Type 0} (tells : S → Bool) (written : S → List ℕ) (faults : S → ℕ) (old new : S) (calls : List PutCall) : Type 0 where
+  pub told : tells new ≡ tells old
+  pub contents : IsTrue (tells old) → Follows WrittenGoes (written old) (written new) calls
+  pub failed : Counted (any_of put_failed calls) (faults old) (faults new)
+
+-- what a save of these bytes may leave under its name: all of them where it is done, a front where it failed
+abbrev pub IsLeftBy : List ℕ → Result (Unit {0}) SaveFault → List ℕ → Type 0
+IsLeftBy bytes (Ok done) left = left ≡ bytes
+IsLeftBy bytes (Err save.Failed) left = (count : ℕ) × (left ≡ take count bytes)
+IsLeftBy bytes (Err save.Memory) left = ⊥
+
+-- some save among the calls may have left these bytes under the name
+abbrev pub WasSaved : List StoreCall → List ℕ → List ℕ → Type 0
+WasSaved [] name left = ⊥
+WasSaved (Load other max answer ∷ calls) name left = WasSaved calls name left
+WasSaved (Save other bytes answer ∷ calls) name left = ((other ≡ name) × IsLeftBy bytes answer left) ⊎ WasSaved calls name left
