@@ -1,0 +1,5 @@
+pub mod Formula
+pub mod Grammar
+pub mod Machine
+pub mod Text
+pub mod Texts

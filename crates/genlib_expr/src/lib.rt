@@ -1,0 +1,22 @@
+//! Expressions of gates in genlib libraries: which formula a text spells, over which pins.
+//!
+//! Source: the genlib format of SIS (UCB/ERL M92/41). A sum is written with `+`, a product with `*` or with
+//! nothing between its factors, a complement with `!` in front or `'` behind; names and the constants stand
+//! alone, and parentheses hold a sum. Promised: `read` gives the one formula that the grammar
+//! (`specs/Grammar.antt`) lets the tokens of the text spell (`specs/Text.antt`), with its pins in the order in
+//! which they come and its depth, and refuses a text just where it spells none; `parse` does so for tokens.
+//! The grammar is read from the left with the operators that wait (Dijkstra's shunting yard), and a formula is
+//! kept as its nodes in postfix order: no chain of operators and no nesting leads to a recursion. The only other
+//! error is want of memory.
+#![tactic(auto)]
+
+mod expression;
+mod node;
+mod reading;
+mod token;
+mod tokens;
+mod words;
+
+pub use expression::{ExprFault, Parsed, parse, read};
+pub use node::{Expr, Node};
+pub use token::Token;

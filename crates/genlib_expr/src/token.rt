@@ -1,0 +1,15 @@
+//! The tokens of an expression.
+
+/// A token. A name stands as the place of its pin; `Other` is a character that no expression has.
+#[derive(Clone, Copy, Debug, PartialEq, Eq)]
+pub enum Token {
+    Constant(bool),
+    Name(usize),
+    Bang,
+    Quote,
+    Star,
+    Plus,
+    Open,
+    Close,
+    Other,
+}

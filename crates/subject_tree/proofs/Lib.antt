@@ -1,0 +1,11 @@
+pub mod Arenas
+pub mod Comparing
+pub mod Counting
+pub mod Growing
+pub mod Joining
+pub mod Measuring
+pub mod Naming
+pub mod Standing
+pub mod TableValues
+pub mod Values
+pub mod Vertices

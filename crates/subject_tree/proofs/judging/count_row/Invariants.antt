@@ -1,0 +1,13 @@
+use Rattle.std.proofs.Common.{ℕ, ◌+◌, ◌≤◌, List, length, drop, bytes_eq}
+use Rattle.indexmap.specs.IndexMap.{get}
+use Rattle.subject_tree.specs.Forest.{uses_in_row, AreCounts}
+use Rattle.subject_tree.proofs.judging.count_row.Given as goal
+
+abbrev pub invariant-loop-place : goal.invariant-loop-place
+invariant-loop-place l = record {
+  within : l.place ≤ length l.inputs;
+  counts : (uses : List ℕ → ℕ) → AreCounts (get bytes_eq l.fn.counts) uses → AreCounts (get bytes_eq l.counts) (λ signal. uses signal + uses_in_row signal (drop l.place l.inputs) (drop l.place l.row));
+}
+
+abbrev pub decreases-loop-place : goal.decreases-loop-place
+decreases-loop-place l = l.place

@@ -1,0 +1,22 @@
+//! Subject trees: the trees of two-input NANDs and inverters that gates are matched with.
+//!
+//! Source: Keutzer, "DAGON: Technology binding and local optimization by DAG matching" (24th Design Automation Conference,
+//! 1987); Rudell, "Logic Synthesis for VLSI Design" (thesis, University of California, Berkeley, 1989). `specs/Trees.antt`
+//! says what a tree is. An `Arena` keeps trees as numbered vertices in which equal trees share one number, so that no tree
+//! is walked to compare, to copy or to drop it; `Leaves` numbers the signals at their leaves. `table_number` makes the tree of
+//! a table, and `fates` tells which tables of a circuit are constant, put into their reader, left out, or roots of trees. Each
+//! error is want of memory.
+#![tactic(auto)]
+
+mod arena;
+mod judging;
+pub mod laws;
+mod leaves;
+mod order;
+mod sizes;
+mod tables;
+
+pub use arena::{Arena, Vertex};
+pub use judging::{Fate, fates};
+pub use leaves::Leaves;
+pub use tables::table_number;
