@@ -13,6 +13,3 @@ mod name_set;
 
 pub use cycle::first_on_cycle;
 pub use name_check::{first_again, first_listed_twice, first_missing};
-
-#[cfg(test)]
-mod tests;

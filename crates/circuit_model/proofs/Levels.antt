@@ -8,7 +8,8 @@ use Rattle.std.proofs.lemmas.List.{drop_more, drop_all, length-map}
 use Rattle.sis_base.specs.Rows.{agrees, matches, some_matches}
 use Rattle.circuit_model.specs.Values.{literal_of, table_value}
 use Rattle.circuit_model.specs.Runs.{run, next_state, outputs_at, IsInputRow}
-use Rattle.circuit_model.specs.Levels.{place_from, place_in, bit_at, level_of, Fits}
+use Rattle.circuit_model.specs.Levels.{place_from, place_in, bit_at, level_of}
+use Rattle.circuit_model.specs.Simulation.{Fits}
 use Rattle.circuit_model.specs.declared.circuit.Tri.{Tri}
 use Rattle.circuit_model.specs.declared.circuit.Tri.TheVariants.{Zero}
 use Rattle.circuit_model.specs.declared.circuit.Table.{Table}

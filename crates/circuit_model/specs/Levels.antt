@@ -2,10 +2,10 @@
 -- Source: De Micheli, "Synthesis and Optimization of Digital Circuits", chapter 8 (levels of a logic network), and the
 -- meaning of `.names` and `.exdc` in the BLIF appendix of the SIS report (UCB/ERL M92/41).
 -- A place is none where no signal has the name.
-use Rattle.std.specs.Prelude.{◌≡◌, ℕ, zero, suc, Bool, false, Option, Some, None, List, [], ◌∷◌, ◌++◌, map, length, bytes_eq, slice_index_or, if◌then◌else◌, Result, Ok, Err}
-use Rattle.std.specs.List.{AllByRecursion}
+-- Clauses of private functions alone need this module; no public clause does.
+use Rattle.std.specs.Prelude.{ℕ, zero, suc, Bool, false, Option, Some, None, List, [], ◌∷◌, ◌++◌, map, length, bytes_eq, slice_index_or, if◌then◌else◌}
 use Rattle.circuit_model.specs.Values.{table_value}
-use Rattle.circuit_model.specs.Runs.{tri_of, run, IsInputRow}
+use Rattle.circuit_model.specs.Runs.{tri_of}
 use Rattle.circuit_model.specs.Soundness.{leaf_names, outputs_of}
 use Rattle.circuit_model.specs.declared.circuit.Tri.{Tri}
 use Rattle.circuit_model.specs.declared.circuit.Tri.TheVariants.{Free}
@@ -14,8 +14,6 @@ use Rattle.circuit_model.specs.declared.circuit.Latch.{Latch}
 use Rattle.circuit_model.specs.declared.circuit.Circuit.{Circuit}
 use Rattle.circuit_model.specs.declared.wiring.OutputPlaces.{OutputPlaces}
 use Rattle.circuit_model.specs.declared.wiring.Wiring.{Wiring}
-use Rattle.circuit_model.specs.declared.simulation.SimFault.{SimFault}
-use Rattle.circuit_model.specs.declared.simulation.SimFault.TheVariants.{BadWidth, Memory}
 
 -- the place of the first of some names that is a given one, where the first of them has a given place
 unfoldable pub place_from : ℕ → List (List ℕ) → List ℕ → Option ℕ
@@ -79,14 +77,3 @@ settled_bits tables reads front back = bits_to tables reads front back (length t
 -- what an output shows: either where its don't-care table is 1
 abbrev pub tri_at : List Bool → List Bool → OutputPlaces → Tri
 tri_at bits free_bits places = if bit_at free_bits places.dont_care then Free else tri_of (bit_at bits places.signal)
-
--- a start has one bit for each latch, and each input row one for each input
-pub record Fits (circuit : Circuit) (start : List Bool) (rows : List (List Bool)) : Type 0 where
-  pub latches : length start ≡ length circuit.latches
-  pub inputs : AllByRecursion (IsInputRow circuit) rows
-
--- a simulation gives the run, a fault of widths exactly where start and rows do not fit, and else only wants memory
-abbrev pub Simulates : Circuit → List Bool → List (List Bool) → Result (List (List Tri)) SimFault → Type 0
-Simulates circuit start rows (Ok shown) = Fits circuit start rows × (shown ≡ run circuit start rows)
-Simulates circuit start rows (Err BadWidth) = Fits circuit start rows → ⊥
-Simulates circuit start rows (Err Memory) = Fits circuit start rows

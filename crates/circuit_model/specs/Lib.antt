@@ -5,3 +5,4 @@ pub mod Runs
 pub mod Soundness
 pub mod Text
 pub mod Levels
+pub mod Simulation

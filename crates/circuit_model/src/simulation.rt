@@ -2,10 +2,11 @@
 
 ghost use Rattle.std.specs.Prelude.{◌≡◌, ◌++◌, ◌==◌, false, map, length, IfOk, OnOk, IsTrue, ◌↔◌};
 ghost use Rattle.std.specs.List.{list_all};
-ghost use Rattle.sis_base.specs.Rows.{agrees as place_agrees, matches, some_matches};
+ghost use Rattle.sis_base.specs.Rows.{agrees as literal_agrees, matches, some_matches};
 ghost use Rattle.circuit_model.specs.Values.{literal_of, table_value};
 ghost use Rattle.circuit_model.specs.Runs.{run, outputs_at, next_state, IsInputRow};
-ghost use Rattle.circuit_model.specs.Levels.{bit_at as bit_by, level_of, settled_bits, tri_at as tri_by, wiring_of, Fits, Simulates};
+ghost use Rattle.circuit_model.specs.Levels.{bit_at as bit_by, level_of, settled_bits, tri_at as tri_by, wiring_of};
+ghost use Rattle.circuit_model.specs.Simulation.{Fits, Simulates};
 
 use crate::circuit::{Circuit, Row, Table, Tri};
 use crate::wiring::{OutputPlaces, Places, Wiring, wire};
@@ -60,7 +61,7 @@ fn bit_at(bits: &[bool], place: Option<usize>) -> bool
 
 /// Whether a character of a row agrees with a bit.
 fn agrees(tri: Tri, bit: bool) -> bool
-    ensures { result ≡ place_agrees (literal_of tri) bit }
+    ensures { result ≡ literal_agrees (literal_of tri) bit }
 {
     match tri {
         Tri::Zero => !bit,

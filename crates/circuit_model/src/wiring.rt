@@ -193,17 +193,42 @@ fn dont_care_places(alloc: Global, circuit: &Circuit) -> Result<Sequence<Places>
     Ok(reads)
 }
 
-/// All places that a simulation of a circuit reads at; an error only for want of memory.
+/// The places of the outputs among the signals and the don't-care tables; an error only for want of memory.
+fn circuit_shown(
+    alloc: Global,
+    signals: &IndexMap<Name, usize>,
+    circuit: &Circuit,
+) -> Result<Sequence<OutputPlaces>, AllocError>
+    ensures { IfOk result (λ places. places ≡ output_places (get bytes_eq signals.now) (place_in (outputs_of circuit.now.dont_care)) circuit.now.outputs) }
+{
+    let dont_cares = index_of(alloc, dont_care_outputs(alloc, circuit)?)?;
+    let places = shown_places(alloc, signals, &dont_cares, circuit.outputs.as_slice())?;
+    Ok(places)
+}
+
+/// All places that a simulation reads at, from the signals' places; an error only for want of memory.
 #[tactic(auto, unfolding(crate::specs::Levels::wiring_of))]
+fn wire_by(
+    alloc: Global,
+    signals: &IndexMap<Name, usize>,
+    circuit: &Circuit,
+) -> Result<Wiring, AllocError>
+    requires { get bytes_eq signals.now ≡ place_in (signals_of circuit.now) }
+    ensures { IfOk result (λ wiring. wiring ≡ wiring_of circuit.now) }
+{
+    Ok(Wiring {
+        tables: table_places(alloc, signals, circuit.tables.as_slice())?,
+        dont_care: dont_care_places(alloc, circuit)?,
+        outputs: circuit_shown(alloc, signals, circuit)?,
+        latches: latch_places(alloc, signals, circuit.latches.as_slice())?,
+    })
+}
+
+/// All places that a simulation of a circuit reads at; an error only for want of memory.
 pub fn wire(alloc: Global, circuit: &Circuit) -> Result<Wiring, AllocError>
     ensures { IfOk result (λ wiring. wiring ≡ wiring_of circuit.now) }
 {
     let signals = index_of(alloc, signal_names(alloc, circuit)?)?;
-    let dont_cares = index_of(alloc, dont_care_outputs(alloc, circuit)?)?;
-    Ok(Wiring {
-        tables: table_places(alloc, &signals, circuit.tables.as_slice())?,
-        dont_care: dont_care_places(alloc, circuit)?,
-        outputs: shown_places(alloc, &signals, &dont_cares, circuit.outputs.as_slice())?,
-        latches: latch_places(alloc, &signals, circuit.latches.as_slice())?,
-    })
+    let wiring = wire_by(alloc, &signals, circuit)?;
+    Ok(wiring)
 }

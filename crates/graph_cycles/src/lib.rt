@@ -13,6 +13,3 @@ pub mod laws;
 mod search;
 
 pub use cycle::first_cyclic;
-
-#[cfg(test)]
-mod tests;

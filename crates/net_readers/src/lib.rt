@@ -21,9 +21,6 @@ use sis_base::{Copied, Sequence};
 use std::alloc::{AllocError, Global};
 use std::collections::BTreeSet;
 
-#[cfg(test)]
-mod tests;
-
 /// Places in a list of tables or of latches.
 pub type Places = Sequence<usize>;
 

@@ -21,7 +21,7 @@ fn row(alloc: Global, text: &str) -> Result<PlainRow, AllocError> {
     for byte in text.as_bytes() {
         places.push(place(*byte))?;
     }
-    PlainRow::from_places(alloc, places.as_slice())
+    PlainRow::from_literals(alloc, places.as_slice())
 }
 
 /// The cover of those rows that have its width, from their texts.

@@ -11,8 +11,6 @@ mod laws;
 mod options;
 mod reading;
 mod shell;
-#[cfg(test)]
-mod tests;
 
 pub use laws::{options_are_asked_for, other_words_are_refused};
 pub use options::{Options, ScriptFrom, WordsFault};

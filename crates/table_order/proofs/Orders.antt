@@ -1,10 +1,10 @@
 -- Names that are in order so far, and what one more name keeps.
-use Rattle.std.proofs.Common.{◌≡◌, ℕ, zero, suc, ◌+◌, ◌<◌, ◌≤◌, Bool, true, false, not, ◌&&◌, ◌||◌, cond, Option, Some, None, List, [], ◌∷◌, ◌++◌, length, find, slice_get, bytes_eq, refl, sym, ap, ◌∙◌, subst, inl, inr, ◌⊎◌, arith}
+use Rattle.std.proofs.Common.{◌≡◌, ℕ, zero, suc, ◌+◌, ◌<◌, ◌≤◌, Bool, true, false, not, ◌||◌, cond, Option, Some, None, List, [], ◌∷◌, ◌++◌, length, find, slice_get, bytes_eq, refl, sym, ap, ◌∙◌, subst, inl, inr, ◌⊎◌, arith}
 use Rattle.std.specs.List.{list_all, IsDistinct}
 use Rattle.std.specs.Option.{option_map_or}
 use Rattle.std.proofs.lemmas.Bool.{false≢true, or_cases, and_parts, and_from, not_from_false, not-true, false_from_ne_true, true_from_ne_false}
 use Rattle.std.proofs.lemmas.Option.{same_Some, none-some}
-use Rattle.std.proofs.lemmas.List.{length-map, length_push, map-append}
+use Rattle.std.proofs.lemmas.List.{length-map, length_push}
 use Rattle.std.proofs.lemmas.Cmp.{nat_list_eq_equiv}
 use Rattle.std.proofs.lemmas.Map.Made.{length-le_from_is_member}
 use Rattle.circuit_model.specs.Names.{has, all_different}
@@ -55,21 +55,6 @@ different_push names last different new = apart_different names (last ∷ []) (r
         | inr m ↦ false≢true m
       ];
 })
-
-none_has : (tables : List Table) (name : List ℕ) → list_all (λ (table : Table). not (bytes_eq name table.output)) tables ≡ not (has (outputs_of tables) name)
-none_has [] name = refl
-none_has (table ∷ tables) name = cases (bytes_eq name table.output) (none_has tables name)
-  where
-    cases : (b : Bool) → list_all (λ (t : Table). not (bytes_eq name t.output)) tables ≡ not (has (outputs_of tables) name)
-        → (not b && list_all (λ (t : Table). not (bytes_eq name t.output)) tables) ≡ not (b || has (outputs_of tables) name)
-    cases true rest = refl
-    cases false rest = rest
-
-pub different_added : (tables : List Table) (table : Table) → all_different (outputs_of tables) ≡ true → list_all (λ (other : Table). not (bytes_eq table.output other.output)) tables ≡ true
-    → all_different (outputs_of (tables ++ table ∷ [])) ≡ true
-different_added tables table different others =
-    let new : has (outputs_of tables) table.output ≡ false = not-true (has (outputs_of tables) table.output) (sym (none_has tables table.output) ∙ others) in
-    ap all_different (map-append (λ (t : Table). t.output) tables (table ∷ [])) ∙ different_push (outputs_of tables) table.output different new
 
 distinct : (names : List (List ℕ)) → all_different names ≡ true → IsDistinct bytes_eq names
 unfolding IsDistinct

@@ -12,6 +12,3 @@ pub mod laws;
 mod listing;
 
 pub use listing::order;
-
-#[cfg(test)]
-mod tests;
