@@ -2,6 +2,7 @@
 # berkeley-abc). Read by the scripts beside it, which set $top (the repository); $work is a folder for
 # files that goes with the script.
 
+"$top/bin/sis" -c quit || exit 1 # proves and builds the program where it does not stand yet
 work=$(mktemp -d) || exit 1
 trap 'rm -rf "$work"' EXIT
 
@@ -20,7 +21,7 @@ PY
 
 # Runs a script on $work/a.blif, once with each program; each writes a file of its own.
 compare() { # the commands between reading and writing
-  (cd "$work" && measure sis "$top/bin/sis" -c "read_blif a.blif; $1; write_blif b.blif")
+  (cd "$work" && measure sis "$top/out/sis" -c "read_blif a.blif; $1; write_blif b.blif")
   if command -v berkeley-abc >/dev/null; then
     (cd "$work" && measure abc berkeley-abc -c "read_blif a.blif; $1; write_blif c.blif")
   else
