@@ -61,7 +61,7 @@ impl Reading {
         } = table;
         let width = inputs.len();
         let mark = mark_of(rows.as_slice(), mark, bytes[width]);
-        let row = Sequence::from_vec(characters(alloc, &bytes[..width])?);
+        let row = characters(alloc, &bytes[..width])?;
         let rows = appended(rows, row)?;
         let phase = mark == b'1';
         Ok(Reading {

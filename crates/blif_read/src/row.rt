@@ -24,10 +24,14 @@ fn character_of(byte: u8) -> Tri
 }
 
 /// The characters of a row; an error only for want of memory.
-pub fn characters(alloc: Global, bytes: &[u8]) -> Result<Vec<Tri>, AllocError>
-    ensures { IfOk result (λ row. row.items ≡ map character_by bytes.now) }
+pub fn characters(alloc: Global, bytes: &[u8]) -> Result<Row, AllocError>
+    ensures { IfOk result (λ row. row ≡ map character_by bytes.now) }
 {
-    bytes.iter().map(|byte| character_of(*byte)).collect(alloc)
+    let mut row = Row::new(alloc);
+    for byte in bytes {
+        row.push(character_of(*byte))?;
+    }
+    Ok(row)
 }
 
 /// Whether all bytes are characters of a row.

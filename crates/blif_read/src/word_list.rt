@@ -9,7 +9,6 @@ ghost use Rattle.blif_read.specs.Steps.{texts};
 
 use crate::keyword::Keyword;
 use circuit_model::{Name, Names};
-use sis_base::Sequence;
 use std::alloc::{AllocError, Global};
 
 /// What a line is, by its first word.
@@ -112,7 +111,7 @@ pub fn latch_output<'a, 'w>(words: &'w [&'a [u8]]) -> &'w [&'a [u8]]
 pub fn name_of(alloc: Global, word: &[u8]) -> Result<Name, AllocError>
     ensures { IfOk result (λ name. name ≡ word.now) }
 {
-    Ok(Sequence::from_vec(word.to_vec(alloc)?))
+    Name::from_slice(alloc, word)
 }
 
 /// Puts a name for each word behind the last of some names; an error only for want of memory.

@@ -1,14 +1,12 @@
 //! The types of circuits. All lists in them are seen by contracts as plain lists, so that two circuits are
 //! equal (`≡`) where all their parts are.
 
-use sis_base::Sequence;
+use sis_base::{Name, Sequence, Short};
 
-/// A name: the bytes of a word of the file.
-pub type Name = Sequence<u8>;
 /// Names in order.
 pub type Names = Sequence<Name>;
 /// A row of a table: one character for each input, in their order.
-pub type Row = Sequence<Tri>;
+pub type Row = Short<Tri, 16>;
 /// The rows of a table, in order.
 pub type Rows = Sequence<Row>;
 /// Tables, in order.
@@ -17,8 +15,9 @@ pub type Tables = Sequence<Table>;
 pub type Latches = Sequence<Latch>;
 
 /// A character of a row, or an output at a step: `0`, `1`, or `-` (either).
-#[derive(Clone, Copy, Debug, PartialEq, Eq)]
+#[derive(Clone, Copy, Debug, Default, PartialEq, Eq)]
 pub enum Tri {
+    #[default]
     Zero,
     One,
     Free,

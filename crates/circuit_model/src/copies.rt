@@ -2,8 +2,8 @@
 
 ghost use Rattle.std.specs.Prelude.{◌≡◌, IfOk};
 
-use crate::circuit::{Circuit, Latch, Name, Table, Timing, Tri};
-use sis_base::Copied;
+use crate::circuit::{Circuit, Latch, Table, Timing, Tri};
+use sis_base::{Copied, Name};
 use std::alloc::{AllocError, Global};
 
 impl Copied for Tri {

@@ -13,8 +13,7 @@ pub mod laws;
 mod simulation;
 mod wiring;
 
-pub use circuit::{
-    Circuit, Kind, Latch, Latches, Name, Names, Row, Rows, Table, Tables, Timing, Tri,
-};
+pub use circuit::{Circuit, Kind, Latch, Latches, Names, Row, Rows, Table, Tables, Timing, Tri};
 pub use copies::timing_copied;
 pub use simulation::{Bits, SimFault, Simulated};
+pub use sis_base::Name;

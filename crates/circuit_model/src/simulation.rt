@@ -221,7 +221,7 @@ fn shown_at(
 ) -> Result<Row, AllocError>
     ensures { IfOk result (λ shown. shown ≡ map (tri_by bits.now free_bits.now) outputs.now) }
 {
-    let mut shown = Sequence::new(alloc);
+    let mut shown = Row::new(alloc);
     for places in outputs {
         shown.push(tri_at(bits, free_bits, *places))?;
     }

@@ -6,9 +6,9 @@ ghost use Rattle.circuit_model.specs.Soundness.{leaf_names as leaves_of, outputs
 ghost use Rattle.circuit_model.specs.Runs.{latch_outputs};
 ghost use Rattle.circuit_model.specs.Levels.{place_in, reads_in, output_places, latch_places as latch_reads, signal_names as signals_of, dont_care_names as dont_cares_of, wiring_of};
 
-use crate::circuit::{Circuit, Latch, Name, Table};
+use crate::circuit::{Circuit, Latch, Table};
 use indexmap::IndexMap;
-use sis_base::{Copied, Sequence};
+use sis_base::{Copied, Name, Sequence};
 use std::alloc::{AllocError, Global};
 
 /// Places of signals in a list of their bits; none where no signal has the name.

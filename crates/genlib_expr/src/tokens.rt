@@ -10,7 +10,6 @@ use crate::token::Token;
 use crate::words::is_mark;
 use circuit_model::Name;
 use indexmap::IndexSet;
-use sis_base::Sequence;
 use std::alloc::{AllocError, Global};
 
 /// Tokens, and the pins by whose places names stand in them.
@@ -73,7 +72,7 @@ fn fixed_token(word: &[u8]) -> Option<Token>
 fn name_of(alloc: Global, word: &[u8]) -> Result<Name, AllocError>
     ensures { IfOk result (λ name. name ≡ word.now) }
 {
-    Ok(Sequence::from_vec(word.to_vec(alloc)?))
+    Name::from_slice(alloc, word)
 }
 
 /// The token of a word, whose name is put behind the pins where it is new.

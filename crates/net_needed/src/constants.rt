@@ -45,7 +45,7 @@ fn constant_rows(alloc: Global, bit: bool) -> Result<Rows, AllocError>
     if !bit {
         return Ok(rows);
     }
-    rows.push(Sequence::new(alloc))?;
+    rows.push(Row::new(alloc))?;
     Ok(rows)
 }
 

@@ -584,6 +584,25 @@ constant_applied circuit new place here made bit sound at has_bit is n table the
     n ∙ (ap (λ (t : Table). with_tables circuit (set circuit.tables place t)) (is ∙ ap (λ (t : Table). constant_table t.output bit) same)
     ∙ sym (constant_set circuit place table bit sound there (ap unwritten_bit (sym same) ∙ has_bit)))
 
+pub constant_put : (circuit new : Circuit) (place : ℕ) (here made : Table) → AreSound circuit.tables → slice_get circuit.tables place ≡ Some here → Some made ≡ option_map (constant_table here.output) (unwritten_bit here)
+    → new ≡ with_tables circuit (set circuit.tables place made) → (table : Table) → slice_get circuit.tables place ≡ Some table → new ≡ rule_applied Constant circuit table
+constant_put circuit new place here made sound at is n = by (unwritten_bit here) refl is
+  where
+    by : (bit : Option Bool) → unwritten_bit here ≡ bit → Some made ≡ option_map (constant_table here.output) bit
+        → (table : Table) → slice_get circuit.tables place ≡ Some table → new ≡ rule_applied Constant circuit table
+    by None e d = absurd (let no : Some made ≡ None = d in cc)
+    by (Some bit) e d = constant_applied circuit new place here made bit sound at e (same_Some made (constant_table here.output bit) d) n
+
+-- a table that is no constant, or written as it, stays
+pub constant_left : (circuit : Circuit) (place : ℕ) (here : Table) → slice_get circuit.tables place ≡ Some here → None ≡ option_map (constant_table here.output) (unwritten_bit here)
+    → (table : Table) → slice_get circuit.tables place ≡ Some table → circuit ≡ rule_applied Constant circuit table
+constant_left circuit place here at none table there = by (unwritten_bit table) (ap (λ (t : Table). option_map (constant_table t.output) (unwritten_bit t)) (same_Some here table (sym at ∙ there)))
+  where
+    by : (bit : Option Bool) → option_map (constant_table here.output) (unwritten_bit here) ≡ option_map (constant_table table.output) bit
+        → circuit ≡ option_map_or (λ b. with_replaced circuit (constant_table table.output b)) bit circuit
+    by None e = refl
+    by (Some bit) e = absurd (let no : None ≡ Some (constant_table table.output bit) = none ∙ e in cc)
+
 pub set_others : (circuit new : Circuit) (place : ℕ) (made : Table) (places : List ℕ) → new ≡ with_tables circuit (set circuit.tables place made) → places ≡ place ∷ [] → AreAlikeBut places circuit.tables new.tables
 set_others circuit new place made places n p =
     subst (λ (ps : List ℕ). AreAlikeBut ps circuit.tables new.tables) (sym p)

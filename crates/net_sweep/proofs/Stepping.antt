@@ -178,16 +178,20 @@ whole_again circuit sound = ap (λ (timing : Option Timing). record circuit { ti
     by [] e = sym (sound.untimed_without_latches e)
     by (latch ∷ latches) e = refl
 
-begun : (circuit : Circuit) (slots : List (Option Latch)) → IsSound circuit → left_at slots ≡ circuit.latches → HasLed circuit (with_latches circuit (left_at slots))
+pub begun : (circuit : Circuit) (slots : List (Option Latch)) → IsSound circuit → left_at slots ≡ circuit.latches → HasLed circuit (with_latches circuit (left_at slots))
 begun circuit slots sound left = subst (HasLed circuit) (sym (ap (with_latches circuit) left ∙ whole_again circuit sound)) (not_yet circuit sound)
 
-pub settling_none : (circuit begin : Circuit) (standing : Standing) (count : ℕ) (marks : Rule → ℕ → Bool) → IsSound circuit → IsReady standing circuit → left_at standing.slots.items ≡ circuit.latches
-    → begin ≡ circuit → count ≡ length circuit.tables → ((rule : Rule) (place : ℕ) → place < count → marks rule place ≡ true) → IsSettling circuit begin standing marks
-settling_none circuit begin standing count marks sound ready left same long every = subst (λ (c : Circuit). IsSettling circuit c standing marks) (sym same) record {
-  led = begun circuit standing.slots.items sound left;
-  marked = λ rule place table at passed. every rule place (subst (λ (n : ℕ). place < n) (sym long) (slice_get_within circuit.tables place table at));
-  ready = ready;
-}
+-- each place of a table waits for each rule
+pub all_marked : (tables : List Table) (count : ℕ) (marks : Rule → ℕ → Bool) → count ≡ length tables → ((rule : Rule) (place : ℕ) → place < count → marks rule place ≡ true) → AreCandidates marks tables
+all_marked tables count marks long every rule place table at passed = every rule place (subst (λ (n : ℕ). place < n) (sym long) (slice_get_within tables place table at))
+
+pub settling_itself : (circuit : Circuit) (standing : Standing) (marks : Rule → ℕ → Bool) → IsSound (with_latches circuit (left_at standing.slots.items)) → AreCandidates marks circuit.tables → IsReady standing circuit
+    → IsSettling (with_latches circuit (left_at standing.slots.items)) circuit standing marks
+settling_itself circuit standing marks sound marked ready = record { led = not_yet (with_latches circuit (left_at standing.slots.items)) sound; marked = marked; ready = ready }
+
+-- what is left of the latches may be told by slots that equal them
+pub led_on : (from to : Circuit) (slots mid : List (Option Latch)) → HasLed from (with_latches to (left_at slots)) → mid ≡ slots → HasLed from (with_latches to (left_at mid))
+led_on from to slots mid led same = subst (λ (ss : List (Option Latch)). HasLed from (with_latches to (left_at ss))) (sym same) led
 
 -- a step, and then the table at which it was taken is emptied where nothing takes it
 pub settling_more : (from to mid_circuit new : Circuit) (standing mid after : Standing) (marks marks_after : Rule → ℕ → Bool) → IsSettling from to standing marks
@@ -230,9 +234,12 @@ still_next circuit slots mid o step next is same = subst (λ (ss : List (Option 
 pub still_sound : (circuit : Circuit) (slots mid : List (Option Latch)) → IsSound (with_latches circuit (left_at slots)) → mid ≡ slots → IsSound (with_latches circuit (left_at mid))
 still_sound circuit slots mid sound same = subst (λ (ss : List (Option Latch)). IsSound (with_latches circuit (left_at ss))) (sym same) sound
 
-pub settled_led : (from to left end : Circuit) (slots mid : List (Option Latch)) → HasLed from (with_latches to (left_at slots)) → mid ≡ slots → left ≡ to → end ≡ with_latches left (left_at mid) → HasLed from end
-settled_led from to left end slots mid led same l is =
-    subst (HasLed from) (sym (is ∙ (ap (λ (c : Circuit). with_latches c (left_at mid)) l ∙ ap (λ (ss : List (Option Latch)). with_latches to (left_at ss)) same))) led
+-- the first circuit may be told by one that equals it, and the last one too
+pub led_between : (first from to last : Circuit) (slots after : List (Option Latch)) → HasLed (with_latches first (left_at slots)) (with_latches to (left_at after)) → first ≡ from → last ≡ to
+    → HasLed (with_latches from (left_at slots)) (with_latches last (left_at after))
+led_between first from to last slots after led f l =
+    subst (λ (c : Circuit). HasLed (with_latches c (left_at slots)) (with_latches last (left_at after))) f
+    (subst (λ (c : Circuit). HasLed (with_latches first (left_at slots)) (with_latches c (left_at after))) (sym l) led)
 
 pub none_next : (circuit : Circuit) (slots mid : List (Option Latch)) (o : Option Step) → IsNextStep circuit slots o → o ≡ None → mid ≡ slots → IsNextStep circuit mid None
 none_next circuit slots mid o next is same = subst (λ (ss : List (Option Latch)). IsNextStep circuit ss None) (sym same) (subst (IsNextStep circuit slots) is next)

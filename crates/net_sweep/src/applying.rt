@@ -19,12 +19,12 @@ ghost use Rattle.net_sweep.specs.Settled.{IsFirst};
 ghost use Rattle.net_sweep.specs.Settled.{passes, rule_applied, IsNext, changed_by, is_apart, is_candidate, AreWaiting, AreCandidates, AreAlikeBut, AreSound};
 ghost use Rattle.net_readers.specs.Readers.{is_in, reads_at};
 
-use crate::constants::unwritten_bit;
+use crate::constants::{constant_written, unwritten_bit};
 use crate::queues::{Candidates, Rule, add_candidates, put_place, take_least};
 use crate::rows::{at_bit, is_inverter, rewired};
 use circuit_model::{Name, Table};
 use cube_cover::Row;
-use net_needed::{constant_table, written_bit};
+use net_needed::written_bit;
 use net_readers::Places;
 use net_wires::Wires;
 use sis_base::{Copied, Sequence};
@@ -206,10 +206,9 @@ fn write_at<R: Row>(alloc: Global, wires: &mut Wires, place: usize) -> Result<Pl
 {
     let places = one_place(alloc, place)?;
     let table = table_at(alloc, wires, place)?;
-    match unwritten_bit::<R>(alloc, &table)? {
+    match constant_written::<R>(alloc, table)? {
         None => Ok(places),
-        Some(bit) => {
-            let constant = constant_table(alloc, table.output, bit)?;
+        Some(constant) => {
             wires.set(alloc, place, constant)?;
             Ok(places)
         }

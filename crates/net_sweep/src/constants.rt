@@ -1,6 +1,8 @@
 //! Tables that are constant as functions.
 
 ghost use Rattle.std.specs.Prelude.{◌≡◌, ◌↔◌, length, map, IsTrue, IfOk};
+ghost use Rattle.std.specs.Option.{option_map};
+ghost use Rattle.circuit_laws.specs.Edits.{constant_table as table_of_bit};
 ghost use Rattle.cube_cover.specs.Covers.{IsTautology};
 ghost use Rattle.net_core.specs.Tables.{HasCharacters, places_of};
 ghost use Rattle.sweep_rules.specs.Points.{constant_bit};
@@ -9,7 +11,7 @@ ghost use Rattle.sweep_rules.specs.Rules.{unwritten_bit as bit_unwritten};
 use circuit_model::Table as Written;
 use cube_cover::Row;
 use net_core::Table;
-use net_needed::written_bit;
+use net_needed::{constant_table, written_bit};
 use std::alloc::{AllocError, Global};
 
 // The bit that a table has at every point, if it has one, told by whether some row matches each point.
@@ -50,4 +52,18 @@ pub(crate) fn unwritten_bit<R: Row>(
         return Ok(None);
     }
     constant_bit_of::<R>(alloc, table)
+}
+
+// The constant that a table is to be written as, where it is constant and written otherwise.
+pub(crate) fn constant_written<R: Row>(
+    alloc: Global,
+    table: Written,
+) -> Result<Option<Written>, AllocError>
+    requires { HasCharacters (length table.inputs) table.rows }
+    ensures { IfOk result (λ made. made ≡ option_map (table_of_bit table.output) (bit_unwritten table)) }
+{
+    match unwritten_bit::<R>(alloc, &table)? {
+        None => Ok(None),
+        Some(bit) => Ok(Some(constant_table(alloc, table.output, bit)?)),
+    }
 }

@@ -28,7 +28,6 @@ use std::alloc::AllocError;
 use std::collections::BTreeSet;
 
 /// Latches at the places where they began, and what tells soon which of them always has one bit.
-#[derive(Drop)]
 pub(crate) struct Standing {
     // the latches that are left, each at its place
     pub(crate) slots: Vec<Option<Latch>>,
@@ -40,6 +39,19 @@ pub(crate) struct Standing {
     pub(crate) leaves_read: IndexSet<Name>,
     // the places of the latches that wait to be tried
     pub(crate) waiting: BTreeSet<usize>,
+}
+
+// By hand, so that letting the latches go is one call in the function that owns them beside wires and candidates.
+impl Drop for Standing {
+    fn drop(self) {
+        let Standing {
+            slots: _slots,
+            fed: _fed,
+            table_places: _table_places,
+            leaves_read: _leaves_read,
+            waiting: _waiting,
+        } = self;
+    }
 }
 
 // The constant that the table of a signal is written as.

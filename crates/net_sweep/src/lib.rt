@@ -8,7 +8,8 @@
 //! of one input with as many readers as that input or more is passed by in this way; behind a step the table at which it was
 //! taken is emptied where nothing takes it (`idle`). The last rule is one pass over the circuit, by net_needed, behind which
 //! the first five are asked again.
-//! Promised: the chain of steps, to its end (`sweep`); an error, only for want of memory, changes nothing.
+//! Promised: the chain of steps, to its end (`sweep`, and `swept_copy` beside the network that stays); an error, only for
+//! want of memory, changes nothing.
 #![tactic(auto)]
 
 mod applying;
@@ -23,4 +24,4 @@ mod standing;
 mod steps;
 mod sweeping;
 
-pub use sweeping::{SweepFault, Swept, sweep};
+pub use sweeping::{SweepFault, Swept, sweep, swept_copy};

@@ -31,7 +31,6 @@ pub(crate) enum Rule {
 }
 
 /// For each rule the places of tables to which it may apply.
-#[derive(Drop)]
 pub(crate) struct Candidates {
     // for `Tidy`
     pub(crate) untidy: BTreeSet<usize>,
@@ -41,6 +40,18 @@ pub(crate) struct Candidates {
     pub(crate) constants: BTreeSet<usize>,
     // for `Bypass`
     pub(crate) singles: BTreeSet<usize>,
+}
+
+// By hand, so that letting the candidates go is one call in the function that owns them beside wires and latches.
+impl Drop for Candidates {
+    fn drop(self) {
+        let Candidates {
+            untidy: _untidy,
+            unwritten: _unwritten,
+            constants: _constants,
+            singles: _singles,
+        } = self;
+    }
 }
 
 // Takes the least place out.

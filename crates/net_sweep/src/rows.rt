@@ -56,14 +56,14 @@ fn row_at_bit(
     requires { length row.now ≡ length marks.now }
     ensures { IfOk result (λ made. made ≡ row_at_marks bit marks.now row.now) }
 {
-    let mut made = Vec::with_capacity(alloc, row.len())?;
+    let mut made = Row::new(alloc);
     for (i, mark) in marks.iter().enumerate() {
         match place_at_bit(*mark, bit, row[i]) {
             None => return Ok(None),
             Some(place) => made.push(place)?,
         }
     }
-    Ok(Some(Sequence::from_vec(made)))
+    Ok(Some(made))
 }
 
 // Puts a row, where there is one, behind the last.

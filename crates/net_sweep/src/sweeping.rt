@@ -7,11 +7,13 @@ ghost use Rattle.circuit_laws.specs.Chains.{Chain};
 ghost use Rattle.sweep_rules.specs.Keeping.{IsKept};
 ghost use Rattle.sweep_rules.specs.Rules.{latch_rule, sweep_step};
 ghost use Rattle.sweep_rules.specs.Sweeping.{IsSwept, tables_gone, latches_gone};
-ghost use Rattle.net_sweep.specs.Settled.{table_step, HasLed};
+ghost use Rattle.net_sweep.specs.Settled.{table_step, is_candidate, AreCandidates, HasLed};
+ghost use Rattle.net_sweep.specs.Latches.{left_at, with_latches, IsReady, IsNextStep};
 ghost use Rattle.net_sweep.specs.declared.sweeping.SweepFault.TheVariants.{Memory};
 
 use crate::counting::{count_undriven, outputs};
-use crate::queues::all_candidates;
+use crate::latches::Standing;
+use crate::queues::{Candidates, all_candidates};
 use crate::standing::{standing_of, with_standing};
 use crate::steps::{empty_at_step, next_step, take_step};
 use circuit_model::{Circuit, Name};
@@ -45,6 +47,57 @@ impl From<AllocError> for SweepFault {
     }
 }
 
+// Takes steps of the first five rules until none applies.
+fn take_steps<R: Row>(
+    alloc: Global,
+    wires: &mut Wires,
+    candidates: &mut Candidates,
+    standing: &mut Standing,
+) -> Result<(), AllocError>
+    requires sound { IsSound (with_latches wires.old (left_at standing.old.slots.items)) }
+    requires candidates { AreCandidates (is_candidate candidates.old) wires.old.tables }
+    requires ready { IsReady standing.old wires.old }
+    ensures led { OnOk result (HasLed (with_latches wires.old (left_at standing.old.slots.items)) (with_latches wires.new (left_at standing.new.slots.items))) }
+    ensures next { OnOk result (IsNextStep wires.new standing.new.slots.items None) }
+{
+    while let Some(step) = next_step::<R>(alloc, wires, candidates, standing)? {
+        take_step::<R>(alloc, step, wires, candidates, standing)?;
+        empty_at_step(alloc, step, wires, standing)?;
+    }
+    Ok(())
+}
+
+// Takes steps of the first five rules until none applies, to begin with at any table.
+fn settle<R: Row>(
+    alloc: Global,
+    wires: &mut Wires,
+    standing: &mut Standing,
+) -> Result<(), AllocError>
+    requires sound { IsSound (with_latches wires.old (left_at standing.old.slots.items)) }
+    requires ready { IsReady standing.old wires.old }
+    ensures led { OnOk result (HasLed (with_latches wires.old (left_at standing.old.slots.items)) (with_latches wires.new (left_at standing.new.slots.items))) }
+    ensures next { OnOk result (IsNextStep wires.new standing.new.slots.items None) }
+{
+    let mut candidates = all_candidates(alloc, wires.len())?;
+    take_steps::<R>(alloc, wires, &mut candidates, standing)
+}
+
+// The circuit where none of the first five rules applies any more, whose latches are told beside it.
+fn settled_beside<R: Row>(
+    alloc: Global,
+    circuit: Circuit,
+    standing: &mut Standing,
+) -> Result<Circuit, AllocError>
+    requires sound { IsSound (with_latches circuit (left_at standing.old.slots.items)) }
+    requires ready { IsReady standing.old circuit }
+    ensures led { IfOk result (λ end. HasLed (with_latches circuit (left_at standing.old.slots.items)) (with_latches end (left_at standing.new.slots.items))) }
+    ensures next { IfOk result (λ end. IsNextStep end standing.new.slots.items None) }
+{
+    let mut wires = Wires::from_circuit(alloc, circuit)?;
+    settle::<R>(alloc, &mut wires, standing)?;
+    wires.into_circuit(alloc)
+}
+
 // The circuit where none of the first five rules applies any more.
 fn settled<R: Row>(alloc: Global, circuit: Circuit) -> Result<Circuit, AllocError>
     requires { IsSound circuit }
@@ -53,13 +106,7 @@ fn settled<R: Row>(alloc: Global, circuit: Circuit) -> Result<Circuit, AllocErro
     ensures latches { IfOk result (λ end. latch_rule end ≡ None) }
 {
     let mut standing = standing_of(alloc, &circuit)?;
-    let mut candidates = all_candidates(alloc, circuit.tables.len())?;
-    let mut wires = Wires::from_circuit(alloc, circuit)?;
-    while let Some(step) = next_step::<R>(alloc, &wires, &mut candidates, &mut standing)? {
-        take_step::<R>(alloc, step, &mut wires, &mut candidates, &mut standing)?;
-        empty_at_step(alloc, step, &mut wires, &standing)?;
-    }
-    let end = wires.into_circuit(alloc)?;
+    let end = settled_beside::<R>(alloc, circuit, &mut standing)?;
     with_standing(alloc, end, &standing)
 }
 
@@ -88,6 +135,27 @@ fn gone(alloc: Global, tables: &[Name], latches: usize, end: &Circuit) -> Result
     })
 }
 
+/// A network swept, beside the one that stays: the end of the chain of steps, and how many tables and latches went. An
+/// error only for want of memory.
+pub fn swept_copy<R: Row>(
+    alloc: Global,
+    network: &Network<R>,
+) -> Result<(Network<R>, Swept), SweepFault>
+    ensures chain { IfOk result (λ made. Chain sweep_step network.now made.0) }
+    ensures kept { IfOk result (λ made. IsKept network.now made.0) }
+    ensures finished { IfOk result (λ made. IsSwept made.0) }
+    ensures counts { IfOk result (λ made. (made.1.tables ≡ tables_gone network.now made.0) × (made.1.latches ≡ latches_gone network.now made.0)) }
+{
+    network.sound();
+    let circuit = network.to_circuit(alloc)?;
+    let tables = outputs(alloc, circuit.tables.as_slice())?;
+    let latches = circuit.latches.len();
+    let end = finished::<R>(alloc, circuit)?;
+    let swept = gone(alloc, tables.as_slice(), latches, &end)?;
+    let made = Network::from_circuit(alloc, end)?;
+    Ok((made, swept))
+}
+
 /// Sweeps a network: it becomes the end of the chain of steps; how many tables and latches went is answered. An error, only
 /// for want of memory, changes nothing.
 pub fn sweep<R: Row>(alloc: Global, network: &mut Network<R>) -> Result<Swept, SweepFault>
@@ -97,13 +165,7 @@ pub fn sweep<R: Row>(alloc: Global, network: &mut Network<R>) -> Result<Swept, S
     ensures counts { IfOk result (λ swept. (swept.tables ≡ tables_gone network.old network.new) × (swept.latches ≡ latches_gone network.old network.new)) }
     ensures err { OnErr result (network.new ≡ network.old) }
 {
-    network.sound();
-    let circuit = network.to_circuit(alloc)?;
-    let tables = outputs(alloc, circuit.tables.as_slice())?;
-    let latches = circuit.latches.len();
-    let end = finished::<R>(alloc, circuit)?;
-    let swept = gone(alloc, tables.as_slice(), latches, &end)?;
-    let made = Network::from_circuit(alloc, end)?;
+    let (made, swept) = swept_copy(alloc, network)?;
     *network = made;
     Ok(swept)
 }

@@ -28,7 +28,7 @@ pub(crate) fn assert_same<T: Copy + PartialEq + Debug>(
 
 /// A name, from its text.
 pub(crate) fn name(alloc: Global, text: &str) -> Result<Name, AllocError> {
-    Ok(Sequence::from_vec(text.as_bytes().to_vec(alloc)?))
+    Name::from_slice(alloc, text.as_bytes())
 }
 
 /// Names, from their texts.

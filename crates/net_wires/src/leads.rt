@@ -129,11 +129,11 @@ fn place_over(turns: bool, place: Tri) -> Tri
 fn row_over(alloc: Global, marks: &[bool], row: &[Tri]) -> Result<Row, AllocError>
     ensures { IfOk result (λ made. made ≡ over_marks marks.now row.now) }
 {
-    let mut made = Vec::with_capacity(alloc, row.len())?;
+    let mut made = Row::new(alloc);
     for (i, place) in row.iter().enumerate() {
         made.push(place_over(is_marked(marks, i), *place))?;
     }
-    Ok(Sequence::from_vec(made))
+    Ok(made)
 }
 
 /// Rows with the characters at marked places turned over (a place without a mark stays); an error only for want of memory.

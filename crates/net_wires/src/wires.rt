@@ -147,7 +147,7 @@ impl Wires {
     fn empty(alloc: Global) -> Wires {
         Wires {
             circuit: Circuit {
-                name: Sequence::new(alloc),
+                name: Name::new(alloc),
                 inputs: Sequence::new(alloc),
                 outputs: Sequence::new(alloc),
                 clocks: Sequence::new(alloc),

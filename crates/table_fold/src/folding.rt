@@ -109,7 +109,7 @@ fn merged_row(
 {
     let mut out = dashes(alloc, names)?;
     if merge_into(&mut out, places, row) {
-        return Ok(Some(Sequence::from_vec(out)));
+        return Ok(Some(Row::from_vec(out)));
     }
     Ok(None)
 }
@@ -145,7 +145,7 @@ fn constant_one(alloc: Global, output: Name) -> Result<Table, AllocError>
     ensures { IfOk result (λ made. made ≡ one_of output) }
 {
     let mut rows = Sequence::new(alloc);
-    rows.push(Sequence::new(alloc))?;
+    rows.push(Row::new(alloc))?;
     Ok(Table {
         inputs: Sequence::new(alloc),
         output,

@@ -172,3 +172,9 @@ chosen_more {X} marks items i x lt h =
 
 pub chosen_done : {X : Type 0} (marks : List Bool) (items : List X) (i : ℕ) → length items ≤ i → chosen (drop i marks) (drop i items) ≡ []
 chosen_done marks items i h = rw (drop_all i items h) (chosen_nil (drop i marks))
+
+-- what stands at a place stands there whatever is asked for past the end
+pub get_again : {A : Type 0} (items : List A) (i : ℕ) (other : A) → get_or items i other ≡ get_or items i (get_or items i other)
+get_again [] i other = refl
+get_again (item ∷ items) zero other = refl
+get_again (item ∷ items) (suc i) other = get_again items i other

@@ -8,7 +8,6 @@ ghost use Rattle.circuit_model.specs.declared.circuit.Tri.TheVariants.{Free};
 ghost use Rattle.table_tidy.specs.Tidy.{row_text, used_places as places_used, some_row_or_phase_one};
 
 use circuit_model::{Name, Row, Tri};
-use sis_base::Sequence;
 use std::alloc::{AllocError, Global};
 
 // The byte of a character.
@@ -26,11 +25,11 @@ fn byte_of(place: Tri) -> u8
 pub(crate) fn text_of(alloc: Global, row: &[Tri]) -> Result<Name, AllocError>
     ensures { IfOk result (λ text. text ≡ row_text row.now) }
 {
-    let mut made = Vec::with_capacity(alloc, row.len())?;
+    let mut made = Name::new(alloc);
     for place in row {
         made.push(byte_of(*place))?;
     }
-    Ok(Sequence::from_vec(made))
+    Ok(made)
 }
 
 // Whether a row has a literal at a place.

@@ -7,7 +7,7 @@ ghost use Rattle.table_fold.specs.Folding.{constant_one as one_of};
 ghost use Rattle.table_tidy.specs.Tidy.{tidied, chosen, narrowed as narrowed_of, rows_once as once_behind, with_phase_one as phase_one_of, with_rows_once as once_of, row_text};
 
 use crate::rows::{has_row_or_phase, text_of, used_places};
-use circuit_model::{Name, Row, Rows, Table};
+use circuit_model::{Name, Row, Rows, Table, Tri};
 use indexmap::IndexSet;
 use sis_base::{Copied, Sequence};
 use std::alloc::{AllocError, Global};
@@ -53,13 +53,34 @@ fn chosen_items<T: Copied + Drop>(
     Ok(made)
 }
 
+// Puts a character behind the last of a row where it is marked.
+fn push_character(row: &mut Row, mark: bool, character: Tri) -> Result<(), AllocError>
+    ensures { OnOk result (row.new ≡ row.old ++ (if mark then character ∷ [] else [])) }
+{
+    if mark {
+        row.push(character)?;
+    }
+    Ok(())
+}
+
+// The marked places of a row.
+fn chosen_row(alloc: Global, marks: &[bool], row: &[Tri]) -> Result<Row, AllocError>
+    ensures { IfOk result (λ made. made ≡ chosen marks.now row.now) }
+{
+    let mut made = Row::new(alloc);
+    for (i, character) in row.iter().enumerate() {
+        push_character(&mut made, is_marked(marks, i), *character)?;
+    }
+    Ok(made)
+}
+
 // The marked places of each row.
 fn chosen_rows(alloc: Global, marks: &[bool], rows: &[Row]) -> Result<Rows, AllocError>
     ensures { IfOk result (λ made. made ≡ map (chosen marks.now) rows.now) }
 {
     let mut made = Vec::with_capacity(alloc, rows.len())?;
     for row in rows {
-        made.push(chosen_items(alloc, marks, row.as_slice())?)?;
+        made.push(chosen_row(alloc, marks, row.as_slice())?)?;
     }
     Ok(Sequence::from_vec(made))
 }
@@ -118,7 +139,7 @@ fn one_table(alloc: Global, output: Name) -> Result<Table, AllocError>
     ensures { IfOk result (λ made. made ≡ one_of output) }
 {
     let mut rows = Sequence::new(alloc);
-    rows.push(Sequence::new(alloc))?;
+    rows.push(Row::new(alloc))?;
     Ok(Table {
         inputs: Sequence::new(alloc),
         output,

@@ -6,12 +6,12 @@ use Rattle.net_wires.proofs.Turning.{row_nothing, row_more}
 use Rattle.net_wires.proofs.leads.row_over.Goals as goal
 
 pub loop-i-init : goal.loop-i-init
-loop-i-init c = c.in_ok-made.ensures.items ∙ sym (row_nothing c.args.marks.now)
+loop-i-init c = c.new-made.ensures ∙ sym (row_nothing c.args.marks.now)
 
 pub loop-i-preserved : goal.loop-i-preserved
 loop-i-preserved c =
-    c.in_ok-push.ensures.items
-    ∙ (ap (λ (place : Tri). c.loop-i.made.items ++ place ∷ [])
+    c.in_ok-push.ensures.ok
+    ∙ (ap (λ (place : Tri). c.loop-i.made ++ place ∷ [])
     (c.place_over.ensures ∙ ap (λ (turns : Bool). if turns then turned_over (get_or c.args.row.now c.loop-i.i Zero) else get_or c.args.row.now c.loop-i.i Zero) c.is_marked.ensures)
     ∙ (ap
     (λ (row : List Tri). row

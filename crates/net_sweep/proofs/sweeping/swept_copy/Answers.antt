@@ -1,6 +1,6 @@
 use Rattle.std.proofs.Common.{◌∙◌}
 use Rattle.net_sweep.proofs.Chaining.{all_chained, all_kept, all_swept, all_counted}
-use Rattle.net_sweep.proofs.sweeping.sweep.Goals as goal
+use Rattle.net_sweep.proofs.sweeping.swept_copy.Goals as goal
 
 pub returns-clause-chain : goal.returns-clause-chain
 returns-clause-chain g c = all_chained c.args.network.now c.in_ok-circuit.circuit c.in_ok-end.end c.in_ok-made.made c.in_ok-circuit.ensures c.in_ok-end.ensures.chain c.in_ok-made.ensures
