@@ -98,7 +98,7 @@ inner_point places point = map (λ place. slice_index_or point place false) plac
 abbrev pub outer_point : ℕ → ℕ → Bool → List Bool → List Bool
 outer_point x added value point = take x point ++ value ∷ drop (x + added) point
 
--- a list that is asked for, or the result, has more rows than the limit
-abbrev pub IsTooLong : ℕ → Shape → ℕ → Shape → Bool → List (Option ℕ) → Type 0
-IsTooLong limit outer x inner phase places =
-    ((asks x (not phase) outer.rows ≡ true) × (limit < length (list_rows inner.width false inner.rows))) ⊎ (limit < length (composition outer x inner phase places).rows)
+-- a list that is asked for has more rows than the limit of lists, or the result more than its own
+abbrev pub IsTooLong : ℕ → ℕ → Shape → ℕ → Shape → Bool → List (Option ℕ) → Type 0
+IsTooLong list_limit limit outer x inner phase places =
+    ((asks x (not phase) outer.rows ≡ true) × (list_limit < length (list_rows inner.width false inner.rows))) ⊎ (limit < length (composition outer x inner phase places).rows)

@@ -335,7 +335,7 @@ fn inner_rows<R: Row>(
 /// cover lacks; these take x's place, in order. The outer table's phase stays. Rows with the literal 1 of x become
 /// their products with the inner rows that give 1, and rows with the literal 0 those that give 0, contradictions left
 /// out; where the inner phase does not give them, the inner table's list does. `CubeLimit` exactly where a list that
-/// is asked for, or the result, has more than `limit` rows.
+/// is asked for has more than `list_limit` rows, or the result more than `limit`.
 pub fn compose<R: Row>(
     alloc: Global,
     outer: &Cover<R>,
@@ -343,6 +343,7 @@ pub fn compose<R: Row>(
     inner: &Cover<R>,
     phase: bool,
     places: &[Option<usize>],
+    list_limit: usize,
     limit: usize,
 ) -> Result<Cover<R>, ListFault>
     requires x { x < outer.now.width }
@@ -350,8 +351,8 @@ pub fn compose<R: Row>(
     requires entries { AreEntries outer.now.width x places.now }
     ensures ok { IfOk result (λ made. made ≡ composition outer.now x inner.now phase places.now) }
     ensures value { IfOk result (λ made. (point : List Bool) → IsPoint made.width point → some_matches made.rows point ≡ some_matches outer.now.rows (outer_point x (count_new places.now) (value_by_phase phase inner.now.rows (inner_point (targets x (count_new places.now) x places.now) point)) point)) }
-    ensures within { OnOk result (IsTooLong limit outer.now x inner.now phase places.now → ⊥) }
-    ensures limit { result ≡ Err ListFault.CubeLimit → IsTooLong limit outer.now x inner.now phase places.now }
+    ensures within { OnOk result (IsTooLong list_limit limit outer.now x inner.now phase places.now → ⊥) }
+    ensures limit { result ≡ Err ListFault.CubeLimit → IsTooLong list_limit limit outer.now x inner.now phase places.now }
 {
     let added = new_inputs(places);
     let wide = match result_width(outer.width(), added) {
@@ -368,7 +369,7 @@ pub fn compose<R: Row>(
         true,
         at.as_slice(),
         wide,
-        limit,
+        list_limit,
     )?;
     let off = inner_rows(
         alloc,
@@ -379,7 +380,7 @@ pub fn compose<R: Row>(
         false,
         at.as_slice(),
         wide,
-        limit,
+        list_limit,
     )?;
     let made = all_composed(
         alloc,

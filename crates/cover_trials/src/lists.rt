@@ -160,7 +160,7 @@ fn compose_by<R: Row>(
     if !are_entries(outer.width(), x, entries) {
         return None;
     }
-    Some(compose(alloc, outer, x, inner, phase, entries, limit))
+    Some(compose(alloc, outer, x, inner, phase, entries, limit, limit))
 }
 
 // A composition.

@@ -12,7 +12,6 @@ use crate::places::Entry;
 use crate::reads::is_among;
 use circuit_model::{Latch, Name, Table as Written, Timing};
 use cube_cover::Row;
-use sis_base::Sequence;
 use std::alloc::{AllocError, Global};
 
 /// How many tables and latches may stand, the tables of the don't-care part with them.
@@ -33,9 +32,9 @@ impl From<AllocError> for AddFault {
     }
 }
 
-// A number in brackets.
+/// A number in brackets; an error only for want of memory.
 #[tactic(auto, using(std::proofs::lemmas::Grind::common_steps), unfolding(crate::specs::Fresh::bracketed))]
-pub(crate) fn bracketed_name(alloc: Global, number: u64) -> Result<Name, AllocError>
+pub fn bracketed_name(alloc: Global, number: u64) -> Result<Name, AllocError>
     ensures { IfOk result (λ name. name ≡ bracketed number) }
 {
     let text = format!(in alloc; "{number}")?;
@@ -43,7 +42,7 @@ pub(crate) fn bracketed_name(alloc: Global, number: u64) -> Result<Name, AllocEr
     bytes.extend_from_slice(b"[".as_slice())?;
     bytes.extend_from_slice(text.as_bytes())?;
     bytes.extend_from_slice(b"]".as_slice())?;
-    Ok(Sequence::from_vec(bytes))
+    Ok(Name::from_vec(bytes))
 }
 
 // Whether a latch drives a name.
@@ -120,9 +119,10 @@ pub(crate) fn table_count<R: Row>(slots: &[Option<Entry<R>>]) -> usize
     count
 }
 
-// Whether no more table may stand beside those that are left; few places hold few tables.
+/// Whether no more table may stand beside those that are left, the latches and the tables of the don't-care part. It goes over the
+/// places only where there are so many that it must.
 #[tactic(auto, using(crate::proofs::Counting::fewer_present))]
-pub(crate) fn is_full<R: Row>(slots: &[Option<Entry<R>>], latches: usize, dont_care: usize) -> bool
+pub fn is_full<R: Row>(slots: &[Option<Entry<R>>], latches: usize, dont_care: usize) -> bool
     ensures { IsTrue result ↔ (65535 ≤ length (present slots.now) + latches + dont_care) }
 {
     if !is_over(slots.len(), latches, dont_care) {

@@ -8,10 +8,11 @@ ghost use Rattle.circuit_model.specs.declared.circuit.Table.{Table as TheWritten
 ghost use Rattle.circuit_model.specs.Values.{driver};
 ghost use Rattle.circuit_laws.specs.Fitting.{IsFitting};
 ghost use Rattle.circuit_laws.specs.Kept.{IsClosed};
-ghost use Rattle.circuit_laws.specs.Edits.{replaced, with_replaced, with_added, with_removed, is_other, latches_kept, timing_with};
+ghost use Rattle.indexmap.specs.IndexMap.{get};
+ghost use Rattle.circuit_laws.specs.Edits.{replaced, with_tables, with_replaced, with_added, with_removed, is_other, latches_kept, timing_with};
 ghost use Rattle.net_core.specs.Tables.{named, IsOverInputs};
 ghost use Rattle.net_core.specs.Fresh.{used_names, IsNewName, node_count, Adds};
-ghost use Rattle.net_core.specs.Places.{present, written_of, AreOverInputs};
+ghost use Rattle.net_core.specs.Places.{present, written_of, IsIndexed, AreOverInputs};
 ghost use Rattle.net_core.specs.Reads.{sizes_of};
 ghost use Rattle.table_order.specs.Order.{order_of};
 
@@ -25,6 +26,7 @@ use circuit_model::{
     Circuit, Latch, Latches, Name, Names, Table as Written, Tables, Timing, timing_copied,
 };
 use cube_cover::Row;
+use indexmap::IndexMap;
 use sis_base::{Copied, Sequence};
 use std::alloc::{AllocError, Global};
 use std::marker::Model;
@@ -51,6 +53,14 @@ pub struct Network<R: Row> {
     latches: Vec<Latch>,
     tables: NamedTables<R>,
     dont_care: Tables,
+}
+
+/// What a network is made of: the circuit without its tables, the tables at their places, and where each name stands.
+#[derive(Drop)]
+pub struct Parts<R: Row> {
+    pub frame: Circuit,
+    pub slots: Vec<Option<Entry<R>>>,
+    pub places: IndexMap<Name, usize>,
 }
 
 impl<R: Row> Model for Network<R> {
@@ -184,6 +194,56 @@ impl<R: Row> Network<R> {
             tables,
             dont_care: circuit.dont_care,
         })
+    }
+
+    /// The parts, moved out; takes no memory.
+    pub fn into_parts(self, alloc: Global) -> Parts<R>
+        ensures circuit { self ≡ with_tables result.frame (present result.slots.items) }
+        ensures indexed { IsIndexed result.slots.items (get bytes_eq result.places) }
+        ensures over { AreOverInputs result.slots.items }
+    {
+        self.sound();
+        let NamedTables { slots, places } = self.tables;
+        let frame = Circuit {
+            name: self.name,
+            inputs: self.inputs,
+            outputs: self.outputs,
+            clocks: self.clocks,
+            timing: self.timing,
+            latches: Sequence::from_vec(self.latches),
+            tables: Sequence::new(alloc),
+            dont_care: self.dont_care,
+        };
+        Parts {
+            frame,
+            slots,
+            places,
+        }
+    }
+
+    /// The network of parts whose circuit is sound; takes no memory.
+    pub fn from_parts(parts: Parts<R>) -> Network<R>
+        requires indexed { IsIndexed parts.slots.items (get bytes_eq parts.places) }
+        requires over { AreOverInputs parts.slots.items }
+        requires sound { IsSound (with_tables parts.frame (present parts.slots.items)) }
+        ensures { result ≡ with_tables parts.frame (present parts.slots.items) }
+    {
+        let Parts {
+            frame,
+            slots,
+            places,
+        } = parts;
+        let tables = NamedTables { slots, places };
+        Network {
+            name: frame.name,
+            inputs: frame.inputs,
+            outputs: frame.outputs,
+            clocks: frame.clocks,
+            timing: frame.timing,
+            latches: frame.latches.into_vec(),
+            tables,
+            dont_care: frame.dont_care,
+        }
     }
 
     /// The circuit; an error only for want of memory.

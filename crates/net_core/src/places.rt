@@ -31,8 +31,8 @@ pub struct Entry<R: Row> {
 /// Tables in order, found by their names; contracts see them as the tables of a circuit.
 #[derive(Drop)]
 pub struct NamedTables<R: Row> {
-    slots: Vec<Option<Entry<R>>>,
-    places: IndexMap<Name, usize>,
+    pub(crate) slots: Vec<Option<Entry<R>>>,
+    pub(crate) places: IndexMap<Name, usize>,
 }
 
 impl<R: Row> Model for NamedTables<R> {
@@ -49,8 +49,8 @@ impl<R: Row> Model for NamedTables<R> {
     ghost invariant = { λ t. IsIndexed t.slots.items (get bytes_eq t.places) × AreOverInputs t.slots.items };
 }
 
-// Where the table of a name stands.
-fn found_place(places: &IndexMap<Name, usize>, name: &Name) -> Option<usize>
+/// Where the table of a name stands.
+pub fn found_place(places: &IndexMap<Name, usize>, name: &Name) -> Option<usize>
     ensures { result ≡ get bytes_eq places.now name.now }
 {
     places.get(name).copied()
@@ -67,8 +67,8 @@ fn known_place(places: &IndexMap<Name, usize>, name: &Name) -> usize
     }
 }
 
-// Forgets the place of a name.
-fn unplace(places: &mut IndexMap<Name, usize>, name: &Name)
+/// Forgets the place of a name.
+pub fn unplace(places: &mut IndexMap<Name, usize>, name: &Name)
     ensures { (other : List ℕ) → get bytes_eq places.new other ≡ (if bytes_eq name.now other then None else get bytes_eq places.old other) }
 {
     let _place = places.swap_remove(name);
@@ -83,8 +83,8 @@ fn place_at(places: &mut IndexMap<Name, usize>, name: Name, place: usize) -> Res
     Ok(())
 }
 
-// The entry at a place that has one.
-fn entry_at<R: Row>(slots: &[Option<Entry<R>>], place: usize) -> &Entry<R>
+/// The entry at a place that has one.
+pub fn entry_at<R: Row>(slots: &[Option<Entry<R>>], place: usize) -> &Entry<R>
     requires { (entry : TheEntry R) × (slice_get slots.now place ≡ Some (Some entry)) }
     ensures { slice_get slots.now place ≡ Some (Some result.now) }
 {
@@ -94,8 +94,8 @@ fn entry_at<R: Row>(slots: &[Option<Entry<R>>], place: usize) -> &Entry<R>
     }
 }
 
-// Puts another table at the place of an entry, which keeps its name.
-fn set_table<R: Row>(slots: &mut Vec<Option<Entry<R>>>, place: usize, table: Table<R>)
+/// Puts another table at the place of an entry, which keeps its name.
+pub fn set_table<R: Row>(slots: &mut Vec<Option<Entry<R>>>, place: usize, table: Table<R>)
     requires { (entry : TheEntry R) × (slice_get slots.old.items place ≡ Some (Some entry)) }
     ensures { (entry : TheEntry R) → slice_get slots.old.items place ≡ Some (Some entry) → slots.new.items ≡ slice_set slots.old.items place (Some (record { output = entry.output; table = table })) }
 {
@@ -105,8 +105,8 @@ fn set_table<R: Row>(slots: &mut Vec<Option<Entry<R>>>, place: usize, table: Tab
     }
 }
 
-// Puts an entry behind the last and notes its place; on an error nothing changed.
-fn put_last<R: Row>(
+/// Puts an entry behind the last and notes its place; on an error nothing changed.
+pub fn put_last<R: Row>(
     slots: &mut Vec<Option<Entry<R>>>,
     places: &mut IndexMap<Name, usize>,
     entry: Entry<R>,

@@ -28,9 +28,9 @@ fn literal_count(place: Option<bool>) -> usize
     }
 }
 
-// The literals of a row.
+/// The literals of a row.
 #[tactic(auto, using(crate::proofs::Counting::literals_more), unfolding(circuit_model::specs::Counts::literals_of_row))]
-fn row_literals<R: Row>(row: &R) -> usize
+pub fn row_literals<R: Row>(row: &R) -> usize
     ensures literals { result ≡ literals_of_row (characters_of (R.literals row.now)) }
     ensures bound { result ≤ length (R.literals row.now) }
 {
@@ -66,9 +66,9 @@ fn use_count<R: Row>(row: &R, place: usize) -> usize
     }
 }
 
-// How many rows have a literal at a place.
+/// How many rows have a literal at a place.
 #[tactic(auto, unfolding(crate::specs::Reads::rows_with))]
-fn rows_uses<R: Row>(rows: &[R], place: usize) -> usize
+pub fn rows_uses<R: Row>(rows: &[R], place: usize) -> usize
     ensures uses { result ≡ rows_with place (map characters_of (map R.literals rows.now)) }
     ensures bound { result ≤ length rows.now }
 {

@@ -65,12 +65,11 @@ fn rows_from<R: Row>(alloc: Global, rows: &[Characters]) -> Result<Vec<R>, Alloc
 fn characters_from<R: Row>(alloc: Global, row: &R) -> Result<Characters, AllocError>
     ensures { IfOk result (λ made. made ≡ characters_of (R.literals row.now)) }
 {
-    let width = row.width();
-    let mut made = Vec::with_capacity(alloc, width)?;
-    for place in 0..width {
+    let mut made = Characters::new(alloc);
+    for place in 0..row.width() {
         made.push(character_from(row.at(place)))?;
     }
-    Ok(Sequence::from_vec(made))
+    Ok(made)
 }
 
 // The characters of rows, in order.

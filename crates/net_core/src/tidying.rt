@@ -5,8 +5,8 @@ ghost use Rattle.net_core.specs.Tables.{named, IsOverInputs};
 ghost use Rattle.table_tidy.specs.Tidy.{tidied};
 
 use crate::table::Table;
+use circuit_model::Name;
 use cube_cover::Row;
-use sis_base::Sequence;
 use std::alloc::{AllocError, Global};
 use table_tidy::tidied_table;
 
@@ -18,7 +18,7 @@ pub fn tidy<R: Row>(alloc: Global, table: &Table<R>) -> Result<Table<R>, AllocEr
     ensures tidy { IfOk result (λ made. (name : List ℕ) → named name made ≡ tidied (named name table.now)) }
     ensures over { IfOk result IsOverInputs }
 {
-    let unnamed = Sequence::new(alloc);
+    let unnamed = Name::new(alloc);
     let written = table.to_written(alloc, &unnamed)?;
     let _of_one_width = table.cover.rows();
     let made = tidied_table(alloc, written)?;

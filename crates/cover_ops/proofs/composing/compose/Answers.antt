@@ -101,7 +101,7 @@ returns-clause-within g c = λ t.
     rw (c.as_slice-3.ensures.value, c.as_slice-4.ensures.value, c.rows.ensures.items, n)
     (composed_asked c.args.x (count_new c.args.places.now) (map g.R.Row.literals c.in_ok-on.on.items) (map g.R.Row.literals c.in_ok-off.off.items) (placed_rows (c.args.outer.now.width + (count_new c.args.places.now) - 1) (targets c.args.x (count_new c.args.places.now) c.args.x c.args.places.now) (cover_for c.args.inner.now c.args.phase true)) (placed_rows (c.args.outer.now.width + (count_new c.args.places.now) - 1) (targets c.args.x (count_new c.args.places.now) c.args.x c.args.places.now) (cover_for c.args.inner.now c.args.phase false)) c.args.outer.now.rows on off) in
     elim t [
-      | inl a ↦ list_within c.args.x c.args.outer.now.rows c.args.phase (length (list_rows c.args.inner.now.width false c.args.inner.now.rows)) c.args.limit c.in_ok-on.ensures.within c.in_ok-off.ensures.within a.0 a.1
+      | inl a ↦ list_within c.args.x c.args.outer.now.rows c.args.phase (length (list_rows c.args.inner.now.width false c.args.inner.now.rows)) c.args.list_limit c.in_ok-on.ensures.within c.in_ok-off.ensures.within a.0 a.1
       | inr b ↦ (let e : length (composed_rows c.args.x c.new_inputs-added.result (map g.R.Row.literals c.as_slice-3.result.now) (map g.R.Row.literals c.as_slice-4.result.now) (map g.R.Row.literals c.rows.result.now)) ≡ length (composition c.args.outer.now c.args.x c.args.inner.now c.args.phase c.args.places.now).rows = ap length eq in
           omega (arith, e, b, c.in_ok-made.ensures.within))
     ]

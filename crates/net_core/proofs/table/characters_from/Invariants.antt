@@ -3,4 +3,4 @@ use Rattle.net_core.specs.Tables.{characters_of}
 use Rattle.net_core.proofs.table.characters_from.Given as goal
 
 abbrev pub invariant-loop-place : goal.invariant-loop-place
-invariant-loop-place g l = l.made.items ≡ characters_of (take l.place (g.R.Row.literals l.row))
+invariant-loop-place g l = l.made ≡ characters_of (take l.place (g.R.Row.literals l.row))
