@@ -1,1 +1,6 @@
+pub mod Filling
+pub mod Fitting
+pub mod Lawful
+pub mod Numbers
 pub mod ScriptWords
+pub mod Worked

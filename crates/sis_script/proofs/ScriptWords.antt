@@ -3,7 +3,7 @@ use Rattle.std.proofs.Common.{◌≡◌, ℕ, Bool, true, false, Some, None, Lis
 use Rattle.std.specs.Str.{IsUtf8, is_utf8}
 use Rattle.std.proofs.lemmas.Str.{IsUtf8-from_is_utf8, is_utf8-from_IsUtf8}
 use Rattle.sis_text.specs.Words.{begins_with}
-use Rattle.sis_script.specs.Script.{is_file_word}
+use Rattle.sis_script.specs.Kinds.{is_file_word}
 
 not_text : (bytes : List ℕ) → ¬ (IsUtf8 bytes) → is_utf8 bytes ≡ false
 not_text bytes no_text = cases (is_utf8 bytes) refl

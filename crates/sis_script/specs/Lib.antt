@@ -1,1 +1,5 @@
+pub mod Grammar
+pub mod Kinds
+pub mod Laws
 pub mod Script
+pub mod Steps

@@ -1,61 +1,120 @@
 -- The commands of a script.
 -- Source: the SIS manual's command language (UCB/ERL M92/41): commands are parted by `;` and line ends, words by
--- blanks, and `#` begins a comment. No quotes or escapes. The words behind a command's name are judged from left to
--- right, and the first that is wrong counts; that a word lacks is found behind the last.
-use Rattle.std.specs.Prelude.{ℕ, Bool, not, ◌&&◌, Some, None, List, [], ◌∷◌, bytes_eq, codes, if◌then◌else◌}
-use Rattle.std.specs.Str.{is_utf8}
-use Rattle.sis_text.specs.Words.{begins_with}
+-- blanks, and `#` begins a comment. No quotes or escapes. What the words behind a command's name give is the grammar's.
+use Rattle.std.specs.Prelude.{ℕ, Option, Some, None, Result, Ok, Err, List, [], ◌∷◌, bytes_eq, codes, if◌then◌else◌}
 use Rattle.sis_text.specs.Entries.{Entry}
+use Rattle.sis_script.specs.Grammar.{parse}
 use Rattle.sis_script.specs.declared.command.Op.{Op}
-use Rattle.sis_script.specs.declared.command.Op.TheVariants.{Echo, Quit, ReadBlif, WriteBlif, PrintStats, Print, PrintLatch, Sweep, Undo, Bad}
-use Rattle.sis_script.specs.declared.command.ScriptFault.TheVariants.{BadCommand, BadOption, MissingWord}
+use Rattle.sis_script.specs.declared.command.Op.TheVariants.{Echo, Quit, ReadBlif, WriteBlif, PrintStats, Print, PrintLatch, Change, Undo, Source, Bad}
+use Rattle.sis_script.specs.declared.command.Change.TheVariants.{Sweep}
+use Rattle.sis_script.specs.declared.command.ScriptFault.{ScriptFault}
+use Rattle.sis_script.specs.declared.command.ScriptFault.TheVariants.{BadCommand, MissingWord}
 use Rattle.sis_script.specs.declared.command.Command.{Command}
+use Rattle.sis_script.specs.declared.script.Verb.{Verb}
+use Rattle.sis_script.specs.declared.script.Verb.TheVariants as verb
+use Rattle.sis_script.specs.declared.kinds.Kind.TheVariants as kind
+use Rattle.sis_script.specs.declared.kinds.Value.{Value}
+use Rattle.sis_script.specs.declared.kinds.Value.TheVariants as value
+use Rattle.sis_script.specs.declared.grammar.Slot.TheVariants.{Needed, Optional}
+use Rattle.sis_script.specs.declared.grammar.Given.{Given}
 
--- a word that may stand where a file or an option may: text, and none that begins as an option does, since no command
--- so far has one
-abbrev pub is_file_word : List ℕ → Bool
-is_file_word word = is_utf8 word && not (begins_with 45 word)
+-- the first of the words that are no options, if there is one
+abbrev pub first_word : Given → Option Value
+first_word given = elim given.words [ [] ↦ None | value ∷ values ↦ Some value ]
 
--- the command where no word stands behind its name, else a bad option
-abbrev pub alone : Op → List (List ℕ) → Op
-alone op [] = op
-alone op (word ∷ words) = Bad BadOption
+-- the file that a word names
+abbrev pub file_of : Option Value → Option (List ℕ)
+file_of (Some (value.File file)) = Some file
+file_of word = None
 
--- the command where a word can name a file, else a bad option
-abbrev pub if_file : List ℕ → Op → Op
-if_file word op = if is_file_word word then op else Bad BadOption
+-- the name that a word is
+abbrev pub name_of : Option Value → Option (List ℕ)
+name_of (Some (value.Name name)) = Some name
+name_of word = None
 
--- `read_blif` and its words: a file
-abbrev pub read_op : List (List ℕ) → Op
-read_op [] = Bad MissingWord
-read_op (file ∷ []) = if_file file (ReadBlif file)
-read_op (file ∷ word ∷ words) = Bad BadOption
+-- the file that the first word names, unless the words have a fault
+abbrev pub file_in : Result Given ScriptFault → Result (Option (List ℕ)) ScriptFault
+file_in (Ok given) = Ok (file_of (first_word given))
+file_in (Err fault) = Err fault
 
--- `write_blif` and its words: a file or nothing
-abbrev pub write_op : List (List ℕ) → Op
-write_op [] = WriteBlif None
-write_op (file ∷ []) = if_file file (WriteBlif (Some file))
-write_op (file ∷ word ∷ words) = Bad BadOption
+-- the name that the first word is, unless the words have a fault
+abbrev pub name_in : Result Given ScriptFault → Result (Option (List ℕ)) ScriptFault
+name_in (Ok given) = Ok (name_of (first_word given))
+name_in (Err fault) = Err fault
 
--- `print` and its words: any name or nothing; no option may stand there
-abbrev pub print_op : List (List ℕ) → Op
-print_op [] = Print None
-print_op (name ∷ []) = Print (Some name)
-print_op (name ∷ word ∷ words) = Bad BadOption
+-- a command for which it counts only that its words have no fault
+abbrev pub plain_op : Op → Result Given ScriptFault → Op
+plain_op op (Ok given) = op
+plain_op op (Err fault) = Bad fault
+
+-- `read_blif`, by the file that it needs
+abbrev pub read_op : Result (Option (List ℕ)) ScriptFault → Op
+read_op (Ok (Some file)) = ReadBlif file
+read_op (Ok None) = Bad MissingWord
+read_op (Err fault) = Bad fault
+
+-- `source`, by the file that it needs
+abbrev pub source_op : Result (Option (List ℕ)) ScriptFault → Op
+source_op (Ok (Some file)) = Source file
+source_op (Ok None) = Bad MissingWord
+source_op (Err fault) = Bad fault
+
+-- `write_blif`, by its file, if it has one
+abbrev pub write_op : Result (Option (List ℕ)) ScriptFault → Op
+write_op (Ok file) = WriteBlif file
+write_op (Err fault) = Bad fault
+
+-- `print`, by its name, if it has one
+abbrev pub print_op : Result (Option (List ℕ)) ScriptFault → Op
+print_op (Ok name) = Print name
+print_op (Err fault) = Bad fault
+
+-- the commands by their names; `echo` is none of them, since it takes any words
+unfoldable pub verb_of : List ℕ → Option Verb
+verb_of word =
+    if bytes_eq word (codes "quit") then Some verb.Quit
+    else (if bytes_eq word (codes "read_blif") then Some verb.ReadBlif
+    else (if bytes_eq word (codes "write_blif") then Some verb.WriteBlif
+    else (if bytes_eq word (codes "print_stats") then Some verb.PrintStats
+    else (if bytes_eq word (codes "print") then Some verb.Print
+    else (if bytes_eq word (codes "print_latch") then Some verb.PrintLatch
+    else (if bytes_eq word (codes "sweep") then Some verb.Sweep
+    else (if bytes_eq word (codes "undo") then Some verb.Undo
+    else (if bytes_eq word (codes "source") then Some verb.Source
+    else None))))))))
+
+-- the grammar of each command: its options, then the slots for its other words
+abbrev pub parse_words : Verb → List (List ℕ) → Result Given ScriptFault
+parse_words verb.Quit words = parse [] [] words
+parse_words verb.ReadBlif words = parse [] (Needed kind.File ∷ []) words
+parse_words verb.WriteBlif words = parse [] (Optional kind.File ∷ []) words
+parse_words verb.PrintStats words = parse [] [] words
+parse_words verb.Print words = parse [] (Optional kind.Name ∷ []) words
+parse_words verb.PrintLatch words = parse [] [] words
+parse_words verb.Sweep words = parse [] [] words
+parse_words verb.Undo words = parse [] [] words
+parse_words verb.Source words = parse [] (Needed kind.File ∷ []) words
+
+-- what each command does, by what its words give
+abbrev pub op_given : Verb → Result Given ScriptFault → Op
+op_given verb.Quit given = plain_op Quit given
+op_given verb.ReadBlif given = read_op (file_in given)
+op_given verb.WriteBlif given = write_op (file_in given)
+op_given verb.PrintStats given = plain_op PrintStats given
+op_given verb.Print given = print_op (name_in given)
+op_given verb.PrintLatch given = plain_op PrintLatch given
+op_given verb.Sweep given = plain_op (Change Sweep) given
+op_given verb.Undo given = plain_op Undo given
+op_given verb.Source given = source_op (file_in given)
+
+-- a command by its verb, if its name is one
+abbrev pub op_of_verb : Option Verb → List (List ℕ) → Op
+op_of_verb None words = Bad BadCommand
+op_of_verb (Some verb) words = op_given verb (parse_words verb words)
 
 -- a command by its first word and those behind it
 unfoldable pub op_by : List ℕ → List (List ℕ) → Op
-op_by word words =
-    if bytes_eq word (codes "echo") then Echo words
-    else (if bytes_eq word (codes "quit") then alone Quit words
-    else (if bytes_eq word (codes "read_blif") then read_op words
-    else (if bytes_eq word (codes "write_blif") then write_op words
-    else (if bytes_eq word (codes "print_stats") then alone PrintStats words
-    else (if bytes_eq word (codes "print") then print_op words
-    else (if bytes_eq word (codes "print_latch") then alone PrintLatch words
-    else (if bytes_eq word (codes "sweep") then alone Sweep words
-    else (if bytes_eq word (codes "undo") then alone Undo words
-    else Bad BadCommand))))))))
+op_by word words = if bytes_eq word (codes "echo") then Echo words else op_of_verb (verb_of word) words
 
 -- a command by its words
 unfoldable pub op_of : List (List ℕ) → Op

@@ -1,10 +1,10 @@
 //! The commands of a script.
 
-use sis_base::Sequence;
+use sis_base::{Name, Sequence};
 use sis_text::Word;
 
 /// A word as it was read: its bytes, which need not be text.
-pub type RawWord = Sequence<u8>;
+pub type RawWord = Name;
 /// Words as they were read, in order.
 pub type RawWords = Sequence<RawWord>;
 
@@ -25,12 +25,21 @@ pub enum Op {
     Print(Option<RawWord>),
     /// Prints the latches.
     PrintLatch,
-    /// Takes constants, single inputs and what is not needed out of the network.
-    Sweep,
+    /// Changes the network.
+    Change(Change),
     /// Takes the last change of the network back.
     Undo,
+    /// Runs the commands of a file.
+    Source(Word),
     /// A command that is refused when it is reached.
     Bad(ScriptFault),
+}
+
+/// A command that makes a new network of the one that is held.
+#[derive(Clone, Copy, Debug, PartialEq, Eq)]
+pub enum Change {
+    /// Takes constants, single inputs and what is not needed out of it.
+    Sweep,
 }
 
 /// Why a command is refused for its words alone.

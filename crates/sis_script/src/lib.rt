@@ -6,7 +6,11 @@
 #![tactic(auto)]
 
 mod command;
+mod grammar;
+mod kinds;
+mod laws;
 mod script;
 
-pub use command::{Command, Commands, Op, RawWord, RawWords, ScriptFault};
+pub use command::{Change, Command, Commands, Op, RawWord, RawWords, ScriptFault};
+pub use laws::{bad_stays_bad, options_come_once, words_fit_slots};
 pub use script::commands;

@@ -1,52 +1,44 @@
 //! The commands of a script.
 
-ghost use Rattle.std.specs.Prelude.{◌≡◌, ℕ, List, Some, None, map, IfOk, if◌then◌else◌};
-ghost use Rattle.sis_text.specs.Words.{begins_with, bytes_at};
+ghost use Rattle.std.specs.Prelude.{◌≡◌, map, IfOk};
+ghost use Rattle.sis_text.specs.Words.{bytes_at};
 ghost use Rattle.sis_text.specs.Entries.{entry_at, script_entries_of};
 ghost use Rattle.sis_script.specs.Script.{
-  alone,
   command_of,
-  is_file_word,
+  file_in,
+  first_word,
+  name_in,
   op_by,
+  op_given,
   op_of,
+  parse_words,
+  plain_op,
   print_op,
   read_op,
+  source_op,
+  verb_of,
   write_op,
 };
 
-use crate::command::{Command, Commands, Op, RawWord, RawWords, ScriptFault};
+use crate::command::{Change, Command, Commands, Op, RawWord, RawWords, ScriptFault};
+use crate::grammar::{Given, Slot, parse};
+use crate::kinds::{Kind, Value, raw_word};
 use sis_base::Sequence;
 use sis_text::{Line, Span, Word, bytes_at, script_pieces};
 use std::alloc::{AllocError, Global};
 
-/// Whether the first byte is `-`.
-fn begins_with_dash(word: &[u8]) -> bool
-    ensures { result ≡ begins_with 45 word.now }
-{
-    match word {
-        [] => false,
-        [first, ..] => *first == 45,
-    }
-}
-
-/// The word that may stand for a file, if these bytes are one.
-fn file_word(alloc: Global, bytes: &[u8]) -> Result<Option<Word>, AllocError>
-    ensures { IfOk result (λ word. word ≡ (if is_file_word bytes.now then Some bytes.now else None)) }
-{
-    if begins_with_dash(bytes) {
-        return Ok(None);
-    }
-    match str::from_utf8(bytes) {
-        Ok(text) => Ok(Some(Word::new(alloc, text)?)),
-        Err(_) => Ok(None),
-    }
-}
-
-/// A word of a script as it was read.
-fn raw_word(alloc: Global, bytes: &[u8]) -> Result<RawWord, AllocError>
-    ensures { IfOk result (λ word. word ≡ bytes.now) }
-{
-    Ok(Sequence::from_vec(bytes.to_vec(alloc)?))
+/// A command whose words have a grammar.
+#[derive(Clone, Copy)]
+enum Verb {
+    Quit,
+    ReadBlif,
+    WriteBlif,
+    PrintStats,
+    Print,
+    PrintLatch,
+    Sweep,
+    Undo,
+    Source,
 }
 
 /// The words of a script as they were read.
@@ -60,53 +52,154 @@ fn raw_words(alloc: Global, source: &[u8], words: &[Span]) -> Result<RawWords, A
     Ok(made)
 }
 
-/// What a command does that has no words behind it.
-fn alone(op: Op, words: &[Span]) -> Op
-    ensures { (source : List ℕ) → result ≡ alone op (map (bytes_at source) words.now) }
+/// The first of the words that are no options, if there is one.
+fn first_word(given: Given) -> Option<Value>
+    ensures { result ≡ first_word given }
 {
+    let mut words = given.words.into_vec();
     if words.is_empty() {
-        op
+        None
     } else {
-        Op::Bad(ScriptFault::BadOption)
+        Some(words.swap_remove(0))
     }
 }
 
-/// What `read_blif` does with the words behind it.
-fn read_op(alloc: Global, source: &[u8], words: &[Span]) -> Result<Op, AllocError>
-    ensures { IfOk result (λ op. op ≡ read_op (map (bytes_at source.now) words.now)) }
+/// The file that the first word names, unless the words have a fault.
+fn file_in(given: Result<Given, ScriptFault>) -> Result<Option<Word>, ScriptFault>
+    ensures { result ≡ file_in given }
 {
-    match words {
-        [] => Ok(Op::Bad(ScriptFault::MissingWord)),
-        [file] => match file_word(alloc, bytes_at(source, *file))? {
-            Some(word) => Ok(Op::ReadBlif(word)),
-            None => Ok(Op::Bad(ScriptFault::BadOption)),
-        },
-        _ => Ok(Op::Bad(ScriptFault::BadOption)),
+    match first_word(given?) {
+        Some(Value::File(file)) => Ok(Some(file)),
+        _ => Ok(None),
     }
 }
 
-/// What `write_blif` does with the words behind it.
-fn write_op(alloc: Global, source: &[u8], words: &[Span]) -> Result<Op, AllocError>
-    ensures { IfOk result (λ op. op ≡ write_op (map (bytes_at source.now) words.now)) }
+/// The name that the first word is, unless the words have a fault.
+fn name_in(given: Result<Given, ScriptFault>) -> Result<Option<RawWord>, ScriptFault>
+    ensures { result ≡ name_in given }
 {
-    match words {
-        [] => Ok(Op::WriteBlif(None)),
-        [file] => match file_word(alloc, bytes_at(source, *file))? {
-            Some(word) => Ok(Op::WriteBlif(Some(word))),
-            None => Ok(Op::Bad(ScriptFault::BadOption)),
-        },
-        _ => Ok(Op::Bad(ScriptFault::BadOption)),
+    match first_word(given?) {
+        Some(Value::Name(name)) => Ok(Some(name)),
+        _ => Ok(None),
     }
 }
 
-/// What `print` does with the words behind it.
-fn print_op(alloc: Global, source: &[u8], words: &[Span]) -> Result<Op, AllocError>
-    ensures { IfOk result (λ op. op ≡ print_op (map (bytes_at source.now) words.now)) }
+/// A command for which it counts only that its words have no fault.
+fn plain_op(op: Op, given: Result<Given, ScriptFault>) -> Op
+    ensures { result ≡ plain_op op given }
 {
-    match words {
-        [] => Ok(Op::Print(None)),
-        [name] => Ok(Op::Print(Some(raw_word(alloc, bytes_at(source, *name))?))),
-        _ => Ok(Op::Bad(ScriptFault::BadOption)),
+    match given {
+        Ok(_) => op,
+        Err(fault) => Op::Bad(fault),
+    }
+}
+
+/// `read_blif`, by the file that it needs.
+fn read_op(file: Result<Option<Word>, ScriptFault>) -> Op
+    ensures { result ≡ read_op file }
+{
+    match file {
+        Ok(Some(file)) => Op::ReadBlif(file),
+        Ok(None) => Op::Bad(ScriptFault::MissingWord),
+        Err(fault) => Op::Bad(fault),
+    }
+}
+
+/// `source`, by the file that it needs.
+fn source_op(file: Result<Option<Word>, ScriptFault>) -> Op
+    ensures { result ≡ source_op file }
+{
+    match file {
+        Ok(Some(file)) => Op::Source(file),
+        Ok(None) => Op::Bad(ScriptFault::MissingWord),
+        Err(fault) => Op::Bad(fault),
+    }
+}
+
+/// `write_blif`, by its file, if it has one.
+fn write_op(file: Result<Option<Word>, ScriptFault>) -> Op
+    ensures { result ≡ write_op file }
+{
+    match file {
+        Ok(file) => Op::WriteBlif(file),
+        Err(fault) => Op::Bad(fault),
+    }
+}
+
+/// `print`, by its name, if it has one.
+fn print_op(name: Result<Option<RawWord>, ScriptFault>) -> Op
+    ensures { result ≡ print_op name }
+{
+    match name {
+        Ok(name) => Op::Print(name),
+        Err(fault) => Op::Bad(fault),
+    }
+}
+
+/// The command of a name; `echo` is none, since it takes any words.
+#[tactic(auto, unfolding(crate::specs::Script::verb_of))]
+fn verb_of(name: &[u8]) -> Option<Verb>
+    ensures { result ≡ verb_of name.now }
+{
+    if name == b"quit".as_slice() {
+        Some(Verb::Quit)
+    } else if name == b"read_blif".as_slice() {
+        Some(Verb::ReadBlif)
+    } else if name == b"write_blif".as_slice() {
+        Some(Verb::WriteBlif)
+    } else if name == b"print_stats".as_slice() {
+        Some(Verb::PrintStats)
+    } else if name == b"print".as_slice() {
+        Some(Verb::Print)
+    } else if name == b"print_latch".as_slice() {
+        Some(Verb::PrintLatch)
+    } else if name == b"sweep".as_slice() {
+        Some(Verb::Sweep)
+    } else if name == b"undo".as_slice() {
+        Some(Verb::Undo)
+    } else if name == b"source".as_slice() {
+        Some(Verb::Source)
+    } else {
+        None
+    }
+}
+
+/// What the words of a command give: its options, then the slots for its other words.
+fn parse_words(
+    alloc: Global,
+    verb: Verb,
+    source: &[u8],
+    words: &[Span],
+) -> Result<Result<Given, ScriptFault>, AllocError>
+    ensures { IfOk result (λ given. given ≡ parse_words verb (map (bytes_at source.now) words.now)) }
+{
+    match verb {
+        Verb::Quit => parse(alloc, &[], &[], source, words),
+        Verb::ReadBlif => parse(alloc, &[], &[Slot::Needed(Kind::File)], source, words),
+        Verb::WriteBlif => parse(alloc, &[], &[Slot::Optional(Kind::File)], source, words),
+        Verb::PrintStats => parse(alloc, &[], &[], source, words),
+        Verb::Print => parse(alloc, &[], &[Slot::Optional(Kind::Name)], source, words),
+        Verb::PrintLatch => parse(alloc, &[], &[], source, words),
+        Verb::Sweep => parse(alloc, &[], &[], source, words),
+        Verb::Undo => parse(alloc, &[], &[], source, words),
+        Verb::Source => parse(alloc, &[], &[Slot::Needed(Kind::File)], source, words),
+    }
+}
+
+/// What a command does, by what its words give.
+fn op_given(verb: Verb, given: Result<Given, ScriptFault>) -> Op
+    ensures { result ≡ op_given verb given }
+{
+    match verb {
+        Verb::Quit => plain_op(Op::Quit, given),
+        Verb::ReadBlif => read_op(file_in(given)),
+        Verb::WriteBlif => write_op(file_in(given)),
+        Verb::PrintStats => plain_op(Op::PrintStats, given),
+        Verb::Print => print_op(name_in(given)),
+        Verb::PrintLatch => plain_op(Op::PrintLatch, given),
+        Verb::Sweep => plain_op(Op::Change(Change::Sweep), given),
+        Verb::Undo => plain_op(Op::Undo, given),
+        Verb::Source => source_op(file_in(given)),
     }
 }
 
@@ -116,25 +209,11 @@ fn op_by(alloc: Global, source: &[u8], first: &[u8], words: &[Span]) -> Result<O
     ensures { IfOk result (λ op. op ≡ op_by first.now (map (bytes_at source.now) words.now)) }
 {
     if first == b"echo".as_slice() {
-        Ok(Op::Echo(raw_words(alloc, source, words)?))
-    } else if first == b"quit".as_slice() {
-        Ok(alone(Op::Quit, words))
-    } else if first == b"read_blif".as_slice() {
-        read_op(alloc, source, words)
-    } else if first == b"write_blif".as_slice() {
-        write_op(alloc, source, words)
-    } else if first == b"print_stats".as_slice() {
-        Ok(alone(Op::PrintStats, words))
-    } else if first == b"print".as_slice() {
-        print_op(alloc, source, words)
-    } else if first == b"print_latch".as_slice() {
-        Ok(alone(Op::PrintLatch, words))
-    } else if first == b"sweep".as_slice() {
-        Ok(alone(Op::Sweep, words))
-    } else if first == b"undo".as_slice() {
-        Ok(alone(Op::Undo, words))
-    } else {
-        Ok(Op::Bad(ScriptFault::BadCommand))
+        return Ok(Op::Echo(raw_words(alloc, source, words)?));
+    }
+    match verb_of(first) {
+        Some(verb) => Ok(op_given(verb, parse_words(alloc, verb, source, words)?)),
+        None => Ok(Op::Bad(ScriptFault::BadCommand)),
     }
 }
 

@@ -8,6 +8,7 @@ pub fn answer(alloc: Global, case: &Case<'_>) -> Result<Vec<u8>, CaseFault> {
     match case.word(1) {
         "sis_text" => text_laws(),
         "sis_words" => words_laws(),
+        "sis_script" => script_laws(),
         "sis_outside" => sis_outside::risen_counts_stay(),
         _ => return Err(CaseFault::Bad),
     }
@@ -26,4 +27,11 @@ fn text_laws() {
 fn words_laws() {
     sis_words::options_are_asked_for();
     sis_words::other_words_are_refused();
+}
+
+/// The laws of sis_script.
+fn script_laws() {
+    sis_script::options_come_once();
+    sis_script::words_fit_slots();
+    sis_script::bad_stays_bad();
 }

@@ -1,6 +1,6 @@
 use Rattle.std.proofs.Common.{sym, ◌∙◌}
 use Rattle.sis_script.proofs.ScriptWords.{file_text, no_file_text}
-use Rattle.sis_script.proofs.script.file_word.Goals as goal
+use Rattle.sis_script.proofs.kinds.file_word.Goals as goal
 
 pub returns-in_ok-new-in-Ok : goal.returns-in_ok-new-in-Ok
 returns-in_ok-new-in-Ok c =

@@ -1,0 +1,100 @@
+-- Worked words of two commands with options: `eliminate [-l ROWS] T`, where T is an integer, and `tech_decomp [-a N] [-o N]`.
+use Rattle.std.proofs.Common.{◌≡◌, ℕ, Some, Result, Ok, Err, List, [], ◌∷◌, ℤ, pos, negsuc, refl}
+use Rattle.std.specs.Prelude.{codes}
+use Rattle.sis_text.specs.Decimals.{number_of}
+use Rattle.sis_script.specs.Kinds.{number_within, integer_of, value_of}
+use Rattle.sis_script.specs.Grammar.{fill, parse_at, parse}
+use Rattle.sis_script.specs.declared.command.ScriptFault.{ScriptFault}
+use Rattle.sis_script.specs.declared.command.ScriptFault.TheVariants.{BadOption, MissingWord}
+use Rattle.sis_script.specs.declared.kinds.Kind.TheVariants as kind
+use Rattle.sis_script.specs.declared.kinds.Value.TheVariants as value
+use Rattle.sis_script.specs.declared.grammar.OptionForm.{OptionForm}
+use Rattle.sis_script.specs.declared.grammar.OptionGiven.{OptionGiven}
+use Rattle.sis_script.specs.declared.grammar.Slot.TheVariants.{Needed}
+use Rattle.sis_script.specs.declared.grammar.Given.{Given}
+
+valued : ℕ → ℕ → ℕ → OptionForm
+valued letter least most = record { letter = letter; kind = Some (kind.Number least most) }
+
+eliminate : List (List ℕ) → Result Given ScriptFault
+eliminate words = parse (valued 108 1 32767 ∷ []) (Needed kind.Integer ∷ []) words
+
+tech_decomp : List (List ℕ) → Result Given ScriptFault
+tech_decomp words = parse (valued 97 2 1000 ∷ valued 111 2 1000 ∷ []) [] words
+
+with_number : ℕ → ℕ → OptionGiven
+with_number letter number = record { letter = letter; value = Some (value.Number number) }
+
+threshold : List OptionGiven → ℤ → Result Given ScriptFault
+threshold options number = Ok (record { options = options; words = value.Integer number ∷ [] })
+
+only_options : List OptionGiven → Result Given ScriptFault
+only_options options = Ok (record { options = options; words = [] })
+
+negative_alone : eliminate (codes "-1" ∷ []) ≡ threshold [] (negsuc 0)
+unfolding eliminate threshold valued parse parse_at fill value_of number_within integer_of number_of
+negative_alone = refl
+
+negative_behind : eliminate (codes "-l" ∷ codes "5" ∷ codes "-1" ∷ []) ≡ threshold (with_number 108 5 ∷ []) (negsuc 0)
+unfolding eliminate threshold with_number valued parse parse_at fill value_of number_within integer_of number_of
+negative_behind = refl
+
+leading_zeros : eliminate (codes "007" ∷ []) ≡ threshold [] (pos 7)
+unfolding eliminate threshold valued parse parse_at fill value_of number_within integer_of number_of
+leading_zeros = refl
+
+negative_zero : eliminate (codes "-0" ∷ []) ≡ threshold [] (pos 0)
+unfolding eliminate threshold valued parse parse_at fill value_of number_within integer_of number_of
+negative_zero = refl
+
+least_integer : eliminate (codes "-2147483648" ∷ []) ≡ threshold [] (negsuc 2147483647)
+unfolding eliminate threshold valued parse parse_at fill value_of number_within integer_of number_of
+least_integer = refl
+
+past_integers : eliminate (codes "2147483648" ∷ []) ≡ Err BadOption
+unfolding eliminate valued parse parse_at fill value_of number_within integer_of number_of
+past_integers = refl
+
+two_signs : eliminate (codes "--1" ∷ []) ≡ Err BadOption
+unfolding eliminate valued parse parse_at fill value_of number_within integer_of number_of
+two_signs = refl
+
+no_threshold : eliminate [] ≡ Err MissingWord
+unfolding eliminate valued parse parse_at fill
+no_threshold = refl
+
+no_rows : eliminate (codes "-l" ∷ []) ≡ Err MissingWord
+unfolding eliminate valued parse parse_at
+no_rows = refl
+
+past_rows : eliminate (codes "-l" ∷ codes "32768" ∷ codes "1" ∷ []) ≡ Err BadOption
+unfolding eliminate valued parse parse_at fill value_of number_within integer_of number_of
+past_rows = refl
+
+rows_twice : eliminate (codes "-l" ∷ codes "5" ∷ codes "-l" ∷ codes "6" ∷ codes "1" ∷ []) ≡ Err BadOption
+unfolding eliminate valued parse parse_at fill value_of number_within integer_of number_of
+rows_twice = refl
+
+rows_late : eliminate (codes "1" ∷ codes "-l" ∷ codes "5" ∷ []) ≡ Err BadOption
+unfolding eliminate valued parse parse_at fill value_of number_within integer_of number_of
+rows_late = refl
+
+no_bounds : tech_decomp [] ≡ only_options []
+unfolding tech_decomp only_options valued parse parse_at fill
+no_bounds = refl
+
+any_order : tech_decomp (codes "-o" ∷ codes "3" ∷ codes "-a" ∷ codes "2" ∷ []) ≡ only_options (with_number 111 3 ∷ with_number 97 2 ∷ [])
+unfolding tech_decomp only_options with_number valued parse parse_at fill value_of number_within number_of
+any_order = refl
+
+option_for_number : tech_decomp (codes "-a" ∷ codes "-o" ∷ codes "3" ∷ []) ≡ Err BadOption
+unfolding tech_decomp valued parse parse_at fill value_of number_within number_of
+option_for_number = refl
+
+below_bound : tech_decomp (codes "-a" ∷ codes "1" ∷ []) ≡ Err BadOption
+unfolding tech_decomp valued parse parse_at fill value_of number_within number_of
+below_bound = refl
+
+word_too_many : tech_decomp (codes "-a" ∷ codes "2" ∷ codes "x" ∷ []) ≡ Err BadOption
+unfolding tech_decomp valued parse parse_at fill value_of number_within number_of
+word_too_many = refl

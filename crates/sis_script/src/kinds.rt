@@ -1,0 +1,153 @@
+//! The kinds of words that a command may ask for, and what a word of each kind gives.
+//!
+//! After the command language of the SIS manual (UCB/ERL M92/41). Promised: a word gives just what `specs/Kinds` says;
+//! the only error is want of memory.
+
+ghost use Rattle.std.specs.Prelude.{◌≡◌, ◌+◌, ◌-◌, ◌*◌, ◌^◌, ◌<◌, ◌≤◌, min, IfOk, IfSome, Some, None, if◌then◌else◌, true, length};
+ghost use Rattle.std.specs.List.{list_all};
+ghost use Rattle.sis_text.specs.Decimals.{is_digit, number_of};
+ghost use Rattle.sis_text.specs.Words.{begins_with};
+ghost use Rattle.sis_script.specs.Kinds.{are_digits, integer_of, is_file_word, number_within, value_of};
+
+use crate::command::RawWord;
+use sis_text::Word;
+use std::alloc::{AllocError, Global};
+
+/// What a word may be.
+#[derive(Clone, Copy)]
+pub(crate) enum Kind {
+    /// Text that does not begin with `-`.
+    File,
+    /// Any word.
+    Name,
+    /// Decimal digits of a number from the first bound to the second.
+    Number(u64, u64),
+    /// Decimal digits, or a `-` and decimal digits, of an integer of 32 bits.
+    Integer,
+}
+
+/// What a word gives, by its kind.
+#[derive(Drop)]
+pub(crate) enum Value {
+    File(Word),
+    Name(RawWord),
+    Number(u64),
+    Integer(i32),
+}
+
+/// Whether the first byte is `-`.
+pub(crate) fn begins_with_dash(word: &[u8]) -> bool
+    ensures { result ≡ begins_with 45 word.now }
+{
+    match word {
+        [] => false,
+        [first, ..] => *first == 45,
+    }
+}
+
+/// The word that may stand for a file, if these bytes are one.
+fn file_word(alloc: Global, bytes: &[u8]) -> Result<Option<Word>, AllocError>
+    ensures { IfOk result (λ word. word ≡ (if is_file_word bytes.now then Some bytes.now else None)) }
+{
+    if begins_with_dash(bytes) {
+        return Ok(None);
+    }
+    match str::from_utf8(bytes) {
+        Ok(text) => Ok(Some(Word::new(alloc, text)?)),
+        Err(_) => Ok(None),
+    }
+}
+
+/// A word of a script as it was read.
+pub(crate) fn raw_word(alloc: Global, bytes: &[u8]) -> Result<RawWord, AllocError>
+    ensures { IfOk result (λ word. word ≡ bytes.now) }
+{
+    RawWord::from_slice(alloc, bytes)
+}
+
+/// Whether a byte is a decimal digit.
+fn is_digit(byte: u8) -> bool
+    ensures { result ≡ is_digit byte }
+{
+    b'0' <= byte && byte <= b'9'
+}
+
+/// The number that digits write, or the greatest of 128 bits where it is above that.
+fn capped_number(digits: &[u8]) -> u128
+    ensures { result ≡ min (number_of digits.now) (2 ^ 128 - 1) }
+{
+    let mut number: u128 = 0;
+    for digit in digits {
+        number = number
+            .saturating_mul(10)
+            .saturating_add(digit.saturating_sub(b'0') as u128);
+    }
+    number
+}
+
+/// Whether all bytes are decimal digits.
+fn all_digits(word: &[u8]) -> bool
+    ensures { result ≡ list_all is_digit word.now }
+{
+    word.iter().all(|byte| is_digit(*byte))
+}
+
+/// Whether there are decimal digits and nothing else.
+fn are_digits(word: &[u8]) -> bool
+    ensures { result ≡ are_digits word.now }
+{
+    !word.is_empty() && all_digits(word)
+}
+
+/// The number that digits write, where it is within these bounds.
+#[tactic(auto, using(crate::proofs::Numbers::found_within), unfolding(crate::specs::Kinds::number_within))]
+fn number_within(least: u64, most: u64, word: &[u8]) -> Option<u64>
+    ensures value { result ≡ number_within least most word.now }
+    ensures bound { IfSome result (λ number. number ≤ most) }
+{
+    if !are_digits(word) {
+        return None;
+    }
+    let number = capped_number(word);
+    if least as u128 <= number && number <= most as u128 {
+        Some(number as u64)
+    } else {
+        None
+    }
+}
+
+/// The integer of 32 bits that digits write, or digits behind a `-`.
+#[tactic(auto, unfolding(crate::specs::Kinds::integer_of))]
+fn integer_of(word: &[u8]) -> Option<i32>
+    ensures { result ≡ integer_of word.now }
+{
+    if begins_with_dash(word) {
+        let number = number_within(0, 1 << 31, &word[1..])?;
+        Some((-(number as i64)) as i32)
+    } else {
+        let number = number_within(0, (1 << 31) - 1, word)?;
+        Some(number as i32)
+    }
+}
+
+/// What a word gives where a word of this kind is asked for.
+#[tactic(auto, unfolding(crate::specs::Kinds::value_of))]
+pub(crate) fn value_of(alloc: Global, kind: Kind, word: &[u8]) -> Result<Option<Value>, AllocError>
+    ensures { IfOk result (λ value. value ≡ value_of kind word.now) }
+{
+    match kind {
+        Kind::File => match file_word(alloc, word)? {
+            Some(file) => Ok(Some(Value::File(file))),
+            None => Ok(None),
+        },
+        Kind::Name => Ok(Some(Value::Name(raw_word(alloc, word)?))),
+        Kind::Number(least, most) => match number_within(least, most, word) {
+            Some(number) => Ok(Some(Value::Number(number))),
+            None => Ok(None),
+        },
+        Kind::Integer => match integer_of(word) {
+            Some(number) => Ok(Some(Value::Integer(number))),
+            None => Ok(None),
+        },
+    }
+}
