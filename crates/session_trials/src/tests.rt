@@ -28,6 +28,7 @@ fn told(alloc: Global, answer: &Result<Next, StepFault>) -> Result<Vec<u8>, Allo
     match answer {
         Ok(Next::Go) => b"go\n".as_slice().to_vec(alloc),
         Ok(Next::Quit) => b"quit\n".as_slice().to_vec(alloc),
+        Ok(Next::Script(_)) => b"script\n".as_slice().to_vec(alloc),
         Err(StepFault::Refused(refusal)) => refusal_text(alloc, 1, refusal),
         Err(StepFault::StoreFault) => error_text(alloc, 1, "store failed"),
         Err(StepFault::SinkFault) => error_text(alloc, 1, "output failed"),
@@ -92,7 +93,8 @@ impl Trial {
 fn put_files(store: &mut MemStore) -> Result<(), AllocError> {
     store.put_file("a", PASS.as_bytes())?;
     store.put_file("w", CHAIN.as_bytes())?;
-    store.put_file("c", CYCLE.as_bytes())
+    store.put_file("c", CYCLE.as_bytes())?;
+    store.put_file("s", b"echo hi\nfrob\n")
 }
 
 /// A script, what its steps answer, and what they put.
@@ -124,6 +126,11 @@ const SCRIPTS: &[(&str, &str, &str)] = &[
     ),
     ("echo hi  there; quit", "go\nquit\n", "hi there\n"),
     ("frob", "sis: line 1: unknown command\n", ""),
+    (
+        "source s; source z; source",
+        "script\nsis: line 1: no file z\nsis: line 1: missing word\n",
+        "",
+    ),
 ];
 
 /// Steps through a script over the files.

@@ -1,189 +1,274 @@
--- What a command that is done may be, and what it keeps: what is held is sound and refines the circuit last read.
-use Rattle.std.proofs.Common.{◌≡◌, ℕ, Bool, true, false, List, length, refl, sym, ap, subst, ◌∙◌}
-use Rattle.std.specs.Prelude.{Option, Some, None, Result, Ok, Err, nat_le, if◌then◌else◌}
-use Rattle.std.specs.Option.{option_or}
+-- What is held behind a command that is done, and what a command saves or puts.
+use Rattle.std.proofs.Common.{◌≡◌, ℕ, Bool, true, false, List, [], ◌∷◌, refl, sym, ap, subst, ◌∙◌, inl, inr}
+use Rattle.std.specs.Prelude.{Option, Some, None, Result, Ok, Err, nat_lt, if◌then◌else◌}
 use Rattle.sis_text.specs.Entries.{entries_of}
-use Rattle.sis_outside.specs.Files.{Files, file_at}
+use Rattle.sis_outside.specs.Calls.{Load, Save, PutCall}
+use Rattle.sis_outside.specs.declared.store.LoadFault.{LoadFault}
+use Rattle.sis_outside.specs.declared.store.LoadFault.TheVariants as load
+use Rattle.sis_outside.specs.declared.store.SaveFault.{SaveFault}
+use Rattle.sis_outside.specs.declared.store.SaveFault.TheVariants as save
+use Rattle.sis_outside.specs.declared.sink.PutFault.{PutFault}
+use Rattle.sis_outside.specs.declared.sink.PutFault.TheVariants as put
 use Rattle.circuit_model.proofs.Refinement.{refines-itself, refines-through}
 use Rattle.circuit_model.specs.Runs.{Refines}
 use Rattle.circuit_model.specs.Soundness.{IsSound}
 use Rattle.circuit_model.specs.Text.{text_of}
-use Rattle.circuit_model.specs.Values.{driver}
 use Rattle.circuit_model.specs.declared.circuit.Circuit.{Circuit}
-use Rattle.circuit_model.specs.declared.circuit.Table.{Table}
 use Rattle.blif_read.proofs.Agreement.{all_agree}
 use Rattle.blif_read.proofs.ProperWords.{proper_words}
 use Rattle.blif_read.proofs.WhatIsRead.{sound_read}
 use Rattle.blif_read.specs.Reader.{read_lines}
 use Rattle.blif_read.specs.declared.fault.BlifFault.{BlifFault}
 use Rattle.sweep_rules.proofs.Chaining.{chain_kept}
-use Rattle.circuit_laws.specs.Chains.{Chain}
-use Rattle.sweep_rules.specs.Rules.{sweep_step}
+use Rattle.sis_script.specs.declared.command.Change.{Change}
+use Rattle.sis_script.specs.declared.command.Change.TheVariants.{Sweep}
 use Rattle.sis_script.specs.declared.command.Op.{Op}
-use Rattle.sis_script.specs.declared.command.Op.TheVariants.{Echo, Quit, ReadBlif, WriteBlif, PrintStats, Print, PrintLatch, Sweep, Undo, Bad}
-use Rattle.sis_session.specs.Keeping.{RefinesSpec, IsRefined, IsWritten}
-use Rattle.sis_session.specs.State.{Held, changed, exchanged, nothing_held}
-use Rattle.sis_session.specs.Outcome.{MAX_BYTES, Effect, Does, Refuses, changes, replies, takes, read_by, read_outcome, quit_outcome, stats_outcome, print_outcome, named_outcome, latch_outcome, SweepsTo, undo_outcome, write_outcome, sent_to}
-use Rattle.sis_session.specs.Step.{Step}
+use Rattle.sis_script.specs.declared.command.Op.TheVariants.{Echo, Quit, ReadBlif, WriteBlif, PrintStats, Print, PrintLatch, Change as ChangeOp, Undo, Source, Bad}
+use Rattle.sis_session.specs.Commands.{Changes, ChangePlans, Plans, changed_by, commands_in, last_read, latches_told, read_by, sends, stats_told, stays, tables_told, text_told, told_of, undo_plan}
+use Rattle.sis_session.specs.Keeping.{RefinesRead, RefinesSpec, IsRefined, Holds, HasText}
+use Rattle.sis_session.specs.Plan.{MAX_DEPTH, Asked, Nothing, OnStore, OnOut, OnInput, Comes, ComesLoaded, ComesSaved, ComesPut, Done, Ending, Goes, Loads, Outcome, Does, Refuses, Plan, Quiet, Puts, Saves, Takes, Steps, by_plan, no_memory}
+use Rattle.sis_session.specs.Replies.{echo_line}
+use Rattle.sis_session.specs.State.{Held, Spec, CircuitRead, MachineRead, Written, CircuitWritten, nothing_held, with_exchanged}
+use Rattle.sis_session.specs.declared.refusal.Next.{Next}
+use Rattle.sis_session.specs.declared.refusal.Next.TheVariants.{Go, Script}
+use Rattle.sis_session.specs.declared.refusal.Next.TheVariants as onward
+use Rattle.sis_session.specs.declared.refusal.Refusal.{Refusal}
 use Rattle.sis_session.specs.declared.refusal.Refusal.TheVariants as refusal
 
--- what a command that is done may be: it read a circuit; it changed nothing and wrote no circuit; it changed the
--- network; it took the last change back; or it wrote the network
-data Effects (held : Held) (op : Op) (e : Effect) : Type 0 where
-  has_read : (circuit : Circuit) → IsSound circuit → e ≡ takes circuit → Effects held op e
-  has_swept : (circuit new : Circuit) → held.network ≡ Some circuit → Chain sweep_step circuit new
-      → e.held ≡ record { network = Some new; kept = Some circuit } → e.read ≡ None → e.wrote ≡ None → Effects held op e
-  has_told : e.held ≡ held → e.read ≡ None → e.wrote ≡ None → Effects held op e
-  has_undone : e.held ≡ exchanged held → e.read ≡ None → e.wrote ≡ None → Effects held op e
-  has_written : (circuit : Circuit) (file : Option (List ℕ)) → op ≡ WriteBlif file → held.network ≡ Some circuit → e.held ≡ held
-      → e.read ≡ None → e.wrote ≡ Some circuit → e.call ≡ sent_to file (text_of circuit) → Effects held op e
+-- what is held has a property where an outcome is to do something, and behind a plan that ends done
+abbrev Leaves : (Held → Type 0) → Outcome → Type 0
+Leaves is (Does held next) = is held
+Leaves is (Refuses why) = Unit {0}
+
+abbrev Leads : (Held → Type 0) → Plan → Type 0
+Leads is plan = (asked : Asked) (held' : Held) (next : Next) → Goes plan asked (Done held' next) → is held'
+
+comes_leads : (is : Held → Type 0) (outcome : Outcome) (held' : Held) (next : Next) → Leaves is outcome → Comes outcome (Done held' next) → is held'
+comes_leads is (Does held onward) held' next leaves (inl same) = let equal : held ≡ held' = cc in subst is equal leaves
+comes_leads is (Does held onward) held' next leaves (inr cut) = cc
+comes_leads is (Refuses why) held' next leaves (inl refused) = cc
+comes_leads is (Refuses why) held' next leaves (inr cut) = cc
+
+quiet_leads : (is : Held → Type 0) (outcome : Outcome) → Leaves is outcome → Leads is (Quiet outcome)
+quiet_leads is outcome leaves Nothing held' next goes = comes_leads is outcome held' next leaves goes
+quiet_leads is outcome leaves (OnStore call) held' next goes = absurd goes
+quiet_leads is outcome leaves (OnOut call) held' next goes = absurd goes
+quiet_leads is outcome leaves (OnInput calls) held' next goes = absurd goes
+
+loaded_leads : (is : Held → Type 0) (name : List ℕ) (used : List ℕ → Outcome) (answer : Result (List ℕ) LoadFault) (held' : Held) (next : Next)
+    → ((bytes : List ℕ) → Leaves is (used bytes)) → ComesLoaded name used answer (Done held' next) → is held'
+loaded_leads is name used (Ok bytes) held' next leaves comes = comes_leads is (used bytes) held' next (leaves bytes) comes
+loaded_leads is name used (Err load.Missing) held' next leaves comes = comes_leads is (Refuses (refusal.Missing name)) held' next tt comes
+loaded_leads is name used (Err (load.TooLong reached)) held' next leaves comes = comes_leads is (Refuses (refusal.TooLong name)) held' next tt comes
+loaded_leads is name used (Err load.Failed) held' next leaves comes = cc
+loaded_leads is name used (Err load.Memory) held' next leaves comes = cc
+
+loads_leads : (is : Held → Type 0) (name : List ℕ) (used : List ℕ → Outcome) → ((bytes : List ℕ) → Leaves is (used bytes)) → Leads is (Loads name used)
+loads_leads is name used leaves Nothing held' next goes = absurd goes
+loads_leads is name used leaves (OnStore (Load loaded max answer)) held' next goes = loaded_leads is name used answer held' next leaves goes.2
+loads_leads is name used leaves (OnStore (Save saved sent answer)) held' next goes = absurd goes
+loads_leads is name used leaves (OnOut call) held' next goes = absurd goes
+loads_leads is name used leaves (OnInput calls) held' next goes = absurd goes
+
+saved_leads : (is : Held → Type 0) (outcome : Outcome) (answer : Result (Unit {0}) SaveFault) (held' : Held) (next : Next) → Leaves is outcome
+    → ComesSaved outcome answer (Done held' next) → is held'
+saved_leads is outcome (Ok done) held' next leaves comes = comes_leads is outcome held' next leaves comes
+saved_leads is outcome (Err save.Failed) held' next leaves comes = cc
+saved_leads is outcome (Err save.Memory) held' next leaves comes = cc
+
+saves_leads : (is : Held → Type 0) (name bytes : List ℕ) (outcome : Outcome) → Leaves is outcome → Leads is (Saves name bytes outcome)
+saves_leads is name bytes outcome leaves Nothing held' next goes = absurd goes
+saves_leads is name bytes outcome leaves (OnStore (Load loaded max answer)) held' next goes = absurd goes
+saves_leads is name bytes outcome leaves (OnStore (Save saved sent answer)) held' next goes = saved_leads is outcome answer held' next leaves goes.2
+saves_leads is name bytes outcome leaves (OnOut call) held' next goes = absurd goes
+saves_leads is name bytes outcome leaves (OnInput calls) held' next goes = absurd goes
+
+put_leads : (is : Held → Type 0) (outcome : Outcome) (answer : Result (Unit {0}) PutFault) (held' : Held) (next : Next) → Leaves is outcome
+    → ComesPut outcome answer (Done held' next) → is held'
+put_leads is outcome (Ok done) held' next leaves comes = comes_leads is outcome held' next leaves comes
+put_leads is outcome (Err put.Failed) held' next leaves comes = cc
+put_leads is outcome (Err put.Memory) held' next leaves comes = cc
+
+puts_leads : (is : Held → Type 0) (reply : List ℕ) (outcome : Outcome) → Leaves is outcome → Leads is (Puts reply outcome)
+puts_leads is reply outcome leaves Nothing held' next goes = absurd goes
+puts_leads is reply outcome leaves (OnStore (Load loaded max answer)) held' next goes = absurd goes
+puts_leads is reply outcome leaves (OnStore (Save saved sent answer)) held' next goes = absurd goes
+puts_leads is reply outcome leaves (OnOut call) held' next goes = put_leads is outcome call.answer held' next leaves goes.1
+puts_leads is reply outcome leaves (OnInput calls) held' next goes = absurd goes
+
+sends_leads : (is : Held → Type 0) (held : Held) (file : Option (List ℕ)) (told : Result (List ℕ) Refusal) → is held → Leads is (sends held file told)
+sends_leads is held None (Ok []) holds = quiet_leads is (stays held) holds
+sends_leads is held None (Ok (byte ∷ bytes)) holds = puts_leads is (byte ∷ bytes) (stays held) holds
+sends_leads is held (Some name) (Ok text) holds = saves_leads is name text (stays held) holds
+sends_leads is held None (Err why) holds = quiet_leads is (Refuses why) tt
+sends_leads is held (Some name) (Err why) holds = quiet_leads is (Refuses why) tt
 
 -- what is read is sound
 sound_circuit : (bytes : List ℕ) (circuit : Circuit) → read_lines (entries_of bytes) ≡ Ok circuit → IsSound circuit
 sound_circuit bytes circuit reads = sound_read (entries_of bytes) circuit (proper_words bytes) (all_agree (entries_of bytes) ∙ reads)
 
-read_effects : (held : Held) (name bytes : List ℕ) (read : Result Circuit BlifFault) (e : Effect) → read_lines (entries_of bytes) ≡ read
-    → Does e ≡ read_by name read → Effects held (ReadBlif name) e
-read_effects held name bytes (Ok circuit) e reads h = has_read circuit (sound_circuit bytes circuit reads) (let p : e ≡ takes circuit = cc in p)
-read_effects held name bytes (Err fault) e reads h = cc
+-- a circuit that was just read refines itself
+refines_read : (circuit : Circuit) → IsSound circuit → RefinesSpec (Some (CircuitRead circuit)) (Some circuit)
+refines_read circuit sound other same =
+    let equal : circuit ≡ other = cc in (CircuitRead circuit, refl, subst IsSound equal sound, subst (λ x. Refines circuit x) equal (refines-itself circuit))
 
-loaded_effects : (held : Held) (name : List ℕ) (file : Option (List ℕ)) (e : Effect) → Does e ≡ read_outcome name file → Effects held (ReadBlif name) e
-loaded_effects held name None e h = cc
-loaded_effects held name (Some bytes) e h = cases (nat_le (length bytes) MAX_BYTES) h
+none_refines : (spec : Option Spec) → RefinesSpec spec None
+none_refines spec circuit is = cc
+
+read_leaves : (held : Held) (name bytes : List ℕ) (spec : Option Spec) (read : Result Circuit BlifFault) → read_lines (entries_of bytes) ≡ read
+    → Leaves (λ h. IsRefined (last_read (ReadBlif name) h spec) h) (read_by held name read)
+read_leaves held name bytes spec (Ok circuit) reads =
+    record { network = refines_read circuit (sound_circuit bytes circuit reads); previous = none_refines (Some (CircuitRead circuit)) }
+read_leaves held name bytes spec (Err fault) reads = tt
+
+-- what refines a circuit refines what that refines
+refines_on : (read : Spec) (old new : Circuit) → RefinesRead read old → Refines old new → RefinesRead read new
+refines_on (CircuitRead read) old new before after = refines-through read old new before after
+refines_on (MachineRead read) old new before after = absurd before
+
+-- a change leads on: what it makes of a sound circuit is sound and refines it
+changed_refines : (spec : Option Spec) (change : Change) (old new : Circuit) → Changes change old (Ok new) → RefinesSpec spec (Some old) → RefinesSpec spec (Some new)
+changed_refines spec Sweep old new chain before circuit same =
+    let (read, is, sound, refines) = before old refl in
+    let kept = chain_kept old new sound chain in
+    let equal : new ≡ circuit = cc in
+    (read, is, subst IsSound equal kept.sound, subst (RefinesRead read) equal (refines_on read old new refines kept.refines))
+
+change_leads : (spec : Option Spec) (held : Held) (change : Change) (network : Option Circuit) (plan : Plan) → held.network ≡ network → IsRefined spec held
+    → ChangePlans held change network plan → Leads (λ h. IsRefined spec h) plan
+change_leads spec held change None plan there refined is = subst (Leads (λ h. IsRefined spec h)) (sym is) (quiet_leads (λ h. IsRefined spec h) (Refuses refusal.NoNetwork) tt)
+change_leads spec held change (Some old) plan there refined (Ok new, changes, is) =
+    subst (Leads (λ h. IsRefined spec h)) (sym is) (quiet_leads (λ h. IsRefined spec h) (changed_by held (Ok new)) (record {
+      network = changed_refines spec change old new changes (subst (RefinesSpec spec) there refined.network);
+      previous = refined.network;
+    }))
+change_leads spec held change (Some old) plan there refined (Err why, changes, is) =
+    subst (Leads (λ h. IsRefined spec h)) (sym is) (quiet_leads (λ h. IsRefined spec h) (Refuses why) tt)
+
+undo_leads : (spec : Option Spec) (held : Held) (previous : Option Circuit) → IsRefined spec held → Leads (λ h. IsRefined spec h) (undo_plan held previous)
+undo_leads spec held None refined = quiet_leads (λ h. IsRefined spec h) (Refuses refusal.NothingToUndo) tt
+undo_leads spec held (Some circuit) refined = quiet_leads (λ h. IsRefined spec h) (Does (with_exchanged held) Go) (record { network = refined.previous; previous = refined.network })
+
+source_leads : (is : Held → Type 0) (shallow : Bool) (held : Held) (name : List ℕ) → is held
+    → Leads is (if shallow then Loads name (λ bytes. Does held (Script (commands_in bytes))) else Quiet (Refuses refusal.Nested))
+source_leads is true held name holds = loads_leads is name (λ bytes. Does held (Script (commands_in bytes))) (λ bytes. holds)
+source_leads is false held name holds = quiet_leads is (Refuses refusal.Nested) tt
+
+plan_leads : (depth : ℕ) (spec : Option Spec) (held : Held) (op : Op) (plan : Plan) → IsRefined spec held → Plans depth held op plan
+    → Leads (λ h. IsRefined (last_read op h spec) h) plan
+plan_leads depth spec held (Echo words) plan refined is = subst (Leads (λ h. IsRefined spec h)) (sym is) (sends_leads (λ h. IsRefined spec h) held None (Ok (echo_line words)) refined)
+plan_leads depth spec held Quit plan refined is = subst (Leads (λ h. IsRefined spec h)) (sym is) (quiet_leads (λ h. IsRefined spec h) (Does held onward.Quit) refined)
+plan_leads depth spec held (ReadBlif name) plan refined is =
+    subst (Leads (λ h. IsRefined (last_read (ReadBlif name) h spec) h)) (sym is)
+    (loads_leads (λ h. IsRefined (last_read (ReadBlif name) h spec) h) name (λ bytes. read_by held name (read_lines (entries_of bytes))) (λ bytes. read_leaves held name bytes spec (read_lines (entries_of bytes)) refl))
+plan_leads depth spec held (WriteBlif file) plan refined is = subst (Leads (λ h. IsRefined spec h)) (sym is) (sends_leads (λ h. IsRefined spec h) held file (told_of text_told held.network) refined)
+plan_leads depth spec held PrintStats plan refined is = subst (Leads (λ h. IsRefined spec h)) (sym is) (sends_leads (λ h. IsRefined spec h) held None (told_of stats_told held.network) refined)
+plan_leads depth spec held (Print name) plan refined is = subst (Leads (λ h. IsRefined spec h)) (sym is) (sends_leads (λ h. IsRefined spec h) held None (told_of (tables_told name) held.network) refined)
+plan_leads depth spec held PrintLatch plan refined is = subst (Leads (λ h. IsRefined spec h)) (sym is) (sends_leads (λ h. IsRefined spec h) held None (told_of latches_told held.network) refined)
+plan_leads depth spec held (ChangeOp change) plan refined is = change_leads spec held change held.network plan refl refined is
+plan_leads depth spec held Undo plan refined is = subst (Leads (λ h. IsRefined spec h)) (sym is) (undo_leads spec held held.previous refined)
+plan_leads depth spec held (Source name) plan refined is =
+    subst (Leads (λ h. IsRefined spec h)) (sym is) (source_leads (λ h. IsRefined spec h) (nat_lt depth MAX_DEPTH) held name refined)
+plan_leads depth spec held (Bad fault) plan refined is = subst (Leads (λ h. IsRefined spec h)) (sym is) (quiet_leads (λ h. IsRefined spec h) (Refuses (refusal.Script fault)) tt)
+
+pub refined_step : (depth : ℕ) (held : Held) (op : Op) (asked : Asked) (held' : Held) (next : Next) (spec : Option Spec)
+    → Steps (Plans depth held op) asked (Done held' next) → IsRefined spec held → IsRefined (last_read op held' spec) held'
+refined_step depth held op asked held' next spec (by_plan plan planned goes) refined = plan_leads depth spec held op plan refined planned asked held' next goes
+refined_step depth held op asked held' next spec (no_memory none cut) refined = cc
+
+pub refined_nothing : (spec : Option Spec) → IsRefined spec nothing_held
+refined_nothing spec = record { network = none_refines spec; previous = none_refines spec }
+
+-- what a plan saves, and what it puts
+abbrev IsSave : List ℕ → List ℕ → Plan → Type 0
+IsSave name bytes (Saves to sent outcome) = (name ≡ to) × (bytes ≡ sent)
+IsSave name bytes (Quiet outcome) = ⊥
+IsSave name bytes (Loads from used) = ⊥
+IsSave name bytes (Puts reply outcome) = ⊥
+IsSave name bytes (Takes used) = ⊥
+
+abbrev IsPut : List ℕ → Plan → Type 0
+IsPut piece (Puts reply outcome) = piece ≡ reply
+IsPut piece (Quiet outcome) = ⊥
+IsPut piece (Loads from used) = ⊥
+IsPut piece (Saves to sent outcome) = ⊥
+IsPut piece (Takes used) = ⊥
+
+goes_save : (plan : Plan) (name bytes : List ℕ) (answer : Result (Unit {0}) SaveFault) (ending : Ending) → Goes plan (OnStore (Save name bytes answer)) ending → IsSave name bytes plan
+goes_save (Quiet outcome) name bytes answer ending goes = absurd goes
+goes_save (Loads from used) name bytes answer ending goes = absurd goes
+goes_save (Saves to sent outcome) name bytes answer ending goes = (goes.0, goes.1)
+goes_save (Puts reply outcome) name bytes answer ending goes = absurd goes
+goes_save (Takes used) name bytes answer ending goes = absurd goes
+
+goes_put : (plan : Plan) (call : PutCall) (ending : Ending) → Goes plan (OnOut call) ending → IsPut call.piece plan
+goes_put (Quiet outcome) call ending goes = absurd goes
+goes_put (Loads from used) call ending goes = absurd goes
+goes_put (Saves to sent outcome) call ending goes = absurd goes
+goes_put (Puts reply outcome) call ending goes = goes.0
+goes_put (Takes used) call ending goes = absurd goes
+
+-- what is put is not saved, and the other way round
+puts_save_nothing : (held : Held) (told : Result (List ℕ) Refusal) (name bytes : List ℕ) → IsSave name bytes (sends held None told) → ⊥
+puts_save_nothing held (Ok []) name bytes saves = saves
+puts_save_nothing held (Ok (byte ∷ rest)) name bytes saves = saves
+puts_save_nothing held (Err why) name bytes saves = saves
+
+undo_saves_nothing : (held : Held) (previous : Option Circuit) (name bytes : List ℕ) → IsSave name bytes (undo_plan held previous) → ⊥
+undo_saves_nothing held None name bytes saves = saves
+undo_saves_nothing held (Some circuit) name bytes saves = saves
+
+source_saves_nothing : (shallow : Bool) (held : Held) (from name bytes : List ℕ)
+    → IsSave name bytes (if shallow then Loads from (λ text. Does held (Script (commands_in text))) else Quiet (Refuses refusal.Nested)) → ⊥
+source_saves_nothing true held from name bytes saves = saves
+source_saves_nothing false held from name bytes saves = saves
+
+change_saves_nothing : (held : Held) (change : Change) (network : Option Circuit) (plan : Plan) (name bytes : List ℕ) → ChangePlans held change network plan → IsSave name bytes plan → ⊥
+change_saves_nothing held change None plan name bytes is saves = subst (IsSave name bytes) is saves
+change_saves_nothing held change (Some old) plan name bytes (answer, changes, is) saves = subst (IsSave name bytes) is saves
+
+write_saves : (held : Held) (file : Option (List ℕ)) (network : Option Circuit) (name bytes : List ℕ) → IsSave name bytes (sends held file (told_of text_told network))
+    → (circuit : Circuit) × (WriteBlif file ≡ WriteBlif (Some name)) × (network ≡ Some circuit) × (bytes ≡ text_of circuit)
+write_saves held None network name bytes saves = absurd (puts_save_nothing held (told_of text_told network) name bytes saves)
+write_saves held (Some to) None name bytes saves = absurd saves
+write_saves held (Some to) (Some circuit) name bytes saves = (circuit, ap (λ n. WriteBlif (Some n)) (sym saves.0), refl, saves.1)
+
+plan_saves : (depth : ℕ) (held : Held) (op : Op) (plan : Plan) (name bytes : List ℕ) → Plans depth held op plan → IsSave name bytes plan
+    → (circuit : Circuit) × (op ≡ WriteBlif (Some name)) × (held.network ≡ Some circuit) × (bytes ≡ text_of circuit)
+plan_saves depth held (Echo words) plan name bytes is saves = absurd (puts_save_nothing held (Ok (echo_line words)) name bytes (subst (IsSave name bytes) is saves))
+plan_saves depth held Quit plan name bytes is saves = absurd (subst (IsSave name bytes) is saves)
+plan_saves depth held (ReadBlif from) plan name bytes is saves = absurd (subst (IsSave name bytes) is saves)
+plan_saves depth held (WriteBlif file) plan name bytes is saves = write_saves held file held.network name bytes (subst (IsSave name bytes) is saves)
+plan_saves depth held PrintStats plan name bytes is saves = absurd (puts_save_nothing held (told_of stats_told held.network) name bytes (subst (IsSave name bytes) is saves))
+plan_saves depth held (Print signal) plan name bytes is saves = absurd (puts_save_nothing held (told_of (tables_told signal) held.network) name bytes (subst (IsSave name bytes) is saves))
+plan_saves depth held PrintLatch plan name bytes is saves = absurd (puts_save_nothing held (told_of latches_told held.network) name bytes (subst (IsSave name bytes) is saves))
+plan_saves depth held (ChangeOp change) plan name bytes is saves = absurd (change_saves_nothing held change held.network plan name bytes is saves)
+plan_saves depth held Undo plan name bytes is saves = absurd (undo_saves_nothing held held.previous name bytes (subst (IsSave name bytes) is saves))
+plan_saves depth held (Source from) plan name bytes is saves =
+    absurd (source_saves_nothing (nat_lt depth MAX_DEPTH) held from name bytes (subst (IsSave name bytes) is saves))
+plan_saves depth held (Bad fault) plan name bytes is saves = absurd (subst (IsSave name bytes) is saves)
+
+pub saved_step : (depth : ℕ) (held : Held) (op : Op) (name bytes : List ℕ) (answer : Result (Unit {0}) SaveFault) (ending : Ending)
+    → Steps (Plans depth held op) (OnStore (Save name bytes answer)) ending
+    → (written : Written) × (op ≡ WriteBlif (Some name)) × Holds held written × HasText written bytes
+saved_step depth held op name bytes answer ending (by_plan plan planned goes) =
+    let saves = plan_saves depth held op plan name bytes planned (goes_save plan name bytes answer ending goes) in (CircuitWritten saves.0, saves.1, saves.2, saves.3)
+saved_step depth held op name bytes answer ending (no_memory none cut) = cc
+
+write_puts : (held : Held) (file : Option (List ℕ)) (network : Option Circuit) (piece : List ℕ) → IsPut piece (sends held file (told_of text_told network))
+    → (circuit : Circuit) × (file ≡ None) × (network ≡ Some circuit) × (piece ≡ text_of circuit)
+write_puts held None None piece puts = absurd puts
+write_puts held (Some name) None piece puts = absurd puts
+write_puts held (Some name) (Some circuit) piece puts = absurd puts
+write_puts held None (Some circuit) piece puts = (circuit, refl, refl, put_whole (text_of circuit) puts)
   where
-    cases : (b : Bool) → Does e ≡ (if b then read_by name (read_lines (entries_of bytes)) else Refuses (refusal.TooLong name)) → Effects held (ReadBlif name) e
-    cases true k = read_effects held name bytes (read_lines (entries_of bytes)) e refl k
-    cases false k = cc
+    put_whole : (text : List ℕ) → IsPut piece (sends held None (Ok text)) → piece ≡ text
+    put_whole [] p = absurd p
+    put_whole (byte ∷ bytes) p = p
 
-reply_effects : (held : Held) (op : Op) (reply : List ℕ) (e : Effect) → Does e ≡ Does (replies held reply) → Effects held op e
-reply_effects held op reply e h =
-    let p : e ≡ replies held reply = cc in
-    has_told (ap (λ x. x.held) p) (ap (λ x. x.read) p) (ap (λ x. x.wrote) p)
-
-stats_effects : (held : Held) (network : Option Circuit) (e : Effect) → Does e ≡ stats_outcome held network → Effects held PrintStats e
-stats_effects held None e h = cc
-stats_effects held (Some circuit) e h = reply_effects held PrintStats _ e h
-
-named_effects : (held : Held) (name : List ℕ) (table : Option Table) (e : Effect) → Does e ≡ named_outcome held name table → Effects held (Print (Some name)) e
-named_effects held name None e h = cc
-named_effects held name (Some table) e h = reply_effects held (Print (Some name)) _ e h
-
-print_effects : (held : Held) (name : Option (List ℕ)) (network : Option Circuit) (e : Effect) → Does e ≡ print_outcome held name network → Effects held (Print name) e
-print_effects held name None e h = cc
-print_effects held None (Some circuit) e h = reply_effects held (Print None) _ e h
-print_effects held (Some name) (Some circuit) e h = named_effects held name (driver circuit.tables name) e h
-
-latch_effects : (held : Held) (network : Option Circuit) (e : Effect) → Does e ≡ latch_outcome held network → Effects held PrintLatch e
-latch_effects held None e h = cc
-latch_effects held (Some circuit) e h = reply_effects held PrintLatch _ e h
-
-sweep_effects : (held : Held) (network : Option Circuit) (e : Effect) → held.network ≡ network → SweepsTo held network (Does e) → Effects held Sweep e
-sweep_effects held None e n h = cc
-sweep_effects held (Some circuit) e n h =
-    let (new, chain, is) = h in
-    let p : e ≡ changes (changed circuit new) = cc in
-    has_swept circuit new n chain (ap (λ x. x.held) p) (ap (λ x. x.read) p) (ap (λ x. x.wrote) p)
-
-undo_effects : (held : Held) (kept : Option Circuit) (e : Effect) → Does e ≡ undo_outcome held kept → Effects held Undo e
-undo_effects held None e h = cc
-undo_effects held (Some circuit) e h =
-    let p : e ≡ changes (exchanged held) = cc in
-    has_undone (ap (λ x. x.held) p) (ap (λ x. x.read) p) (ap (λ x. x.wrote) p)
-
-quit_effects : (held : Held) (e : Effect) → Does e ≡ quit_outcome held → Effects held Quit e
-quit_effects held e h =
-    let p : e ≡ record (changes held) { onward = e.onward } = cc in
-    has_told (ap (λ x. x.held) p) (ap (λ x. x.read) p) (ap (λ x. x.wrote) p)
-
-write_effects : (held : Held) (file : Option (List ℕ)) (network : Option Circuit) (e : Effect) → held.network ≡ network
-    → Does e ≡ write_outcome held file network → Effects held (WriteBlif file) e
-write_effects held file None e n h = cc
-write_effects held file (Some circuit) e n h =
-    let p : e ≡ record (changes held) { wrote = Some circuit; call = sent_to file (text_of circuit) } = cc in
-    has_written circuit file refl n (ap (λ x. x.held) p) (ap (λ x. x.read) p) (ap (λ x. x.wrote) p) (ap (λ x. x.call) p)
-
-effects : (files : Files) (held : Held) (op : Op) (e : Effect) → Step files held op (Does e) → Effects held op e
-effects files held (Echo words) e h = reply_effects held (Echo words) _ e h
-effects files held Quit e h = quit_effects held e h
-effects files held (ReadBlif name) e h = loaded_effects held name (file_at files name) e h
-effects files held (WriteBlif file) e h = write_effects held file held.network e refl h
-effects files held PrintStats e h = stats_effects held held.network e h
-effects files held (Print name) e h = print_effects held name held.network e h
-effects files held PrintLatch e h = latch_effects held held.network e h
-effects files held Sweep e h = sweep_effects held held.network e refl h
-effects files held Undo e h = undo_effects held held.kept e h
-effects files held (Bad fault) e h = cc
-
--- what refines the circuit last read still does where neither has changed
-still_refines : (spec spec' held held' : Option Circuit) → spec' ≡ spec → held' ≡ held → RefinesSpec spec held → RefinesSpec spec' held'
-still_refines spec spec' held held' s h k circuit n =
-    let (last, is, sound, refines) = k circuit (sym h ∙ n) in (last, s ∙ is, sound, refines)
-
-just_read_refines : (circuit : Circuit) (spec held : Option Circuit) → IsSound circuit → spec ≡ Some circuit → held ≡ Some circuit → RefinesSpec spec held
-just_read_refines circuit spec held sound s h c n =
-    let same : circuit ≡ c = cc in
-    (circuit, s, subst IsSound same sound, subst (λ x. Refines circuit x) same (refines-itself circuit))
-
--- what a chain of steps makes of the network
-swept_refines : (spec spec' network held : Option Circuit) (circuit new : Circuit) → spec' ≡ spec → network ≡ Some circuit → held ≡ Some new
-    → Chain sweep_step circuit new → RefinesSpec spec network → RefinesSpec spec' held
-swept_refines spec spec' network held circuit new s n h chain k c m =
-    let (last, is, sound, refines) = k circuit n in
-    let kept = chain_kept circuit new sound chain in
-    let same : new ≡ c = cc in
-    (last, s ∙ is, subst IsSound same kept.sound, subst (λ x. Refines last x) same (refines-through last circuit new refines kept.refines))
-
-none_refines : (spec held : Option Circuit) → held ≡ None → RefinesSpec spec held
-none_refines spec held h c n = cc
-
--- a step that is done keeps the refinement
-refined_done : (spec : Option Circuit) (held : Held) (op : Op) (e : Effect) → Effects held op e → IsRefined spec held → IsRefined (option_or e.read spec) e.held
-refined_done spec was op e (has_read circuit sound p) k = record {
-  network = just_read_refines circuit _ _ sound (ap (λ x. option_or x.read spec) p) (ap (λ x. x.held.network) p);
-  kept = none_refines _ _ (ap (λ x. x.held.kept) p);
-}
-refined_done spec was op e (has_told held read wrote) k = record {
-  network = still_refines _ _ _ _ (ap (λ r. option_or r spec) read) (ap (λ h. h.network) held) k.network;
-  kept = still_refines _ _ _ _ (ap (λ r. option_or r spec) read) (ap (λ h. h.kept) held) k.kept;
-}
-refined_done spec was op e (has_swept circuit new network chain held read wrote) k = record {
-  network = swept_refines spec _ was.network _ circuit new (ap (λ r. option_or r spec) read) network (ap (λ h. h.network) held) chain k.network;
-  kept = still_refines _ _ _ _ (ap (λ r. option_or r spec) read) (ap (λ h. h.kept) held ∙ sym network) k.network;
-}
-refined_done spec was op e (has_undone held read wrote) k = record {
-  network = still_refines _ _ _ _ (ap (λ r. option_or r spec) read) (ap (λ h. h.network) held) k.kept;
-  kept = still_refines _ _ _ _ (ap (λ r. option_or r spec) read) (ap (λ h. h.kept) held) k.network;
-}
-refined_done spec was op e (has_written circuit file is network held read wrote call) k = record {
-  network = still_refines _ _ _ _ (ap (λ r. option_or r spec) read) (ap (λ h. h.network) held) k.network;
-  kept = still_refines _ _ _ _ (ap (λ r. option_or r spec) read) (ap (λ h. h.kept) held) k.kept;
-}
-
-pub refined_step : (files : Files) (held : Held) (op : Op) (e : Effect) (spec : Option Circuit) → Step files held op (Does e)
-    → IsRefined spec held → IsRefined (option_or e.read spec) e.held
-refined_step files held op e spec h k = refined_done spec held op e (effects files held op e h) k
-
--- nothing is held at first
-pub refined_nothing : (spec : Option Circuit) → IsRefined spec nothing_held
-refined_nothing spec = record { network = λ c n. cc; kept = λ c n. cc }
-
--- what a command that is done wrote
-written_by : (held : Held) (op : Op) (e : Effect) (circuit : Circuit) → Effects held op e → e.wrote ≡ Some circuit → IsWritten held op e circuit
-written_by held op e circuit (has_read read sound p) w =
-    let n : None ≡ Some circuit = sym (ap (λ (x : Effect). x.wrote) p) ∙ w in cc
-written_by held op e circuit (has_told same read wrote) w = let n : None ≡ Some circuit = sym wrote ∙ w in cc
-written_by held op e circuit (has_swept old new network chain is read wrote) w = let n : None ≡ Some circuit = sym wrote ∙ w in cc
-written_by held op e circuit (has_undone is read wrote) w = let n : None ≡ Some circuit = sym wrote ∙ w in cc
-written_by held op e circuit (has_written own file is network same read wrote call) w =
-    let n : Some own ≡ Some circuit = sym wrote ∙ w in
-    let one : own ≡ circuit = cc in
-    record {
-      file = file;
-      command = is;
-      network = network ∙ ap Some one;
-      sent = call ∙ ap (λ c. sent_to file (text_of c)) one;
-    }
-
-pub written_step : (files : Files) (held : Held) (op : Op) (e : Effect) (circuit : Circuit) → Step files held op (Does e)
-    → e.wrote ≡ Some circuit → IsWritten held op e circuit
-written_step files held op e circuit h w = written_by held op e circuit (effects files held op e h) w
+pub put_step : (depth : ℕ) (held : Held) (file : Option (List ℕ)) (call : PutCall) (ending : Ending)
+    → Steps (Plans depth held (WriteBlif file)) (OnOut call) ending
+    → (written : Written) × (file ≡ None) × Holds held written × HasText written call.piece
+put_step depth held file call ending (by_plan plan planned goes) =
+    let puts = write_puts held file held.network call.piece (subst (IsPut call.piece) planned (goes_put plan call ending goes)) in (CircuitWritten puts.0, puts.1, puts.2, puts.3)
+put_step depth held file call ending (no_memory none cut) = cc

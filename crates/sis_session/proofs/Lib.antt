@@ -1,6 +1,7 @@
-pub mod Answering
 pub mod Bounds
-pub mod Moving
+pub mod Going
+pub mod Stepping
+pub mod Scripts
 pub mod Effects
 pub mod Serving
 pub mod Once

@@ -1,15 +1,133 @@
--- A command has one outcome.
-use Rattle.std.proofs.Common.{◌≡◌, List, [], ◌∷◌, sym, ap, subst, ◌∙◌}
-use Rattle.std.specs.Prelude.{Option, Some, None}
-use Rattle.sis_outside.specs.Files.{Files}
+-- A command ends in one way where the outside answers the same.
+use Rattle.std.proofs.Common.{◌≡◌, ℕ, List, [], ◌∷◌, sym, ap, subst, ◌∙◌, inl, inr}
+use Rattle.std.specs.Prelude.{◌⊎◌, ◌++◌, Option, Some, None, Result, Ok, Err}
+use Rattle.sis_outside.specs.Calls.{Load, Save, TakeCall}
+use Rattle.sis_outside.specs.declared.store.LoadFault.{LoadFault}
+use Rattle.sis_outside.specs.declared.store.LoadFault.TheVariants as load
+use Rattle.sis_outside.specs.declared.store.SaveFault.{SaveFault}
+use Rattle.sis_outside.specs.declared.store.SaveFault.TheVariants as save
+use Rattle.sis_outside.specs.declared.sink.PutFault.{PutFault}
+use Rattle.sis_outside.specs.declared.sink.PutFault.TheVariants as put
+use Rattle.sis_outside.specs.declared.source.TakeFault.{TakeFault}
+use Rattle.sis_outside.specs.declared.source.TakeFault.TheVariants as take
 use Rattle.circuit_model.specs.declared.circuit.Circuit.{Circuit}
 use Rattle.circuit_laws.specs.Chains.{Leads, Chain}
 use Rattle.sweep_rules.specs.Rules.{sweep_step}
+use Rattle.sis_script.specs.declared.command.Change.{Change}
+use Rattle.sis_script.specs.declared.command.Change.TheVariants.{Sweep}
 use Rattle.sis_script.specs.declared.command.Op.{Op}
-use Rattle.sis_script.specs.declared.command.Op.TheVariants.{Echo, Quit, ReadBlif, WriteBlif, PrintStats, Print, PrintLatch, Sweep, Undo, Bad}
-use Rattle.sis_session.specs.State.{Held, changed}
-use Rattle.sis_session.specs.Outcome.{Outcome, Does, changes, SweepsTo}
-use Rattle.sis_session.specs.Step.{Step}
+use Rattle.sis_script.specs.declared.command.Op.TheVariants.{Echo, Quit, ReadBlif, WriteBlif, PrintStats, Print, PrintLatch, Change as ChangeOp, Undo, Source, Bad}
+use Rattle.sis_session.specs.Commands.{ChangePlans, Plans, changed_by}
+use Rattle.sis_session.specs.Keeping.{ChangesOnce, HasOneOutcome}
+use Rattle.sis_session.specs.Plan.{Asked, Nothing, OnStore, OnOut, OnInput, Comes, ComesLoaded, ComesSaved, ComesPut, ComesTaken, ComesPiece, Cut, Done, Ending, Goes, Loads, Outcome, Does, Refuses, Plan, Quiet, Puts, Refused, Saves, Takes, Steps, by_plan, no_memory}
+use Rattle.sis_session.specs.State.{Held}
+use Rattle.sis_session.specs.declared.refusal.Failed.TheVariants as failed
+use Rattle.sis_session.specs.declared.refusal.Refusal.{Refusal}
+use Rattle.sis_session.specs.declared.refusal.Refusal.TheVariants as refusal
+
+-- two endings are one, or memory was wanting
+abbrev pub AreOne : Ending → Ending → Type 0
+AreOne one other = (one ≡ other) ⊎ ((one ≡ Cut failed.Memory) ⊎ (other ≡ Cut failed.Memory))
+
+both_are : (ending one other : Ending) → one ≡ ending → other ≡ ending → AreOne one other
+both_are ending one other h k = inl (h ∙ sym k)
+
+comes_once : (outcome : Outcome) (one other : Ending) → Comes outcome one → Comes outcome other → AreOne one other
+comes_once (Does held next) one other (inl h) (inl k) = both_are (Done held next) one other h k
+comes_once (Does held next) one other (inr h) k = inr (inl h)
+comes_once (Does held next) one other (inl h) (inr k) = inr (inr k)
+comes_once (Refuses why) one other (inl h) (inl k) = both_are (Refused why) one other h k
+comes_once (Refuses why) one other (inr h) k = inr (inl h)
+comes_once (Refuses why) one other (inl h) (inr k) = inr (inr k)
+
+loaded_once : (name : List ℕ) (used : List ℕ → Outcome) (answer : Result (List ℕ) LoadFault) (one other : Ending)
+    → ComesLoaded name used answer one → ComesLoaded name used answer other → AreOne one other
+loaded_once name used (Ok bytes) one other h k = comes_once (used bytes) one other h k
+loaded_once name used (Err load.Missing) one other h k = comes_once (Refuses (refusal.Missing name)) one other h k
+loaded_once name used (Err (load.TooLong reached)) one other h k = comes_once (Refuses (refusal.TooLong name)) one other h k
+loaded_once name used (Err load.Failed) one other h k = both_are (Cut failed.Store) one other h k
+loaded_once name used (Err load.Memory) one other h k = both_are (Cut failed.Memory) one other h k
+
+saved_once : (outcome : Outcome) (answer : Result (Unit {0}) SaveFault) (one other : Ending) → ComesSaved outcome answer one → ComesSaved outcome answer other → AreOne one other
+saved_once outcome (Ok done) one other h k = comes_once outcome one other h k
+saved_once outcome (Err save.Failed) one other h k = both_are (Cut failed.Store) one other h k
+saved_once outcome (Err save.Memory) one other h k = both_are (Cut failed.Memory) one other h k
+
+put_once : (outcome : Outcome) (answer : Result (Unit {0}) PutFault) (one other : Ending) → ComesPut outcome answer one → ComesPut outcome answer other → AreOne one other
+put_once outcome (Ok done) one other h k = comes_once outcome one other h k
+put_once outcome (Err put.Failed) one other h k = both_are (Cut failed.Out) one other h k
+put_once outcome (Err put.Memory) one other h k = both_are (Cut failed.Memory) one other h k
+
+piece_once : (used : List ℕ → Outcome) (text : List ℕ) (answer : Result (List ℕ) TakeFault) (calls : List TakeCall) (one other : Ending)
+    → ((longer : List ℕ) → ComesTaken used longer calls one → ComesTaken used longer calls other → AreOne one other)
+    → ComesPiece used text answer calls (λ longer. ComesTaken used longer calls one) one
+    → ComesPiece used text answer calls (λ longer. ComesTaken used longer calls other) other → AreOne one other
+piece_once used text (Ok []) calls one other more h k = comes_once (used text) one other h.1 k.1
+piece_once used text (Ok (byte ∷ piece)) calls one other more h k = more (text ++ byte ∷ piece) h k
+piece_once used text (Err take.Failed) calls one other more h k = both_are (Cut failed.Input) one other h.1 k.1
+piece_once used text (Err take.Memory) calls one other more h k = both_are (Cut failed.Memory) one other h.1 k.1
+
+taken_once : (used : List ℕ → Outcome) (text : List ℕ) (calls : List TakeCall) (one other : Ending)
+    → ComesTaken used text calls one → ComesTaken used text calls other → AreOne one other
+taken_once used text [] one other (inl h) (inl k) = comes_once (Refuses refusal.LongScript) one other h.1 k.1
+taken_once used text [] one other (inr h) k = inr (inl h.1)
+taken_once used text [] one other (inl h) (inr k) = inr (inr k.1)
+taken_once used text (call ∷ calls) one other h k =
+    piece_once used text call.answer calls one other (λ longer a b. taken_once used longer calls one other a b) h.1 k.1
+
+pub goes_once : (plan : Plan) (asked : Asked) (one other : Ending) → Goes plan asked one → Goes plan asked other → AreOne one other
+goes_once (Quiet outcome) Nothing one other h k = comes_once outcome one other h k
+goes_once (Quiet outcome) (OnStore call) one other h k = absurd h
+goes_once (Quiet outcome) (OnOut call) one other h k = absurd h
+goes_once (Quiet outcome) (OnInput calls) one other h k = absurd h
+goes_once (Loads name used) Nothing one other h k = absurd h
+goes_once (Loads name used) (OnStore (Load loaded max answer)) one other h k = loaded_once name used answer one other h.2 k.2
+goes_once (Loads name used) (OnStore (Save saved sent answer)) one other h k = absurd h
+goes_once (Loads name used) (OnOut call) one other h k = absurd h
+goes_once (Loads name used) (OnInput calls) one other h k = absurd h
+goes_once (Saves name bytes outcome) Nothing one other h k = absurd h
+goes_once (Saves name bytes outcome) (OnStore (Load loaded max answer)) one other h k = absurd h
+goes_once (Saves name bytes outcome) (OnStore (Save saved sent answer)) one other h k = saved_once outcome answer one other h.2 k.2
+goes_once (Saves name bytes outcome) (OnOut call) one other h k = absurd h
+goes_once (Saves name bytes outcome) (OnInput calls) one other h k = absurd h
+goes_once (Puts reply outcome) Nothing one other h k = absurd h
+goes_once (Puts reply outcome) (OnStore (Load loaded max answer)) one other h k = absurd h
+goes_once (Puts reply outcome) (OnStore (Save saved sent answer)) one other h k = absurd h
+goes_once (Puts reply outcome) (OnOut call) one other h k = put_once outcome call.answer one other h.1 k.1
+goes_once (Puts reply outcome) (OnInput calls) one other h k = absurd h
+goes_once (Takes used) Nothing one other h k = absurd h
+goes_once (Takes used) (OnStore (Load loaded max answer)) one other h k = absurd h
+goes_once (Takes used) (OnStore (Save saved sent answer)) one other h k = absurd h
+goes_once (Takes used) (OnOut call) one other h k = absurd h
+goes_once (Takes used) (OnInput calls) one other h k = taken_once used [] calls one other h k
+
+-- a command with one outcome has one plan
+change_once : (held : Held) (change : Change) (network : Option Circuit) (plan plan' : Plan) → ChangesOnce change
+    → ChangePlans held change network plan → ChangePlans held change network plan' → plan ≡ plan'
+change_once held change None plan plan' once h k = h ∙ sym k
+change_once held change (Some old) plan plan' once (answer, changes, is) (answer', changes', is') =
+    is ∙ ap (λ (a : Result Circuit Refusal). Quiet (changed_by held a)) (once old answer answer' changes changes') ∙ sym is'
+
+plans_once : (depth : ℕ) (held : Held) (op : Op) (plan plan' : Plan) → HasOneOutcome op → Plans depth held op plan → Plans depth held op plan' → plan ≡ plan'
+plans_once depth held (Echo words) plan plan' once h k = h ∙ sym k
+plans_once depth held Quit plan plan' once h k = h ∙ sym k
+plans_once depth held (ReadBlif name) plan plan' once h k = h ∙ sym k
+plans_once depth held (WriteBlif file) plan plan' once h k = h ∙ sym k
+plans_once depth held PrintStats plan plan' once h k = h ∙ sym k
+plans_once depth held (Print name) plan plan' once h k = h ∙ sym k
+plans_once depth held PrintLatch plan plan' once h k = h ∙ sym k
+plans_once depth held (ChangeOp change) plan plan' once h k = change_once held change held.network plan plan' once h k
+plans_once depth held Undo plan plan' once h k = h ∙ sym k
+plans_once depth held (Source name) plan plan' once h k = h ∙ sym k
+plans_once depth held (Bad fault) plan plan' once h k = h ∙ sym k
+
+pub one_ending : (depth : ℕ) (held : Held) (op : Op) (asked : Asked) (one other : Ending) → HasOneOutcome op
+    → Steps (Plans depth held op) asked one → Steps (Plans depth held op) asked other
+    → (one ≡ other) ⊎ ((one ≡ Cut failed.Memory) ⊎ (other ≡ Cut failed.Memory))
+one_ending depth held op asked one other once (by_plan plan planned goes) (by_plan plan' planned' goes') =
+    goes_once plan asked one other goes (subst (λ p. Goes p asked other) (plans_once depth held op plan' plan once planned' planned) goes')
+one_ending depth held op asked one other once (no_memory none is) k = inr (inl is)
+one_ending depth held op asked one other once (by_plan plan planned goes) (no_memory none is) = inr (inr is)
 
 -- steps lead to one thing where no step applies
 leads_once : {N : Type 0} (step : N → Option N) (xs ys : List N) (begin one other : N) → Leads step xs begin one → Leads step ys begin other
@@ -32,22 +150,8 @@ leads_once step (x ∷ xs) (y ∷ ys) begin one other h k e f =
 chains_once : {N : Type 0} (step : N → Option N) (begin one other : N) → Chain step begin one → Chain step begin other → one ≡ other
 chains_once step begin one other h k = leads_once step h.between k.between begin one other h.leads k.leads h.finished k.finished
 
--- a command has one outcome
-sweeps_once : (held : Held) (network : Option Circuit) (one other : Outcome) → SweepsTo held network one → SweepsTo held network other → one ≡ other
-sweeps_once held None one other h k = h ∙ sym k
-sweeps_once held (Some circuit) one other h k =
-    let (new, chain, is) = h in
-    let (new', chain', is') = k in
-    is ∙ ap (λ (c : Circuit). Does (changes (changed circuit c))) (chains_once sweep_step circuit new new' chain chain') ∙ sym is'
-
-pub steps_once : (files : Files) (held : Held) (op : Op) (one other : Outcome) → Step files held op one → Step files held op other → one ≡ other
-steps_once files held (Echo words) one other h k = h ∙ sym k
-steps_once files held Quit one other h k = h ∙ sym k
-steps_once files held (ReadBlif name) one other h k = h ∙ sym k
-steps_once files held (WriteBlif file) one other h k = h ∙ sym k
-steps_once files held PrintStats one other h k = h ∙ sym k
-steps_once files held (Print name) one other h k = h ∙ sym k
-steps_once files held PrintLatch one other h k = h ∙ sym k
-steps_once files held Sweep one other h k = sweeps_once held held.network one other h k
-steps_once files held Undo one other h k = h ∙ sym k
-steps_once files held (Bad fault) one other h k = h ∙ sym k
+-- a sweep makes one thing of each network
+pub sweeps_once : ChangesOnce Sweep
+sweeps_once old (Ok one) (Ok other) h k = ap (λ (c : Circuit). Ok c) (chains_once sweep_step old one other h k)
+sweeps_once old (Ok one) (Err why) h k = absurd k
+sweeps_once old (Err why) other h k = absurd h

@@ -1,77 +1,128 @@
--- A command that is served is done.
-use Rattle.std.proofs.Common.{◌≡◌, ℕ, ◌≤◌, Bool, List, length, refl, subst}
-use Rattle.std.proofs.lemmas.Bool.{le-leb}
-use Rattle.std.specs.Prelude.{Option, Some, None, Ok, if◌then◌else◌}
+-- A command that is served is done, but for want of memory.
+use Rattle.std.proofs.Common.{◌≡◌, ℕ, ◌<◌, List, [], ◌∷◌, true, refl, sym, subst, inl, inr, arith}
+use Rattle.std.proofs.lemmas.Bool.Decides.{nat_tests}
+use Rattle.std.specs.Prelude.{◌⊎◌, Bool, Option, Some, None, Result, Ok, Err, nat_lt, if◌then◌else◌}
 use Rattle.sis_text.specs.Entries.{entries_of}
-use Rattle.sis_outside.specs.Files.{Files, file_at}
-use Rattle.circuit_model.specs.Values.{driver}
+use Rattle.sis_outside.specs.Calls.{Load, Save}
+use Rattle.sis_outside.specs.declared.sink.PutFault.{PutFault}
 use Rattle.circuit_model.specs.declared.circuit.Circuit.{Circuit}
 use Rattle.blif_read.specs.Reader.{read_lines}
+use Rattle.sis_script.specs.declared.command.Change.{Change}
+use Rattle.sis_script.specs.declared.command.Change.TheVariants.{Sweep}
 use Rattle.sis_script.specs.declared.command.Op.{Op}
-use Rattle.sis_script.specs.declared.command.Op.TheVariants.{Echo, Quit, ReadBlif, WriteBlif, PrintStats, Print, PrintLatch, Sweep, Undo, Bad}
-use Rattle.sis_session.specs.State.{Held}
-use Rattle.sis_session.specs.Keeping.{IsServed, HasNetwork, HasTable}
-use Rattle.sis_session.specs.Outcome.{MAX_BYTES, Effect, Outcome, Does, Refuses, takes, read_by, read_outcome, stats_outcome, print_outcome, named_outcome, latch_outcome, SweepsTo, undo_outcome, write_outcome}
-use Rattle.sis_session.specs.Step.{Step}
+use Rattle.sis_script.specs.declared.command.Op.TheVariants.{Echo, Quit, ReadBlif, WriteBlif, PrintStats, Print, PrintLatch, Change as ChangeOp, Undo, Source, Bad}
+use Rattle.sis_session.specs.Commands.{ChangePlans, Plans, commands_in, latches_told, named_told, read_by, sends, source_plan, stats_told, stays, tables_told, text_told, told_of, undo_plan}
+use Rattle.sis_session.specs.Keeping.{Allows, HasBytes, HasNeeds, HasNetwork, HasTable, IsAnswered, IsServed}
+use Rattle.sis_session.specs.Plan.{MAX_DEPTH, Asked, Nothing, OnStore, OnOut, OnInput, Comes, ComesPut, Cut, Done, Ending, Goes, Loads, Outcome, Does, Refuses, Plan, Quiet, Puts, Saves, Steps, by_plan, no_memory}
+use Rattle.sis_session.specs.State.{Held, with_read, with_changed, with_exchanged}
+use Rattle.sis_session.specs.declared.refusal.Failed.TheVariants as failed
+use Rattle.sis_session.specs.declared.refusal.Next.{Next}
+use Rattle.sis_session.specs.declared.refusal.Next.TheVariants.{Go, Quit as QuitNext, Script}
 use Rattle.sis_session.specs.declared.refusal.Refusal.{Refusal}
 use Rattle.sis_session.specs.declared.refusal.Refusal.TheVariants as refusal
 
--- a command that is served is not refused
-read_served : (name : List ℕ) (file : Option (List ℕ)) (bytes : List ℕ) (circuit : Circuit) (why : Refusal) → file ≡ Some bytes → length bytes ≤ MAX_BYTES
-    → read_lines (entries_of bytes) ≡ Ok circuit → Refuses why ≡ read_outcome name file → ⊥
-read_served name file bytes circuit why at short reads h =
-    let opened : Refuses why ≡ read_outcome name (Some bytes) = subst (λ f. Refuses why ≡ read_outcome name f) at h in
-    let within : Refuses why ≡ read_by name (read_lines (entries_of bytes)) =
-    subst (λ (b : Bool). Refuses why ≡ (if b then read_by name (read_lines (entries_of bytes)) else Refuses (refusal.TooLong name))) (le-leb (length bytes) MAX_BYTES short) opened in
-    let read : Refuses why ≡ Does (takes circuit) = subst (λ r. Refuses why ≡ read_by name r) reads within in
-    cc
+-- an ending of a command that is not refused and not cut short but for want of memory
+abbrev IsDone : Ending → Type 0
+IsDone ending = ((held : Held) × (next : Next) × (ending ≡ Done held next)) ⊎ (ending ≡ Cut failed.Memory)
 
-stats_served : (held : Held) (network : Option Circuit) (why : Refusal) → HasNetwork network → Refuses why ≡ stats_outcome held network → ⊥
-stats_served held None why s h = let e = s.1 in cc
-stats_served held (Some circuit) why s h = cc
+-- a plan that comes to no refusal where each call is answered with what was asked
+abbrev Works : Op → Plan → Type 0
+Works op plan = (asked : Asked) (ending : Ending) → IsAnswered op asked → Goes plan asked ending → IsDone ending
 
-all_served : (held : Held) (network : Option Circuit) (why : Refusal) → HasNetwork network → Refuses why ≡ print_outcome held None network → ⊥
-all_served held None why s h = let e = s.1 in cc
-all_served held (Some circuit) why s h = cc
+does_done : (held : Held) (next : Next) (ending : Ending) → Comes (Does held next) ending → IsDone ending
+does_done held next ending (inl is) = inl (held, next, is)
+does_done held next ending (inr is) = inr is
 
-named_served : (held : Held) (name : List ℕ) (network : Option Circuit) (why : Refusal) → HasTable network name → Refuses why ≡ print_outcome held (Some name) network → ⊥
-named_served held name network why s h =
-    let (circuit, there, table, found) = s in
-    let opened : Refuses why ≡ named_outcome held name (driver circuit.tables name) = subst (λ n. Refuses why ≡ print_outcome held (Some name) n) there h in
-    let shown : Refuses why ≡ named_outcome held name (Some table) = subst (λ t. Refuses why ≡ named_outcome held name t) found opened in
-    cc
+quiet_works : (op : Op) (held : Held) (next : Next) → Works op (Quiet (Does held next))
+quiet_works op held next Nothing ending answered goes = does_done held next ending goes
+quiet_works op held next (OnStore call) ending answered goes = absurd goes
+quiet_works op held next (OnOut call) ending answered goes = absurd goes
+quiet_works op held next (OnInput calls) ending answered goes = absurd goes
 
-latch_served : (held : Held) (network : Option Circuit) (why : Refusal) → HasNetwork network → Refuses why ≡ latch_outcome held network → ⊥
-latch_served held None why s h = let e = s.1 in cc
-latch_served held (Some circuit) why s h = cc
+loads_works : (op : Op) (name : List ℕ) (used : List ℕ → Outcome) → ((bytes : List ℕ) (ending : Ending) → HasBytes op bytes → Comes (used bytes) ending → IsDone ending)
+    → Works op (Loads name used)
+loads_works op name used each Nothing ending answered goes = absurd goes
+loads_works op name used each (OnStore (Load loaded max (Ok bytes))) ending answered goes = each bytes ending answered goes.2
+loads_works op name used each (OnStore (Load loaded max (Err fault))) ending answered goes = absurd answered
+loads_works op name used each (OnStore (Save saved sent answer)) ending answered goes = absurd goes
+loads_works op name used each (OnOut call) ending answered goes = absurd goes
+loads_works op name used each (OnInput calls) ending answered goes = absurd goes
 
-sweep_served : (held : Held) (network : Option Circuit) (why : Refusal) → HasNetwork network → SweepsTo held network (Refuses why) → ⊥
-sweep_served held None why s h = let e = s.1 in cc
-sweep_served held (Some circuit) why s h = let (new, chain, is) = h in cc
+saves_works : (op : Op) (held : Held) (name text : List ℕ) → Works op (Saves name text (stays held))
+saves_works op held name text Nothing ending answered goes = absurd goes
+saves_works op held name text (OnStore (Load loaded max answer)) ending answered goes = absurd goes
+saves_works op held name text (OnStore (Save saved sent (Ok done))) ending answered goes = does_done held Go ending goes.2
+saves_works op held name text (OnStore (Save saved sent (Err fault))) ending answered goes = cc
+saves_works op held name text (OnOut call) ending answered goes = absurd goes
+saves_works op held name text (OnInput calls) ending answered goes = absurd goes
 
-undo_served : (held : Held) (kept : Option Circuit) (why : Refusal) → HasNetwork kept → Refuses why ≡ undo_outcome held kept → ⊥
-undo_served held None why s h = let e = s.1 in cc
-undo_served held (Some circuit) why s h = cc
+put_done : (held : Held) (answer : Result (Unit {0}) PutFault) (ending : Ending) → answer ≡ Ok tt → ComesPut (stays held) answer ending → IsDone ending
+put_done held (Ok done) ending answered comes = does_done held Go ending comes
+put_done held (Err fault) ending answered comes = cc
 
-write_served : (held : Held) (file : Option (List ℕ)) (network : Option Circuit) (why : Refusal) → HasNetwork network → Refuses why ≡ write_outcome held file network → ⊥
-write_served held file None why s h = let e = s.1 in cc
-write_served held file (Some circuit) why s h = cc
+puts_works : (op : Op) (held : Held) (text : List ℕ) → Works op (Puts text (stays held))
+puts_works op held text Nothing ending answered goes = absurd goes
+puts_works op held text (OnStore (Load loaded max answer)) ending answered goes = absurd goes
+puts_works op held text (OnStore (Save saved sent answer)) ending answered goes = absurd goes
+puts_works op held text (OnOut call) ending answered goes = put_done held call.answer ending answered goes.1
+puts_works op held text (OnInput calls) ending answered goes = absurd goes
 
-pub served : (files : Files) (held : Held) (op : Op) (why : Refusal) → IsServed files held op → Step files held op (Refuses why) → ⊥
-served files held (Echo words) why s h = cc
-served files held Quit why s h = cc
-served files held (ReadBlif name) why s h =
-    let (bytes, circuit, at, short, reads) = s in read_served name (file_at files name) bytes circuit why at short reads h
-served files held (WriteBlif file) why s h = write_served held file held.network why s h
-served files held PrintStats why s h = stats_served held held.network why s h
-served files held (Print None) why s h = all_served held held.network why s h
-served files held (Print (Some name)) why s h = named_served held name held.network why s h
-served files held PrintLatch why s h = latch_served held held.network why s h
-served files held Sweep why s h = sweep_served held held.network why s h
-served files held Undo why s h = undo_served held held.kept why s h
-served files held (Bad fault) why s h = absurd s
+sends_works : (op : Op) (held : Held) (file : Option (List ℕ)) (text : List ℕ) → Works op (sends held file (Ok text))
+sends_works op held None [] = quiet_works op held Go
+sends_works op held None (byte ∷ bytes) = puts_works op held (byte ∷ bytes)
+sends_works op held (Some name) text = saves_works op held name text
 
-pub served_done : (files : Files) (held : Held) (op : Op) (outcome : Outcome) → IsServed files held op → Step files held op outcome
-    → (e : Effect) × (outcome ≡ Does e)
-served_done files held op (Does e) s h = (e, refl)
-served_done files held op (Refuses why) s h = absurd (served files held op why s h)
+-- what is told where the network is there
+tells_works : (op : Op) (held : Held) (file : Option (List ℕ)) (told : Circuit → Result (List ℕ) Refusal) (network : Option Circuit)
+    → ((circuit : Circuit) → network ≡ Some circuit → (text : List ℕ) × (told circuit ≡ Ok text)) → HasNetwork network → Works op (sends held file (told_of told network))
+tells_works op held file told network gives (circuit, there) =
+    let (text, is) = gives circuit there in
+    subst (λ n. Works op (sends held file (told_of told n))) (sym there) (subst (λ t. Works op (sends held file t)) (sym is) (sends_works op held file text))
+
+table_works : (op : Op) (held : Held) (name : List ℕ) (network : Option Circuit) → HasTable network name → Works op (sends held None (told_of (tables_told (Some name)) network))
+table_works op held name network (circuit, there, table, found) =
+    subst (λ n. Works op (sends held None (told_of (tables_told (Some name)) n))) (sym there)
+    (subst (λ t. Works op (sends held None (named_told name t))) (sym found) (sends_works op held None _))
+
+read_works : (held : Held) (name bytes : List ℕ) (ending : Ending) → HasBytes (ReadBlif name) bytes → Comes (read_by held name (read_lines (entries_of bytes))) ending → IsDone ending
+read_works held name bytes ending (circuit, reads) comes =
+    does_done (with_read held circuit) Go ending (subst (λ r. Comes (read_by held name r) ending) reads comes)
+
+undo_works : (held : Held) (previous : Option Circuit) → HasNetwork previous → Works Undo (undo_plan held previous)
+undo_works held None (circuit, there) = cc
+undo_works held (Some other) there = quiet_works Undo (with_exchanged held) Go
+
+source_works : (depth : ℕ) (held : Held) (name : List ℕ) → depth < MAX_DEPTH → Works (Source name) (source_plan depth held name)
+source_works depth held name shallow =
+    let here : nat_lt depth MAX_DEPTH ≡ true = grind (arith, nat_tests) in
+    subst (λ (b : Bool). Works (Source name) (if b then Loads name (λ bytes. Does held (Script (commands_in bytes))) else Quiet (Refuses refusal.Nested))) (sym here)
+    (loads_works (Source name) name (λ bytes. Does held (Script (commands_in bytes))) (λ bytes ending has comes. does_done held (Script (commands_in bytes)) ending comes))
+
+change_works : (held : Held) (change : Change) (network : Option Circuit) (plan : Plan) (old : Circuit) → network ≡ Some old → Allows change old
+    → ChangePlans held change network plan → Works (ChangeOp change) plan
+change_works held change None plan old there allows planned = cc
+change_works held Sweep (Some circuit) plan old there allows (Ok new, changes, is) = subst (Works (ChangeOp Sweep)) (sym is) (quiet_works (ChangeOp Sweep) (with_changed held new) Go)
+change_works held Sweep (Some circuit) plan old there allows (Err why, changes, is) = absurd changes
+
+plan_works : (depth : ℕ) (held : Held) (op : Op) (plan : Plan) → HasNeeds depth held op → Plans depth held op plan → Works op plan
+plan_works depth held (Echo words) plan needs is = subst (Works (Echo words)) (sym is) (sends_works (Echo words) held None _)
+plan_works depth held Quit plan needs is = subst (Works Quit) (sym is) (quiet_works Quit held QuitNext)
+plan_works depth held (ReadBlif name) plan needs is = subst (Works (ReadBlif name)) (sym is) (loads_works (ReadBlif name) name _ (read_works held name))
+plan_works depth held (WriteBlif file) plan needs is =
+    subst (Works (WriteBlif file)) (sym is) (tells_works (WriteBlif file) held file text_told held.network (λ circuit there. (_, refl)) needs)
+plan_works depth held PrintStats plan needs is =
+    subst (Works PrintStats) (sym is) (tells_works PrintStats held None stats_told held.network (λ circuit there. (_, refl)) needs)
+plan_works depth held (Print None) plan needs is =
+    subst (Works (Print None)) (sym is) (tells_works (Print None) held None (tables_told None) held.network (λ circuit there. (_, refl)) needs)
+plan_works depth held (Print (Some name)) plan needs is = subst (Works (Print (Some name))) (sym is) (table_works (Print (Some name)) held name held.network needs)
+plan_works depth held PrintLatch plan needs is =
+    subst (Works PrintLatch) (sym is) (tells_works PrintLatch held None latches_told held.network (λ circuit there. (_, refl)) needs)
+plan_works depth held (ChangeOp change) plan (old, there, allows) is = change_works held change held.network plan old there allows is
+plan_works depth held Undo plan needs is = subst (Works Undo) (sym is) (undo_works held held.previous needs)
+plan_works depth held (Source name) plan needs is = subst (Works (Source name)) (sym is) (source_works depth held name needs)
+plan_works depth held (Bad fault) plan needs is = absurd needs
+
+pub served_done : (depth : ℕ) (held : Held) (op : Op) (asked : Asked) (ending : Ending) → IsServed depth held op asked → Steps (Plans depth held op) asked ending
+    → ((held' : Held) × (next : Next) × (ending ≡ Done held' next)) ⊎ (ending ≡ Cut failed.Memory)
+served_done depth held op asked ending served (by_plan plan planned goes) = plan_works depth held op plan served.0 planned asked ending served.1 goes
+served_done depth held op asked ending served (no_memory none is) = inr is

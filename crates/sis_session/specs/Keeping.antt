@@ -1,9 +1,10 @@
--- What every command keeps of what is held, and what a command needs so that it is done.
--- Source: the SIS manual (UCB/ERL M92/41), the commands one by one; that each network refines the circuit last read is
--- the project's own promise.
-use Rattle.std.specs.Prelude.{◌≡◌, ℕ, ◌≤◌, Option, Some, None, Ok, List, length}
+-- What every command keeps of what is held, what is written of it, what a command needs so that it is done, and when it has
+-- one outcome.
+-- Source: the SIS manual (UCB/ERL M92/41), the commands one by one; that each network refines what was read
+-- last is the project's own promise.
+use Rattle.std.specs.Prelude.{◌≡◌, ℕ, ◌<◌, Option, Some, None, Result, Ok, Err, List}
 use Rattle.sis_text.specs.Entries.{entries_of}
-use Rattle.sis_outside.specs.Files.{Files, file_at}
+use Rattle.sis_outside.specs.Calls.{Load, Save}
 use Rattle.circuit_model.specs.Runs.{Refines}
 use Rattle.circuit_model.specs.Soundness.{IsSound}
 use Rattle.circuit_model.specs.Text.{text_of}
@@ -12,27 +13,46 @@ use Rattle.circuit_model.specs.declared.circuit.Circuit.{Circuit}
 use Rattle.circuit_model.specs.declared.circuit.Table.{Table}
 use Rattle.blif_read.specs.Reader.{read_lines}
 use Rattle.sis_script.specs.declared.command.Op.{Op}
-use Rattle.sis_script.specs.declared.command.Op.TheVariants.{Echo, Quit, ReadBlif, WriteBlif, PrintStats, Print, PrintLatch, Sweep, Undo, Bad}
-use Rattle.sis_session.specs.Outcome.{MAX_BYTES, Effect, sent_to}
-use Rattle.sis_session.specs.State.{Held}
+use Rattle.sis_script.specs.declared.command.Op.TheVariants.{Echo, Quit, ReadBlif, WriteBlif, PrintStats, Print, PrintLatch, Change as ChangeOp, Undo, Source, Bad}
+use Rattle.sis_script.specs.declared.command.Change.{Change}
+use Rattle.sis_script.specs.declared.command.Change.TheVariants.{Sweep}
+use Rattle.sis_session.specs.Commands.{Changes}
+use Rattle.sis_session.specs.Plan.{MAX_DEPTH, Asked, Nothing, OnStore, OnOut, OnInput}
+use Rattle.sis_session.specs.State.{Held, Spec, CircuitRead, MachineRead, Written, CircuitWritten, MachineWritten, NetlistWritten}
+use Rattle.sis_session.specs.declared.refusal.Refusal.{Refusal}
 
--- a circuit that is held is sound and refines the circuit last read
-abbrev pub RefinesSpec : Option Circuit → Option Circuit → Type 0
+-- a circuit refines what was read; there is no machine that it could refine
+abbrev pub RefinesRead : Spec → Circuit → Type 0
+RefinesRead (CircuitRead read) circuit = Refines read circuit
+RefinesRead (MachineRead read) circuit = ⊥
+
+-- a circuit that is held is sound and refines what was read last
+abbrev pub RefinesSpec : Option Spec → Option Circuit → Type 0
 RefinesSpec spec held =
-    (circuit : Circuit) → held ≡ Some circuit → (read : Circuit) × (spec ≡ Some read) × IsSound circuit × Refines read circuit
+    (circuit : Circuit) → held ≡ Some circuit → (read : Spec) × (spec ≡ Some read) × IsSound circuit × RefinesRead read circuit
 
--- the network, and the one that is kept for an undo, are sound and refine the circuit last read
-pub record IsRefined (spec : Option Circuit) (held : Held) : Type 0 where
+-- the network and the previous one are sound and refine what was read last
+pub record IsRefined (spec : Option Spec) (held : Held) : Type 0 where
   pub network : RefinesSpec spec held.network
-  pub kept : RefinesSpec spec held.kept
+  pub previous : RefinesSpec spec held.previous
 
--- a circuit was written: the command was to write it, it was the network, and what was sent is its text, to the file
--- that the command names
-pub record IsWritten (held : Held) (op : Op) (e : Effect) (circuit : Circuit) : Type 0 where
-  pub file : Option (List ℕ)
-  pub command : op ≡ WriteBlif file
-  pub network : held.network ≡ Some circuit
-  pub sent : e.call ≡ sent_to file (text_of circuit)
+-- what is written is what is held of its kind
+abbrev pub Holds : Held → Written → Type 0
+Holds held (CircuitWritten circuit) = held.network ≡ Some circuit
+Holds held (MachineWritten machine) = held.machine ≡ Some machine
+Holds held (NetlistWritten netlist) = held.netlist ≡ Some netlist
+
+-- the text of what is written; there is no machine and no netlist that could have one
+abbrev pub HasText : Written → List ℕ → Type 0
+HasText (CircuitWritten circuit) bytes = bytes ≡ text_of circuit
+HasText (MachineWritten machine) bytes = ⊥
+HasText (NetlistWritten netlist) bytes = ⊥
+
+-- what is written refines what was read
+abbrev pub IsRefining : Spec → Written → Type 0
+IsRefining read (CircuitWritten circuit) = RefinesRead read circuit
+IsRefining read (MachineWritten machine) = ⊥
+IsRefining read (NetlistWritten netlist) = ⊥
 
 -- there is a network
 abbrev pub HasNetwork : Option Circuit → Type 0
@@ -42,18 +62,49 @@ HasNetwork network = (circuit : Circuit) × (network ≡ Some circuit)
 abbrev pub HasTable : Option Circuit → List ℕ → Type 0
 HasTable network name = (circuit : Circuit) × (network ≡ Some circuit) × (table : Table) × (driver circuit.tables name ≡ Some table)
 
--- what a command needs so that it is done: its words fit; the network that it needs is there, or the one that is kept,
--- and the table that it names; the file that it reads is there, no longer than is read, and has no fault
-abbrev pub IsServed : Files → Held → Op → Type 0
-IsServed files held (Echo words) = Unit {0}
-IsServed files held Quit = Unit {0}
-IsServed files held (ReadBlif name) =
-    (bytes : List ℕ) × (circuit : Circuit) × (file_at files name ≡ Some bytes) × (length bytes ≤ MAX_BYTES) × (read_lines (entries_of bytes) ≡ Ok circuit)
-IsServed files held (WriteBlif file) = HasNetwork held.network
-IsServed files held PrintStats = HasNetwork held.network
-IsServed files held (Print None) = HasNetwork held.network
-IsServed files held (Print (Some name)) = HasTable held.network name
-IsServed files held PrintLatch = HasNetwork held.network
-IsServed files held Sweep = HasNetwork held.network
-IsServed files held Undo = HasNetwork held.kept
-IsServed files held (Bad fault) = ⊥
+-- what a change needs of the network so that it is not refused
+abbrev pub Allows : Change → Circuit → Type 0
+Allows Sweep circuit = Unit {0}
+
+-- what a command needs of what is held: its words fit, its scripts are not nested too deep, and the network or the previous
+-- one and the table that it names are there
+abbrev pub HasNeeds : ℕ → Held → Op → Type 0
+HasNeeds depth held (Echo words) = Unit {0}
+HasNeeds depth held Quit = Unit {0}
+HasNeeds depth held (ReadBlif name) = Unit {0}
+HasNeeds depth held (WriteBlif file) = HasNetwork held.network
+HasNeeds depth held PrintStats = HasNetwork held.network
+HasNeeds depth held (Print None) = HasNetwork held.network
+HasNeeds depth held (Print (Some name)) = HasTable held.network name
+HasNeeds depth held PrintLatch = HasNetwork held.network
+HasNeeds depth held (ChangeOp change) = (circuit : Circuit) × (held.network ≡ Some circuit) × Allows change circuit
+HasNeeds depth held Undo = HasNetwork held.previous
+HasNeeds depth held (Source name) = depth < MAX_DEPTH
+HasNeeds depth held (Bad fault) = ⊥
+
+-- what a command needs of the bytes that it loads: a circuit is read without a fault
+abbrev pub HasBytes : Op → List ℕ → Type 0
+HasBytes (ReadBlif name) bytes = (circuit : Circuit) × (read_lines (entries_of bytes) ≡ Ok circuit)
+HasBytes op bytes = Unit {0}
+
+-- each call was answered with what was asked
+abbrev pub IsAnswered : Op → Asked → Type 0
+IsAnswered op Nothing = Unit {0}
+IsAnswered op (OnStore (Load name max (Ok bytes))) = HasBytes op bytes
+IsAnswered op (OnStore (Load name max (Err fault))) = ⊥
+IsAnswered op (OnStore (Save name bytes answer)) = answer ≡ Ok tt
+IsAnswered op (OnOut call) = call.answer ≡ Ok tt
+IsAnswered op (OnInput calls) = Unit {0}
+
+-- a command has what it needs so that it is done
+abbrev pub IsServed : ℕ → Held → Op → Asked → Type 0
+IsServed depth held op asked = HasNeeds depth held op × IsAnswered op asked
+
+-- a change makes one thing of each network
+abbrev pub ChangesOnce : Change → Type 0
+ChangesOnce change = (old : Circuit) (one other : Result Circuit Refusal) → Changes change old one → Changes change old other → one ≡ other
+
+-- a command has one outcome: the change that it makes, if it makes one, has one
+abbrev pub HasOneOutcome : Op → Type 0
+HasOneOutcome (ChangeOp change) = ChangesOnce change
+HasOneOutcome op = Unit {0}

@@ -1,6 +1,6 @@
-pub mod Answers
-pub mod Outcome
-pub mod Replies
 pub mod State
-pub mod Step
+pub mod Plan
+pub mod Commands
+pub mod Replies
+pub mod Methods
 pub mod Keeping

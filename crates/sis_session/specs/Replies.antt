@@ -11,7 +11,7 @@ use Rattle.blif_read.specs.declared.fault.LimitKind.TheVariants.{Name, Tables, R
 use Rattle.sis_script.specs.declared.command.ScriptFault.{ScriptFault}
 use Rattle.sis_script.specs.declared.command.ScriptFault.TheVariants.{BadCommand, BadOption, MissingWord}
 use Rattle.sis_session.specs.declared.refusal.Refusal.{Refusal}
-use Rattle.sis_session.specs.declared.refusal.Refusal.TheVariants.{Script, NoNetwork, NothingToUndo, NoSignal, Missing, TooLong, Blif, LongScript}
+use Rattle.sis_session.specs.declared.refusal.Refusal.TheVariants.{Script, Nested, NoNetwork, NothingToUndo, NoSignal, Missing, TooLong, Blif, LongScript}
 use Rattle.sis_session.specs.declared.texts.Stats.{Stats}
 
 -- words as a line, with one blank between
@@ -79,6 +79,7 @@ script_fault_text MissingWord = codes "missing word"
 -- the text of a refusal
 unfoldable pub refusal_text : Refusal → List ℕ
 refusal_text (Script fault) = script_fault_text fault
+refusal_text Nested = codes "sources nested deeper than 16"
 refusal_text NoNetwork = codes "no network"
 refusal_text NothingToUndo = codes "nothing to undo"
 refusal_text (NoSignal name) = codes "no table " ++ name

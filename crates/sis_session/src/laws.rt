@@ -1,36 +1,51 @@
 //! Laws on the steps of the command machine.
 
-ghost use Rattle.std.specs.Prelude.{◌≡◌, Option, Some};
-ghost use Rattle.std.specs.Option.{option_or};
-ghost use Rattle.sis_outside.specs.Files.{Files};
-ghost use Rattle.circuit_model.specs.declared.circuit.Circuit.{Circuit as TheCircuit};
+ghost use Rattle.std.specs.Prelude.{◌≡◌, ◌⊎◌, List, None, Option, Result, Some, ℕ};
+ghost use Rattle.sis_outside.specs.Calls.{PutCall, Save};
+ghost use Rattle.sis_outside.specs.declared.store.SaveFault.{SaveFault as TheSaveFault};
+ghost use Rattle.sis_script.specs.declared.command.Change.TheVariants.{Sweep};
 ghost use Rattle.sis_script.specs.declared.command.Op.{Op as TheOp};
-ghost use Rattle.sis_session.specs.Keeping.{IsRefined, IsServed, IsWritten};
-ghost use Rattle.sis_session.specs.Outcome.{Effect, Outcome, Does};
-ghost use Rattle.sis_session.specs.State.{Held, nothing_held};
-ghost use Rattle.sis_session.specs.Step.{Step};
+ghost use Rattle.sis_script.specs.declared.command.Op.TheVariants.{WriteBlif};
+ghost use Rattle.sis_session.specs.Commands.{Plans, last_read};
+ghost use Rattle.sis_session.specs.Keeping.{ChangesOnce, HasOneOutcome, HasText, Holds, IsRefined, IsServed};
+ghost use Rattle.sis_session.specs.Plan.{Asked, Cut, Done, Ending, OnOut, OnStore, Steps};
+ghost use Rattle.sis_session.specs.State.{Held, Spec, Written, nothing_held};
+ghost use Rattle.sis_session.specs.declared.refusal.Failed.TheVariants.{Memory};
+ghost use Rattle.sis_session.specs.declared.refusal.Next.{Next as TheNext};
 
-/// A law, no work: what is held is sound and refines the circuit last read; so it is where nothing is held, and so it
+/// A law, no work: what is held is sound and refines what was read last; so it is where nothing is held, and so it
 /// stays by each command that is done.
 pub fn steps_keep_refinement()
-    ensures begun { (spec : Option TheCircuit) → IsRefined spec nothing_held }
-    ensures kept { (files : Files) (held : Held) (op : TheOp) (e : Effect) (spec : Option TheCircuit) → Step files held op (Does e)
-        → IsRefined spec held → IsRefined (option_or e.read spec) e.held }
+    ensures begun { (spec : Option Spec) → IsRefined spec nothing_held }
+    ensures kept { (depth : ℕ) (held : Held) (op : TheOp) (asked : Asked) (held' : Held) (next : TheNext) (spec : Option Spec)
+        → Steps (Plans depth held op) asked (Done held' next) → IsRefined spec held → IsRefined (last_read op held' spec) held' }
 {}
 
-/// A law, no work: a command writes no other circuit than the network, and sends no other text than that circuit's.
+/// A law, no work: what a command saves is the text of what is held, and so is what `write_blif` puts; whatever the call
+/// answers.
 pub fn networks_are_written()
-    ensures { (files : Files) (held : Held) (op : TheOp) (e : Effect) (circuit : TheCircuit) → Step files held op (Does e)
-        → e.wrote ≡ Some circuit → IsWritten held op e circuit }
+    ensures saved { (depth : ℕ) (held : Held) (op : TheOp) (name bytes : List ℕ) (answer : Result (Unit {0}) TheSaveFault) (ending : Ending)
+        → Steps (Plans depth held op) (OnStore (Save name bytes answer)) ending
+        → (written : Written) × (op ≡ WriteBlif (Some name)) × Holds held written × HasText written bytes }
+    ensures put { (depth : ℕ) (held : Held) (file : Option (List ℕ)) (call : PutCall) (ending : Ending)
+        → Steps (Plans depth held (WriteBlif file)) (OnOut call) ending
+        → (written : Written) × (file ≡ None) × Holds held written × HasText written call.piece }
 {}
 
-/// A law, no work: a command that has what it needs is done.
+/// A law, no work: a command that is served is done, but for want of memory.
 pub fn served_commands_are_done()
-    ensures { (files : Files) (held : Held) (op : TheOp) (outcome : Outcome) → IsServed files held op → Step files held op outcome
-        → (e : Effect) × (outcome ≡ Does e) }
+    ensures { (depth : ℕ) (held : Held) (op : TheOp) (asked : Asked) (ending : Ending) → IsServed depth held op asked
+        → Steps (Plans depth held op) asked ending → ((held' : Held) × (next : TheNext) × (ending ≡ Done held' next)) ⊎ (ending ≡ Cut Memory) }
 {}
 
-/// A law, no work: over files that are told, a command has one outcome.
-pub fn commands_have_one_outcome()
-    ensures { (files : Files) (held : Held) (op : TheOp) (one other : Outcome) → Step files held op one → Step files held op other → one ≡ other }
+/// A law, no work: a command with one outcome ends in one way where the outside answers the same, but for want of memory.
+pub fn commands_end_once()
+    ensures { (depth : ℕ) (held : Held) (op : TheOp) (asked : Asked) (one other : Ending) → HasOneOutcome op
+        → Steps (Plans depth held op) asked one → Steps (Plans depth held op) asked other
+        → (one ≡ other) ⊎ ((one ≡ Cut Memory) ⊎ (other ≡ Cut Memory)) }
+{}
+
+/// A law, no work: a sweep makes one thing of each network.
+pub fn sweeps_have_one_outcome()
+    ensures { ChangesOnce Sweep }
 {}

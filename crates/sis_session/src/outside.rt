@@ -1,26 +1,24 @@
 //! The calls that a step makes on the outside.
 
-ghost use Rattle.std.specs.Prelude.{◌≡◌, IsTrue, ℕ, false};
-ghost use Rattle.sis_outside.specs.Files.{Files, file_at};
-ghost use Rattle.sis_session.specs.Answers.{Gives, MovesBy, Calls, MayLoad, IsLoaded, IsReply, SavesOr, PutsOr, StoreFaults, SinkFaults, StoreMisses};
-ghost use Rattle.sis_session.specs.Outcome.{Outcome, Save, put_of};
+ghost use Rattle.std.specs.Prelude.{◌≡◌, ◌≤◌, IfOk, List, ℕ, None, Result, length};
+ghost use Rattle.sis_outside.specs.Calls.{Follows};
+ghost use Rattle.sis_session.specs.Commands.{sends, source_plan};
+ghost use Rattle.sis_session.specs.Methods.{HasLoaded, HasPut, HasSaved, IsTold};
+ghost use Rattle.sis_session.specs.Plan.{AskedNone, Did, MAX_BYTES, NestsBelow, ended};
 ghost use Rattle.sis_session.specs.State.{Held};
+ghost use Rattle.sis_session.specs.declared.refusal.Refusal.{Refusal as TheRefusal};
 
 use crate::refusal::{Next, Refusal, StepFault};
-use crate::session::MAX_BYTES;
+use crate::session::{MAX_BYTES, MAX_DEPTH};
 use sis_outside::{LoadFault, PutFault, SaveFault, Sink, Store};
+use sis_script::commands;
 use sis_text::Word;
 use std::alloc::Global;
 
-/// Loads a file; no file and a file that is too long are refusals.
+/// Loads a file of at most 67,108,864 bytes; no file and a file that is too long are refusals.
 pub fn load<S: Store>(alloc: Global, name: &str, store: &mut S) -> Result<Vec<u8>, StepFault>
-    ensures tells { S.tells store.new ≡ S.tells store.old }
-    ensures loaded { IsTrue (S.tells store.old) → IsLoaded name.now (file_at (S.files store.old) name.now) result }
-    ensures kept { IsTrue (S.tells store.old) → S.files store.new ≡ S.files store.old }
-    ensures faults { StoreFaults result (S.faults store.old) (S.faults store.new) }
-    ensures misses { StoreMisses result (S.misses store.old) (S.misses store.new) }
-    ensures sink { SinkFaults result 0 0 }
-    ensures may { MayLoad name.now result }
+    ensures loaded { HasLoaded S.calls name.now store.old result store.new }
+    ensures within { IfOk result (λ bytes. length bytes.items ≤ MAX_BYTES) }
 {
     match store.load(alloc, name, MAX_BYTES) {
         Ok(bytes) => Ok(bytes),
@@ -36,15 +34,10 @@ pub fn load<S: Store>(alloc: Global, name: &str, store: &mut S) -> Result<Vec<u8
 }
 
 /// Saves a file for a command.
-pub fn save<S: Store>(store: &mut S, name: &Word, bytes: &[u8]) -> Result<Next, StepFault>
-    ensures tells { S.tells store.new ≡ S.tells store.old }
-    ensures saves { IsTrue (S.tells store.old) → SavesOr (Save name.now bytes.now) (S.files store.old) result (S.files store.new) }
-    ensures faults { StoreFaults result (S.faults store.old) (S.faults store.new) }
-    ensures misses { StoreMisses result (S.misses store.old) (S.misses store.new) }
-    ensures sink { SinkFaults result 0 0 }
-    ensures calls { Calls (Save name.now bytes.now) result }
+fn save<S: Store>(store: &mut S, name: &str, bytes: &[u8]) -> Result<Next, StepFault>
+    ensures { HasSaved S.calls name.now bytes.now store.old result store.new }
 {
-    match store.save(name.text(), bytes) {
+    match store.save(name, bytes) {
         Ok(()) => Ok(Next::Go),
         Err(SaveFault::Failed) => Err(StepFault::StoreFault),
         Err(SaveFault::Memory) => Err(StepFault::Memory),
@@ -52,13 +45,8 @@ pub fn save<S: Store>(store: &mut S, name: &Word, bytes: &[u8]) -> Result<Next, 
 }
 
 /// Puts a reply, unless it is empty.
-pub fn put<O: Sink>(out: &mut O, reply: &[u8]) -> Result<Next, StepFault>
-    ensures tells { O.tells out.new ≡ O.tells out.old }
-    ensures puts { IsTrue (O.tells out.old) → PutsOr (put_of reply.now) (O.written out.old) result (O.written out.new) }
-    ensures faults { SinkFaults result (O.faults out.old) (O.faults out.new) }
-    ensures store { StoreFaults result 0 0 }
-    ensures misses { StoreMisses result 0 0 }
-    ensures calls { Calls (put_of reply.now) result }
+fn put<O: Sink>(out: &mut O, reply: &[u8]) -> Result<Next, StepFault>
+    ensures { HasPut O.calls reply.now out.old result out.new }
 {
     match reply {
         [] => Ok(Next::Go),
@@ -70,16 +58,50 @@ pub fn put<O: Sink>(out: &mut O, reply: &[u8]) -> Result<Next, StepFault>
     }
 }
 
-/// Puts the reply of a command that replies and does nothing else, or hands on why there is none.
-pub fn put_reply<O: Sink>(reply: Result<Vec<u8>, StepFault>, out: &mut O) -> Result<Next, StepFault>
-    ensures tells { O.tells out.new ≡ O.tells out.old }
-    ensures gives { (outcome : Outcome) (held : Held) (files : Files) → IsTrue (O.tells out.old) → IsReply outcome held reply → Gives false outcome held files (O.written out.old) result held files (O.written out.new) }
-    ensures moves { (outcome : Outcome) (held : Held) → IsReply outcome held reply → MovesBy outcome held result held }
-    ensures sink { (outcome : Outcome) (held : Held) → IsReply outcome held reply → SinkFaults result (O.faults out.old) (O.faults out.new) }
-    ensures store { (outcome : Outcome) (held : Held) (count : ℕ) → IsReply outcome held reply → StoreFaults result count count × StoreMisses result count count }
+/// Puts what a command tells, or hands on why it tells nothing.
+pub fn put_told<O: Sink>(told: Result<Vec<u8>, StepFault>, out: &mut O) -> Result<Next, StepFault>
+    ensures did { (held : Held) (what : Result (List ℕ) TheRefusal) → IsTold what told → Did (λ plan. plan ≡ sends held None what) AskedNone (Follows O.calls out.old out.new) (ended result held) }
+    ensures nests { (depth : ℕ) → IfOk result (NestsBelow depth) }
 {
-    match reply {
+    match told {
         Ok(text) => put(out, text.as_slice()),
         Err(fault) => Err(fault),
     }
+}
+
+/// Sends what a command tells to a file, or to the output where none is named; or hands on why it tells nothing.
+pub fn send_told<S: Store, O: Sink>(
+    told: Result<Vec<u8>, StepFault>,
+    file: &Option<Word>,
+    store: &mut S,
+    out: &mut O,
+) -> Result<Next, StepFault>
+    ensures did { (held : Held) (what : Result (List ℕ) TheRefusal) → IsTold what told → Did (λ plan. plan ≡ sends held file.now what) (Follows S.calls store.old store.new) (Follows O.calls out.old out.new) (ended result held) }
+    ensures nests { (depth : ℕ) → IfOk result (NestsBelow depth) }
+{
+    let text = match told {
+        Ok(text) => text,
+        Err(fault) => return Err(fault),
+    };
+    match file {
+        Some(name) => save(store, name.text(), text.as_slice()),
+        None => put(out, text.as_slice()),
+    }
+}
+
+/// Loads a file as a script of commands that come next; refused where too many scripts stand round it.
+pub fn source<S: Store>(
+    alloc: Global,
+    name: &Word,
+    depth: u32,
+    store: &mut S,
+) -> Result<Next, StepFault>
+    ensures did { (held : Held) → Did (λ plan. plan ≡ source_plan depth held name.now) (Follows S.calls store.old store.new) AskedNone (ended result held) }
+    ensures nests { IfOk result (NestsBelow depth) }
+{
+    if depth >= MAX_DEPTH {
+        return Err(StepFault::Refused(Refusal::Nested));
+    }
+    let text = load(alloc, name.text(), store)?;
+    Ok(Next::Script(commands(alloc, text.as_slice())?))
 }

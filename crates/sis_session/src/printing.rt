@@ -1,18 +1,17 @@
-//! The replies of the commands that print.
+//! What the commands tell that print or write.
 
-ghost use Rattle.std.specs.Prelude.{◌≡◌, flat_map, IfSome};
+ghost use Rattle.std.specs.Prelude.{◌≡◌, Ok, flat_map, IfSome};
 ghost use Rattle.sis_base.specs.Written.{lines_text};
 ghost use Rattle.circuit_model.specs.Text.{table_lines};
 ghost use Rattle.circuit_model.specs.Values.{driver};
 ghost use Rattle.net_core.specs.Reads.{HasBounds};
-ghost use Rattle.sis_session.specs.Answers.{IsReply};
-ghost use Rattle.sis_session.specs.Outcome.{Does, replies, echo_outcome, stats_outcome, named_outcome, print_outcome, latch_outcome};
-ghost use Rattle.sis_session.specs.Replies.{stats_of};
-ghost use Rattle.sis_session.specs.State.{Held};
+ghost use Rattle.sis_session.specs.Commands.{latches_told, named_told, stats_told, tables_told, text_told, told_of};
+ghost use Rattle.sis_session.specs.Methods.{IsTold};
+ghost use Rattle.sis_session.specs.Replies.{echo_line, stats_of};
 
 use crate::refusal::{Refusal, StepFault};
 use crate::texts::{Stats, echo_text, stats_text};
-use blif_write::{latches_text, table_text, tables_text};
+use blif_write::{circuit_text, latches_text, table_text, tables_text};
 use cube_cover::PlainRow;
 use net_core::Network;
 use sis_base::Copied;
@@ -21,7 +20,7 @@ use std::alloc::Global;
 
 /// What `echo` puts.
 pub fn echo(alloc: Global, words: &RawWords) -> Result<Vec<u8>, StepFault>
-    ensures { (held : Held) → IsReply (echo_outcome held words.now) held result }
+    ensures { IsTold (Ok (echo_line words.now)) result }
 {
     Ok(echo_text(alloc, words.as_slice())?)
 }
@@ -46,7 +45,7 @@ pub fn stats_of(network: &Network<PlainRow>) -> Stats
 /// What `print_stats` puts.
 pub fn print_stats(alloc: Global, network: &Option<Network<PlainRow>>) -> Result<Vec<u8>, StepFault>
     requires { IfSome network.now HasBounds }
-    ensures { (held : Held) → IsReply (stats_outcome held network.now) held result }
+    ensures { IsTold (told_of stats_told network.now) result }
 {
     match network {
         Some(network) => Ok(stats_text(alloc, network.name().as_slice(), stats_of(network))?),
@@ -60,7 +59,7 @@ fn named_text(
     network: &Network<PlainRow>,
     name: &RawWord,
 ) -> Result<Vec<u8>, StepFault>
-    ensures { (held : Held) → IsReply (named_outcome held name.now (driver network.now.tables name.now)) held result }
+    ensures { IsTold (named_told name.now (driver network.now.tables name.now)) result }
 {
     match network.table(name) {
         Some(table) => {
@@ -73,7 +72,7 @@ fn named_text(
 
 /// The text of all tables.
 fn all_text(alloc: Global, network: &Network<PlainRow>) -> Result<Vec<u8>, StepFault>
-    ensures { (held : Held) → IsReply (Does (replies held (lines_text (flat_map table_lines network.now.tables)))) held result }
+    ensures { IsTold (Ok (lines_text (flat_map table_lines network.now.tables))) result }
 {
     let circuit = network.to_circuit(alloc)?;
     Ok(tables_text(alloc, circuit.tables.as_slice())?)
@@ -85,7 +84,7 @@ pub fn print(
     network: &Option<Network<PlainRow>>,
     name: &Option<RawWord>,
 ) -> Result<Vec<u8>, StepFault>
-    ensures { (held : Held) → IsReply (print_outcome held name.now network.now) held result }
+    ensures { IsTold (told_of (tables_told name.now) network.now) result }
 {
     let Some(network) = network else {
         return Err(StepFault::Refused(Refusal::NoNetwork));
@@ -98,11 +97,26 @@ pub fn print(
 
 /// What `print_latch` puts.
 pub fn print_latch(alloc: Global, network: &Option<Network<PlainRow>>) -> Result<Vec<u8>, StepFault>
-    ensures { (held : Held) → IsReply (latch_outcome held network.now) held result }
+    ensures { IsTold (told_of latches_told network.now) result }
 {
     let Some(network) = network else {
         return Err(StepFault::Refused(Refusal::NoNetwork));
     };
     let circuit = network.to_circuit(alloc)?;
     Ok(latches_text(alloc, &circuit.timing, circuit.latches.as_slice())?)
+}
+
+/// What `write_blif` sends.
+pub fn network_text(
+    alloc: Global,
+    network: &Option<Network<PlainRow>>,
+) -> Result<Vec<u8>, StepFault>
+    ensures { IsTold (told_of text_told network.now) result }
+{
+    let Some(network) = network else {
+        return Err(StepFault::Refused(Refusal::NoNetwork));
+    };
+    let mut text = Vec::new(alloc);
+    circuit_text(alloc, &network.to_circuit(alloc)?, &mut text)?;
+    Ok(text)
 }

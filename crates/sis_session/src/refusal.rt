@@ -1,17 +1,34 @@
 //! How a step ends: what comes next, or why it was not done.
 
 use blif_read::BlifFault;
-use sis_script::{RawWord, ScriptFault};
+use sis_script::{Commands, RawWord, ScriptFault};
 use sis_text::Word;
 use std::alloc::AllocError;
 
 /// How a script goes on behind a command that is done.
-#[derive(Clone, Copy, Debug, PartialEq, Eq)]
+#[derive(Debug, Drop)]
 pub enum Next {
     /// With the next command.
     Go,
     /// Not at all: its end has come.
     Quit,
+    /// With these commands, and then with the next one.
+    Script(Commands),
+}
+
+/// What cuts a command short: an object of the outside that failed, or want of memory.
+#[derive(Clone, Copy, Debug, PartialEq, Eq)]
+pub enum Failed {
+    /// A load or a save failed.
+    Store,
+    /// A take of the input failed.
+    Input,
+    /// A put on the output failed.
+    Out,
+    /// A put on the error output failed.
+    Err,
+    /// Memory was wanting.
+    Memory,
 }
 
 /// Why a command, or a script, is refused. The session is then as before.
@@ -19,9 +36,11 @@ pub enum Next {
 pub enum Refusal {
     /// Its words are wrong.
     Script(ScriptFault),
+    /// It would stand in more scripts than may be nested.
+    Nested,
     /// There is no network.
     NoNetwork,
-    /// No network is kept.
+    /// There is no previous network.
     NothingToUndo,
     /// No table has this name.
     NoSignal(RawWord),

@@ -3,27 +3,25 @@
 //! Only `Ok` changes what is held. What a command makes is made first and told to the outside next; it is moved in last,
 //! when nothing can fail any more.
 
-ghost use Rattle.std.specs.Prelude.{◌≡◌, ℕ, List, IsTrue, IfOk, IfSome, OnErr, false, true, option_map};
-ghost use Rattle.sis_outside.specs.Files.{Files, file_at};
-ghost use Rattle.sis_script.specs.declared.command.Op.TheVariants.{ReadBlif};
+ghost use Rattle.std.specs.Prelude.{◌≡◌, ◌<◌, IfOk, IfSome, OnErr, option_map};
 ghost use Rattle.net_core.specs.Reads.{HasBounds};
-ghost use Rattle.sis_session.specs.Answers.{Answers, Gives, Moves, MovesAt, MovesBy, HasRead, IsSweptCopy, Undoes, StoreFaults, SinkFaults, StoreMisses};
-ghost use Rattle.sis_session.specs.Outcome.{read_outcome, write_outcome, SweepsTo, undo_outcome};
+ghost use Rattle.sis_outside.specs.Calls.{Follows};
+ghost use Rattle.sis_session.specs.Commands.{ChangePlans, Plans, read_plan, undo_plan};
+ghost use Rattle.sis_session.specs.Methods.{HasRead, IsChanged, Undoes};
+ghost use Rattle.sis_session.specs.Plan.{AskedNone, Did, NestsBelow, ended};
 ghost use Rattle.sis_session.specs.Replies.{stats_of};
 ghost use Rattle.sis_session.specs.State.{nothing_held};
-ghost use Rattle.sis_session.specs.Step.{Step, loads};
 
-use crate::outside::{load, put, put_reply, save};
-use crate::printing::{echo, print, print_latch, print_stats, stats_of};
+use crate::outside::{load, put_told, send_told, source};
+use crate::printing::{echo, network_text, print, print_latch, print_stats, stats_of};
 use crate::refusal::{Next, Refusal, StepFault};
 use crate::texts::Stats;
 use blif_read::{ReadFault, read};
-use blif_write::circuit_text;
 use cube_cover::PlainRow;
 use net_core::Network;
-use net_sweep::{SweepFault, sweep};
+use net_sweep::{SweepFault, swept_copy};
 use sis_outside::{Sink, Store};
-use sis_script::{Command, Op};
+use sis_script::{Change, Command, Op};
 use sis_text::Word;
 use std::alloc::Global;
 use std::marker::Model;
@@ -32,43 +30,45 @@ use std::mem;
 /// The longest file and the longest script that is read, in bytes.
 pub const MAX_BYTES: usize = 67_108_864;
 
+/// The most scripts that may stand round one another.
+pub const MAX_DEPTH: u32 = 16;
+
 /// What is held between two commands: the network, and the one before its last change; both keep the bounds in which
 /// literals are counted.
 #[derive(Drop)]
 pub struct Session {
     network: Option<Network<PlainRow>>,
-    kept: Option<Network<PlainRow>>,
+    previous: Option<Network<PlainRow>>,
 }
 
 impl Model for Session {
     ghost use Rattle.std.specs.Prelude.{IfSome};
     ghost use Rattle.net_core.specs.Reads.{HasBounds};
-    ghost use Rattle.sis_session.specs.State.{Held};
+    ghost use Rattle.sis_session.specs.State.{Held, networks_held};
 
     ghost Value = { Held };
 
-    ghost view = { λ s. record { network = s.network; kept = s.kept } };
+    ghost view = { λ s. networks_held s.network s.previous };
 
-    ghost invariant = { λ s. IfSome s.network HasBounds × IfSome s.kept HasBounds };
+    ghost invariant = { λ s. IfSome s.network HasBounds × IfSome s.previous HasBounds };
 }
 
-/// A copy of a network that is held, swept.
+/// What a change makes of a network: a new one beside it.
 #[tactic(auto, using(crate::proofs::Bounds::bounds_swept))]
-fn swept_copy(
+fn changed(
     alloc: Global,
-    held: &Option<Network<PlainRow>>,
+    network: &Network<PlainRow>,
+    change: Change,
 ) -> Result<Network<PlainRow>, StepFault>
-    requires { IfSome held.now HasBounds }
-    ensures sweeps { IsSweptCopy held.now result }
+    requires { HasBounds network.now }
+    ensures changes { IsChanged change network.now result }
     ensures bounds { IfOk result HasBounds }
 {
-    let Some(network) = held else {
-        return Err(StepFault::Refused(Refusal::NoNetwork));
-    };
-    let mut swept = network.copy(alloc)?;
-    match sweep(alloc, &mut swept) {
-        Ok(_) => Ok(swept),
-        Err(SweepFault::Memory) => Err(StepFault::Memory),
+    match change {
+        Change::Sweep => match swept_copy(alloc, network) {
+            Ok((swept, _)) => Ok(swept),
+            Err(SweepFault::Memory) => Err(StepFault::Memory),
+        },
     }
 }
 
@@ -79,7 +79,7 @@ impl Session {
     {
         Session {
             network: None,
-            kept: None,
+            previous: None,
         }
     }
 
@@ -90,7 +90,7 @@ impl Session {
     {
         let circuit = read(alloc, bytes)?;
         self.network = Some(Network::from_circuit(alloc, circuit)?);
-        self.kept = None;
+        self.previous = None;
         Ok(())
     }
 
@@ -104,15 +104,14 @@ impl Session {
         }
     }
 
-    /// Takes the last change of the network back: it and the network that is kept change places. Whether one was
-    /// kept; takes no memory.
+    /// Takes the last change back, where there was one: the network and the previous one change places; takes no memory.
     pub fn undo(&mut self) -> bool
-        ensures { Undoes self.old.kept self.old result self.new }
+        ensures { Undoes self.old.previous self.old result self.new }
     {
-        if self.kept.is_none() {
+        if self.previous.is_none() {
             return false;
         }
-        mem::swap(&mut self.network, &mut self.kept);
+        mem::swap(&mut self.network, &mut self.previous);
         true
     }
 
@@ -123,13 +122,8 @@ impl Session {
         name: &Word,
         store: &mut S,
     ) -> Result<Next, StepFault>
-        ensures tells { S.tells store.new ≡ S.tells store.old }
-        ensures gives { (out : List ℕ) → IsTrue (S.tells store.old) → Gives true (read_outcome name.now (file_at (S.files store.old) name.now)) self.old (S.files store.old) out result self.new (S.files store.new) out }
+        ensures did { Did (λ plan. plan ≡ read_plan self.old name.now) (Follows S.calls store.old store.new) AskedNone (ended result self.new) }
         ensures err { OnErr result (self.new ≡ self.old) }
-        ensures faults { StoreFaults result (S.faults store.old) (S.faults store.new) }
-        ensures misses { StoreMisses result (S.misses store.old) (S.misses store.new) }
-        ensures sink { (count : ℕ) → SinkFaults result count count }
-        ensures moves { Moves (ReadBlif name.now) self.old result self.new }
     {
         let bytes = load(alloc, name.text(), store)?;
         match self.read(alloc, bytes.as_slice()) {
@@ -142,49 +136,23 @@ impl Session {
         }
     }
 
-    /// Sends the network's text to a file, or to the output where none is named.
-    fn write_blif<S: Store, O: Sink>(
-        &self,
-        alloc: Global,
-        file: &Option<Word>,
-        store: &mut S,
-        out: &mut O,
-    ) -> Result<Next, StepFault>
-        ensures tells_store { S.tells store.new ≡ S.tells store.old }
-        ensures tells_out { O.tells out.new ≡ O.tells out.old }
-        ensures gives { IsTrue (S.tells store.old) → IsTrue (O.tells out.old) → Gives false (write_outcome self.now file.now self.now.network) self.now (S.files store.old) (O.written out.old) result self.now (S.files store.new) (O.written out.new) }
-        ensures store { StoreFaults result (S.faults store.old) (S.faults store.new) }
-        ensures sink { SinkFaults result (O.faults out.old) (O.faults out.new) }
-        ensures misses { StoreMisses result (S.misses store.old) (S.misses store.new) }
-        ensures moves { MovesBy (write_outcome self.now file.now self.now.network) self.now result self.now }
+    /// Changes the network, and keeps the one before as the previous one.
+    fn change(&mut self, alloc: Global, change: Change) -> Result<Next, StepFault>
+        ensures did { Did (ChangePlans self.old change self.old.network) AskedNone AskedNone (ended result self.new) }
+        ensures err { OnErr result (self.new ≡ self.old) }
     {
         let Some(network) = &self.network else {
             return Err(StepFault::Refused(Refusal::NoNetwork));
         };
-        let mut text = Vec::new(alloc);
-        circuit_text(alloc, &network.to_circuit(alloc)?, &mut text)?;
-        match file {
-            Some(name) => save(store, name, text.as_slice()),
-            None => put(out, text.as_slice()),
-        }
-    }
-
-    /// Sweeps the network, and keeps the one before for an undo.
-    fn sweep_network(&mut self, alloc: Global) -> Result<Next, StepFault>
-        ensures answers { (files : Files) (out : List ℕ) → Answers false (SweepsTo self.old self.old.network) self.old files out result self.new files out }
-        ensures err { OnErr result (self.new ≡ self.old) }
-        ensures counts { (count : ℕ) → StoreFaults result count count × (SinkFaults result count count × StoreMisses result count count) }
-    {
-        let swept = swept_copy(alloc, &self.network)?;
-        self.kept = mem::replace(&mut self.network, Some(swept));
+        let new = changed(alloc, network, change)?;
+        self.previous = mem::replace(&mut self.network, Some(new));
         Ok(Next::Go)
     }
 
     /// Takes the last change back, or is refused where there is none.
     fn undo_or_refuse(&mut self) -> Result<Next, StepFault>
-        ensures gives { (files : Files) (out : List ℕ) → Gives false (undo_outcome self.old self.old.kept) self.old files out result self.new files out }
+        ensures did { Did (λ plan. plan ≡ undo_plan self.old self.old.previous) AskedNone AskedNone (ended result self.new) }
         ensures err { OnErr result (self.new ≡ self.old) }
-        ensures counts { (count : ℕ) → StoreFaults result count count × (SinkFaults result count count × StoreMisses result count count) }
     {
         if self.undo() {
             Ok(Next::Go)
@@ -193,36 +161,31 @@ impl Session {
         }
     }
 
-    /// One step of the command machine. The depth is the number of scripts that this one stands in; no command asks
-    /// it so far.
+    /// One step of the command machine; `depth` is the number of sourced scripts round the command. After an error the
+    /// session is as before.
     pub fn step<S: Store, O: Sink>(
         &mut self,
         alloc: Global,
         command: &Command,
-        _depth: u32,
+        depth: u32,
         store: &mut S,
         out: &mut O,
     ) -> Result<Next, StepFault>
-        ensures answers { IsTrue (S.tells store.old) → IsTrue (O.tells out.old) → Answers (loads command.now.op) (Step (S.files store.old) self.old command.now.op) self.old (S.files store.old) (O.written out.old) result self.new (S.files store.new) (O.written out.new) }
+        ensures did { Did (Plans depth self.old command.now.op) (Follows S.calls store.old store.new) (Follows O.calls out.old out.new) (ended result self.new) }
         ensures err { OnErr result (self.new ≡ self.old) }
-        ensures tells_store { S.tells store.new ≡ S.tells store.old }
-        ensures tells_out { O.tells out.new ≡ O.tells out.old }
-        ensures store { StoreFaults result (S.faults store.old) (S.faults store.new) }
-        ensures sink { SinkFaults result (O.faults out.old) (O.faults out.new) }
-        ensures misses { StoreMisses result (S.misses store.old) (S.misses store.new) }
-        ensures moves { Moves command.now.op self.old result self.new }
-        ensures told { IsTrue (S.tells store.old) → MovesAt (S.files store.old) command.now.op self.old result self.new }
+        ensures nests { IfOk result (NestsBelow depth) }
     {
         match &command.op {
-            Op::Echo(words) => put_reply(echo(alloc, words), out),
+            Op::Echo(words) => put_told(echo(alloc, words), out),
             Op::Quit => Ok(Next::Quit),
             Op::ReadBlif(name) => self.read_blif(alloc, name, store),
-            Op::WriteBlif(file) => self.write_blif(alloc, file, store, out),
-            Op::PrintStats => put_reply(print_stats(alloc, &self.network), out),
-            Op::Print(name) => put_reply(print(alloc, &self.network, name), out),
-            Op::PrintLatch => put_reply(print_latch(alloc, &self.network), out),
-            Op::Sweep => self.sweep_network(alloc),
+            Op::WriteBlif(file) => send_told(network_text(alloc, &self.network), file, store, out),
+            Op::PrintStats => put_told(print_stats(alloc, &self.network), out),
+            Op::Print(name) => put_told(print(alloc, &self.network, name), out),
+            Op::PrintLatch => put_told(print_latch(alloc, &self.network), out),
+            Op::Change(change) => self.change(alloc, *change),
             Op::Undo => self.undo_or_refuse(),
+            Op::Source(name) => source(alloc, name, depth, store),
             Op::Bad(fault) => Err(StepFault::Refused(Refusal::Script(*fault))),
         }
     }

@@ -139,6 +139,7 @@ fn put_refusal(out: &mut Vec<u8>, alloc: Global, refusal: &Refusal) -> Result<()
 {
     match refusal {
         Refusal::Script(fault) => out.extend_from_slice(script_fault_text(*fault)),
+        Refusal::Nested => out.extend_from_slice(b"sources nested deeper than 16".as_slice()),
         Refusal::NoNetwork => out.extend_from_slice(b"no network".as_slice()),
         Refusal::NothingToUndo => out.extend_from_slice(b"nothing to undo".as_slice()),
         Refusal::NoSignal(name) => {

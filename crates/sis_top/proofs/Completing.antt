@@ -1,107 +1,139 @@
--- A run is refused only at a command that may be refused, and one whose commands are served is not.
-use Rattle.std.proofs.Common.{◌≡◌, ℕ, zero, suc, Bool, true, false, List, [], ◌∷◌, refl, sym, ap, subst, ◌∙◌, inl, inr}
-use Rattle.std.specs.Prelude.{◌⊎◌, Option, Some, None}
-use Rattle.sis_outside.specs.Files.{Files}
-use Rattle.sis_words.specs.Asked.{TheOptions}
-use Rattle.sis_script.specs.declared.command.Command.{Command}
-use Rattle.sis_session.proofs.Serving.{served_done}
-use Rattle.sis_session.specs.Outcome.{Outcome, Does, Refuses}
-use Rattle.sis_session.specs.Step.{Step}
+-- A run whose turns are served refuses nothing.
+use Rattle.std.proofs.Common.{◌≡◌, ℕ, ◌+◌, ◌≤◌, List, [], ◌∷◌, ◌++◌, refl, sym, ap, subst, ◌∙◌, inl, inr, length, nat_le, length-append, arith}
+use Rattle.std.specs.Prelude.{◌⊎◌, Bool, true, false, Option, Result, Ok, Err, if◌then◌else◌}
+use Rattle.std.specs.List.{AllByRecursion}
+use Rattle.sis_outside.specs.Calls.{Load, Save, TakeCall, PutCall}
+use Rattle.sis_outside.specs.declared.store.LoadFault.{LoadFault}
+use Rattle.sis_outside.specs.declared.store.LoadFault.TheVariants as load
+use Rattle.sis_outside.specs.declared.store.SaveFault.{SaveFault}
+use Rattle.sis_outside.specs.declared.store.SaveFault.TheVariants as save
+use Rattle.sis_outside.specs.declared.source.TakeFault.{TakeFault}
+use Rattle.sis_outside.specs.declared.source.TakeFault.TheVariants as take
+use Rattle.sis_outside.specs.declared.sink.PutFault.{PutFault}
+use Rattle.sis_outside.specs.declared.sink.PutFault.TheVariants as put
+use Rattle.sis_words.specs.Asked.{TheScript, InFile, AsText, OnInput}
+use Rattle.sis_script.specs.declared.command.Op.{Op}
+use Rattle.sis_session.specs.Commands.{Plans}
+use Rattle.sis_session.specs.Keeping.{IsServed}
+use Rattle.sis_session.specs.Plan.{MAX_BYTES, Outcome, Does, Refuses, Plan, Asked, OnStore, Ending, Done, Refused, Cut, Comes, ComesLoaded, ComesSaved, ComesPut, ComesPiece, ComesTaken, Goes, Steps, by_plan, no_memory}
+use Rattle.sis_session.specs.State.{Held}
+use Rattle.sis_session.specs.declared.refusal.Failed.TheVariants as failed
+use Rattle.sis_session.specs.declared.refusal.Next.{Next}
 use Rattle.sis_session.specs.declared.refusal.Refusal.{Refusal}
-use Rattle.sis_top.specs.Run.{Place, Machine, Advances, AdvancesBy, Reaches, Runs, after, start}
-use Rattle.sis_top.specs.Source.{Seen, Gives, Denies, script_commands}
-use Rattle.sis_top.specs.Headline.{Counts, NoneRose, EndsCut, EndsAt, EndsBy, was_unread, was_denied, was_run, Ends, Completes, IsRefused, HasRefusal, as_whole, at_command, MayBeRefused, MeetsRefusal, AreServed, NextIsServed, begun}
-use Rattle.sis_top.proofs.Goings.{comes_more, comes_itself}
-use Rattle.sis_top.specs.declared.running.Failed.{Failed}
-use Rattle.sis_top.specs.declared.status.Status.{Status}
-use Rattle.sis_top.specs.declared.status.Status.TheVariants.{Done, Refused, Usage, Fault, Memory}
+use Rattle.sis_session.specs.declared.refusal.Refusal.TheVariants.{LongScript}
+use Rattle.sis_top.specs.Machine.{Begin, Run, Work, Due, Machine, Turn, WorkPlans, Runs, after, after_ending, begin_plan, begins}
+use Rattle.sis_top.specs.Laws.{GivesFile, HasScript, IsServedTurn, IsServedWork, IsUnanswered, bytes_in, taken}
+use Rattle.sis_top.proofs.Going.{Went, went, quiet, loads, saves, puts, takes}
+use Rattle.sis_top.proofs.Faithful.{quiet_outcome, turn_steps, used_of}
 
--- one command that is run: it may be refused, or no command has been refused yet behind it
-refused_or_not : (goes_on : Bool) (place : Place) (todo : List Command) (next : Machine) → AdvancesBy goes_on place todo next
-    → place.refused ≡ false → MayBeRefused place todo ⊎ (next.place.refused ≡ false)
-refused_or_not goes_on place [] next h e = absurd h
-refused_or_not goes_on place (command ∷ rest) next h e = let (o, step, is) = h in cases o step is
+-- the law of the session that is used here
+abbrev pub Served : Type 0
+Served = (depth : ℕ) (held : Held) (op : Op) (asked : Asked) (ending : Ending) → IsServed depth held op asked → Steps (Plans depth held op) asked ending
+    → ((held' : Held) × (next : Next) × (ending ≡ Done held' next)) ⊎ (ending ≡ Cut failed.Memory)
+
+done_kept : (held : Held) (next : Next) (ending : Ending) (why : Refusal) → Comes (Does held next) ending → ending ≡ Refused why → ⊥
+done_kept held next ending why (inl e) k = cc
+done_kept held next ending why (inr e) k = cc
+
+loaded_kept : (held : Held) (name : List ℕ) (answer : Result (List ℕ) LoadFault) (ending : Ending) (why : Refusal) → ComesLoaded name (begins held) answer ending → GivesFile answer → ending ≡ Refused why → ⊥
+loaded_kept held name (Ok bytes) ending why h g k = done_kept held _ ending why h k
+loaded_kept held name (Err load.Missing) ending why h g k = absurd g
+loaded_kept held name (Err (load.TooLong reached)) ending why h g k = absurd g
+loaded_kept held name (Err load.Failed) ending why h g k = cc
+loaded_kept held name (Err load.Memory) ending why h g k = cc
+
+short_kept : (held : Held) (text : List ℕ) (short : Bool) (ending : Ending) (why : Refusal) → Comes (if short then begins held text else Refuses LongScript) ending → short ≡ true → ending ≡ Refused why → ⊥
+short_kept held text true ending why h s k = done_kept held _ ending why h k
+short_kept held text false ending why h s k = cc
+
+taken_kept : (held : Held) (text : List ℕ) (calls : List TakeCall) (ending : Ending) (why : Refusal) → ComesTaken (begins held) text calls ending
+    → length text + length (taken calls) ≤ MAX_BYTES → ending ≡ Refused why → ⊥
+taken_kept held text [] ending why (inl h) few k = absurd (omega (arith, h.0, few))
+taken_kept held text [] ending why (inr h) few k = cc
+taken_kept held text (call ∷ calls) ending why h few k = piece call.answer (λ longer. taken_kept held longer calls ending why) h.1 few
   where
-    cases : (o : Outcome) → Step place.files place.held command.op o → next ≡ after goes_on place command.line rest o
-        → ((why : Refusal) × Step place.files place.held command.op (Refuses why)) ⊎ (next.place.refused ≡ false)
-    cases (Does d) step is = inr (ap (λ (m : Machine). m.place.refused) is ∙ e)
-    cases (Refuses why) step is = inl (why, step)
+    piece : (answer : Result (List ℕ) TakeFault) → ((longer : List ℕ) → ComesTaken (begins held) longer calls ending → length longer + length (taken calls) ≤ MAX_BYTES → ending ≡ Refused why → ⊥)
+        → ComesPiece (begins held) text answer calls (λ longer. ComesTaken (begins held) longer calls ending) ending → length text + length (bytes_in answer ++ taken calls) ≤ MAX_BYTES → ⊥
+    piece (Ok []) more j few = done_kept held _ ending why j.1 k
+    piece (Ok (byte ∷ bytes)) more j few =
+        more (text ++ byte ∷ bytes) j (omega (arith, few, length-append text (byte ∷ bytes), length-append (byte ∷ bytes) (taken calls))) k
+    piece (Err take.Failed) more j few = cc
+    piece (Err take.Memory) more j few = cc
 
-refused_here : (goes_on : Bool) (from machine next : Machine) → Reaches goes_on from machine → (next.place.refused ≡ false → MeetsRefusal goes_on from)
-    → MayBeRefused machine.place machine.todo ⊎ (next.place.refused ≡ false) → MeetsRefusal goes_on from
-refused_here goes_on from machine next reaches later (inl may) = record { machine = machine; reached = reaches; refused = may }
-refused_here goes_on from machine next reaches later (inr still) = later still
+le_true : (a b : ℕ) → a ≤ b → nat_le a b ≡ true
+le_true a b h = grind arith
 
-meets : (goes_on : Bool) (from : Machine) (count : ℕ) (machine to : Machine) → Reaches goes_on from machine → Runs (Advances goes_on) count machine to
-    → machine.place.refused ≡ false → to.place.refused ≡ true → MeetsRefusal goes_on from
-unfolding Runs
-meets goes_on from zero machine to reaches same unrefused turned =
-    let e : false ≡ true = sym unrefused ∙ ap (λ (m : Machine). m.place.refused) (sym same) ∙ turned in cc
-meets goes_on from (suc count) machine to reaches h unrefused turned =
-    let (next, step, rest) = h in
-    refused_here goes_on from machine next reaches
-    (λ still. meets goes_on from count next to (comes_more (Advances goes_on) from machine next reaches step) rest still turned)
-    (refused_or_not goes_on machine.place machine.todo next step unrefused)
+begun_kept : (held : Held) (script : TheScript) (asked : Asked) (ending : Ending) (why : Refusal) → Went (begin_plan held script) asked ending → HasScript script asked → ending ≡ Refused why → ⊥
+begun_kept held (InFile file) asked ending why (quiet outcome e d h) has k = cc
+begun_kept held (InFile file) asked ending why (loads name used answer e d h) has k =
+    loaded_kept held name answer ending why (subst (λ (u : List ℕ → Outcome). ComesLoaded name u answer ending) (sym (ap (used_of (begins held)) e)) h)
+    (subst (λ (a : Asked). HasScript (InFile file) a) d has) k
+begun_kept held (InFile file) asked ending why (saves name bytes outcome answer e d h) has k = cc
+begun_kept held (InFile file) asked ending why (puts reply outcome call e d p h) has k = cc
+begun_kept held (InFile file) asked ending why (takes used calls e d h) has k = cc
+begun_kept held (AsText text) asked ending why (quiet outcome e d h) has k =
+    short_kept held text (nat_le (length text) MAX_BYTES) ending why (subst (λ (o : Outcome). Comes o ending) (sym (ap (quiet_outcome outcome) e)) h) (le_true (length text) MAX_BYTES has) k
+begun_kept held (AsText text) asked ending why (loads name used answer e d h) has k = cc
+begun_kept held (AsText text) asked ending why (saves name bytes outcome answer e d h) has k = cc
+begun_kept held (AsText text) asked ending why (puts reply outcome call e d p h) has k = cc
+begun_kept held (AsText text) asked ending why (takes used calls e d h) has k = cc
+begun_kept held OnInput asked ending why (quiet outcome e d h) has k = cc
+begun_kept held OnInput asked ending why (loads name used answer e d h) has k = cc
+begun_kept held OnInput asked ending why (saves name bytes outcome answer e d h) has k = cc
+begun_kept held OnInput asked ending why (puts reply outcome call e d p h) has k = cc
+begun_kept held OnInput asked ending why (takes used calls e d h) has k =
+    let few : length (taken calls) ≤ MAX_BYTES = subst (λ (a : Asked). HasScript OnInput a) d has in
+    taken_kept held [] calls ending why (subst (λ (u : List ℕ → Outcome). ComesTaken u [] calls ending) (sym (ap (used_of (begins held)) e)) h) (omega (arith, few)) k
 
-pub meets_refusal : (goes_on : Bool) (commands : List Command) (files : Files) (out err : List ℕ) (machine : Machine)
-    → Reaches goes_on (start commands files out err) machine → machine.place.refused ≡ true → MeetsRefusal goes_on (start commands files out err)
-meets_refusal goes_on commands files out err machine h e =
-    meets goes_on (start commands files out err) h.count (start commands files out err) machine (comes_itself (Advances goes_on) (start commands files out err)) h.runs refl e
+unloaded_kept : (name file : List ℕ) (max : ℕ) (used : List ℕ → Outcome) (answer : Result (List ℕ) LoadFault) (ending : Ending) (why : Refusal) → ComesLoaded name used answer ending
+    → IsUnanswered (OnStore (Load file max answer)) → ending ≡ Refused why → ⊥
+unloaded_kept name file max used (Ok bytes) ending why h u k = absurd u
+unloaded_kept name file max used (Err load.Missing) ending why h u k = absurd u
+unloaded_kept name file max used (Err (load.TooLong reached)) ending why h u k = absurd u
+unloaded_kept name file max used (Err load.Failed) ending why h u k = cc
+unloaded_kept name file max used (Err load.Memory) ending why h u k = cc
 
-next_served : (place : Place) (todo : List Command) → NextIsServed place todo → MayBeRefused place todo → ⊥
-next_served place [] s m = absurd m
-next_served place (command ∷ rest) s m =
-    let (e, is) = served_done place.files place.held command.op (Refuses m.0) s m.1 in cc
+unsaved_kept : (name bytes : List ℕ) (outcome : Outcome) (answer : Result (Unit {0}) SaveFault) (ending : Ending) (why : Refusal) → ComesSaved outcome answer ending
+    → IsUnanswered (OnStore (Save name bytes answer)) → ending ≡ Refused why → ⊥
+unsaved_kept name bytes outcome (Ok done) ending why h u k = absurd u
+unsaved_kept name bytes outcome (Err save.Failed) ending why h u k = cc
+unsaved_kept name bytes outcome (Err save.Memory) ending why h u k = cc
 
--- a call that is cut short where no count rose is cut short for want of memory
-cut_memory : (counts : Counts) (status : Status) (what : Failed) (line : ℕ) (stands end : Seen) → NoneRose counts
-    → EndsCut counts status what line stands end → status ≡ Memory
-cut_memory counts Done what line stands end n h = absurd h
-cut_memory counts Refused what line stands end n h = absurd h
-cut_memory counts Usage what line stands end n h = absurd h
-cut_memory counts Fault what line stands end n h = absurd (n what h.0)
-cut_memory counts Memory what line stands end n h = refl
+unput_kept : (outcome : Outcome) (fault : PutFault) (ending : Ending) (why : Refusal) → ComesPut outcome (Err fault) ending → ending ≡ Refused why → ⊥
+unput_kept outcome put.Failed ending why h k = cc
+unput_kept outcome put.Memory ending why h k = cc
 
-run_completes : (counts : Counts) (options : TheOptions) (text : List ℕ) (left : List ℕ) (before end : Seen) (status : Status) (machine : Machine)
-    → EndsAt counts options.keep (begun text before) left status end machine
-    → ((m : Machine) → Reaches options.keep (begun text before) m → NextIsServed m.place m.todo) → NoneRose counts
-    → (status ≡ Done) ⊎ (status ≡ Memory)
-run_completes counts options text left before end Done machine h s n = inl refl
-run_completes counts options text left before end Memory machine h s n = inr refl
-run_completes counts options text left before end Usage machine h s n =
-    let (reaches, what, cut, cuts, line, is, ends) = h in absurd ends
-run_completes counts options text left before end Fault machine h s n =
-    let (reaches, what, cut, cuts, line, is, ends) = h in absurd (n what ends.0)
-run_completes counts options text left before end Refused machine h s n =
-    let m = meets_refusal options.keep (script_commands text) before.files before.out before.err machine h.0 h.2 in
-    absurd (next_served m.machine.place m.machine.todo (s m.machine m.reached) m.refused)
+unanswered_kept : (plan : Plan) (asked : Asked) (ending : Ending) (why : Refusal) → Went plan asked ending → IsUnanswered asked → ending ≡ Refused why → ⊥
+unanswered_kept plan asked ending why (quiet outcome e d h) u k = absurd (subst IsUnanswered d u)
+unanswered_kept plan asked ending why (loads name used answer e d h) u k = unloaded_kept name name MAX_BYTES used answer ending why h (subst IsUnanswered d u) k
+unanswered_kept plan asked ending why (saves name bytes outcome answer e d h) u k = unsaved_kept name bytes outcome answer ending why h (subst IsUnanswered d u) k
+unanswered_kept plan asked ending why (puts reply outcome call e d p h) u k =
+    let not = subst IsUnanswered d u in
+    unput_kept outcome not.0 ending why (subst (λ (a : Result (Unit {0}) PutFault). ComesPut outcome a ending) not.1 h) k
+unanswered_kept plan asked ending why (takes used calls e d h) u k = absurd (subst IsUnanswered d u)
 
-completes_by : (counts : Counts) (options : TheOptions) (before end : Seen) (status : Status) → EndsBy counts options before status end
-    → AreServed options before → NoneRose counts → (status ≡ Done) ⊎ (status ≡ Memory)
-completes_by counts options before end status (was_unread what fails stands is ends) s n = inr (cut_memory counts status what 0 stands end n ends)
-completes_by counts options before end status (was_denied why is ends) s n =
-    let (text, gives, served) = s in let e : Gives text ≡ Denies why = sym gives ∙ is in cc
-completes_by counts options before end status (was_run text is machine ends) s n =
-    let (text', gives, served) = s in
-    let e : Gives text' ≡ Gives text = sym gives ∙ is in
-    let same : text' ≡ text = cc in
-    run_completes counts options text _ before end status machine ends
-    (subst (λ (t : List ℕ). (m : Machine) → Reaches options.keep (begun t before) m → NextIsServed m.place m.todo) same served) n
+command_kept : (ending : Ending) (why : Refusal) → ((held' : Held) × (next : Next) × (ending ≡ Done held' next)) ⊎ (ending ≡ Cut failed.Memory) → ending ≡ Refused why → ⊥
+command_kept ending why (inl (held, next, e)) k = cc
+command_kept ending why (inr e) k = cc
 
-pub completes : (counts : Counts) (asked : Option TheOptions) (before end : Seen) (status : Status) → Ends counts asked before status end → Completes counts asked before status
-completes counts None before end status h = tt
-completes counts (Some options) before end status h = λ s n. completes_by counts options before end status h s n
+work_kept : Served → (held : Held) (work : Work) (asked : Asked) (ending : Ending) (why : Refusal) → Steps (WorkPlans held work) asked ending → IsServedWork held work asked → ending ≡ Refused why → ⊥
+work_kept served held (Begin script) asked ending why (by_plan plan p g) has k =
+    begun_kept held script asked ending why (went (begin_plan held script) asked ending (subst (λ (x : Plan). Goes x asked ending) p g)) has k
+work_kept served held (Begin script) asked ending why (no_memory a e) has k = cc
+work_kept served held (Run depth op) asked ending why steps (inl has) k = command_kept ending why (served depth held op asked ending has steps) k
+work_kept served held (Run depth op) asked ending why (by_plan plan p g) (inr u) k = unanswered_kept plan asked ending why (went plan asked ending g) u k
+work_kept served held (Run depth op) asked ending why (no_memory a e) (inr u) k = cc
 
-refused_by : (counts : Counts) (options : TheOptions) (before end : Seen) → EndsBy counts options before Refused end → HasRefusal options before
-refused_by counts options before end (was_unread what fails stands is ends) = absurd ends
-refused_by counts options before end (was_denied why is ends) = as_whole why is
-refused_by counts options before end (was_run text is machine ends) =
-    at_command text is (meets_refusal options.keep (script_commands text) before.files before.out before.err machine ends.0 ends.2)
+after_kept : (goes_on : Bool) (machine : Machine) (due : Due) (ending : Ending) (told : Option PutCall) → ((why : Refusal) → ending ≡ Refused why → ⊥)
+    → (after_ending goes_on machine due ending told).refused ≡ machine.refused
+after_kept goes_on machine due (Done held next) told not = refl
+after_kept goes_on machine due (Refused why) told not = absurd (not why refl)
+after_kept goes_on machine due (Cut what) told not = refl
 
-pub is_refused : (counts : Counts) (asked : Option TheOptions) (before end : Seen) (status : Status) → Ends counts asked before status end → IsRefused asked before status
-is_refused counts None before end status h = tt
-is_refused counts (Some options) before end Done h = tt
-is_refused counts (Some options) before end Memory h = tt
-is_refused counts (Some options) before end Usage h = tt
-is_refused counts (Some options) before end Fault h = tt
-is_refused counts (Some options) before end Refused h = refused_by counts options before end h
+pub run_kept : Served → (goes_on : Bool) (from to : Machine) (turns : List Turn) → Runs goes_on from turns to → from.refused ≡ false → AllByRecursion IsServedTurn turns → to.refused ≡ false
+run_kept served goes_on from to [] runs start all = ap (λ (m : Machine). m.refused) runs ∙ start
+run_kept served goes_on from to (turn ∷ turns) runs start all =
+    let parts = turn_steps from from.todo turn runs.0 in
+    let has : IsServedWork from.held turn.due.work turn.asked = subst (λ (h : Held). IsServedWork h turn.due.work turn.asked) parts.0 all.0 in
+    run_kept served goes_on (after goes_on from turn) to turns runs.1
+    (after_kept goes_on from turn.due turn.ending turn.told (λ why k. work_kept served from.held turn.due.work turn.asked turn.ending why parts.2 has k) ∙ start) all.1

@@ -1,50 +1,88 @@
 -- A script that is taken piece by piece off the input.
-use Rattle.std.proofs.Common.{◌≡◌, ℕ, ◌+◌, ◌-◌, ◌≤◌, ◌<◌, List, [], ◌∷◌, ◌++◌, length, drop, refl, sym, ap, subst, ◌∙◌, arith}
-use Rattle.std.specs.Prelude.{◌↔◌}
-use Rattle.std.proofs.lemmas.List.{drop_all}
-use Rattle.std.proofs.Math.Seq.{drop-append_seam, drop-append-add}
-use Rattle.std.proofs.lemmas.Grind.{common_steps}
+use Rattle.std.proofs.Common.{◌≡◌, ℕ, ◌+◌, ◌≤◌, ◌<◌, List, [], ◌∷◌, ◌++◌, length, refl, sym, subst, inl, inr, arith, ltb, eqb, zero, suc}
+use Rattle.std.specs.Prelude.{Bool, true, false, Result, Ok, Err}
+use Rattle.std.proofs.lemmas.Bool.{ltb-true}
+use Rattle.std.specs.Global.{Vec}
+use Rattle.std.proofs.lemmas.List.{append_assoc, append-nil}
+use Rattle.sis_outside.specs.Calls.{TakeCall, Follows}
+use Rattle.sis_outside.specs.declared.source.TakeFault.TheVariants as take
+use Rattle.sis_session.specs.Plan.{MAX_BYTES, Outcome, Ending, Cut, ComesPiece, ComesTaken}
+use Rattle.sis_session.specs.declared.refusal.Failed.TheVariants as failed
+use Rattle.sis_top.specs.Code.{EndsTaken, HasTaken, IsTaking}
+use Rattle.sis_top.specs.declared.input.Unread.{Unread}
+use Rattle.sis_top.specs.declared.input.Unread.TheVariants as unread
+use Rattle.sis_top.proofs.Turning.{follows_joined}
 
-no_items : (xs : List ℕ) → length xs ≡ 0 → xs ≡ []
-no_items [] e = refl
-no_items (x ∷ xs) e = absurd (omega (arith, e))
+pub taking_none : {I : Type 0} (takes : I → TakeCall → I → Type 0) (input : I) → IsTaking (Follows takes input input) []
+taking_none takes input = record { calls = []; went = refl; goes_on = λ used more ending h. h }
 
-without_items : (xs : List ℕ) → xs ++ [] ≡ xs
-without_items [] = refl
-without_items (x ∷ xs) = ap (λ rest. x ∷ rest) (without_items xs)
+-- one take more, with its answer
+taken_more : {I : Type 0} (takes : I → TakeCall → I → Type 0) (old mid new : I) (text : List ℕ) (call : TakeCall) (result : Result (Vec ℕ) Unread)
+    → IsTaking (Follows takes old mid) text → takes mid call new → call.max + length text ≡ MAX_BYTES + 1
+    → ((used : List ℕ → Outcome) (ending : Ending) → EndsTaken used result ending → ComesPiece used text call.answer [] (λ longer. ComesTaken used longer [] ending) ending)
+    → HasTaken (Follows takes old new) result
+taken_more takes old mid new text call result taking took all comes = record {
+  calls = taking.calls ++ call ∷ [];
+  went = follows_joined takes old mid new taking.calls (call ∷ []) taking.went (new, took, refl);
+  comes = λ used ending h. taking.goes_on used (call ∷ []) ending (all, comes used ending h);
+}
 
--- an empty piece: the end has come
-pub taken_all : (most : ℕ) (old text piece left left' : List ℕ) → old ≡ text ++ left → left ≡ piece ++ left' → (piece ≡ [] ↔ left ≡ [])
-    → length piece ≡ 0 → length text ≤ most → (old ≡ text) × (left' ≡ drop (most + 1) old) × (length old ≤ most)
-taken_all most old text piece left left' whole parted both none short =
-    let empty : piece ≡ [] = no_items piece none in
-    let over : left ≡ [] = both.0 empty in
-    let same : old ≡ text = whole ∙ ap (λ l. text ++ l) over ∙ without_items text in
-    let behind : left' ≡ [] = sym (parted ∙ ap (λ p. p ++ left') empty) ∙ over in
-    let long : length old ≤ most = subst (λ (l : List ℕ). length l ≤ most) (sym same) short in
-    (same, behind ∙ sym (drop_all (most + 1) old (omega (arith, long))), long)
+pub taken_end : {I : Type 0} (takes : I → TakeCall → I → Type 0) (old mid new : I) (text : Vec ℕ) (max : ℕ) (piece : List ℕ)
+    → IsTaking (Follows takes old mid) text.items → takes mid (record { max = max; answer = Ok piece }) new → max + length text.items ≡ MAX_BYTES + 1 → length piece ≡ 0
+    → HasTaken (Follows takes old new) (Ok text)
+taken_end takes old mid new text max [] taking took all none =
+    taken_more takes old mid new text.items (record { max = max; answer = Ok [] }) (Ok text) taking took all (λ used ending h. (refl, h))
+taken_end takes old mid new text max (byte ∷ piece) taking took all none = absurd (omega (arith, none))
 
--- some bytes are gone
-pub taken_some : (most : ℕ) (old text left left' : List ℕ) (count : ℕ) → old ≡ text ++ left → length text ≤ most → count ≤ most + 1 - length text
-    → left' ≡ drop count left → (n : ℕ) × (n ≤ most + 1) × (left' ≡ drop n old)
-taken_some most old text left left' count whole short few gone = (
-  length text + count,
-  omega (arith, short, few),
-  gone ∙ sym (drop-append-add text left count) ∙ ap (λ l. drop (length text + count) l) (sym whole),
-)
+pub taken_failed : {I : Type 0} (takes : I → TakeCall → I → Type 0) (old mid new : I) (text : List ℕ) (max : ℕ)
+    → IsTaking (Follows takes old mid) text → takes mid (record { max = max; answer = Err take.Failed }) new → max + length text ≡ MAX_BYTES + 1
+    → HasTaken (Follows takes old new) (Err unread.Failed)
+taken_failed takes old mid new text max taking took all =
+    taken_more takes old mid new text (record { max = max; answer = Err take.Failed }) (Err unread.Failed) taking took all (λ used ending h. (refl, h))
 
-pub taken_piece : (most : ℕ) (old text piece left left' : List ℕ) → old ≡ text ++ left → left ≡ piece ++ left' → length text ≤ most
-    → length piece ≤ most + 1 - length text → (n : ℕ) × (n ≤ most + 1) × (left' ≡ drop n old)
-taken_piece most old text piece left left' whole parted short few =
-    taken_some most old text left left' (length piece) whole short few
-    (sym (drop-append_seam piece left') ∙ ap (λ l. drop (length piece) l) (sym parted))
+pub taken_wanting : {I : Type 0} (takes : I → TakeCall → I → Type 0) (old mid new : I) (text : List ℕ) (max : ℕ)
+    → IsTaking (Follows takes old mid) text → takes mid (record { max = max; answer = Err take.Memory }) new → max + length text ≡ MAX_BYTES + 1
+    → HasTaken (Follows takes old new) (Err unread.Memory)
+taken_wanting takes old mid new text max taking took all =
+    taken_more takes old mid new text (record { max = max; answer = Err take.Memory }) (Err unread.Memory) taking took all (λ used ending h. (refl, h))
 
--- a script that is too long
-pub taken_long : (most : ℕ) (old text left : List ℕ) → old ≡ text ++ left → length text ≤ most + 1 → most < length text
-    → (most < length old) × (left ≡ drop (most + 1) old)
-taken_long most old text left whole short long =
-    let all : length text ≡ most + 1 = omega (arith, short, long) in
-    let size : length old ≡ length text + length left = ap (λ l. length l) whole ∙ grind (arith, common_steps) in (
-      omega (arith, size, all),
-      sym (drop-append_seam text left) ∙ ap (λ l. drop (length text) l) (sym whole) ∙ ap (λ n. drop n old) all,
-    )
+-- a piece came that is not empty
+pub taking_more : {I : Type 0} (takes : I → TakeCall → I → Type 0) (old mid new : I) (text piece : List ℕ) (max : ℕ)
+    → IsTaking (Follows takes old mid) text → takes mid (record { max = max; answer = Ok piece }) new → max + length text ≡ MAX_BYTES + 1 → 0 < length piece
+    → IsTaking (Follows takes old new) (text ++ piece)
+taking_more takes old mid new text [] max taking took all some = absurd (omega (arith, some))
+taking_more takes old mid new text (byte ∷ piece) max taking took all some = record {
+  calls = taking.calls ++ record { max = max; answer = Ok (byte ∷ piece) } ∷ [];
+  went = follows_joined takes old mid new taking.calls (record { max = max; answer = Ok (byte ∷ piece) } ∷ []) taking.went (new, took, refl);
+  goes_on = λ used more ending h. subst (λ (calls : List TakeCall). ComesTaken used [] calls ending)
+      (sym (append_assoc taking.calls (record { max = max; answer = Ok (byte ∷ piece) } ∷ []) more))
+      (taking.goes_on used (record { max = max; answer = Ok (byte ∷ piece) } ∷ more) ending (all, h));
+}
+
+no_more : {I : Type 0} (takes : I → TakeCall → I → Type 0) (old new : I) (text : List ℕ) (result : Result (Vec ℕ) Unread) → IsTaking (Follows takes old new) text
+    → ((used : List ℕ → Outcome) (ending : Ending) → EndsTaken used result ending → ComesTaken used text [] ending) → HasTaken (Follows takes old new) result
+no_more takes old new text result taking comes = record {
+  calls = taking.calls;
+  went = taking.went;
+  comes = λ used ending h. subst (λ (calls : List TakeCall). ComesTaken used [] calls ending) (append-nil taking.calls) (taking.goes_on used [] ending (comes used ending h));
+}
+
+pub taken_long : {I : Type 0} (takes : I → TakeCall → I → Type 0) (old new : I) (text : List ℕ) → IsTaking (Follows takes old new) text → MAX_BYTES < length text
+    → HasTaken (Follows takes old new) (Err unread.TooLong)
+taken_long takes old new text taking long = no_more takes old new text (Err unread.TooLong) taking (λ used ending h. inl (long, h))
+
+not_below : (a b : ℕ) → ltb a b ≡ false → b ≤ a
+not_below a b e = grind arith
+
+-- memory was wanting behind a piece
+pub taken_short : {I : Type 0} (takes : I → TakeCall → I → Type 0) (old new : I) (text : List ℕ) → IsTaking (Follows takes old new) text
+    → HasTaken (Follows takes old new) (Err unread.Memory)
+taken_short takes old new text taking = no_more takes old new text (Err unread.Memory) taking (λ used ending h. by used ending h (ltb MAX_BYTES (length text)) refl)
+  where
+    by : (used : List ℕ → Outcome) (ending : Ending) → ending ≡ Cut failed.Memory → (long : Bool) → ltb MAX_BYTES (length text) ≡ long → ComesTaken used text [] ending
+    by used ending h true e = inl (ltb-true MAX_BYTES (length text) e, inr h)
+    by used ending h false e = inr (not_below MAX_BYTES (length text) e, h)
+
+pub some_bytes : (count : ℕ) → eqb count 0 ≡ false → 0 < count
+some_bytes zero e = cc
+some_bytes (suc count) e = omega arith

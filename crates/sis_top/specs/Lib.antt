@@ -1,4 +1,4 @@
-pub mod Headline
-pub mod Run
-pub mod Running
-pub mod Source
+pub mod Machine
+pub mod Call
+pub mod Laws
+pub mod Code

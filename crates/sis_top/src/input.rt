@@ -1,8 +1,9 @@
 //! The script on the input.
 
-ghost use Rattle.std.specs.Prelude.{◌≡◌, ◌≤◌, IsTrue, IfOk, length};
-ghost use Rattle.sis_session.specs.Outcome.{MAX_BYTES as longest};
-ghost use Rattle.sis_top.specs.Running.{TakesScript, TakeRun};
+ghost use Rattle.std.specs.Prelude.{◌≤◌, IfOk, length};
+ghost use Rattle.sis_outside.specs.Calls.{Follows};
+ghost use Rattle.sis_session.specs.Plan.{MAX_BYTES as longest};
+ghost use Rattle.sis_top.specs.Code.{HasTaken};
 
 use sis_outside::{Source, TakeFault};
 use sis_session::MAX_BYTES;
@@ -21,10 +22,8 @@ pub enum Unread {
 
 /// Takes what is left of the input, to its end, but no more than one byte past the longest script.
 pub fn take_script<I: Source>(alloc: Global, input: &mut I) -> Result<Vec<u8>, Unread>
-    ensures tells { I.tells input.new ≡ I.tells input.old }
-    ensures takes { IsTrue (I.tells input.old) → TakesScript (I.left input.old) result (I.left input.new) }
+    ensures taken { HasTaken (Follows I.calls input.old input.new) result }
     ensures within { IfOk result (λ text. length text.items ≤ longest) }
-    ensures faults { TakeRun result (I.faults input.old) (I.faults input.new) }
 {
     let mut text = Vec::new(alloc);
     'pieces: while text.len() <= MAX_BYTES {

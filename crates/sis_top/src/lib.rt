@@ -1,15 +1,18 @@
 //! The top call of the program: the words of a command line, the script that they give, its run over files and
 //! outputs, and the status.
 //!
-//! The commands are those of SIS (UCB/ERL M92/41) that stand so far. `run_sis` promises, where the outside tells its
-//! bytes, that a call is a run of the command machine (`specs/Run`, `specs/Source`, `specs/Headline`), that each circuit
-//! that it writes refines the circuit last read, and that all is done where every command is served and nothing failed.
-//! In any case each status has its cause: where all was done, or a command was refused, no count grew and the machine
-//! has a run with that end, in which the files may change between two commands; and a fault was counted.
+//! The commands are those of SIS (UCB/ERL M92/41) that stand so far. `run_sis` promises that a call is some turns of the
+//! command machine (`specs/Machine`), that each object of the outside went by just the calls of these turns, whether it
+//! tells its contents or not, and that all that is written refines what was read last (`specs/Call`). It
+//! follows what is counted under each status, and that all is done where files and input are told and every turn is
+//! served (`specs/Laws`).
 //!
-//! Rooms: `input` (a script on the input), `running` (all steps of a run), `top` (the script, its run and the last line).
+//! Rooms: `beginning` and `input` (the script that the words ask for), `halt` (why a work was not done), `running` (all
+//! turns of a run), `status`, `top` (the words, the run and the last line), `laws`.
 #![tactic(auto)]
 
+mod beginning;
+mod halt;
 mod input;
 mod laws;
 #[cfg(test)]
@@ -20,7 +23,7 @@ mod status;
 mod tests;
 mod top;
 
-pub use laws::{runs_are_one, runs_keep_refinement, writings_are_remembered};
+pub use laws::{runs_are_one, runs_keep_refinement, served_runs_refuse_nothing};
 pub use sis_text::Word;
 pub use status::Status;
 pub use top::run_sis;

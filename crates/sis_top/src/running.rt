@@ -1,66 +1,49 @@
-//! The run: the commands of a script, one after the other, each a step of the session; a refusal puts its line on
-//! the error output.
+//! The run: the works that are due, one after the other, each a step of the session; a refusal puts its line on the
+//! error output.
 
-ghost use Rattle.std.specs.Prelude.{◌≡◌, ◌≤◌, ◌||◌, List, ℕ, IsTrue, Bool};
-ghost use Rattle.sis_outside.specs.Files.{Files};
-ghost use Rattle.sis_top.specs.Run.{Place, Stands, start};
-ghost use Rattle.sis_top.specs.Running.{Advanced, MayAdvanced, Ran, MayRan, is_refusal, turn_by, ends_at, Tells, StoreRun, InputRun, OutRun, ErrRun, StoreEnd, InputEnd, OutEnd, ErrEnd};
-ghost use Rattle.sis_session.specs.Replies.{refusal_line};
-ghost use Rattle.sis_session.specs.State.{nothing_held};
+ghost use Rattle.std.specs.Prelude.{◌≡◌, ◌≤◌, ◌<◌, ◌+◌, ◌-◌, ◌++◌, ◌∷◌, ◌||◌, [], Bool, OnErr, OnOk, IfErr, IfOk, reverse, if◌then◌else◌};
+ghost use Rattle.sis_outside.specs.Calls.{Follows};
+ghost use Rattle.sis_words.specs.Asked.{options_in};
+ghost use Rattle.sis_session.specs.Commands.{Plans};
+ghost use Rattle.sis_session.specs.Plan.{AskedNone, Did};
+ghost use Rattle.sis_session.specs.State.{Held};
+ghost use Rattle.sis_session.specs.declared.refusal.Failed.TheVariants as failed;
+ghost use Rattle.sis_top.specs.Code.{Fits, HasEnded, HasRun, HasSettled, HasTold, HasTurned, IsAt, Lands, LandsAt, added_weight, ended_as, heft, weight};
+ghost use Rattle.sis_top.specs.Machine.{Due as TheDue, Machine, begun, deeper, dues, todo_after};
 
-use sis_outside::{PutFault, Sink, Store};
-use sis_script::Command;
-use sis_session::{Next, Refusal, Session, StepFault, refusal_text};
+use crate::beginning::begin;
+use crate::halt::{Halt, halt_by};
+use crate::status::Stop;
+use sis_outside::{PutFault, Sink, Source, Store};
+use sis_script::{Command, Commands};
+use sis_session::{Failed, Next, Refusal, Session, refusal_text};
+use sis_words::Options;
 use std::alloc::Global;
+use std::marker::Model;
 
-/// What cut a call short.
-#[derive(Clone, Copy, Debug, PartialEq, Eq)]
-pub enum Failed {
-    /// A load or a save failed.
-    Store,
-    /// A take of the input failed.
-    Input,
-    /// A put on the output failed.
-    Out,
-    /// A put on the error output failed.
-    Err,
-    /// Memory was wanting.
-    Memory,
+/// A command that is due, and the number of sourced scripts that it stands in.
+#[derive(Drop)]
+pub struct Due {
+    command: Command,
+    depth: u32,
 }
 
-/// How one command went.
-#[derive(Clone, Copy, Debug, PartialEq, Eq)]
-pub enum Turn {
-    /// It was done, and the script goes on.
-    Went,
-    /// It was done, and was the last.
-    Ended,
-    /// It was refused.
-    Refused,
-}
+impl Model for Due {
+    ghost use Rattle.std.specs.Prelude.{◌≤◌};
+    ghost use Rattle.sis_top.specs.Machine.{Due, Run};
 
-/// How a run ended before its last command, and the line of the command at which it did.
-#[derive(Clone, Copy, Debug, PartialEq, Eq)]
-pub struct Ended {
-    pub failed: Failed,
-    pub line: usize,
+    ghost Value = { Due };
+
+    ghost view = { λ d. record { line = d.command.line; work = Run d.depth d.command.op } };
+
+    ghost invariant = { λ d. d.depth ≤ 16 };
 }
 
 /// Puts the line of a refusal on the error output.
-pub fn tell<E: Sink>(
-    alloc: Global,
-    line: usize,
-    refusal: &Refusal,
-    err: &mut E,
-) -> Result<(), Failed>
-    ensures tells { E.tells err.new ≡ E.tells err.old }
-    ensures told { IsTrue (E.tells err.old) → Tells (refusal_line line refusal.now) (E.written err.old) result (E.written err.new) }
-    ensures faults { ErrRun result (E.faults err.old) (E.faults err.new) }
-    ensures store { StoreRun result 0 0 }
-    ensures out { OutRun result 0 0 }
-    ensures input { (count : ℕ) → InputRun result count count }
+fn tell<E: Sink>(alloc: Global, line: usize, why: &Refusal, err: &mut E) -> Result<(), Failed>
+    ensures { HasTold line why.now (Follows E.calls err.old err.new) result }
 {
-    let Ok(text) = refusal_text(alloc, line, refusal) else {
+    let Ok(text) = refusal_text(alloc, line, why) else {
         return Err(Failed::Memory);
     };
     match err.put(text.as_slice()) {
@@ -70,134 +53,185 @@ pub fn tell<E: Sink>(
     }
 }
 
-/// The turn of a command that is done.
-fn turn_by(next: Next) -> Turn
-    ensures { result ≡ turn_by next }
+/// Puts a script's commands on top of what is due, the first uppermost.
+fn push_commands(depth: u32, commands: Commands, todo: &mut Vec<Due>) -> Result<(), Failed>
+    requires { depth ≤ 16 }
+    ensures ok { OnOk result (reverse todo.new.items ≡ dues depth commands ++ reverse todo.old.items) }
+    ensures err { IfErr result (λ what. what ≡ failed.Memory) }
+{
+    let mut rest = commands.into_vec();
+    'rest: while let Some(command) = rest.pop() {
+        if todo.push(Due { command, depth }).is_err() {
+            return Err(Failed::Memory);
+        }
+    }
+    Ok(())
+}
+
+/// Makes due what comes behind a work that is done: the rest, nothing at all, or a script's commands and the rest.
+fn follow(depth: u32, next: Next, todo: &mut Vec<Due>) -> Result<(), Failed>
+    requires { Fits depth next }
+    ensures ok { OnOk result (reverse todo.new.items ≡ todo_after depth next (reverse todo.old.items)) }
+    ensures err { IfErr result (λ what. what ≡ failed.Memory) }
 {
     match next {
-        Next::Go => Turn::Went,
-        Next::Quit => Turn::Ended,
+        Next::Go => Ok(()),
+        Next::Quit => {
+            todo.clear();
+            Ok(())
+        }
+        Next::Script(commands) => push_commands(depth, commands, todo),
     }
 }
 
-/// Runs one command, of a script that stands in no other.
-fn advance<S: Store, O: Sink, E: Sink>(
+/// Leaves what is due behind a refusal: nothing, unless the run goes on.
+fn keep_due(goes_on: bool, todo: &mut Vec<Due>)
+    ensures { reverse todo.new.items ≡ (if goes_on then reverse todo.old.items else []) }
+{
+    if !goes_on {
+        todo.clear();
+    }
+}
+
+/// Settles a work by how it ended: a script's commands become due, nothing more is due behind `quit`, and a refusal is
+/// told. Whether it was refused, or what cuts the run short.
+fn settle<E: Sink>(
+    alloc: Global,
+    goes_on: bool,
+    line: usize,
+    depth: u32,
+    answer: Result<Next, Halt>,
+    todo: &mut Vec<Due>,
+    err: &mut E,
+) -> Result<bool, Failed>
+    requires { IfOk answer (Fits depth) }
+    ensures settled { (machine : Machine) (due : TheDue) (held : Held) (before : Bool) → due.line ≡ line → deeper due.work ≡ depth
+        → IsAt machine.held (due ∷ reverse todo.old.items) before machine → OnErr answer (machine.held ≡ held)
+        → HasSettled goes_on machine due (ended_as answer held) (Follows E.calls err.old err.new) (Lands held (reverse todo.new.items) before line result) }
+    ensures weight { IfOk result (λ refused. weight (reverse todo.new.items) ≤ added_weight depth answer + weight (reverse todo.old.items)) }
+{
+    match answer {
+        Ok(next) => match follow(depth, next, todo) {
+            Ok(()) => Ok(false),
+            Err(what) => Err(what),
+        },
+        Err(Halt::Refused(why)) => match tell(alloc, line, &why, err) {
+            Ok(()) => {
+                keep_due(goes_on, todo);
+                Ok(true)
+            }
+            Err(what) => Err(what),
+        },
+        Err(Halt::Cut(what)) => Err(what),
+    }
+}
+
+/// Runs one command.
+fn run_command<S: Store, O: Sink>(
     alloc: Global,
     session: &mut Session,
     command: &Command,
+    depth: u32,
     store: &mut S,
     out: &mut O,
-    err: &mut E,
-) -> Result<Turn, Failed>
-    ensures advanced { (goes_on : Bool) (place : Place) → IsTrue (S.tells store.old) → IsTrue (O.tells out.old) → IsTrue (E.tells err.old)
-        → Stands place session.old (S.files store.old) (O.written out.old) (E.written err.old)
-        → Advanced goes_on command.now place result session.new (S.files store.new) (O.written out.new) (E.written err.new) (S.misses store.old) (S.misses store.new) }
-    ensures tells_store { S.tells store.new ≡ S.tells store.old }
-    ensures tells_out { O.tells out.new ≡ O.tells out.old }
-    ensures tells_err { E.tells err.new ≡ E.tells err.old }
-    ensures store { StoreRun result (S.faults store.old) (S.faults store.new) }
-    ensures input { (count : ℕ) → InputRun result count count }
-    ensures out { OutRun result (O.faults out.old) (O.faults out.new) }
-    ensures err { ErrRun result (E.faults err.old) (E.faults err.new) }
-    ensures misses { S.misses store.old ≤ S.misses store.new }
-    ensures causes { (goes_on : Bool) (place : Place) → place.held ≡ session.old → MayAdvanced goes_on command.now place result session.new (S.misses store.old) (S.misses store.new) }
+) -> Result<Next, Halt>
+    requires { depth ≤ 16 }
+    ensures did { Did (Plans depth session.old command.now.op) (Follows S.calls store.old store.new) (Follows O.calls out.old out.new) (ended_as result session.new) }
+    ensures err { OnErr result (session.old ≡ session.new) }
+    ensures fits { IfOk result (Fits (depth + 1)) }
+    ensures lighter { added_weight (depth + 1) result < heft (16 - depth) }
 {
-    match session.step(alloc, command, 0, store, out) {
-        Ok(next) => Ok(turn_by(next)),
-        Err(StepFault::Refused(refusal)) => match tell(alloc, command.line, &refusal, err) {
-            Ok(()) => Ok(Turn::Refused),
-            Err(failed) => Err(failed),
-        },
-        Err(StepFault::StoreFault) => Err(Failed::Store),
-        Err(StepFault::SinkFault) => Err(Failed::Out),
-        Err(StepFault::Memory) => Err(Failed::Memory),
+    match session.step(alloc, command, depth, store, out) {
+        Ok(next) => Ok(next),
+        Err(fault) => Err(halt_by(fault)),
     }
 }
 
-/// Whether a command was refused before or now.
-fn was_refused(before: bool, turned: Turn) -> bool
-    ensures { result ≡ (before || is_refusal turned) }
-{
-    match turned {
-        Turn::Refused => true,
-        Turn::Went | Turn::Ended => before,
-    }
-}
-
-/// Whether a run ends behind a command.
-fn ends_at(goes_on: bool, turned: Turn) -> bool
-    ensures { result ≡ ends_at goes_on turned }
-{
-    match turned {
-        Turn::Went => false,
-        Turn::Ended => true,
-        Turn::Refused => !goes_on,
-    }
-}
-
-/// Runs the commands of a script from a session that holds nothing; answers whether one was refused. Behind a
-/// refusal the rest is run only where `goes_on`, behind `quit` not at all.
-fn run_from<S: Store, O: Sink, E: Sink>(
+/// Takes one turn: runs the work that is due, and settles it.
+fn take_turn<S: Store, O: Sink, E: Sink>(
     alloc: Global,
     goes_on: bool,
     session: &mut Session,
-    commands: &[Command],
+    due: Due,
+    todo: &mut Vec<Due>,
     store: &mut S,
     out: &mut O,
     err: &mut E,
-) -> Result<bool, Ended>
-    requires { session.old ≡ nothing_held }
-    ensures ran { IsTrue (S.tells store.old) → IsTrue (O.tells out.old) → IsTrue (E.tells err.old)
-        → Ran goes_on (start commands.now (S.files store.old) (O.written out.old) (E.written err.old)) result (S.files store.new) (O.written out.new) (E.written err.new) (S.misses store.old) (S.misses store.new) }
-    ensures tells_store { S.tells store.new ≡ S.tells store.old }
-    ensures tells_out { O.tells out.new ≡ O.tells out.old }
-    ensures tells_err { E.tells err.new ≡ E.tells err.old }
-    ensures store { StoreEnd result (S.faults store.old) (S.faults store.new) }
-    ensures input { (count : ℕ) → InputEnd result count count }
-    ensures out { OutEnd result (O.faults out.old) (O.faults out.new) }
-    ensures err { ErrEnd result (E.faults err.old) (E.faults err.new) }
-    ensures causes { (files : Files) (output errors : List ℕ) → MayRan goes_on (start commands.now files output errors) result (S.misses store.old) (S.misses store.new) }
+) -> Result<bool, Stop>
+    ensures turned { (machine : Machine) (before : Bool) → IsAt session.old (due ∷ reverse todo.old.items) before machine
+        → HasTurned goes_on machine (Follows S.calls store.old store.new) (Follows O.calls out.old out.new) (Follows E.calls err.old err.new) (LandsAt session.new (reverse todo.new.items) before result) }
+    ensures lighter { IfOk result (λ refused. weight (reverse todo.new.items) < weight (due ∷ reverse todo.old.items)) }
 {
-    let mut refused = false;
-    for command in commands {
-        match advance(alloc, session, command, store, out, err) {
-            Ok(turned) => {
-                refused = was_refused(refused, turned);
-                if ends_at(goes_on, turned) {
-                    return Ok(refused);
-                }
-            }
-            Err(failed) => {
-                return Err(Ended {
-                    failed,
-                    line: command.line,
-                });
-            }
+    let Due { command, depth } = due;
+    let answer = run_command(alloc, session, &command, depth, store, out);
+    match settle(alloc, goes_on, command.line, depth + 1, answer, todo, err) {
+        Ok(refused) => Ok(refused),
+        Err(what) => Err(Stop {
+            line: command.line,
+            what,
+        }),
+    }
+}
+
+/// Whether a work was refused now or before.
+fn was_refused(now: bool, before: bool) -> bool
+    ensures { result ≡ (now || before) }
+{
+    now || before
+}
+
+/// Runs what is due, to its end; `refused` tells whether a work was refused before. Whether one was refused in the end, or
+/// what cut the run short.
+fn run_due<S: Store, O: Sink, E: Sink>(
+    alloc: Global,
+    goes_on: bool,
+    before: bool,
+    session: &mut Session,
+    todo: &mut Vec<Due>,
+    store: &mut S,
+    out: &mut O,
+    err: &mut E,
+) -> Result<bool, Stop>
+    ensures { (machine : Machine) → IsAt session.old (reverse todo.old.items) before machine
+        → HasRun goes_on machine (Follows S.calls store.old store.new) AskedNone (Follows O.calls out.old out.new) (Follows E.calls err.old err.new) (HasEnded result) }
+{
+    let mut refused = before;
+    'turns: while let Some(due) = todo.pop() {
+        match take_turn(alloc, goes_on, session, due, todo, store, out, err) {
+            Ok(now) => refused = was_refused(now, refused),
+            Err(stop) => return Err(stop),
         }
     }
     Ok(refused)
 }
 
-/// Runs the commands of a script from a new session.
-pub fn run<S: Store, O: Sink, E: Sink>(
+/// Runs the script that the words ask for. Whether a work was refused, or what cut the run short.
+pub fn run<S: Store, I: Source, O: Sink, E: Sink>(
     alloc: Global,
-    goes_on: bool,
-    commands: &[Command],
+    options: Options<'_>,
     store: &mut S,
+    input: &mut I,
     out: &mut O,
     err: &mut E,
-) -> Result<bool, Ended>
-    ensures ran { IsTrue (S.tells store.old) → IsTrue (O.tells out.old) → IsTrue (E.tells err.old)
-        → Ran goes_on (start commands.now (S.files store.old) (O.written out.old) (E.written err.old)) result (S.files store.new) (O.written out.new) (E.written err.new) (S.misses store.old) (S.misses store.new) }
-    ensures tells_store { S.tells store.new ≡ S.tells store.old }
-    ensures tells_out { O.tells out.new ≡ O.tells out.old }
-    ensures tells_err { E.tells err.new ≡ E.tells err.old }
-    ensures store { StoreEnd result (S.faults store.old) (S.faults store.new) }
-    ensures input { (count : ℕ) → InputEnd result count count }
-    ensures out { OutEnd result (O.faults out.old) (O.faults out.new) }
-    ensures err { ErrEnd result (E.faults err.old) (E.faults err.new) }
-    ensures causes { (files : Files) (output errors : List ℕ) → MayRan goes_on (start commands.now files output errors) result (S.misses store.old) (S.misses store.new) }
+) -> Result<bool, Stop>
+    ensures { HasRun (options_in options.entry).keep (begun (options_in options.entry).script) (Follows S.calls store.old store.new) (Follows I.calls input.old input.new) (Follows O.calls out.old out.new) (Follows E.calls err.old err.new) (HasEnded result) }
 {
     let mut session = Session::new();
-    run_from(alloc, goes_on, &mut session, commands, store, out, err)
+    let mut todo = Vec::new(alloc);
+    let answer = begin(alloc, options.script, store, input);
+    match settle(alloc, options.keep, 0, 0, answer, &mut todo, err) {
+        Ok(refused) => {
+            run_due(
+                alloc,
+                options.keep,
+                refused,
+                &mut session,
+                &mut todo,
+                store,
+                out,
+                err,
+            )
+        }
+        Err(what) => Err(Stop { line: 0, what }),
+    }
 }

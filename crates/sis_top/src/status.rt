@@ -1,7 +1,9 @@
 //! How a call of the program ended.
 
 ghost use Rattle.std.specs.Prelude.{◌≡◌};
-ghost use Rattle.sis_top.specs.Headline.{code_of};
+ghost use Rattle.sis_top.specs.Call.{code_of};
+
+use sis_session::Failed;
 
 /// The answer of the top call.
 #[derive(Clone, Copy, Debug, PartialEq, Eq)]
@@ -31,4 +33,11 @@ impl Status {
             Status::Memory => 4,
         }
     }
+}
+
+/// What cut a run short, and the line of the work at which it did; 0 where the script was not begun.
+#[derive(Clone, Copy, Debug, PartialEq, Eq)]
+pub struct Stop {
+    pub line: usize,
+    pub what: Failed,
 }

@@ -74,6 +74,11 @@ const FILES: &[(&str, &[u8])] = &[
         "s",
         b"echo hi\nfrob # no command\necho bye; quit; echo no\n",
     ),
+    ("h", b"echo hi"),
+    ("p", b"echo hi\nfrob\n"),
+    ("r", b"source r"),
+    ("q", b"echo in\nquit\necho no\n"),
+    ("t", b"echo one\n\nfrob\necho two\n"),
 ];
 
 /// Asserts that two values are equal; the case is named where they are not.
@@ -246,6 +251,13 @@ const DONE: &[(&[&str], &[u8], &[u8], Option<&[u8]>)] = &[
     ),
     (&[], b"echo ready\nquit\n", b"ready\n", None),
     (&["-k"], b"", b"", None),
+    (&["-c", "source h; echo bye"], b"", b"hi\nbye\n", None),
+    (
+        &["-c", "source h; source h\nsource q; echo out"],
+        b"",
+        b"hi\nhi\nin\n",
+        None,
+    ),
     (
         &["-c", "echo; echo -n\ta  b -- ; quit; frob"],
         b"",
@@ -330,6 +342,28 @@ const REFUSED: &[(&[&str], &[u8], &[u8])] = &[
         b"sis: line 1: c: cycle through x\n",
     ),
     (&["-k", "-f", "x"], b"", b"sis: line 0: no file x\n"),
+    (
+        &["-c", "source r"],
+        b"",
+        b"sis: line 1: sources nested deeper than 16\n",
+    ),
+    (
+        &["-k", "-c", "\nsource t; echo bye; source x"],
+        b"one\ntwo\nbye\n",
+        b"sis: line 3: unknown command\nsis: line 2: no file x\n",
+    ),
+    (
+        &["-c", "source p; echo bye"],
+        b"hi\n",
+        b"sis: line 2: unknown command\n",
+    ),
+    (
+        &["-k", "-c", "source p; echo bye"],
+        b"hi\nbye\n",
+        b"sis: line 2: unknown command\n",
+    ),
+    (&["-c", "source"], b"", b"sis: line 1: missing word\n"),
+    (&["-c", "source -h"], b"", b"sis: line 1: bad option\n"),
 ];
 
 #[test]

@@ -1,28 +1,29 @@
-//! The top call: the words of the command line, the script that they ask for, its run, and the last line.
+//! The top call: the words of the command line, the run of the script that they ask for, and the last line.
 
-ghost use Rattle.std.specs.Prelude.{◌≡◌, ◌≤◌, ℕ, List, IsTrue, IfOk, Some, false};
+ghost use Rattle.std.specs.Prelude.{◌≡◌, ◌⊎◌, IsTrue, None};
+ghost use Rattle.sis_outside.specs.Calls.{Follows, SinkWent, SourceWent, StoreWent};
 ghost use Rattle.sis_outside.specs.Counts.{Rose};
-ghost use Rattle.sis_top.specs.Headline.{Counts, EndsBy, EndsCut, EndsDenied, Ends, IsCaused, IsRefused, Completes, CompletesAnywhere, Writes, asks_input, failure_text};
-ghost use Rattle.sis_top.specs.Run.{is_missing};
-ghost use Rattle.sis_top.specs.Running.{EndLine, EndsRun, Failing, IsCausedRun, IsCut, IsDenied, IsUsage, UsageLine};
-ghost use Rattle.sis_top.specs.Source.{Seen, script_commands};
-ghost use Rattle.sis_words.specs.Asked.{AsText, InFile, OnInput, options_in, options_of};
+ghost use Rattle.sis_words.specs.Asked.{options_in, options_of};
+ghost use Rattle.sis_top.specs.Call.{IsCall, IsRun, failure_line, failure_text, status_cut, status_of, usage_line};
+ghost use Rattle.sis_top.specs.Code.{HasEndLine};
+ghost use Rattle.sis_top.specs.Laws.{Completes, HasEnding};
+ghost use Rattle.sis_top.specs.declared.status.Status.TheVariants as status;
 
-use crate::input::{Unread, take_script};
-use crate::running::{Ended, Failed, run, tell};
-use crate::status::Status;
-use sis_outside::{PutFault, Sink, Source, Store};
-use sis_script::commands;
-use sis_session::{MAX_BYTES, Refusal, StepFault, error_text, load};
+use crate::running::run;
+use crate::status::{Status, Stop};
+use sis_outside::{PutFault, Sink, Source, Store, sinks_went, sources_went, stores_went};
+use sis_session::{
+    Failed, error_text, networks_are_written, served_commands_are_done, steps_keep_refinement,
+};
 use sis_text::Word;
-use sis_words::{Options, ScriptFrom, WordsFault, read_words};
+use sis_words::{Options, WordsFault, read_words};
 use std::alloc::Global;
 
-/// The text of the last line of a call that was cut short.
-fn failure_text(failed: Failed) -> &'static str
-    ensures { result.now ≡ failure_text failed }
+/// What cut a run short, in words.
+fn failure_text(what: Failed) -> &'static str
+    ensures { result.now ≡ failure_text what }
 {
-    match failed {
+    match what {
         Failed::Store => "store failed",
         Failed::Input => "input failed",
         Failed::Out | Failed::Err => "output failed",
@@ -30,175 +31,57 @@ fn failure_text(failed: Failed) -> &'static str
     }
 }
 
-/// Puts the last line of a call that was cut short, and answers its status.
-fn tell_end<E: Sink>(alloc: Global, ended: Ended, err: &mut E) -> Status
-    ensures tells { E.tells err.new ≡ E.tells err.old }
-    ensures told { IsTrue (E.tells err.old) → EndLine result ended.failed ended.line (E.written err.old) (E.written err.new) (E.faults err.old) (E.faults err.new) }
-    ensures cut { IsCut result ended.failed }
-    ensures faults { E.faults err.old ≤ E.faults err.new }
+/// The status of a run that was not cut short, by whether a work was refused.
+fn status_of(refused: bool) -> Status
+    ensures { result ≡ status_of refused }
 {
-    let status = match ended.failed {
+    if refused {
+        Status::Refused
+    } else {
+        Status::Done
+    }
+}
+
+/// The status of a run that was cut short.
+fn status_cut(what: Failed) -> Status
+    ensures { result ≡ status_cut what }
+{
+    match what {
         Failed::Memory => Status::Memory,
         Failed::Store | Failed::Input | Failed::Out | Failed::Err => Status::Fault,
-    };
-    let Ok(line) = error_text(alloc, ended.line, failure_text(ended.failed)) else {
+    }
+}
+
+/// Puts the last line of a call, which ends so unless memory is wanting for the line.
+fn put_end<E: Sink>(line: &[u8], ends: Status, err: &mut E) -> Status
+    ensures { HasEndLine line.now ends (Follows E.calls err.old err.new) result }
+{
+    match err.put(line) {
+        Ok(()) => ends,
+        Err(PutFault::Failed) => ends,
+        Err(PutFault::Memory) => Status::Memory,
+    }
+}
+
+/// Puts the last line of a run that was cut short, and answers the status.
+fn tell_stop<E: Sink>(alloc: Global, stop: Stop, err: &mut E) -> Status
+    ensures { HasEndLine (failure_line stop) (status_cut stop.what) (Follows E.calls err.old err.new) result }
+{
+    let Ok(line) = error_text(alloc, stop.line, failure_text(stop.what)) else {
         return Status::Memory;
     };
-    match err.put(line.as_slice()) {
-        Ok(()) | Err(PutFault::Failed) => status,
-        Err(PutFault::Memory) => Status::Memory,
-    }
+    put_end(line.as_slice(), status_cut(stop.what), err)
 }
 
-/// Puts the last line of a call that was cut short before its first command.
-fn tell_unbegun<E: Sink>(alloc: Global, failed: Failed, err: &mut E) -> Status
-    ensures tells { E.tells err.new ≡ E.tells err.old }
-    ensures told { (counts : Counts) (stands : Seen) → IsTrue (E.tells err.old) → counts.err ≡ E.faults err.old → counts.err_after ≡ E.faults err.new → stands.err ≡ E.written err.old
-        → Failing counts failed → EndsCut counts result failed 0 stands (record stands { err = E.written err.new }) }
-    ensures cut { IsCut result failed }
-{
-    tell_end(alloc, Ended { failed, line: 0 }, err)
-}
-
-/// Tells that a script is refused as a whole.
-fn deny<E: Sink>(alloc: Global, why: &Refusal, err: &mut E) -> Status
-    ensures tells { E.tells err.new ≡ E.tells err.old }
-    ensures denied { (counts : Counts) (stands : Seen) → IsTrue (E.tells err.old) → counts.err ≡ E.faults err.old → counts.err_after ≡ E.faults err.new → stands.err ≡ E.written err.old
-        → (IsTrue (is_missing why.now) → Rose counts.misses counts.misses_after)
-        → EndsDenied counts why.now result stands (record stands { err = E.written err.new }) }
-    ensures cause { IsDenied result (E.faults err.old) (E.faults err.new) }
-{
-    match tell(alloc, 0, why, err) {
-        Ok(()) => Status::Refused,
-        Err(failed) => tell_end(alloc, Ended { failed, line: 0 }, err),
-    }
-}
-
-/// Puts the usage line, and answers the status.
+/// Puts the line that tells how the program is used, and answers the status.
 fn tell_usage<E: Sink>(err: &mut E) -> Status
-    ensures tells { E.tells err.new ≡ E.tells err.old }
-    ensures told { IsTrue (E.tells err.old) → UsageLine (E.written err.old) (E.written err.new) (E.faults err.old) (E.faults err.new) result }
-    ensures cause { IsUsage result }
+    ensures { HasEndLine usage_line status.Usage (Follows E.calls err.old err.new) result }
 {
-    match err.put(b"sis: usage: sis [-k] [-f FILE | -c TEXT]\n") {
-        Ok(()) => Status::Usage,
-        Err(PutFault::Failed) => Status::Usage,
-        Err(PutFault::Memory) => Status::Memory,
-    }
-}
-
-/// Runs a script.
-fn run_script<S: Store, O: Sink, E: Sink>(
-    alloc: Global,
-    keep: bool,
-    text: &[u8],
-    store: &mut S,
-    out: &mut O,
-    err: &mut E,
-) -> Status
-    ensures ends { (left : List ℕ) (input : ℕ) → IsTrue (S.tells store.old) → IsTrue (O.tells out.old) → IsTrue (E.tells err.old) → EndsRun
-        (record { store = S.faults store.old; store_after = S.faults store.new; misses = S.misses store.old; misses_after = S.misses store.new; input = input; input_after = input; out = O.faults out.old; out_after = O.faults out.new; err = E.faults err.old; err_after = E.faults err.new })
-        keep text.now (record { files = S.files store.old; left = left; out = O.written out.old; err = E.written err.old }) result
-        (record { files = S.files store.new; left = left; out = O.written out.new; err = E.written err.new }) }
-    ensures cause { (input : ℕ) → IsCausedRun
-        (record { store = S.faults store.old; store_after = S.faults store.new; misses = S.misses store.old; misses_after = S.misses store.new; input = input; input_after = input; out = O.faults out.old; out_after = O.faults out.new; err = E.faults err.old; err_after = E.faults err.new })
-        keep text.now result }
-    ensures tells_store { S.tells store.new ≡ S.tells store.old }
-    ensures tells_out { O.tells out.new ≡ O.tells out.old }
-    ensures tells_err { E.tells err.new ≡ E.tells err.old }
-{
-    let Ok(commands) = commands(alloc, text) else {
-        return tell_unbegun(alloc, Failed::Memory, err);
-    };
-    match run(alloc, keep, commands.as_slice(), store, out, err) {
-        Ok(false) => Status::Done,
-        Ok(true) => Status::Refused,
-        Err(ended) => tell_end(alloc, ended, err),
-    }
-}
-
-/// Runs a script that is a word of the command line.
-fn run_text<S: Store, O: Sink, E: Sink>(
-    alloc: Global,
-    keep: bool,
-    text: &str,
-    store: &mut S,
-    out: &mut O,
-    err: &mut E,
-) -> Status
-    ensures ends { (left : List ℕ) (input : ℕ) → IsTrue (S.tells store.old) → IsTrue (O.tells out.old) → IsTrue (E.tells err.old) → EndsBy
-        (record { store = S.faults store.old; store_after = S.faults store.new; misses = S.misses store.old; misses_after = S.misses store.new; input = input; input_after = input; out = O.faults out.old; out_after = O.faults out.new; err = E.faults err.old; err_after = E.faults err.new })
-        (record { keep = keep; script = AsText text.now }) (record { files = S.files store.old; left = left; out = O.written out.old; err = E.written err.old }) result
-        (record { files = S.files store.new; left = left; out = O.written out.new; err = E.written err.new }) }
-    ensures cause { (input : ℕ) → IsCaused
-        (record { store = S.faults store.old; store_after = S.faults store.new; misses = S.misses store.old; misses_after = S.misses store.new; input = input; input_after = input; out = O.faults out.old; out_after = O.faults out.new; err = E.faults err.old; err_after = E.faults err.new })
-        (Some (record { keep = keep; script = AsText text.now })) result }
-    ensures tells_store { S.tells store.new ≡ S.tells store.old }
-    ensures tells_out { O.tells out.new ≡ O.tells out.old }
-    ensures tells_err { E.tells err.new ≡ E.tells err.old }
-{
-    if text.len() > MAX_BYTES {
-        return deny(alloc, &Refusal::LongScript, err);
-    }
-    run_script(alloc, keep, text.as_bytes(), store, out, err)
-}
-
-/// Runs a script that stands in a file.
-fn run_file<S: Store, O: Sink, E: Sink>(
-    alloc: Global,
-    keep: bool,
-    name: &str,
-    store: &mut S,
-    out: &mut O,
-    err: &mut E,
-) -> Status
-    ensures ends { (left : List ℕ) (input : ℕ) → IsTrue (S.tells store.old) → IsTrue (O.tells out.old) → IsTrue (E.tells err.old) → EndsBy
-        (record { store = S.faults store.old; store_after = S.faults store.new; misses = S.misses store.old; misses_after = S.misses store.new; input = input; input_after = input; out = O.faults out.old; out_after = O.faults out.new; err = E.faults err.old; err_after = E.faults err.new })
-        (record { keep = keep; script = InFile name.now }) (record { files = S.files store.old; left = left; out = O.written out.old; err = E.written err.old }) result
-        (record { files = S.files store.new; left = left; out = O.written out.new; err = E.written err.new }) }
-    ensures cause { (input : ℕ) → IsCaused
-        (record { store = S.faults store.old; store_after = S.faults store.new; misses = S.misses store.old; misses_after = S.misses store.new; input = input; input_after = input; out = O.faults out.old; out_after = O.faults out.new; err = E.faults err.old; err_after = E.faults err.new })
-        (Some (record { keep = keep; script = InFile name.now })) result }
-    ensures tells_store { S.tells store.new ≡ S.tells store.old }
-    ensures tells_out { O.tells out.new ≡ O.tells out.old }
-    ensures tells_err { E.tells err.new ≡ E.tells err.old }
-{
-    match load(alloc, name, store) {
-        Ok(text) => run_script(alloc, keep, text.as_slice(), store, out, err),
-        Err(StepFault::Refused(why)) => deny(alloc, &why, err),
-        Err(StepFault::StoreFault) => tell_unbegun(alloc, Failed::Store, err),
-        Err(StepFault::SinkFault) => tell_unbegun(alloc, Failed::Out, err),
-        Err(StepFault::Memory) => tell_unbegun(alloc, Failed::Memory, err),
-    }
-}
-
-/// Runs the script that stands on the input.
-fn run_input<S: Store, I: Source, O: Sink, E: Sink>(
-    alloc: Global,
-    keep: bool,
-    store: &mut S,
-    input: &mut I,
-    out: &mut O,
-    err: &mut E,
-) -> Status
-    ensures ends { IsTrue (S.tells store.old) → IsTrue (I.tells input.old) → IsTrue (O.tells out.old) → IsTrue (E.tells err.old) → EndsBy
-        (record { store = S.faults store.old; store_after = S.faults store.new; misses = S.misses store.old; misses_after = S.misses store.new; input = I.faults input.old; input_after = I.faults input.new; out = O.faults out.old; out_after = O.faults out.new; err = E.faults err.old; err_after = E.faults err.new })
-        (record { keep = keep; script = OnInput }) (record { files = S.files store.old; left = I.left input.old; out = O.written out.old; err = E.written err.old }) result
-        (record { files = S.files store.new; left = I.left input.new; out = O.written out.new; err = E.written err.new }) }
-    ensures cause { IsCaused
-        (record { store = S.faults store.old; store_after = S.faults store.new; misses = S.misses store.old; misses_after = S.misses store.new; input = I.faults input.old; input_after = I.faults input.new; out = O.faults out.old; out_after = O.faults out.new; err = E.faults err.old; err_after = E.faults err.new })
-        (Some (record { keep = keep; script = OnInput })) result }
-    ensures tells_store { S.tells store.new ≡ S.tells store.old }
-    ensures tells_input { I.tells input.new ≡ I.tells input.old }
-    ensures tells_out { O.tells out.new ≡ O.tells out.old }
-    ensures tells_err { E.tells err.new ≡ E.tells err.old }
-{
-    match take_script(alloc, input) {
-        Ok(text) => run_script(alloc, keep, text.as_slice(), store, out, err),
-        Err(Unread::TooLong) => deny(alloc, &Refusal::LongScript, err),
-        Err(Unread::Failed) => tell_unbegun(alloc, Failed::Input, err),
-        Err(Unread::Memory) => tell_unbegun(alloc, Failed::Memory, err),
-    }
+    put_end(
+        b"sis: usage: sis [-k] [-f FILE | -c TEXT]\n".as_slice(),
+        Status::Usage,
+        err,
+    )
 }
 
 /// Runs the script that was asked for.
@@ -210,23 +93,13 @@ fn run_options<S: Store, I: Source, O: Sink, E: Sink>(
     out: &mut O,
     err: &mut E,
 ) -> Status
-    ensures ends { IsTrue (S.tells store.old) → IsTrue (I.tells input.old) → IsTrue (O.tells out.old) → IsTrue (E.tells err.old) → EndsBy
-        (record { store = S.faults store.old; store_after = S.faults store.new; misses = S.misses store.old; misses_after = S.misses store.new; input = I.faults input.old; input_after = I.faults input.new; out = O.faults out.old; out_after = O.faults out.new; err = E.faults err.old; err_after = E.faults err.new })
-        (options_in options.entry) (record { files = S.files store.old; left = I.left input.old; out = O.written out.old; err = E.written err.old }) result
-        (record { files = S.files store.new; left = I.left input.new; out = O.written out.new; err = E.written err.new }) }
-    ensures cause { IsCaused
-        (record { store = S.faults store.old; store_after = S.faults store.new; misses = S.misses store.old; misses_after = S.misses store.new; input = I.faults input.old; input_after = I.faults input.new; out = O.faults out.old; out_after = O.faults out.new; err = E.faults err.old; err_after = E.faults err.new })
-        (Some (options_in options.entry)) result }
-    ensures untouched { asks_input (Some (options_in options.entry)) ≡ false → input.new ≡ input.old }
-    ensures tells_store { S.tells store.new ≡ S.tells store.old }
-    ensures tells_input { I.tells input.new ≡ I.tells input.old }
-    ensures tells_out { O.tells out.new ≡ O.tells out.old }
-    ensures tells_err { E.tells err.new ≡ E.tells err.old }
+    ensures { IsRun (options_in options.entry).keep (options_in options.entry).script (Follows S.calls store.old store.new) (Follows I.calls input.old input.new) (Follows O.calls out.old out.new) (Follows E.calls err.old err.new) result }
 {
-    match options.script {
-        ScriptFrom::File(name) => run_file(alloc, options.keep, name, store, out, err),
-        ScriptFrom::Text(text) => run_text(alloc, options.keep, text, store, out, err),
-        ScriptFrom::Input => run_input(alloc, options.keep, store, input, out, err),
+    steps_keep_refinement();
+    networks_are_written();
+    match run(alloc, options, store, input, out, err) {
+        Ok(refused) => status_of(refused),
+        Err(stop) => tell_stop(alloc, stop, err),
     }
 }
 
@@ -239,32 +112,50 @@ fn run_words<S: Store, I: Source, O: Sink, E: Sink>(
     out: &mut O,
     err: &mut E,
 ) -> Status
-    ensures ends { IsTrue (S.tells store.old) → IsTrue (I.tells input.old) → IsTrue (O.tells out.old) → IsTrue (E.tells err.old) → Ends
-        (record { store = S.faults store.old; store_after = S.faults store.new; misses = S.misses store.old; misses_after = S.misses store.new; input = I.faults input.old; input_after = I.faults input.new; out = O.faults out.old; out_after = O.faults out.new; err = E.faults err.old; err_after = E.faults err.new })
-        (options_of words.now) (record { files = S.files store.old; left = I.left input.old; out = O.written out.old; err = E.written err.old }) result
-        (record { files = S.files store.new; left = I.left input.new; out = O.written out.new; err = E.written err.new }) }
-    ensures cause { IsCaused
-        (record { store = S.faults store.old; store_after = S.faults store.new; misses = S.misses store.old; misses_after = S.misses store.new; input = I.faults input.old; input_after = I.faults input.new; out = O.faults out.old; out_after = O.faults out.new; err = E.faults err.old; err_after = E.faults err.new })
-        (options_of words.now) result }
-    ensures untouched { asks_input (options_of words.now) ≡ false → input.new ≡ input.old }
-    ensures tells_store { S.tells store.new ≡ S.tells store.old }
-    ensures tells_input { I.tells input.new ≡ I.tells input.old }
-    ensures tells_out { O.tells out.new ≡ O.tells out.old }
-    ensures tells_err { E.tells err.new ≡ E.tells err.old }
+    ensures { IsCall (options_of words.now) (Follows S.calls store.old store.new) (Follows I.calls input.old input.new) (Follows O.calls out.old out.new) (Follows E.calls err.old err.new) result }
 {
     match read_words(alloc, words) {
         Ok(options) => run_options(alloc, options, store, input, out, err),
         Err(WordsFault::Usage) => tell_usage(err),
-        Err(WordsFault::Memory) => tell_unbegun(alloc, Failed::Memory, err),
+        Err(WordsFault::Memory) => tell_stop(
+            alloc,
+            Stop {
+                line: 0,
+                what: Failed::Memory,
+            },
+            err,
+        ),
     }
+}
+
+/// The same, and what each object tells and counts.
+fn run_counted<S: Store, I: Source, O: Sink, E: Sink>(
+    alloc: Global,
+    words: &[Word],
+    store: &mut S,
+    input: &mut I,
+    out: &mut O,
+    err: &mut E,
+) -> Status
+    ensures call { IsCall (options_of words.now) (Follows S.calls store.old store.new) (Follows I.calls input.old input.new) (Follows O.calls out.old out.new) (Follows E.calls err.old err.new) result }
+    ensures told { IsCall (options_of words.now)
+        (StoreWent S.tells S.files S.faults S.misses store.old store.new) (SourceWent I.tells I.left I.faults input.old input.new)
+        (SinkWent O.tells O.written O.faults out.old out.new) (SinkWent E.tells E.written E.faults err.old err.new) result }
+{
+    stores_went::<S>();
+    sources_went::<I>();
+    sinks_went::<O>();
+    sinks_went::<E>();
+    run_words(alloc, words, store, input, out, err)
 }
 
 /// Does all that the program does: reads the words of the command line, runs the script that they ask for over the
 /// files, and puts replies on the output and refusals on the error output. The script is a file, a word, or what stands
-/// on the input, which is else not touched.
+/// on the input.
 ///
-/// What speaks of files and bytes holds where the store, the input and the outputs tell them; the causes hold in any
-/// case. Want of memory may be answered at any time.
+/// The call is some turns of the command machine, and each object of the outside went by just the calls of these turns,
+/// whether it tells its contents or not; what is told, counted and missed follows for each object by itself. Want of
+/// memory may be answered at any time.
 pub fn run_sis<S: Store, I: Source, O: Sink, E: Sink>(
     alloc: Global,
     words: &[Word],
@@ -273,41 +164,26 @@ pub fn run_sis<S: Store, I: Source, O: Sink, E: Sink>(
     out: &mut O,
     err: &mut E,
 ) -> Status
-    // The call is a run of the command machine: what stands on files, input, output and error output, by the status.
-    ensures run { IsTrue (S.tells store.old) → IsTrue (I.tells input.old) → IsTrue (O.tells out.old) → IsTrue (E.tells err.old) → Ends
-        (record { store = S.faults store.old; store_after = S.faults store.new; misses = S.misses store.old; misses_after = S.misses store.new; input = I.faults input.old; input_after = I.faults input.new; out = O.faults out.old; out_after = O.faults out.new; err = E.faults err.old; err_after = E.faults err.new })
-        (options_of words.now) (record { files = S.files store.old; left = I.left input.old; out = O.written out.old; err = E.written err.old }) result
-        (record { files = S.files store.new; left = I.left input.new; out = O.written out.new; err = E.written err.new }) }
+    // The call is a run of the command machine, over every outside: each object went by just the calls of its turns, and
+    // each text that it writes is that of what is held, and that refines what was read last.
+    ensures call { IsCall (options_of words.now) (Follows S.calls store.old store.new) (Follows I.calls input.old input.new) (Follows O.calls out.old out.new) (Follows E.calls err.old err.new) result }
 
-    // Each circuit that it wrote is the network's text, and refines the circuit last read.
-    ensures circuits { Writes
-        (record { store = S.faults store.old; store_after = S.faults store.new; misses = S.misses store.old; misses_after = S.misses store.new; input = I.faults input.old; input_after = I.faults input.new; out = O.faults out.old; out_after = O.faults out.new; err = E.faults err.old; err_after = E.faults err.new })
-        (options_of words.now) (record { files = S.files store.old; left = I.left input.old; out = O.written out.old; err = E.written err.old }) result
-        (record { files = S.files store.new; left = I.left input.new; out = O.written out.new; err = E.written err.new }) }
+    // It follows for what each object tells and counts: files and bytes that are told went by these calls, and each count
+    // rose just where one of them was counted.
+    ensures told { IsCall (options_of words.now)
+        (StoreWent S.tells S.files S.faults S.misses store.old store.new) (SourceWent I.tells I.left I.faults input.old input.new)
+        (SinkWent O.tells O.written O.faults out.old out.new) (SinkWent E.tells E.written E.faults err.old err.new) result }
 
-    // Each status has its cause, whether the outside tells its contents or not, and a refusal its command.
-    ensures cause { IsCaused
-        (record { store = S.faults store.old; store_after = S.faults store.new; misses = S.misses store.old; misses_after = S.misses store.new; input = I.faults input.old; input_after = I.faults input.new; out = O.faults out.old; out_after = O.faults out.new; err = E.faults err.old; err_after = E.faults err.new })
-        (options_of words.now) result }
-    ensures refusal { IsTrue (S.tells store.old) → IsTrue (I.tells input.old) → IsTrue (O.tells out.old) → IsTrue (E.tells err.old) → IsRefused (options_of words.now) (record { files = S.files store.old; left = I.left input.old; out = O.written out.old; err = E.written err.old }) result }
+    // It follows by the status: where the run came to its end, nothing failed; a fault is counted; and usage is told
+    // where the words are not taken.
+    ensures unfailed { HasEnding result → (S.faults store.new ≡ S.faults store.old) × (I.faults input.new ≡ I.faults input.old) × (O.faults out.new ≡ O.faults out.old) × (E.faults err.new ≡ E.faults err.old) }
+    ensures fault { result ≡ status.Fault → Rose (S.faults store.old) (S.faults store.new) ⊎ (Rose (I.faults input.old) (I.faults input.new) ⊎ (Rose (O.faults out.old) (O.faults out.new) ⊎ Rose (E.faults err.old) (E.faults err.new))) }
+    ensures usage { result ≡ status.Usage → options_of words.now ≡ None }
 
-    // Where the script is there, every command is served and nothing failed, all is done.
-    ensures complete { IsTrue (S.tells store.old) → IsTrue (I.tells input.old) → IsTrue (O.tells out.old) → IsTrue (E.tells err.old) → Completes
-        (record { store = S.faults store.old; store_after = S.faults store.new; misses = S.misses store.old; misses_after = S.misses store.new; input = I.faults input.old; input_after = I.faults input.new; out = O.faults out.old; out_after = O.faults out.new; err = E.faults err.old; err_after = E.faults err.new })
-        (options_of words.now) (record { files = S.files store.old; left = I.left input.old; out = O.written out.old; err = E.written err.old }) result }
-
-    // The same where the outside need not tell its contents: no command can be refused but for a missing file, none was
-    // missed and nothing failed.
-    ensures complete_anywhere { CompletesAnywhere
-        (record { store = S.faults store.old; store_after = S.faults store.new; misses = S.misses store.old; misses_after = S.misses store.new; input = I.faults input.old; input_after = I.faults input.new; out = O.faults out.old; out_after = O.faults out.new; err = E.faults err.old; err_after = E.faults err.new })
-        (options_of words.now) result }
-
-    // The input is touched only where the script stands on it.
-    ensures untouched { asks_input (options_of words.now) ≡ false → input.new ≡ input.old }
-    ensures tells_store { S.tells store.new ≡ S.tells store.old }
-    ensures tells_input { I.tells input.new ≡ I.tells input.old }
-    ensures tells_out { O.tells out.new ≡ O.tells out.old }
-    ensures tells_err { E.tells err.new ≡ E.tells err.old }
+    // Where files and input are told, and each turn that a run may come to is served, all is done, unless something
+    // fails or memory is wanting.
+    ensures complete { IsTrue (S.tells store.old) → IsTrue (I.tells input.old) → Completes (options_of words.now) (S.files store.old) (I.left input.old) result }
 {
-    run_words(alloc, words, store, input, out, err)
+    served_commands_are_done();
+    run_counted(alloc, words, store, input, out, err)
 }

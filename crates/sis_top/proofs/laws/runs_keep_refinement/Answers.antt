@@ -1,11 +1,8 @@
-use Rattle.sis_top.proofs.Faithful.{refined_start, refined_through, may_refine_through}
+use Rattle.std.specs.Prelude.{None}
+use Rattle.sis_top.specs.Machine.{begun}
+use Rattle.sis_top.proofs.Faithful.{run_refined}
 use Rattle.sis_top.proofs.laws.runs_keep_refinement.Goals as goal
 
-pub returns-clause-begun : goal.returns-clause-begun
-returns-clause-begun c = refined_start
-
-pub returns-clause-kept : goal.returns-clause-kept
-returns-clause-kept c = refined_through
-
-pub returns-clause-anywhere : goal.returns-clause-anywhere
-returns-clause-anywhere c = may_refine_through
+pub returns : goal.returns
+returns c = λ goes_on script turns to runs.
+    run_refined c.steps_keep_refinement.ensures.kept goes_on (begun script) to turns runs (c.steps_keep_refinement.ensures.begun None)

@@ -1,18 +1,24 @@
+use Rattle.std.proofs.Common.{sym, subst}
+use Rattle.std.specs.Prelude.{None}
+use Rattle.sis_outside.specs.Calls.{Follows}
+use Rattle.sis_words.specs.Asked.{options_in}
+use Rattle.sis_top.specs.Call.{IsRun}
+use Rattle.sis_top.specs.declared.status.Status.{Status}
+use Rattle.sis_top.proofs.Calling.{run_called, run_stopped}
 use Rattle.sis_top.proofs.top.run_options.Goals as goal
 
-pub returns-in-File-clause-ends : goal.returns-in-File-clause-ends
-returns-in-File-clause-ends g c = λ st it ot et.
-    rw c.in-File.is (c.run_file.ensures.ends (g.I.Source.left c.args.input.now) (g.I.Source.faults c.args.input.now) st ot et)
+pub returns-in-Ok : goal.returns-in-Ok
+returns-in-Ok g c =
+    subst (λ (status : Status). IsRun (options_in c.args.options).keep (options_in c.args.options).script (Follows g.S.Store.calls c.args.store.now c.run.new.store)
+    (Follows g.I.Source.calls c.args.input.now c.run.new.input) (Follows g.O.Sink.calls c.args.out.now c.run.new.out) (Follows g.E.Sink.calls c.args.err.now c.run.new.err) status) (sym c.status_of.ensures)
+    (run_called c.steps_keep_refinement.ensures.kept c.networks_are_written.ensures.saved c.networks_are_written.ensures.put (c.steps_keep_refinement.ensures.begun None)
+    (options_in c.args.options).keep (options_in c.args.options).script (Follows g.S.Store.calls c.args.store.now c.run.new.store)
+    (Follows g.I.Source.calls c.args.input.now c.run.new.input) (Follows g.O.Sink.calls c.args.out.now c.run.new.out) (Follows g.E.Sink.calls c.args.err.now c.run.new.err)
+    c.in-Ok.refused c.in-Ok.ensures)
 
-pub returns-in-File-clause-cause : goal.returns-in-File-clause-cause
-returns-in-File-clause-cause g c = rw c.in-File.is (c.run_file.ensures.cause (g.I.Source.faults c.args.input.now))
-
-pub returns-in-Text-clause-ends : goal.returns-in-Text-clause-ends
-returns-in-Text-clause-ends g c = λ st it ot et.
-    rw c.in-Text.is (c.run_text.ensures.ends (g.I.Source.left c.args.input.now) (g.I.Source.faults c.args.input.now) st ot et)
-
-pub returns-in-Text-clause-cause : goal.returns-in-Text-clause-cause
-returns-in-Text-clause-cause g c = rw c.in-Text.is (c.run_text.ensures.cause (g.I.Source.faults c.args.input.now))
-
-pub returns-in-Input-clause-ends : goal.returns-in-Input-clause-ends
-returns-in-Input-clause-ends g c = λ st it ot et. rw c.in-Input.is (c.run_input.ensures.ends st it ot et)
+pub returns-in-Err : goal.returns-in-Err
+returns-in-Err g c =
+    run_stopped c.steps_keep_refinement.ensures.kept c.networks_are_written.ensures.saved c.networks_are_written.ensures.put (c.steps_keep_refinement.ensures.begun None)
+    (options_in c.args.options).keep (options_in c.args.options).script (Follows g.S.Store.calls c.args.store.now c.run.new.store)
+    (Follows g.I.Source.calls c.args.input.now c.run.new.input) (Follows g.O.Sink.calls c.args.out.now c.run.new.out) g.E.Sink.calls c.args.err.now c.run.new.err c.tell_stop.new.err
+    c.in-Err.stop c.tell_stop.result c.in-Err.ensures c.tell_stop.ensures

@@ -1,14 +1,23 @@
 use Rattle.std.proofs.Common.{refl}
-use Rattle.sis_words.specs.Asked.{options_in}
-use Rattle.sis_top.proofs.Endings.{ends_asked, ends_unasked}
+use Rattle.sis_outside.specs.Calls.{Follows}
+use Rattle.sis_words.specs.Asked.{options_in, options_of}
+use Rattle.sis_top.proofs.Calling.{called_run, called_unused, called_wanting}
 use Rattle.sis_top.proofs.top.run_words.Goals as goal
 
-pub returns-in-Ok-clause-ends : goal.returns-in-Ok-clause-ends
-returns-in-Ok-clause-ends g c = λ st it ot et.
-    ends_asked (record { store = g.S.Store.faults c.args.store.now; store_after = g.S.Store.faults c.run_options.new.store; misses = g.S.Store.misses c.args.store.now; misses_after = g.S.Store.misses c.run_options.new.store; input = g.I.Source.faults c.args.input.now; input_after = g.I.Source.faults c.run_options.new.input; out = g.O.Sink.faults c.args.out.now; out_after = g.O.Sink.faults c.run_options.new.out; err = g.E.Sink.faults c.args.err.now; err_after = g.E.Sink.faults c.run_options.new.err }) _ (options_in c.in-Ok.options) (record { files = g.S.Store.files c.args.store.now; left = g.I.Source.left c.args.input.now; out = g.O.Sink.written c.args.out.now; err = g.E.Sink.written c.args.err.now }) (record { files = g.S.Store.files c.run_options.new.store; left = g.I.Source.left c.run_options.new.input; out = g.O.Sink.written c.run_options.new.out; err = g.E.Sink.written c.run_options.new.err }) c.run_options.result
-    c.in-Ok.ensures.answers (c.run_options.ensures.ends st it ot et)
+pub returns-in-Ok : goal.returns-in-Ok
+returns-in-Ok g c =
+    called_run (options_of c.args.words.now) (options_in c.in-Ok.options) (Follows g.S.Store.calls c.args.store.now c.run_options.new.store) (Follows g.I.Source.calls c.args.input.now c.run_options.new.input)
+    (Follows g.O.Sink.calls c.args.out.now c.run_options.new.out) (Follows g.E.Sink.calls c.args.err.now c.run_options.new.err)
+    c.run_options.result c.in-Ok.ensures.answers c.run_options.ensures
 
-pub returns-in-Err-Memory-clause-ends : goal.returns-in-Err-Memory-clause-ends
-returns-in-Err-Memory-clause-ends g c = λ st it ot et.
-    ends_unasked (record { store = g.S.Store.faults c.args.store.now; store_after = g.S.Store.faults c.args.store.now; misses = g.S.Store.misses c.args.store.now; misses_after = g.S.Store.misses c.args.store.now; input = g.I.Source.faults c.args.input.now; input_after = g.I.Source.faults c.args.input.now; out = g.O.Sink.faults c.args.out.now; out_after = g.O.Sink.faults c.args.out.now; err = g.E.Sink.faults c.args.err.now; err_after = g.E.Sink.faults c.tell_unbegun.new.err }) _ (record { files = g.S.Store.files c.args.store.now; left = g.I.Source.left c.args.input.now; out = g.O.Sink.written c.args.out.now; err = g.E.Sink.written c.args.err.now }) (record { files = g.S.Store.files c.args.store.now; left = g.I.Source.left c.args.input.now; out = g.O.Sink.written c.args.out.now; err = g.E.Sink.written c.tell_unbegun.new.err }) c.tell_unbegun.result
-    (c.tell_unbegun.ensures.told (record { store = g.S.Store.faults c.args.store.now; store_after = g.S.Store.faults c.args.store.now; misses = g.S.Store.misses c.args.store.now; misses_after = g.S.Store.misses c.args.store.now; input = g.I.Source.faults c.args.input.now; input_after = g.I.Source.faults c.args.input.now; out = g.O.Sink.faults c.args.out.now; out_after = g.O.Sink.faults c.args.out.now; err = g.E.Sink.faults c.args.err.now; err_after = g.E.Sink.faults c.tell_unbegun.new.err }) (record { files = g.S.Store.files c.args.store.now; left = g.I.Source.left c.args.input.now; out = g.O.Sink.written c.args.out.now; err = g.E.Sink.written c.args.err.now }) et refl refl refl tt)
+pub returns-in-Err-Usage : goal.returns-in-Err-Usage
+returns-in-Err-Usage g c =
+    called_unused (options_of c.args.words.now) (Follows g.S.Store.calls c.args.store.now c.args.store.now) (Follows g.I.Source.calls c.args.input.now c.args.input.now)
+    (Follows g.O.Sink.calls c.args.out.now c.args.out.now) (Follows g.E.Sink.calls c.args.err.now c.tell_usage.new.err)
+    c.tell_usage.result (rw c.in-Err-Usage.field-0-is at c.in-Err-Usage.ensures.answers) refl refl refl c.tell_usage.ensures
+
+pub returns-in-Err-Memory : goal.returns-in-Err-Memory
+returns-in-Err-Memory g c =
+    called_wanting (options_of c.args.words.now) (Follows g.S.Store.calls c.args.store.now c.args.store.now) (Follows g.I.Source.calls c.args.input.now c.args.input.now)
+    (Follows g.O.Sink.calls c.args.out.now c.args.out.now) (Follows g.E.Sink.calls c.args.err.now c.tell_stop.new.err)
+    c.tell_stop.result refl refl refl c.tell_stop.ensures

@@ -1,0 +1,121 @@
+-- The commands one by one: the plan of each. A new command is a new case.
+-- Source: the SIS manual (UCB/ERL M92/41), the commands; the order of refusals is the project's own: a command's words, then
+-- how deep scripts are nested, then the parts that it needs, then names, then the file that it loads, then what is read of it.
+use Rattle.std.specs.Prelude.{◌≡◌, ℕ, Option, Some, None, Result, Ok, Err, List, nat_lt, flat_map, map, option_map, if◌then◌else◌}
+use Rattle.sis_base.specs.Written.{lines_text}
+use Rattle.sis_text.specs.Entries.{entries_of, script_entries_of}
+use Rattle.circuit_model.specs.Text.{text_of, table_lines, latch_line}
+use Rattle.circuit_model.specs.Values.{driver}
+use Rattle.circuit_model.specs.declared.circuit.Circuit.{Circuit}
+use Rattle.circuit_model.specs.declared.circuit.Table.{Table}
+use Rattle.blif_read.specs.Reader.{read_lines}
+use Rattle.blif_read.specs.declared.fault.BlifFault.{BlifFault}
+use Rattle.circuit_laws.specs.Chains.{Chain}
+use Rattle.sweep_rules.specs.Rules.{sweep_step}
+use Rattle.sis_script.specs.Script.{command_of}
+use Rattle.sis_script.specs.declared.command.Command.{Command}
+use Rattle.sis_script.specs.declared.command.Change.{Change}
+use Rattle.sis_script.specs.declared.command.Change.TheVariants.{Sweep}
+use Rattle.sis_script.specs.declared.command.Op.{Op}
+use Rattle.sis_script.specs.declared.command.Op.TheVariants.{Echo, Quit, ReadBlif, WriteBlif, PrintStats, Print, PrintLatch, Change as ChangeOp, Undo, Source, Bad}
+use Rattle.sis_session.specs.Plan.{MAX_DEPTH, Outcome, Does, Refuses, Plan, Quiet, Loads, Saves, replies}
+use Rattle.sis_session.specs.Replies.{stats_line, echo_line}
+use Rattle.sis_session.specs.State.{Held, Spec, CircuitRead, with_read, with_changed, with_exchanged}
+use Rattle.sis_session.specs.declared.refusal.Next.TheVariants as next
+use Rattle.sis_session.specs.declared.refusal.Refusal.{Refusal}
+use Rattle.sis_session.specs.declared.refusal.Refusal.TheVariants as refusal
+
+-- the commands of a script's text
+abbrev pub commands_in : List ℕ → List Command
+commands_in text = map command_of (script_entries_of text)
+
+-- a command that is done and leaves what is held
+abbrev pub stays : Held → Outcome
+stays held = Does held next.Go
+
+-- what comes of reading a file: its circuit becomes the network, or its fault is the refusal
+abbrev pub read_by : Held → List ℕ → Result Circuit BlifFault → Outcome
+read_by held name (Ok circuit) = Does (with_read held circuit) next.Go
+read_by held name (Err fault) = Refuses (refusal.Blif name fault)
+
+-- `read_blif`: the file is loaded and read
+abbrev pub read_plan : Held → List ℕ → Plan
+read_plan held name = Loads name (λ bytes. read_by held name (read_lines (entries_of bytes)))
+
+-- what is told of the network, or the refusal where there is none
+abbrev pub told_of : (Circuit → Result (List ℕ) Refusal) → Option Circuit → Result (List ℕ) Refusal
+told_of told None = Err refusal.NoNetwork
+told_of told (Some circuit) = told circuit
+
+-- what is told goes to the file that is named, or is put; or the refusal comes
+abbrev pub sends : Held → Option (List ℕ) → Result (List ℕ) Refusal → Plan
+sends held None (Ok text) = replies text (stays held)
+sends held (Some name) (Ok text) = Saves name text (stays held)
+sends held file (Err why) = Quiet (Refuses why)
+
+-- `write_blif`: the network's text
+abbrev pub text_told : Circuit → Result (List ℕ) Refusal
+text_told circuit = Ok (text_of circuit)
+
+-- `print` of a name: its table as it is written, or a refusal where there is none
+abbrev pub named_told : List ℕ → Option Table → Result (List ℕ) Refusal
+named_told name None = Err (refusal.NoSignal name)
+named_told name (Some table) = Ok (lines_text (table_lines table))
+
+-- `print`: all tables as they are written, or the one that is named
+abbrev pub tables_told : Option (List ℕ) → Circuit → Result (List ℕ) Refusal
+tables_told None circuit = Ok (lines_text (flat_map table_lines circuit.tables))
+tables_told (Some name) circuit = named_told name (driver circuit.tables name)
+
+-- `print_latch`: the latches as they are written
+abbrev pub latches_told : Circuit → Result (List ℕ) Refusal
+latches_told circuit = Ok (lines_text (map (latch_line circuit.timing) circuit.latches))
+
+-- `print_stats`: one line of numbers
+abbrev pub stats_told : Circuit → Result (List ℕ) Refusal
+stats_told circuit = Ok (stats_line circuit)
+
+-- What a command that changes the network makes of it: a new network, or a refusal. `sweep`: steps are taken until none applies.
+abbrev pub Changes : Change → Circuit → Result Circuit Refusal → Type 0
+Changes Sweep old (Ok new) = Chain sweep_step old new
+Changes Sweep old (Err why) = ⊥
+
+-- what comes of a change: the new network is held, and the old one is the previous one; or the refusal
+abbrev pub changed_by : Held → Result Circuit Refusal → Outcome
+changed_by held (Ok new) = Does (with_changed held new) next.Go
+changed_by held (Err why) = Refuses why
+
+-- the plans of a command that changes the network
+abbrev pub ChangePlans : Held → Change → Option Circuit → Plan → Type 0
+ChangePlans held change None plan = plan ≡ Quiet (Refuses refusal.NoNetwork)
+ChangePlans held change (Some old) plan =
+    (answer : Result Circuit Refusal) × Changes change old answer × (plan ≡ Quiet (changed_by held answer))
+
+-- `undo`: the network and the previous one change places
+abbrev pub undo_plan : Held → Option Circuit → Plan
+undo_plan held None = Quiet (Refuses refusal.NothingToUndo)
+undo_plan held (Some circuit) = Quiet (Does (with_exchanged held) next.Go)
+
+-- `source`: the file's commands come next, unless scripts are nested too deep
+abbrev pub source_plan : ℕ → Held → List ℕ → Plan
+source_plan depth held name =
+    if nat_lt depth MAX_DEPTH then Loads name (λ bytes. Does held (next.Script (commands_in bytes))) else Quiet (Refuses refusal.Nested)
+
+-- the plans of a command, with so many sourced scripts round it, where this is held
+abbrev pub Plans : ℕ → Held → Op → Plan → Type 0
+Plans depth held (Echo words) plan = plan ≡ sends held None (Ok (echo_line words))
+Plans depth held Quit plan = plan ≡ Quiet (Does held next.Quit)
+Plans depth held (ReadBlif name) plan = plan ≡ read_plan held name
+Plans depth held (WriteBlif file) plan = plan ≡ sends held file (told_of text_told held.network)
+Plans depth held PrintStats plan = plan ≡ sends held None (told_of stats_told held.network)
+Plans depth held (Print name) plan = plan ≡ sends held None (told_of (tables_told name) held.network)
+Plans depth held PrintLatch plan = plan ≡ sends held None (told_of latches_told held.network)
+Plans depth held (ChangeOp change) plan = ChangePlans held change held.network plan
+Plans depth held Undo plan = plan ≡ undo_plan held held.previous
+Plans depth held (Source name) plan = plan ≡ source_plan depth held name
+Plans depth held (Bad fault) plan = plan ≡ Quiet (Refuses (refusal.Script fault))
+
+-- what was read last, behind a command that is done and after which this is held
+abbrev pub last_read : Op → Held → Option Spec → Option Spec
+last_read (ReadBlif name) held spec = option_map CircuitRead held.network
+last_read op held spec = spec

@@ -1,0 +1,75 @@
+-- What the calls below a step promise: each by cases on its answer.
+-- Source: the project's own rule: an answer names what failed, and only a command that is done changes what is held.
+use Rattle.std.specs.Prelude.{◌≡◌, ℕ, Bool, true, false, List, [], ◌∷◌, Option, Some, None, Result, Ok, Err}
+use Rattle.std.specs.Global.{Vec}
+use Rattle.sis_text.specs.Entries.{entries_of}
+use Rattle.sis_outside.specs.Calls.{StoreCall, Load, Save, PutCall, load_failed}
+use Rattle.sis_outside.specs.declared.store.LoadFault.{LoadFault}
+use Rattle.sis_outside.specs.declared.store.LoadFault.TheVariants as load
+use Rattle.sis_outside.specs.declared.store.SaveFault.TheVariants as save
+use Rattle.sis_outside.specs.declared.sink.PutFault.TheVariants as put
+use Rattle.circuit_model.specs.declared.circuit.Circuit.{Circuit}
+use Rattle.blif_read.specs.Reader.{read_lines}
+use Rattle.blif_read.specs.declared.fault.ReadFault.{ReadFault}
+use Rattle.blif_read.specs.declared.fault.ReadFault.TheVariants as reading
+use Rattle.sis_script.specs.declared.command.Change.{Change}
+use Rattle.sis_session.specs.Commands.{Changes}
+use Rattle.sis_session.specs.Plan.{MAX_BYTES}
+use Rattle.sis_session.specs.State.{Held, with_read, with_exchanged}
+use Rattle.sis_session.specs.declared.refusal.Next.{Next}
+use Rattle.sis_session.specs.declared.refusal.Next.TheVariants.{Go}
+use Rattle.sis_session.specs.declared.refusal.Refusal.{Refusal}
+use Rattle.sis_session.specs.declared.refusal.Refusal.TheVariants as refusal
+use Rattle.sis_session.specs.declared.refusal.StepFault.{StepFault}
+use Rattle.sis_session.specs.declared.refusal.StepFault.TheVariants as fault
+
+-- a file was loaded by one call: its bytes, or why there are none; memory may be wanting behind any answer but a failure
+abbrev pub HasLoaded : {S : Type 0} → (S → StoreCall → S → Type 0) → List ℕ → S → Result (Vec ℕ) StepFault → S → Type 0
+HasLoaded goes name old (Ok bytes) new = goes old (Load name MAX_BYTES (Ok bytes.items)) new
+HasLoaded goes name old (Err (fault.Refused (refusal.Missing file))) new = (file ≡ name) × goes old (Load name MAX_BYTES (Err load.Missing)) new
+HasLoaded goes name old (Err (fault.Refused (refusal.TooLong file))) new =
+    (file ≡ name) × ((reached : ℕ) × goes old (Load name MAX_BYTES (Err (load.TooLong reached))) new)
+HasLoaded goes name old (Err fault.StoreFault) new = goes old (Load name MAX_BYTES (Err load.Failed)) new
+HasLoaded goes name old (Err fault.Memory) new =
+    (answer : Result (List ℕ) LoadFault) × (load_failed answer ≡ false) × goes old (Load name MAX_BYTES answer) new
+HasLoaded goes name old (Err other) new = ⊥
+
+-- a file was saved by one call
+abbrev pub HasSaved : {S : Type 0} → (S → StoreCall → S → Type 0) → List ℕ → List ℕ → S → Result Next StepFault → S → Type 0
+HasSaved goes name bytes old (Ok next) new = (next ≡ Go) × goes old (Save name bytes (Ok tt)) new
+HasSaved goes name bytes old (Err fault.StoreFault) new = goes old (Save name bytes (Err save.Failed)) new
+HasSaved goes name bytes old (Err fault.Memory) new = goes old (Save name bytes (Err save.Memory)) new
+HasSaved goes name bytes old (Err other) new = ⊥
+
+-- a reply was put by one call; none was needed where it is empty
+abbrev pub HasPut : {S : Type 0} → (S → PutCall → S → Type 0) → List ℕ → S → Result Next StepFault → S → Type 0
+HasPut goes [] old answer new = (answer ≡ Ok Go) × (new ≡ old)
+HasPut goes (byte ∷ bytes) old (Ok next) new = (next ≡ Go) × goes old (record { piece = byte ∷ bytes; answer = Ok tt }) new
+HasPut goes (byte ∷ bytes) old (Err fault.SinkFault) new = goes old (record { piece = byte ∷ bytes; answer = Err put.Failed }) new
+HasPut goes (byte ∷ bytes) old (Err fault.Memory) new = goes old (record { piece = byte ∷ bytes; answer = Err put.Memory }) new
+HasPut goes (byte ∷ bytes) old (Err other) new = ⊥
+
+-- a text is what is told, or the refusal is; or memory was wanting
+abbrev pub IsTold : Result (List ℕ) Refusal → Result (Vec ℕ) StepFault → Type 0
+IsTold told (Ok text) = told ≡ Ok text.items
+IsTold told (Err (fault.Refused why)) = told ≡ Err why
+IsTold told (Err fault.Memory) = Unit {0}
+IsTold told (Err other) = ⊥
+
+-- what reading a circuit from bytes leaves
+abbrev pub HasRead : List ℕ → Held → Result (Unit {0}) ReadFault → Held → Type 0
+HasRead bytes old (Ok done) new = (circuit : Circuit) × (read_lines (entries_of bytes) ≡ Ok circuit) × (new ≡ with_read old circuit)
+HasRead bytes old (Err (reading.Fault why)) new = (read_lines (entries_of bytes) ≡ Err why) × (new ≡ old)
+HasRead bytes old (Err reading.Memory) new = new ≡ old
+
+-- what a change makes of a network: the new one, or the refusal; or memory was wanting
+abbrev pub IsChanged : Change → Circuit → Result Circuit StepFault → Type 0
+IsChanged change old (Ok new) = Changes change old (Ok new)
+IsChanged change old (Err (fault.Refused why)) = Changes change old (Err why)
+IsChanged change old (Err fault.Memory) = Unit {0}
+IsChanged change old (Err other) = ⊥
+
+-- what an undo leaves: whether there was a previous network, and then the exchange
+abbrev pub Undoes : Option Circuit → Held → Bool → Held → Type 0
+Undoes None old undone new = (undone ≡ false) × (new ≡ old)
+Undoes (Some circuit) old undone new = (undone ≡ true) × (new ≡ with_exchanged old)

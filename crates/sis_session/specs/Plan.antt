@@ -1,0 +1,159 @@
+-- A command's plan: at most one call on the outside, and what comes of its answer. How a command goes by its plan, and what
+-- the answer of a step says of it.
+-- Source: the project's own rule for the outside: a command makes at most one call and puts its reply whole; a refusal, a
+-- fault and want of memory leave what is held as it was.
+use Rattle.std.specs.Prelude.{◌≡◌, ◌⊎◌, ◌≤◌, ◌<◌, ◌+◌, ℕ, List, [], ◌∷◌, ◌++◌, length, Result, Ok, Err}
+use Rattle.sis_outside.specs.Calls.{StoreCall, Load, Save, TakeCall, PutCall}
+use Rattle.sis_outside.specs.declared.store.LoadFault.{LoadFault}
+use Rattle.sis_outside.specs.declared.store.LoadFault.TheVariants as load
+use Rattle.sis_outside.specs.declared.store.SaveFault.{SaveFault}
+use Rattle.sis_outside.specs.declared.store.SaveFault.TheVariants as save
+use Rattle.sis_outside.specs.declared.source.TakeFault.{TakeFault}
+use Rattle.sis_outside.specs.declared.source.TakeFault.TheVariants as take
+use Rattle.sis_outside.specs.declared.sink.PutFault.{PutFault}
+use Rattle.sis_outside.specs.declared.sink.PutFault.TheVariants as put
+use Rattle.sis_session.specs.State.{Held}
+use Rattle.sis_session.specs.declared.refusal.Failed.{Failed}
+use Rattle.sis_session.specs.declared.refusal.Failed.TheVariants as failed
+use Rattle.sis_session.specs.declared.refusal.Next.{Next}
+use Rattle.sis_session.specs.declared.refusal.Next.TheVariants.{Script}
+use Rattle.sis_session.specs.declared.refusal.Refusal.{Refusal}
+use Rattle.sis_session.specs.declared.refusal.Refusal.TheVariants as refusal
+use Rattle.sis_session.specs.declared.refusal.StepFault.{StepFault}
+use Rattle.sis_session.specs.declared.refusal.StepFault.TheVariants as fault
+
+-- the longest file and the longest script that is read, in bytes
+abbrev pub MAX_BYTES : ℕ
+MAX_BYTES = 67108864
+
+-- the most scripts that may stand round one another
+abbrev pub MAX_DEPTH : ℕ
+MAX_DEPTH = 16
+
+-- what a command does: what is held then, and how the script goes on; or why it is refused
+pub data Outcome : Type 0 where
+  Does : (held : Held) (next : Next) → Outcome
+  Refuses : (why : Refusal) → Outcome
+
+-- the plan of a command: it asks nothing of the outside; it loads a file, and what it does depends on the bytes; it saves a
+-- file; it puts a reply; it takes the whole input, and what it does depends on the bytes
+pub data Plan : Type 0 where
+  Quiet : Outcome → Plan
+  Loads : (name : List ℕ) (used : List ℕ → Outcome) → Plan
+  Saves : (name bytes : List ℕ) → Outcome → Plan
+  Puts : (reply : List ℕ) → Outcome → Plan
+  Takes : (used : List ℕ → Outcome) → Plan
+
+-- an empty reply is not put
+abbrev pub replies : List ℕ → Outcome → Plan
+replies [] outcome = Quiet outcome
+replies (byte ∷ bytes) outcome = Puts (byte ∷ bytes) outcome
+
+-- what was asked of the outside, with the answers
+pub data Asked : Type 0 where
+  Nothing : Asked
+  OnStore : StoreCall → Asked
+  OnOut : PutCall → Asked
+  OnInput : List TakeCall → Asked
+
+-- the calls on the store, on the output, on the input
+abbrev pub on_store : Asked → List StoreCall
+on_store (OnStore call) = call ∷ []
+on_store other = []
+
+abbrev pub on_out : Asked → List PutCall
+on_out (OnOut call) = call ∷ []
+on_out other = []
+
+abbrev pub on_input : Asked → List TakeCall
+on_input (OnInput calls) = calls
+on_input other = []
+
+-- how a command ended: it was done, and this is held then; it was refused; or it was cut short
+pub data Ending : Type 0 where
+  Done : (held : Held) (next : Next) → Ending
+  Refused : (why : Refusal) → Ending
+  Cut : (what : Failed) → Ending
+
+-- an outcome comes, or memory was wanting
+abbrev pub Comes : Outcome → Ending → Type 0
+Comes (Does held next) ending = (ending ≡ Done held next) ⊎ (ending ≡ Cut failed.Memory)
+Comes (Refuses why) ending = (ending ≡ Refused why) ⊎ (ending ≡ Cut failed.Memory)
+
+-- what comes of the answer of a load, of a save, of a put
+abbrev pub ComesLoaded : List ℕ → (List ℕ → Outcome) → Result (List ℕ) LoadFault → Ending → Type 0
+ComesLoaded name used (Ok bytes) ending = Comes (used bytes) ending
+ComesLoaded name used (Err load.Missing) ending = Comes (Refuses (refusal.Missing name)) ending
+ComesLoaded name used (Err (load.TooLong reached)) ending = Comes (Refuses (refusal.TooLong name)) ending
+ComesLoaded name used (Err load.Failed) ending = ending ≡ Cut failed.Store
+ComesLoaded name used (Err load.Memory) ending = ending ≡ Cut failed.Memory
+
+abbrev pub ComesSaved : Outcome → Result (Unit {0}) SaveFault → Ending → Type 0
+ComesSaved outcome (Ok done) ending = Comes outcome ending
+ComesSaved outcome (Err save.Failed) ending = ending ≡ Cut failed.Store
+ComesSaved outcome (Err save.Memory) ending = ending ≡ Cut failed.Memory
+
+abbrev pub ComesPut : Outcome → Result (Unit {0}) PutFault → Ending → Type 0
+ComesPut outcome (Ok done) ending = Comes outcome ending
+ComesPut outcome (Err put.Failed) ending = ending ≡ Cut failed.Out
+ComesPut outcome (Err put.Memory) ending = ending ≡ Cut failed.Memory
+
+-- what comes of the answer of one take of the whole input, behind the bytes that were taken so far: no bytes are the end; where
+-- some came, it goes on behind them
+abbrev pub ComesPiece : (List ℕ → Outcome) → List ℕ → Result (List ℕ) TakeFault → List TakeCall → (List ℕ → Type 0) → Ending → Type 0
+ComesPiece used text (Ok []) calls more ending = (calls ≡ []) × Comes (used text) ending
+ComesPiece used text (Ok (byte ∷ piece)) calls more ending = more (text ++ byte ∷ piece)
+ComesPiece used text (Err take.Failed) calls more ending = (calls ≡ []) × (ending ≡ Cut failed.Input)
+ComesPiece used text (Err take.Memory) calls more ending = (calls ≡ []) × (ending ≡ Cut failed.Memory)
+
+-- what comes of the takes of the whole input, behind the bytes that were taken so far: each asks for all that may still be
+-- used and one byte more; an empty piece is the end, a byte too many a script that is too long
+abbrev pub ComesTaken : (List ℕ → Outcome) → List ℕ → List TakeCall → Ending → Type 0
+ComesTaken used text [] ending =
+    ((MAX_BYTES < length text) × Comes (Refuses refusal.LongScript) ending) ⊎ ((length text ≤ MAX_BYTES) × (ending ≡ Cut failed.Memory))
+ComesTaken used text (call ∷ calls) ending =
+    (call.max + length text ≡ MAX_BYTES + 1) × ComesPiece used text call.answer calls (λ longer. ComesTaken used longer calls ending) ending
+
+-- a command goes by its plan: what it asked, and how it ended; it asks for just what the plan says
+abbrev pub Goes : Plan → Asked → Ending → Type 0
+Goes (Quiet outcome) Nothing ending = Comes outcome ending
+Goes (Loads name used) (OnStore (Load loaded max answer)) ending = (loaded ≡ name) × (max ≡ MAX_BYTES) × ComesLoaded name used answer ending
+Goes (Saves name bytes outcome) (OnStore (Save saved sent answer)) ending = (saved ≡ name) × (sent ≡ bytes) × ComesSaved outcome answer ending
+Goes (Puts reply outcome) (OnOut call) ending = (call.piece ≡ reply) × ComesPut outcome call.answer ending
+Goes (Takes used) (OnInput calls) ending = ComesTaken used [] calls ending
+Goes plan asked ending = ⊥
+
+-- a step of a command with these plans: it went by one of them, or memory was wanting before it asked anything
+pub data Steps (plans : Plan → Type 0) (asked : Asked) (ending : Ending) : Type 0 where
+  by_plan : (plan : Plan) → plans plan → Goes plan asked ending → Steps plans asked ending
+  no_memory : asked ≡ Nothing → ending ≡ Cut failed.Memory → Steps plans asked ending
+
+-- what a call of a command did: a step, and each object of the outside went by just the calls that the step made on it; the
+-- input is asked for nothing
+pub record Did (plans : Plan → Type 0) (store : List StoreCall → Type 0) (out : List PutCall → Type 0) (ending : Ending) : Type 0 where
+  pub asked : Asked
+  pub steps : Steps plans asked ending
+  pub store_went : store (on_store asked)
+  pub out_went : out (on_out asked)
+  pub input_kept : on_input asked ≡ []
+
+-- nothing was asked of an object
+abbrev pub AskedNone : {C : Type 0} → List C → Type 0
+AskedNone calls = calls ≡ []
+
+-- how a step ended that was not done
+abbrev pub faulted : StepFault → Ending
+faulted (fault.Refused why) = Refused why
+faulted fault.StoreFault = Cut failed.Store
+faulted fault.SinkFault = Cut failed.Out
+faulted fault.Memory = Cut failed.Memory
+
+-- how a step ended, by its answer and what is held behind it
+abbrev pub ended : Result Next StepFault → Held → Ending
+ended (Ok next) held = Done held next
+ended (Err why) held = faulted why
+
+-- a script comes only where no more than the most scripts stand round one another, and it is no longer than what is read
+abbrev pub NestsBelow : ℕ → Next → Type 0
+NestsBelow depth (Script commands) = (depth < MAX_DEPTH) × (length commands ≤ MAX_BYTES)
+NestsBelow depth next = Unit {0}

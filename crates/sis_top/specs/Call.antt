@@ -1,0 +1,134 @@
+-- What a call of the program promises.
+-- Source: the SIS manual (UCB/ERL M92/41) for the commands; that what is written refines what was read, and the last line
+-- and the status of a call, are the project's own promise.
+use Rattle.std.specs.Prelude.{◌≡◌, ◌⊎◌, ℕ, Bool, true, false, Option, Some, None, List, [], ◌∷◌, ◌++◌, flat_map, codes, Result, Ok, Err}
+use Rattle.std.specs.List.{AllByRecursion}
+use Rattle.sis_outside.specs.Calls.{StoreCall, Save, TakeCall, PutCall}
+use Rattle.sis_outside.specs.declared.store.SaveFault.{SaveFault}
+use Rattle.sis_outside.specs.declared.sink.PutFault.{PutFault}
+use Rattle.sis_outside.specs.declared.sink.PutFault.TheVariants as put
+use Rattle.sis_words.specs.Asked.{TheOptions, TheScript}
+use Rattle.sis_script.specs.declared.command.Op.TheVariants.{WriteBlif}
+use Rattle.sis_session.specs.Keeping.{HasText, Holds, IsRefining}
+use Rattle.sis_session.specs.Plan.{OnStore, OnOut, on_store, on_out, on_input}
+use Rattle.sis_session.specs.Replies.{error_line}
+use Rattle.sis_session.specs.State.{Spec, Written}
+use Rattle.sis_session.specs.declared.refusal.Failed.{Failed}
+use Rattle.sis_session.specs.declared.refusal.Failed.TheVariants as failed
+use Rattle.sis_top.specs.Machine.{Run, Machine, Turn, Runs, begun}
+use Rattle.sis_top.specs.declared.status.Status.{Status}
+use Rattle.sis_top.specs.declared.status.Stop.{Stop}
+use Rattle.sis_top.specs.declared.status.Status.TheVariants.{Done, Refused, Usage, Fault, Memory}
+
+-- the exit status of the program
+abbrev pub code_of : Status → ℕ
+code_of Done = 0
+code_of Refused = 1
+code_of Usage = 2
+code_of Fault = 3
+code_of Memory = 4
+
+-- what cut a run short, in words
+abbrev pub failure_text : Failed → List ℕ
+failure_text failed.Store = codes "store failed"
+failure_text failed.Input = codes "input failed"
+failure_text failed.Out = codes "output failed"
+failure_text failed.Err = codes "output failed"
+failure_text failed.Memory = codes "no memory"
+
+-- the last line of a run that was cut short
+abbrev pub failure_line : Stop → List ℕ
+failure_line stop = error_line stop.line (failure_text stop.what)
+
+-- the line that tells how the program is used
+abbrev pub usage_line : List ℕ
+usage_line = codes "sis: usage: sis [-k] [-f FILE | -c TEXT]\n"
+
+-- the puts of a line, if it was put
+abbrev pub puts_of : Option PutCall → List PutCall
+puts_of None = []
+puts_of (Some call) = call ∷ []
+
+-- the calls of some turns on the store, on the input, on the output and on the error output, in order
+abbrev pub store_calls : List Turn → List StoreCall
+store_calls turns = flat_map (λ turn. on_store turn.asked) turns
+
+abbrev pub input_calls : List Turn → List TakeCall
+input_calls turns = flat_map (λ turn. on_input turn.asked) turns
+
+abbrev pub out_calls : List Turn → List PutCall
+out_calls turns = flat_map (λ turn. on_out turn.asked) turns
+
+abbrev pub err_calls : List Turn → List PutCall
+err_calls turns = flat_map (λ turn. puts_of turn.told) turns
+
+-- these bytes are faithful, at a turn: they are the text of what is held, and that refines what was read last
+abbrev pub AreFaithful : Turn → List ℕ → Type 0
+AreFaithful turn bytes =
+    (written : Written) × Holds turn.held written × HasText written bytes × (read : Spec) × (turn.spec ≡ Some read) × IsRefining read written
+
+-- what a turn saves is faithful, whatever the save answers, and so is what `write_blif` puts
+pub record IsFaithful (turn : Turn) : Type 0 where
+  pub saved : (name bytes : List ℕ) (answer : Result (Unit {0}) SaveFault) → turn.asked ≡ OnStore (Save name bytes answer) → AreFaithful turn bytes
+  pub put : (depth : ℕ) (file : Option (List ℕ)) (call : PutCall) → turn.due.work ≡ Run depth (WriteBlif file) → turn.asked ≡ OnOut call
+      → AreFaithful turn call.piece
+
+-- the status of a call, unless memory was wanting in the put of its last line
+abbrev pub unless_memory : Status → Result (Unit {0}) PutFault → Status
+unless_memory status (Ok done) = status
+unless_memory status (Err put.Failed) = status
+unless_memory status (Err put.Memory) = Memory
+
+-- a call ends with a line and a status: the line was put, whole or in part as the put answers, or memory was wanting for it
+abbrev pub EndsWith : List ℕ → Status → Option PutCall → Status → Type 0
+EndsWith line ends (Some call) status = (call.piece ≡ line) × (status ≡ unless_memory ends call.answer)
+EndsWith line ends None status = status ≡ Memory
+
+-- the status of a run that was not cut short, by whether a work was refused
+abbrev pub status_of : Bool → Status
+status_of true = Refused
+status_of false = Done
+
+-- the status of a run that was cut short
+abbrev pub status_cut : Failed → Status
+status_cut failed.Memory = Memory
+status_cut failed.Store = Fault
+status_cut failed.Input = Fault
+status_cut failed.Out = Fault
+status_cut failed.Err = Fault
+
+-- how a call ends whose run came to its end, by what cut the run short: it is told by a last line
+abbrev pub Ends : Option Stop → Bool → Option PutCall → Status → Type 0
+Ends None refused last status = (last ≡ None) × (status ≡ status_of refused)
+Ends (Some stop) refused last status = EndsWith (failure_line stop) (status_cut stop.what) last status
+
+-- A call that runs a script: some turns are a run from its begin to its end, after which nothing is due; each object of the
+-- outside went by just the calls of these turns, the error output by that of the last line behind them; and all that
+-- was written is faithful.
+pub record IsRun (goes_on : Bool) (script : TheScript) (store : List StoreCall → Type 0) (input : List TakeCall → Type 0) (out err : List PutCall → Type 0) (status : Status) : Type 0 where
+  pub turns : List Turn
+  pub end : Machine
+  pub runs : Runs goes_on (begun script) turns end
+  pub finished : end.todo ≡ []
+  pub last : Option PutCall
+  pub ends : Ends end.cut end.refused last status
+  pub store_went : store (store_calls turns)
+  pub input_went : input (input_calls turns)
+  pub out_went : out (out_calls turns)
+  pub err_went : err (err_calls turns ++ puts_of last)
+  pub faithful : AllByRecursion IsFaithful turns
+
+-- A call whose words are not taken: the line is put that tells how the program is used, or memory was wanting before that;
+-- nothing else is asked of the outside.
+pub record IsUnused (store : List StoreCall → Type 0) (input : List TakeCall → Type 0) (out err : List PutCall → Type 0) (status : Status) : Type 0 where
+  pub last : Option PutCall
+  pub ends : EndsWith usage_line Usage last status ⊎ EndsWith (failure_line (record { line = 0; what = failed.Memory })) Memory last status
+  pub store_went : store []
+  pub input_went : input []
+  pub out_went : out []
+  pub err_went : err (puts_of last)
+
+-- a call, by what its words ask for
+unfoldable pub IsCall : Option TheOptions → (List StoreCall → Type 0) → (List TakeCall → Type 0) → (List PutCall → Type 0) → (List PutCall → Type 0) → Status → Type 0
+IsCall None store input out err status = IsUnused store input out err status
+IsCall (Some options) store input out err status = IsRun options.keep options.script store input out err status

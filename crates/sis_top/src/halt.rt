@@ -1,0 +1,26 @@
+//! Why a work was not done.
+
+ghost use Rattle.std.specs.Prelude.{◌≡◌};
+ghost use Rattle.sis_session.specs.Plan.{faulted};
+ghost use Rattle.sis_top.specs.Code.{halted};
+
+use sis_session::{Failed, Refusal, StepFault};
+
+/// Why a work was not done: it was refused, or cut short.
+#[derive(Debug, Drop)]
+pub enum Halt {
+    Refused(Refusal),
+    Cut(Failed),
+}
+
+/// What a step's fault says of its work.
+pub fn halt_by(fault: StepFault) -> Halt
+    ensures { halted result ≡ faulted fault }
+{
+    match fault {
+        StepFault::Refused(why) => Halt::Refused(why),
+        StepFault::StoreFault => Halt::Cut(Failed::Store),
+        StepFault::SinkFault => Halt::Cut(Failed::Out),
+        StepFault::Memory => Halt::Cut(Failed::Memory),
+    }
+}
