@@ -1,0 +1,111 @@
+//! What is wrong with lists of names and with tables.
+
+ghost use Rattle.std.specs.Prelude.{◌≡◌, true, IfOk};
+ghost use Rattle.circuit_model.specs.Names.{all_different};
+ghost use Rattle.circuit_model.specs.Soundness.{outputs_of};
+
+use crate::parts::{names, tables};
+use circuit_checks::{first_again, first_listed_twice, first_missing, first_on_cycle};
+use circuit_model::{Name, Names, Table};
+use sis_base::{Copied, Sequence};
+use std::alloc::{AllocError, Global};
+use trial_cases::{Case, CaseFault, put_line};
+
+/// The answer to a case of circuit_checks.
+pub fn answer(alloc: Global, case: &Case<'_>) -> Result<Vec<u8>, CaseFault> {
+    match case.word(1) {
+        "first_again" => Ok(again_answer(alloc, case.word(2), case.word(3))?),
+        "first_missing" => Ok(missing_answer(alloc, case.word(2), case.word(3))?),
+        "first_listed_twice" => Ok(listed_answer(alloc, case.word(2), case.word(3), case.word(4))?),
+        "first_on_cycle" => cycle_answer(alloc, tables(alloc, case.lines.as_slice())?.as_slice()),
+        _ => Err(CaseFault::Bad),
+    }
+}
+
+/// A name that was found, or `none`.
+fn found(alloc: Global, name: Option<&Name>) -> Result<Vec<u8>, AllocError> {
+    let mut out = Vec::new(alloc);
+    put_line(
+        &mut out,
+        name.map_or(b"none".as_slice(), |name| name.as_slice()),
+    )?;
+    Ok(out)
+}
+
+/// The first name that is known or comes again.
+fn again_answer(alloc: Global, known: &str, asked: &str) -> Result<Vec<u8>, AllocError> {
+    let known = names(alloc, known)?;
+    let asked = names(alloc, asked)?;
+    found(
+        alloc,
+        first_again(alloc, known.as_slice(), asked.as_slice())?,
+    )
+}
+
+/// The first name that is not known.
+fn missing_answer(alloc: Global, known: &str, asked: &str) -> Result<Vec<u8>, AllocError> {
+    let known = names(alloc, known)?;
+    let asked = names(alloc, asked)?;
+    found(
+        alloc,
+        first_missing(alloc, known.as_slice(), asked.as_slice())?,
+    )
+}
+
+/// The first name in order that is listed twice among inputs or among outputs.
+fn listed_answer(
+    alloc: Global,
+    inputs: &str,
+    outputs: &str,
+    in_order: &str,
+) -> Result<Vec<u8>, AllocError> {
+    let inputs = names(alloc, inputs)?;
+    let outputs = names(alloc, outputs)?;
+    let in_order = names(alloc, in_order)?;
+    let name = first_listed_twice(
+        alloc,
+        inputs.as_slice(),
+        outputs.as_slice(),
+        in_order.as_slice(),
+    )?;
+    found(alloc, name)
+}
+
+/// The output of the first table on a cycle.
+fn cycle_answer(alloc: Global, tables: &[Table]) -> Result<Vec<u8>, CaseFault> {
+    if have_one_driver(alloc, tables)? {
+        return Ok(found(alloc, first_on_cycle(alloc, tables)?)?);
+    }
+    Err(CaseFault::Bad)
+}
+
+/// The outputs of tables.
+pub fn outputs(alloc: Global, tables: &[Table]) -> Result<Names, AllocError>
+    ensures { IfOk result (λ names. names ≡ outputs_of tables.now) }
+{
+    let mut made = Sequence::new(alloc);
+    for table in tables {
+        made.push(table.output.copy(alloc)?)?;
+    }
+    Ok(made)
+}
+
+/// Whether no name stands twice.
+#[tactic(auto, using(circuit_checks::proofs::Bridges::different_from_again))]
+pub fn are_different(alloc: Global, names: &[Name]) -> Result<bool, AllocError>
+    ensures { IfOk result (λ different. different ≡ true → all_different names.now ≡ true) }
+{
+    let again = first_again(alloc, &[], names)?;
+    match again {
+        Some(_) => Ok(false),
+        None => Ok(true),
+    }
+}
+
+/// Whether no two tables have one output.
+pub fn have_one_driver(alloc: Global, tables: &[Table]) -> Result<bool, AllocError>
+    ensures { IfOk result (λ different. different ≡ true → all_different (outputs_of tables.now) ≡ true) }
+{
+    let outputs = outputs(alloc, tables)?;
+    are_different(alloc, outputs.as_slice())
+}

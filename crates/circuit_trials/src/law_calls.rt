@@ -1,0 +1,124 @@
+//! Laws, each of which is a call that does nothing but end.
+
+use crate::parts::line;
+use circuit_laws::{edits, order, sameness, soundness, valuations};
+use std::alloc::Global;
+use trial_cases::{Case, CaseFault};
+
+/// That the laws of a crate are called.
+pub fn answer(alloc: Global, case: &Case<'_>) -> Result<Vec<u8>, CaseFault> {
+    match case.word(1) {
+        "circuit_model" => model_laws(),
+        "graph_cycles" => graph_laws(),
+        "circuit_checks" => check_laws(),
+        "tables" => table_laws(),
+        "circuit_laws" => circuit_laws_end(),
+        "blif" => blif_laws(),
+        _ => return Err(CaseFault::Bad),
+    }
+    Ok(line(alloc, "called")?)
+}
+
+/// The laws of circuit_model.
+fn model_laws() {
+    circuit_model::laws::refines_is_reflexive();
+    circuit_model::laws::refines_is_transitive();
+}
+
+/// The laws of graph_cycles.
+fn graph_laws() {
+    graph_cycles::laws::cyclic_is_walked();
+    graph_cycles::laws::acyclic_is_ranked();
+}
+
+/// The laws of circuit_checks.
+fn check_laws() {
+    circuit_checks::laws::none_again_is_all_different();
+    circuit_checks::laws::none_missing_is_all_known();
+    circuit_checks::laws::none_listed_twice_is_different();
+    circuit_checks::laws::on_cycle_is_led_to();
+    circuit_checks::laws::none_on_cycle_is_acyclic();
+}
+
+/// The laws of table_fold, table_tidy and table_order.
+fn table_laws() {
+    table_fold::laws::folded_keeps_its_value();
+    table_fold::laws::folded_names_inputs_once();
+    table_fold::laws::folded_is_shaped();
+    table_fold::laws::folded_tables_form_no_cycle();
+    table_tidy::laws::tidied_keeps_its_value();
+    table_tidy::laws::tidied_is_tidy();
+    table_tidy::laws::tidied_is_shaped();
+    table_order::laws::acyclic_tables_are_ordered();
+}
+
+/// The laws of blif_read and blif_trip.
+fn blif_laws() {
+    blif_read::reading_laws::what_is_read_is_sound();
+    blif_read::reading_laws::what_is_read_is_small();
+    blif_trip::written_text_is_read();
+    blif_trip::read_circuit_is_read_again();
+}
+
+/// The laws of circuit_laws.
+fn circuit_laws_end() {
+    values_end();
+    sameness_ends();
+    edits_end();
+    order_ends();
+    soundness_ends();
+}
+
+/// The laws of ranks and values.
+fn values_end() {
+    valuations::acyclic_tables_have_a_rank();
+    valuations::ranked_tables_are_acyclic();
+    valuations::values_are_due();
+    valuations::values_are_the_only_ones();
+}
+
+/// The laws of sameness.
+fn sameness_ends() {
+    sameness::same_is_reflexive();
+    sameness::same_is_symmetric();
+    sameness::same_is_transitive();
+    sameness::same_refines();
+    sameness::keeping_is_reflexive();
+    sameness::keeping_is_transitive();
+    sameness::keeping_each();
+    sameness::sound_circuits_are_settled();
+}
+
+/// What each edit keeps.
+fn edits_end() {
+    edits::replacing_keeps_each();
+    edits::mapping_keeps_each();
+    edits::reordering_keeps_each();
+    edits::adding_is_same();
+    edits::dropping_refines();
+    edits::dropping_tables_is_same();
+    edits::unread_is_unneeded();
+    edits::removing_refines();
+    edits::fixing_refines();
+    edits::leaving_keeps();
+}
+
+/// Why tables form no cycle after an edit.
+fn order_ends() {
+    order::replacing_is_acyclic();
+    order::narrowing_is_acyclic();
+    order::mapping_is_acyclic();
+    order::dropping_is_acyclic();
+    order::adding_is_acyclic();
+    order::leads_not_back();
+}
+
+/// Why a circuit stays sound.
+fn soundness_ends() {
+    soundness::replacing_is_sound();
+    soundness::adding_is_sound();
+    soundness::unused_names_are_free();
+    soundness::dropping_is_sound();
+    soundness::removing_is_sound();
+    soundness::fixing_is_sound();
+}
