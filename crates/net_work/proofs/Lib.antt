@@ -1,0 +1,4 @@
+pub mod Standing
+pub mod Linked
+pub mod Kept
+pub mod Noted

@@ -1,0 +1,50 @@
+-- A network at work: a circuit whose tables stand at places. A table keeps its place while others change, go or are added.
+-- Source: De Micheli, "Synthesis and Optimization of Digital Circuits", chapter 8 (a logic network as a set of nodes, changed one
+-- after the other); Brayton, Rudell, Sangiovanni-Vincentelli and Wang, "MIS: A Multiple-Level Logic Optimization System" (1987).
+use Rattle.std.specs.Prelude.{◌≡◌, ℕ, ◌<◌, ◌≤◌, Result, Ok, Err, Option, Some, None, List, [], ◌∷◌, ◌++◌, slice_get, slice_set}
+use Rattle.circuit_model.specs.declared.circuit.Table.{Table}
+use Rattle.circuit_model.specs.declared.circuit.Circuit.{Circuit}
+use Rattle.circuit_laws.specs.Edits.{with_tables}
+use Rattle.net_core.specs.Fresh.{IsNewName, node_count}
+use Rattle.net_core.specs.Tables.{named}
+use Rattle.net_core.specs.declared.table.Table.{Table as Covered}
+use Rattle.net_core.specs.declared.adding.AddFault.{AddFault}
+use Rattle.net_core.specs.declared.adding.AddFault.TheVariants.{NodeLimit, Memory}
+
+-- a circuit, of which all but the tables counts, and its tables at their places; a place whose table is gone stays empty
+pub record Placed : Type 0 where
+  pub frame : Circuit
+  pub slots : List (Option Table)
+
+-- the tables that stand, in the order of their places
+unfoldable pub standing : List (Option Table) → List Table
+standing [] = []
+standing (None ∷ slots) = standing slots
+standing (Some table ∷ slots) = table ∷ standing slots
+
+-- the circuit of the tables that stand
+abbrev pub circuit_of : Placed → Circuit
+circuit_of placed = with_tables placed.frame (standing placed.slots)
+
+-- what stands at a place, if there is one
+abbrev pub joined : Option (Option Table) → Option Table
+joined None = None
+joined (Some slot) = slot
+
+-- the table at a place
+abbrev pub table_at : List (Option Table) → ℕ → Option Table
+table_at slots place = joined (slice_get slots place)
+
+-- the network with something else at a place
+abbrev pub with_slot : Placed → ℕ → Option Table → Placed
+with_slot placed place slot = record placed { slots = slice_set placed.slots place slot }
+
+-- the network with a table behind the last place
+abbrev pub with_last : Placed → Table → Placed
+with_last placed table = record placed { slots = placed.slots ++ Some table ∷ [] }
+
+-- what adding a table may answer, and what it leaves; for want of memory any network may be left
+abbrev pub AddsLast : {R : Type 0} → Placed → Covered R → Placed → Result (List ℕ) AddFault → Type 0
+AddsLast old table new (Ok name) = (node_count (circuit_of old) < 65535) × IsNewName (circuit_of old) name × (new ≡ with_last old (named name table))
+AddsLast old table new (Err NodeLimit) = (65535 ≤ node_count (circuit_of old)) × (new ≡ old)
+AddsLast old table new (Err Memory) = Unit {0}

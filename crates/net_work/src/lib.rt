@@ -1,0 +1,17 @@
+//! Networks at work: what the commands that change tables run on.
+//!
+//! Source: De Micheli, "Synthesis and Optimization of Digital Circuits", chapter 8 (logic networks and their transformations), and
+//! Brayton, Rudell, Sangiovanni-Vincentelli and Wang, "MIS: A Multiple-Level Logic Optimization System" (1987), for fanouts and
+//! values of nodes. A `Work<R>` is seen by contracts as a frame, which does not change, and as its tables at places that they keep
+//! (`specs/Placed.antt`). Beside them it keeps an index by name, the readers and the uses of each signal, the roots, and a number
+//! below which no name in brackets is free. Promised: a network becomes one and comes back by moves, and what is told of tables,
+//! places, readers, roots and worth is exact. That the circuit is sound is no part of it: a step goes through circuits that are
+//! not, and only the way back to a network asks for it.
+#![tactic(auto)]
+
+mod frame;
+mod links;
+mod work;
+
+pub use links::Links;
+pub use work::Work;
