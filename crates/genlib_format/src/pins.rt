@@ -1,0 +1,63 @@
+//! The lines of a gate's pins.
+
+ghost use Rattle.std.specs.Prelude.{◌≡◌, ◌<◌, ◌≤◌, length, option_map, MatchOption, IfOk};
+ghost use Rattle.genlib_format.specs.Pins.{begins_pin, pin_at, pins_at};
+
+use crate::rest::Rest;
+use crate::words::Lined;
+use sis_base::{Copied, Name, Sequence};
+use std::alloc::{AllocError, Global};
+
+/// A pin as its line writes it: its name, and the words of its delays.
+#[derive(Debug, Drop)]
+pub struct PinLine {
+    pub name: Name,
+    pub rise: Name,
+    pub fall: Name,
+}
+
+/// Lines of pins, in order.
+pub type PinLines = Sequence<PinLine>;
+
+/// Whether the next word is `PIN`.
+#[tactic(auto, unfolding(crate::specs::Pins::begins_pin))]
+fn begins_pin(words: &[Lined]) -> bool
+    ensures { result ≡ begins_pin words.now }
+{
+    match words {
+        [] => false,
+        [lined, ..] => lined.word.as_slice() == b"PIN".as_slice(),
+    }
+}
+
+/// The pin of the line in front.
+#[tactic(auto, using(crate::proofs::PinSteps::pin_read, crate::proofs::PinSteps::pin_short, std::proofs::lemmas::Grind::common_steps))]
+fn pin_at(alloc: Global, words: &[Lined]) -> Result<Option<PinLine>, AllocError>
+    ensures value { IfOk result (λ pin. pin ≡ pin_at words.now) }
+    ensures within { IfOk result (λ pin. MatchOption pin (length words.now < 9) (λ _. 9 ≤ length words.now)) }
+{
+    if words.len() < 9 {
+        return Ok(None);
+    }
+    Ok(Some(PinLine {
+        name: words[1].word.copy(alloc)?,
+        rise: words[5].word.copy(alloc)?,
+        fall: words[7].word.copy(alloc)?,
+    }))
+}
+
+/// Reads the lines of pins that stand in front; none where one of them is cut off.
+#[tactic(auto, using(crate::proofs::PinSteps::pins_first, crate::proofs::PinSteps::pins_step, crate::proofs::PinSteps::pins_cut, crate::proofs::PinSteps::pins_done, std::proofs::lemmas::Grind::common_steps))]
+pub fn pin_lines(rest: &mut Rest, alloc: Global) -> Result<Option<PinLines>, AllocError>
+    ensures { IfOk result (λ found. pins_at rest.old ≡ option_map (λ pins. record { made = pins; rest = rest.new }) found) }
+{
+    let mut pins = Sequence::new(alloc);
+    while begins_pin(rest.ahead()) {
+        match pin_at(alloc, rest.ahead())? {
+            Some(pin) => pins.push(pin)?,
+            None => return Ok(None),
+        }
+        rest.skip(9);
+    }
+    Ok(Some(pins))
+}

@@ -1,0 +1,6 @@
+pub mod Patterns
+pub mod Values
+pub mod Cells
+pub mod Lists
+pub mod Numbers
+pub mod Usage

@@ -1,0 +1,14 @@
+pub mod Agreeing
+pub mod Bests
+pub mod Choosing
+pub mod Comparing
+pub mod Growing
+pub mod Levels
+pub mod Made
+pub mod Open
+pub mod Ordered
+pub mod Reaching
+pub mod Standing
+pub mod Stepping
+pub mod Usable
+pub mod Valuing

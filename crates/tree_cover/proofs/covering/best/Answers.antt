@@ -1,0 +1,19 @@
+use Rattle.std.proofs.Common.{List, subst, arith}
+use Rattle.subject_tree.specs.Order.{tree_cmp, place_cmp}
+use Rattle.pattern_set.specs.declared.cells.Gate.{Gate}
+use Rattle.tree_cover.specs.Covers.{tiles}
+use Rattle.tree_cover.specs.Candidates.{IsChoice}
+use Rattle.tree_cover.proofs.Made.{all_small, made_more}
+use Rattle.tree_cover.proofs.covering.best.Goals as goal
+
+pub choose-requires-clause-small : goal.choose-requires-clause-small
+choose-requires-clause-small c =
+    all_small (tree_cmp (place_cmp c.args.leaves.now)) c.args.nodes.now (tiles c.args.patterns.now.arena c.args.patterns.now.gates) c.loop-number.choices.items c.as_slice.result.now c.loop-number.number
+    c.as_slice.ensures.value (omega arith) c.requires.sizes c.loop-number.invariant
+
+pub loop-number-preserved : goal.loop-number-preserved
+loop-number-preserved c =
+    made_more (tree_cmp (place_cmp c.args.leaves.now)) c.args.nodes.now (tiles c.args.patterns.now.arena c.args.patterns.now.gates) c.loop-number.choices.items c.push.new.self.items c.loop-number.number
+    c.in_ok-choice.choice c.loop-number.invariant
+    (subst (λ (gates : List Gate). IsChoice (tree_cmp (place_cmp c.args.leaves.now)) c.args.nodes.now (tiles c.args.patterns.now.arena gates) c.loop-number.number c.in_ok-choice.choice) c.as_slice-in-loop-number.ensures
+    c.in_ok-choice.ensures) c.in_ok-push.ensures.items

@@ -1,0 +1,23 @@
+use Rattle.std.proofs.Common.{ap, length, arith}
+use Rattle.subject_tree.specs.Order.{tree_cmp, place_cmp}
+use Rattle.tree_cover.specs.Candidates.{order_of, FromPatterns}
+use Rattle.tree_cover.proofs.Bests.{best_step, best_end}
+use Rattle.tree_cover.proofs.Ordered.{choices_ordered}
+use Rattle.tree_cover.proofs.Stepping.{pattern_best, pattern_below}
+use Rattle.tree_cover.proofs.covering.best_gate.Goals as goal
+
+pub best_pattern-requires-clause-below : goal.best_pattern-requires-clause-below
+best_pattern-requires-clause-below c =
+    pattern_below c.args.shapes.now c.args.gate.now c.as_slice-pattern-items.result.now c.loop-pattern.pattern-index c.as_slice-pattern-items.ensures c.loop-pattern-test.true c.requires.gate
+
+pub loop-pattern-preserved : goal.loop-pattern-preserved
+loop-pattern-preserved c =
+    best_step (order_of (tree_cmp (place_cmp c.args.leaves.now)) c.args.nodes.now) (choices_ordered c.args.leaves.now c.args.nodes.now) (FromPatterns c.args.nodes.now c.args.shapes.now c.args.choices.now c.args.gate.now c.args.place c.args.number)
+    c.loop-pattern.pattern-index c.loop-pattern.best c.in_ok-made.made c.better-best.result c.loop-pattern.invariant
+    (pattern_best (order_of (tree_cmp (place_cmp c.args.leaves.now)) c.args.nodes.now) (choices_ordered c.args.leaves.now c.args.nodes.now) c.args.nodes.now c.args.shapes.now c.args.choices.now c.args.gate.now c.args.place c.args.number
+    c.loop-pattern.pattern-index c.as_slice-pattern-items.result.now c.in_ok-made.made c.as_slice-pattern-items.ensures c.loop-pattern-test.true c.in_ok-made.ensures) c.better-best.ensures
+
+pub returns : goal.returns
+returns c =
+    best_end (order_of (tree_cmp (place_cmp c.args.leaves.now)) c.args.nodes.now) (choices_ordered c.args.leaves.now c.args.nodes.now) (FromPatterns c.args.nodes.now c.args.shapes.now c.args.choices.now c.args.gate.now c.args.place c.args.number)
+    c.loop-pattern.pattern-index (length c.args.gate.now.patterns) c.loop-pattern.best (omega (arith, ap length c.as_slice-pattern-items.ensures)) c.loop-pattern.invariant

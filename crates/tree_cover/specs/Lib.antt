@@ -1,0 +1,4 @@
+pub mod Covers
+pub mod Bindings
+pub mod Candidates
+pub mod Fitting

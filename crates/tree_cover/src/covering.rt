@@ -1,0 +1,343 @@
+//! The choice that is taken at each vertex of subject trees.
+
+ghost use Rattle.std.specs.Prelude.{◌≡◌, ◌≤◌, ◌<◌, ◌*◌, ◌^◌, ℕ, List, Some, None, length, IfOk};
+ghost use Rattle.std.specs.List.{AllByRecursion, sum_by};
+ghost use Rattle.subject_tree.specs.Order.{tree_cmp, place_cmp};
+ghost use Rattle.subject_tree.specs.Trees.{Leaf as TheLeaf, size_of};
+ghost use Rattle.subject_tree.specs.Arenas.{tree_at};
+ghost use Rattle.tree_cover.specs.declared.choice.Choice.{Choice as TheChoice};
+ghost use Rattle.tree_cover.specs.Covers.{IsProper, tiles};
+ghost use Rattle.tree_cover.specs.Bindings.{PinsBelow};
+ghost use Rattle.tree_cover.specs.Candidates.{order_of, better_of as better_choice, bound_at as bound_there, BestOf, Binds, IsSmall, IsUsable, cost_at as cost_there, IsFrom, Below, FromBindings, FromPattern, FromPatterns, FromGates, IsLibrary, IsChoice, AreMade};
+
+use crate::binding::Binding;
+use crate::choice::{Choice, compare};
+use crate::fitting::may_fit;
+use crate::matching::matches;
+use pattern_set::{Gate, Patterns};
+use sis_base::Sequence;
+use std::alloc::{AllocError, Global};
+use std::cmp::Ordering;
+use subject_tree::{Arena, Leaves, Vertex};
+
+// The better of two choices, if there are two.
+fn better(
+    leaves: &Leaves,
+    nodes: &Arena,
+    one: Option<Choice>,
+    other: Option<Choice>,
+) -> Option<Choice>
+    ensures { result ≡ better_choice (order_of (tree_cmp (place_cmp leaves.now)) nodes.now) one other }
+{
+    match (one, other) {
+        (None, other) => other,
+        (Some(one), None) => Some(one),
+        (Some(one), Some(other)) => {
+            if compare(leaves, nodes, &one, &other) == Ordering::Greater {
+                return Some(other);
+            }
+            Some(one)
+        }
+    }
+}
+
+// The number that a pin is bound to, if it is bound.
+fn bound_at(binding: &Binding, pin: usize) -> Option<usize>
+    ensures { result ≡ bound_there binding.now pin }
+{
+    match binding.pins.get(pin) {
+        None => None,
+        Some(number) => *number,
+    }
+}
+
+// The numbers that the first pins are bound to; none where one of them is not bound.
+fn pins_of(
+    alloc: Global,
+    binding: &Binding,
+    count: usize,
+) -> Result<Option<Sequence<usize>>, AllocError>
+    ensures some { IfOk result (λ made. (numbers : List ℕ) → made ≡ Some numbers → (length numbers ≡ count) × Binds binding.now numbers) }
+    ensures none { IfOk result (λ made. (numbers : List ℕ) → made ≡ None → length numbers ≡ count → Binds binding.now numbers → ⊥) }
+{
+    let mut made = Vec::with_capacity(alloc, count)?;
+    for pin in 0..count {
+        match bound_at(binding, pin) {
+            None => return Ok(None),
+            Some(number) => made.push(number)?,
+        }
+    }
+    Ok(Some(Sequence::from_vec(made)))
+}
+
+// What the tree of a number costs, by the choices made.
+fn cost_at(choices: &[Choice], number: usize) -> u128
+    requires { AllByRecursion IsSmall choices.now }
+    ensures cost { result ≡ cost_there choices.now number }
+    ensures small { result ≤ 2 ^ 70 }
+{
+    match choices.get(number) {
+        None => 0,
+        Some(choice) => choice.cost,
+    }
+}
+
+// What the trees at pins cost together.
+fn costs_of(choices: &[Choice], pins: &[usize]) -> u128
+    requires choices { AllByRecursion IsSmall choices.now }
+    requires pins { length pins.now ≤ 15 }
+    ensures sum { result ≡ sum_by (cost_there choices.now) pins.now }
+    ensures small { result ≤ 15 * 2 ^ 70 }
+{
+    let mut total: u128 = 0;
+    for pin in pins {
+        total += cost_at(choices, *pin);
+    }
+    total
+}
+
+// The choice that comes from a binding; none where a pin is not bound.
+fn candidate(
+    alloc: Global,
+    choices: &[Choice],
+    gate: &Gate,
+    place: usize,
+    binding: &Binding,
+) -> Result<Option<Choice>, AllocError>
+    requires choices { AllByRecursion IsSmall choices.now }
+    requires area { gate.now.area < 2 ^ 50 }
+    requires pins { gate.now.pins ≤ 15 }
+    ensures some { IfOk result (λ made. (choice : TheChoice) → made ≡ Some choice → IsFrom choices.now gate.now place binding.now choice) }
+    ensures none { IfOk result (λ made. (choice : TheChoice) → made ≡ None → IsFrom choices.now gate.now place binding.now choice → ⊥) }
+{
+    match pins_of(alloc, binding, gate.pins)? {
+        None => Ok(None),
+        Some(pins) => {
+            let cost = gate.area + costs_of(choices, pins.as_slice());
+            Ok(Some(Choice { cost, place, pins }))
+        }
+    }
+}
+
+// The best choice from some bindings of a gate's pins.
+fn best_bound(
+    alloc: Global,
+    leaves: &Leaves,
+    nodes: &Arena,
+    choices: &[Choice],
+    gate: &Gate,
+    place: usize,
+    bindings: &[Binding],
+) -> Result<Option<Choice>, AllocError>
+    requires choices { AllByRecursion IsSmall choices.now }
+    requires area { gate.now.area < 2 ^ 50 }
+    requires pins { gate.now.pins ≤ 15 }
+    ensures { IfOk result (λ best. BestOf (order_of (tree_cmp (place_cmp leaves.now)) nodes.now) (Below (length bindings.now) (FromBindings choices.now gate.now place bindings.now)) best) }
+{
+    let mut best = None;
+    for binding in bindings {
+        let made = candidate(alloc, choices, gate, place, binding)?;
+        best = better(leaves, nodes, best, made);
+    }
+    Ok(best)
+}
+
+// The best choice from the matches of a gate's pattern at the tree of a number.
+fn best_match(
+    alloc: Global,
+    leaves: &Leaves,
+    nodes: &Arena,
+    shapes: &Arena,
+    choices: &[Choice],
+    gate: &Gate,
+    place: usize,
+    number: usize,
+    pattern: usize,
+) -> Result<Option<Choice>, AllocError>
+    requires number { number < length nodes.now }
+    requires proper { IsProper (tree_at shapes.now pattern) }
+    requires below { PinsBelow 15 (tree_at shapes.now pattern) }
+    requires choices { AllByRecursion IsSmall choices.now }
+    requires area { gate.now.area < 2 ^ 50 }
+    requires pins { gate.now.pins ≤ 15 }
+    ensures { IfOk result (λ best. BestOf (order_of (tree_cmp (place_cmp leaves.now)) nodes.now) (FromPattern nodes.now choices.now gate.now place number (tree_at shapes.now pattern)) best) }
+{
+    let bindings = matches(alloc, nodes, shapes, pattern, number)?;
+    let best = best_bound(
+        alloc,
+        leaves,
+        nodes,
+        choices,
+        gate,
+        place,
+        bindings.as_slice(),
+    )?;
+    Ok(best)
+}
+
+// The best choice from a gate's pattern at the tree of a number; none where their first levels do not fit.
+fn best_pattern(
+    alloc: Global,
+    leaves: &Leaves,
+    nodes: &Arena,
+    shapes: &Arena,
+    choices: &[Choice],
+    gate: &Gate,
+    place: usize,
+    number: usize,
+    pattern: usize,
+) -> Result<Option<Choice>, AllocError>
+    requires number { number < length nodes.now }
+    requires below { PinsBelow 15 (tree_at shapes.now pattern) }
+    requires choices { AllByRecursion IsSmall choices.now }
+    requires area { gate.now.area < 2 ^ 50 }
+    requires pins { gate.now.pins ≤ 15 }
+    ensures { IfOk result (λ best. BestOf (order_of (tree_cmp (place_cmp leaves.now)) nodes.now) (FromPattern nodes.now choices.now gate.now place number (tree_at shapes.now pattern)) best) }
+{
+    nodes.sound();
+    if !may_fit(shapes, nodes, pattern, number) {
+        return Ok(None);
+    }
+    let best = best_match(
+        alloc, leaves, nodes, shapes, choices, gate, place, number, pattern,
+    )?;
+    Ok(best)
+}
+
+// The best choice from a gate at the tree of a number.
+fn best_gate(
+    alloc: Global,
+    leaves: &Leaves,
+    nodes: &Arena,
+    shapes: &Arena,
+    choices: &[Choice],
+    gate: &Gate,
+    place: usize,
+    number: usize,
+) -> Result<Option<Choice>, AllocError>
+    requires number { number < length nodes.now }
+    requires choices { AllByRecursion IsSmall choices.now }
+    requires gate { IsUsable shapes.now gate.now }
+    ensures { IfOk result (λ best. BestOf (order_of (tree_cmp (place_cmp leaves.now)) nodes.now) (Below (length gate.now.patterns) (FromPatterns nodes.now shapes.now choices.now gate.now place number)) best) }
+{
+    let mut best = None;
+    for pattern in gate.patterns.as_slice() {
+        let made = best_pattern(
+            alloc, leaves, nodes, shapes, choices, gate, place, number, *pattern,
+        )?;
+        best = better(leaves, nodes, best, made);
+    }
+    Ok(best)
+}
+
+// The best choice from the gates of a library at the tree of a number.
+fn best_choice(
+    alloc: Global,
+    leaves: &Leaves,
+    nodes: &Arena,
+    shapes: &Arena,
+    choices: &[Choice],
+    gates: &[Gate],
+    number: usize,
+) -> Result<Option<Choice>, AllocError>
+    requires number { number < length nodes.now }
+    requires choices { AllByRecursion IsSmall choices.now }
+    requires gates { AllByRecursion (IsUsable shapes.now) gates.now }
+    ensures { IfOk result (λ best. BestOf (order_of (tree_cmp (place_cmp leaves.now)) nodes.now) (Below (length gates.now) (FromGates nodes.now shapes.now choices.now gates.now number)) best) }
+{
+    let mut best = None;
+    for place in 0..gates.len() {
+        let made = best_gate(
+            alloc,
+            leaves,
+            nodes,
+            shapes,
+            choices,
+            &gates[place],
+            place,
+            number,
+        )?;
+        best = better(leaves, nodes, best, made);
+    }
+    Ok(best)
+}
+
+// The choice at a vertex that is no leaf, from those at the vertices before it.
+fn choose_gate(
+    alloc: Global,
+    leaves: &Leaves,
+    nodes: &Arena,
+    shapes: &Arena,
+    choices: &[Choice],
+    gates: &[Gate],
+    number: usize,
+) -> Result<Choice, AllocError>
+    requires number { number < length nodes.now }
+    requires inner { (place : ℕ) → tree_at nodes.now number ≡ TheLeaf place → ⊥ }
+    requires library { IsLibrary shapes.now gates.now }
+    requires small { AllByRecursion IsSmall choices.now }
+    requires made { AreMade (tree_cmp (place_cmp leaves.now)) nodes.now (tiles shapes.now gates.now) choices.now number }
+    ensures { IfOk result (λ choice. IsChoice (tree_cmp (place_cmp leaves.now)) nodes.now (tiles shapes.now gates.now) number choice) }
+{
+    nodes.sound();
+    match best_choice(alloc, leaves, nodes, shapes, choices, gates, number)? {
+        Some(choice) => Ok(choice),
+        None => unreachable!(),
+    }
+}
+
+// The choice at a vertex, from those at the vertices before it.
+fn choose(
+    alloc: Global,
+    leaves: &Leaves,
+    nodes: &Arena,
+    shapes: &Arena,
+    choices: &[Choice],
+    gates: &[Gate],
+    number: usize,
+) -> Result<Choice, AllocError>
+    requires number { number < length nodes.now }
+    requires library { IsLibrary shapes.now gates.now }
+    requires small { AllByRecursion IsSmall choices.now }
+    requires made { AreMade (tree_cmp (place_cmp leaves.now)) nodes.now (tiles shapes.now gates.now) choices.now number }
+    ensures { IfOk result (λ choice. IsChoice (tree_cmp (place_cmp leaves.now)) nodes.now (tiles shapes.now gates.now) number choice) }
+{
+    nodes.sound();
+    if let Vertex::Leaf(_) = nodes.vertex(number) {
+        return Ok(Choice {
+            cost: 0,
+            place: 0,
+            pins: Sequence::new(alloc),
+        });
+    }
+    let choice = choose_gate(alloc, leaves, nodes, shapes, choices, gates, number)?;
+    Ok(choice)
+}
+
+/// The choice that is taken at each vertex, in the order of their numbers: a cover of least cost, of such covers the first gate
+/// of the library, then the least trees at its pins. An error only for want of memory.
+pub fn best(
+    alloc: Global,
+    leaves: &Leaves,
+    nodes: &Arena,
+    patterns: &Patterns,
+) -> Result<Vec<Choice>, AllocError>
+    requires library { IsLibrary patterns.now.arena patterns.now.gates }
+    requires sizes { (n : ℕ) → n < length nodes.now → size_of (tree_at nodes.now n) ≤ 2 ^ 20 }
+    ensures { IfOk result (λ choices. AreMade (tree_cmp (place_cmp leaves.now)) nodes.now (tiles patterns.now.arena patterns.now.gates) choices.items (length nodes.now)) }
+{
+    let mut choices = Vec::with_capacity(alloc, nodes.len())?;
+    for number in 0..nodes.len() {
+        let choice = choose(
+            alloc,
+            leaves,
+            nodes,
+            &patterns.arena,
+            choices.as_slice(),
+            patterns.gates.as_slice(),
+            number,
+        )?;
+        choices.push(choice)?;
+    }
+    Ok(choices)
+}
