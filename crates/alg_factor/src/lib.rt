@@ -18,3 +18,4 @@ mod text;
 
 pub use factoring::factor;
 pub use form::Factored;
+pub use text::sum_text;

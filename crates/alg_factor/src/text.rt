@@ -4,13 +4,13 @@ ghost use Rattle.std.specs.Prelude.{◌≡◌, ℕ, ◌+◌, ◌<◌, ◌++◌, 
 ghost use Rattle.sis_base.specs.Rows.{HasWidth};
 ghost use Rattle.alg_factor.specs.Forms.{IsOver};
 ghost use Rattle.alg_factor.specs.Shapes.{shape};
-ghost use Rattle.alg_factor.specs.Texts.{literal_text, texts_at, row_text, form_text};
+ghost use Rattle.alg_factor.specs.Texts.{literal_text, texts_at, row_text, sum_text, form_text};
 ghost use Rattle.alg_factor.specs.Writing.{left_text, written_if, summands};
 
 use crate::form::Tree;
 use circuit_model::Name;
 use cube_cover::Row;
-use std::alloc::AllocError;
+use std::alloc::{AllocError, Global};
 
 // Puts a text behind another, or nothing.
 fn put_if(text: &mut Vec<u8>, wanted: bool, more: &[u8]) -> Result<(), AllocError>
@@ -79,6 +79,17 @@ fn put_rows<R: Row>(
         none_yet = false;
     }
     put_if(text, none_yet, b"0")
+}
+
+/// The text of a sum of rows, with a name for each input: of each row its literals with `*` between, or `1` where it has
+/// none, with ` + ` between rows; `0` where there are no rows. An error only for want of memory.
+pub fn sum_text<R: Row>(alloc: Global, names: &[Name], rows: &[R]) -> Result<Vec<u8>, AllocError>
+    requires { HasWidth (length names.now) (map R.literals rows.now) }
+    ensures { IfOk result (λ text. text.items ≡ sum_text (map (row_text names.now) (map R.literals rows.now))) }
+{
+    let mut text = Vec::new(alloc);
+    put_rows(&mut text, true, rows, names)?;
+    Ok(text)
 }
 
 // Whether a form has a summand.
