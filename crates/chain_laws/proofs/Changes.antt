@@ -1,5 +1,6 @@
 -- Changes of tables: what they leave, and from change to change.
-use Rattle.std.proofs.Common.{◌≡◌, ℕ, true, false, Option, Some, None, List, [], ◌∷◌, ◌++◌, refl, sym, ap, ap₂, ◌∙◌, subst}
+use Rattle.std.specs.List.{AllByRecursion}
+use Rattle.std.proofs.Common.{◌≡◌, ℕ, Bool, true, false, Option, Some, None, List, [], ◌∷◌, ◌++◌, refl, sym, ap, ap₂, ◌∙◌, subst}
 use Rattle.sis_base.specs.Written.{is_word}
 use Rattle.circuit_model.specs.Names.{has}
 use Rattle.circuit_model.specs.Runs.{latch_outputs, Refines}
@@ -13,10 +14,11 @@ use Rattle.circuit_laws.specs.Edits.{tables_kept, latches_kept, timing_with, wit
 use Rattle.circuit_laws.specs.Fitting.{IsFitting}
 use Rattle.circuit_laws.specs.Same.{IsSame, KeepsEach, KeepsValues}
 use Rattle.circuit_laws.proofs.Names.{all_has, has_front}
-use Rattle.circuit_laws.proofs.Kept.{latches_all, others_latches, unread_closed, removed_keeps}
+use Rattle.circuit_laws.specs.Kept.{IsClosed}
+use Rattle.circuit_laws.proofs.Kept.{latches_all, others_latches, unread_closed, kept_each}
 use Rattle.circuit_laws.proofs.Left.{kept_left}
 use Rattle.circuit_laws.proofs.Same.{same_where, same_refines, keeps_itself, keeps_through}
-use Rattle.circuit_laws.proofs.Sound.{all_parts, given-added, sound_added, sound_removed, taken_given, fitting_apart}
+use Rattle.circuit_laws.proofs.Sound.{all_parts, given-added, sound_added, sound_kept, taken_given, fitting_apart}
 use Rattle.circuit_laws.proofs.Tables.{added_keeps, each_keeps}
 use Rattle.chain_laws.specs.Changes.{IsChanged, IsReduced, IsExtended}
 use Rattle.chain_laws.proofs.Chains.{leads_kept}
@@ -112,28 +114,34 @@ with_parts : (circuit : Circuit) (tables : List Table) (latches : List Latch) (t
 with_parts circuit tables latches timing same timed_so =
     ap₂ (λ (left : List Latch) (clock : Option Timing). record circuit { tables = tables; latches = left; timing = clock }) same timed_so
 
-removed_rest : (circuit : Circuit) (name : List ℕ) → IsSound circuit → has (latch_outputs circuit) name ≡ false
-    → with_removed circuit name ≡ with_tables circuit (tables_kept (is_other name) circuit.tables)
+kept_rest : (circuit : Circuit) (test : List ℕ → Bool) → IsSound circuit → AllByRecursion (λ (latch : Latch). test latch.output ≡ true) circuit.latches
+    → with_kept circuit test ≡ with_tables circuit (tables_kept test circuit.tables)
 unfolding with_kept
-removed_rest circuit name sound none =
-    let same : latches_kept (is_other name) circuit.latches ≡ circuit.latches = latches_all (is_other name) circuit.latches (others_latches circuit name none) in
-    with_parts circuit (tables_kept (is_other name) circuit.tables) (latches_kept (is_other name) circuit.latches) (timing_with (latches_kept (is_other name) circuit.latches) circuit.timing) same
+kept_rest circuit test sound all =
+    let same : latches_kept test circuit.latches ≡ circuit.latches = latches_all test circuit.latches all in
+    with_parts circuit (tables_kept test circuit.tables) (latches_kept test circuit.latches) (timing_with (latches_kept test circuit.latches) circuit.timing) same
     (ap (λ (latches : List Latch). timing_with latches circuit.timing) same ∙ timed circuit.latches circuit.timing sound.untimed_without_latches)
 
-removed_tables : (circuit : Circuit) (name : List ℕ) → (with_removed circuit name).tables ≡ tables_kept (is_other name) circuit.tables
+kept_tables : (circuit : Circuit) (test : List ℕ → Bool) → (with_kept circuit test).tables ≡ tables_kept test circuit.tables
 unfolding with_kept
-removed_tables circuit name = refl
+kept_tables circuit test = refl
+
+-- tables go that nothing needs
+pub kept_reduced : (circuit : Circuit) (test : List ℕ → Bool) → IsSound circuit → IsClosed circuit test → AllByRecursion (λ (latch : Latch). test latch.output ≡ true) circuit.latches
+    → IsReduced circuit (with_kept circuit test)
+kept_reduced circuit test sound closed all = record {
+  change = record {
+    sound = sound_kept circuit test sound closed;
+    rest = kept_rest circuit test sound all ∙ ap (with_tables circuit) (sym (kept_tables circuit test));
+    values = kept_each circuit test sound.acyclic closed all;
+  };
+  signals = (kept_left circuit test sound.acyclic closed).signals;
+}
 
 pub removed_reduced : (circuit : Circuit) (name : List ℕ) → IsSound circuit → is_read circuit name ≡ false → is_root circuit name ≡ false
     → has (latch_outputs circuit) name ≡ false → IsReduced circuit (with_removed circuit name)
-removed_reduced circuit name sound unread unasked none = record {
-  change = record {
-    sound = sound_removed circuit name sound unread unasked;
-    rest = removed_rest circuit name sound none ∙ ap (with_tables circuit) (sym (removed_tables circuit name));
-    values = removed_keeps circuit name sound.acyclic unread unasked none;
-  };
-  signals = (kept_left circuit (is_other name) sound.acyclic (unread_closed circuit name unread unasked)).signals;
-}
+removed_reduced circuit name sound unread unasked none =
+    kept_reduced circuit (is_other name) sound (unread_closed circuit name unread unasked) (others_latches circuit name none)
 
 -- a table is added
 added_rest : (circuit : Circuit) (new : Table) → with_added circuit new ≡ with_tables circuit (with_added circuit new).tables

@@ -1,15 +1,18 @@
 //! What holds of changes of tables, and of chains of them.
 
 ghost use Rattle.std.specs.Prelude.{◌≡◌, ℕ, Bool, true, false, Option, Some, List};
+ghost use Rattle.std.specs.List.{AllByRecursion};
 ghost use Rattle.sis_base.specs.Written.{is_word};
 ghost use Rattle.circuit_model.specs.Names.{has};
 ghost use Rattle.circuit_model.specs.Runs.{latch_outputs, Refines};
 ghost use Rattle.circuit_model.specs.Soundness.{outputs_of, control_of, given, IsSound};
 ghost use Rattle.circuit_model.specs.declared.circuit.Table.{Table as TheTable};
+ghost use Rattle.circuit_model.specs.declared.circuit.Latch.{Latch as TheLatch};
 ghost use Rattle.circuit_model.specs.declared.circuit.Circuit.{Circuit as TheCircuit};
 ghost use Rattle.circuit_laws.specs.Chains.{Chain};
-ghost use Rattle.circuit_laws.specs.Edits.{with_tables, with_removed, with_added, is_read, is_root};
+ghost use Rattle.circuit_laws.specs.Edits.{with_tables, with_kept, with_removed, with_added, is_read, is_root};
 ghost use Rattle.circuit_laws.specs.Fitting.{IsFitting};
+ghost use Rattle.circuit_laws.specs.Kept.{IsClosed};
 ghost use Rattle.circuit_laws.specs.Same.{IsSame, KeepsEach};
 ghost use Rattle.chain_laws.specs.Changes.{IsChanged, IsReduced, IsExtended};
 
@@ -29,12 +32,14 @@ pub fn changing_values_keeps()
 {}
 
 /// Changes by which no signal comes: nothing is one; from change to change it is one; a table is removed that nothing reads,
-/// and that is no output and no latch's input; and so is a chain of steps of which each is one.
+/// and that is no output and no latch's input; tables go that nothing needs; and so is a chain of steps of which each is one.
 pub fn reducing_keeps()
     ensures itself { (circuit : TheCircuit) → IsSound circuit → IsReduced circuit circuit }
     ensures through { (first second third : TheCircuit) → IsReduced first second → IsReduced second third → IsReduced first third }
     ensures removed { (circuit : TheCircuit) (name : List ℕ) → IsSound circuit → is_read circuit name ≡ false → is_root circuit name ≡ false
         → has (latch_outputs circuit) name ≡ false → IsReduced circuit (with_removed circuit name) }
+    ensures kept { (circuit : TheCircuit) (test : List ℕ → Bool) → IsSound circuit → IsClosed circuit test
+        → AllByRecursion (λ (latch : TheLatch). test latch.output ≡ true) circuit.latches → IsReduced circuit (with_kept circuit test) }
     ensures chain { (step : TheCircuit → Option TheCircuit) → ((circuit new : TheCircuit) → IsSound circuit → step circuit ≡ Some new → IsReduced circuit new)
         → (circuit new : TheCircuit) → IsSound circuit → Chain step circuit new → IsReduced circuit new }
 {}

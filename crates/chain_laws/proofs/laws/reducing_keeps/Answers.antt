@@ -1,4 +1,4 @@
-use Rattle.chain_laws.proofs.Changes.{reduced_itself, reduced_through, removed_reduced, chain_reduced}
+use Rattle.chain_laws.proofs.Changes.{reduced_itself, reduced_through, removed_reduced, kept_reduced, chain_reduced}
 use Rattle.chain_laws.proofs.laws.reducing_keeps.Goals as goal
 
 pub returns-clause-itself : goal.returns-clause-itself
@@ -9,6 +9,9 @@ returns-clause-through c = reduced_through
 
 pub returns-clause-removed : goal.returns-clause-removed
 returns-clause-removed c = removed_reduced
+
+pub returns-clause-kept : goal.returns-clause-kept
+returns-clause-kept c = kept_reduced
 
 pub returns-clause-chain : goal.returns-clause-chain
 returns-clause-chain c = chain_reduced
