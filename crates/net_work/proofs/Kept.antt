@@ -3,7 +3,7 @@ use Rattle.std.proofs.Common.{◌≡◌, ℕ, pos, ◌-ℤ◌, ◌+◌, ◌*◌,
 use Rattle.std.specs.List.{AllByRecursion}
 use Rattle.std.specs.Option.{option_map}
 use Rattle.std.proofs.lemmas.Bool.{cases_eq}
-use Rattle.std.proofs.lemmas.List.{take_more, map-append, length-map}
+use Rattle.std.proofs.lemmas.List.{take_more, map-append}
 use Rattle.std.proofs.lemmas.Option.{same_Some}
 use Rattle.circuit_model.specs.Names.{has, all_different}
 use Rattle.circuit_model.specs.Counts.{literals_of_table}
@@ -19,7 +19,7 @@ use Rattle.net_core.specs.Places.{present, written_of, IsIndexed, AreOverInputs}
 use Rattle.net_core.specs.Tables.{named, IsOverInputs}
 use Rattle.net_core.specs.declared.places.Entry.{Entry}
 use Rattle.net_core.specs.declared.table.Table.{Table}
-use Rattle.net_core.proofs.Indexing.{driver_at, alone, indexed_write, indexed_removal, indexed_push, over_write, over_removal, over_push}
+use Rattle.net_core.proofs.Indexing.{over_nothing, indexed_nothing, driver_at, alone, indexed_write, indexed_removal, indexed_push, over_write, over_removal, over_push}
 use Rattle.net_core.proofs.Lookups.{get_set_same, get_set_other, get_push_cases}
 use Rattle.use_counts.specs.Uses.{told_uses}
 use Rattle.net_work.specs.Frames.{reserved_by}
@@ -113,35 +113,34 @@ module _ {R : Type 0} where
   slot_once slots i None h at = tt
   slot_once slots i (Some e) h at = h i e at
 
-  pub kept_write : (frame : Circuit) (slots : List (Option (Entry R))) (f : List ℕ → Option ℕ) (before after : Links) (number i : ℕ) (old : Entry R) (table : Table R) → IsKeptUp frame slots f before number
-      → slice_get slots i ≡ Some (Some old) → IsOverInputs table → all_different table.inputs ≡ true
-      → ((output : List ℕ) → AreLinked before (written_slots slots) → table_at (written_slots slots) i ≡ Some (named output old.table) → AreLinked after (set (written_slots slots) i (Some (named output table))))
-      → IsKeptUp frame (set slots i (Some (record { output = old.output; table = table }))) f after number
+  -- the three changes, and where nothing is left
+  pub kept_write : (frame : Circuit) (slots next : List (Option (Entry R))) (f : List ℕ → Option ℕ) (before after : Links) (number i : ℕ) (old : Entry R) (table : Table R) → IsKeptUp frame slots f before number
+      → slice_get slots i ≡ Some (Some old) → IsOverInputs table → all_different table.inputs ≡ true → next ≡ set slots i (Some (record { output = old.output; table = table }))
+      → AreLinked after (set (written_slots slots) i (Some (named old.output table))) → IsKeptUp frame next f after number
   unfolding named
-  kept_write frame slots f before after number i old table h at over once linked =
+  kept_write frame slots next f before after number i old table h at over once is linked =
       let new : Entry R = record { output = old.output; table = table } in
-      record {
+      subst (λ (ss : List (Option (Entry R))). IsKeptUp frame ss f after number) (sym is) (record {
         indexed = indexed_write slots f i old new h.indexed at refl;
         over = over_write slots i old new h.over at over;
         once = once_write slots i old new h.once at once;
-        linked = subst (AreLinked after) (sym (written_set slots i (Some new))) (linked old.output h.linked (table_there slots i old at));
+        linked = subst (AreLinked after) (sym (written_set slots i (Some new))) linked;
         taken = taken_same frame (standing (written_slots slots)) (standing (written_slots (set slots i (Some new)))) number
             (sym (ap (λ (ss : List (Option Written)). outputs_of (standing ss)) (written_set slots i (Some new))
             ∙ outputs_set (written_slots slots) i (written_of old) (written_of new) (place_there (written_slots slots) i (written_of old) (table_there slots i old at)) refl)) h.taken;
-      }
+      })
 
-  pub kept_removal : (frame : Circuit) (slots : List (Option (Entry R))) (f g : List ℕ → Option ℕ) (before after : Links) (number i : ℕ) (old : Entry R) → IsKeptUp frame slots f before number
-      → slice_get slots i ≡ Some (Some old) → ((q : List ℕ) → g q ≡ (if bytes_eq old.output q then None else f q))
-      → ((output : List ℕ) → AreLinked before (written_slots slots) → table_at (written_slots slots) i ≡ Some (named output old.table) → AreLinked after (set (written_slots slots) i None))
-      → IsKeptUp frame (set slots i None) g after 0
-  unfolding named
-  kept_removal frame slots f g before after number i old h at k linked = record {
-    indexed = indexed_removal slots f g i old h.indexed at k;
-    over = over_removal slots i old h.over at;
-    once = once_removal slots i old h.once at;
-    linked = subst (AreLinked after) (sym (written_set slots i None)) (linked old.output h.linked (table_there slots i old at));
-    taken = taken_none frame (standing (written_slots (set slots i None)));
-  }
+  pub kept_removal : (frame : Circuit) (slots next : List (Option (Entry R))) (f g : List ℕ → Option ℕ) (before after : Links) (number i : ℕ) (old : Entry R) → IsKeptUp frame slots f before number
+      → slice_get slots i ≡ Some (Some old) → next ≡ set slots i None → ((q : List ℕ) → g q ≡ (if bytes_eq old.output q then None else f q))
+      → AreLinked after (set (written_slots slots) i None) → IsKeptUp frame next g after 0
+  kept_removal frame slots next f g before after number i old h at is k linked =
+      subst (λ (ss : List (Option (Entry R))). IsKeptUp frame ss g after 0) (sym is) (record {
+        indexed = indexed_removal slots f g i old h.indexed at k;
+        over = over_removal slots i old h.over at;
+        once = once_removal slots i old h.once at;
+        linked = subst (AreLinked after) (sym (written_set slots i None)) linked;
+        taken = taken_none frame (standing (written_slots (set slots i None)));
+      })
 
   pub written_more : (slots : List (Option (Entry R))) (i : ℕ) (x : Option (Entry R)) → i < length slots → x ≡ get_or slots i x
       → written_slots (take (i + 1) slots) ≡ written_slots (take i slots) ++ option_map written_of x ∷ []
@@ -156,27 +155,35 @@ module _ {R : Type 0} where
   written_long (x ∷ slots) zero le = refl
   written_long (x ∷ slots) (suc i) le = ap suc (written_long slots i (omega (arith, le)))
 
-  written_push : (slots : List (Option (Entry R))) (e : Entry R) → written_slots (slots ++ Some e ∷ []) ≡ written_slots slots ++ Some (written_of e) ∷ []
+  pub written_push : (slots : List (Option (Entry R))) (e : Entry R) → written_slots (slots ++ Some e ∷ []) ≡ written_slots slots ++ Some (written_of e) ∷ []
   written_push slots e = map-append (option_map written_of) slots (Some e ∷ [])
 
   -- where no table stands behind the start of work
   pub kept_made : (frame : Circuit) (slots : List (Option (Entry R))) (f : List ℕ → Option ℕ) (links : Links) → IsIndexed slots f → AreOverInputs slots → AreOnce slots → AreLinked links (written_slots slots) → IsKeptUp frame slots f links 0
   kept_made frame slots f links indexed over once linked = record { indexed = indexed; over = over; once = once; linked = linked; taken = taken_none frame (standing (written_slots slots)) }
 
-  pub kept_push : (frame : Circuit) (slots : List (Option (Entry R))) (f g : List ℕ → Option ℕ) (before after : Links) (old number place : ℕ) (e : Entry R) → IsKeptUp frame slots f before old
-      → AreTaken frame (standing (written_slots slots)) number → has (used_names (with_tables frame (standing (written_slots slots)))) e.output ≡ false
-      → ((q : List ℕ) → g q ≡ (if bytes_eq e.output q then Some (length slots) else f q)) → IsOverInputs e.table → all_different e.table.inputs ≡ true → place ≡ length slots
-      → ((some : List (Option Written)) (output : List ℕ) → AreLinked before some → length some ≡ place → AreLinked after (some ++ Some (named output e.table) ∷ []))
-      → IsKeptUp frame (slots ++ Some e ∷ []) g after number
+  -- where nothing stands
+  pub kept_nothing : (frame : Circuit) (slots : List (Option (Entry R))) (f : List ℕ → Option ℕ) (links : Links) → slots ≡ [] → ((q : List ℕ) → f q ≡ None) → AreLinked links [] → IsKeptUp frame slots f links 0
+  kept_nothing frame slots f links none empty linked =
+      kept_made frame slots f links
+      (subst (λ (ss : List (Option (Entry R))). IsIndexed ss f) (sym none) (indexed_nothing f empty))
+      (subst (λ (ss : List (Option (Entry R))). AreOverInputs ss) (sym none) (over_nothing R)) (subst (λ (ss : List (Option (Entry R))). AreOnce ss) (sym none) (once_none R))
+      (subst (λ (ss : List (Option (Entry R))). AreLinked links (written_slots ss)) (sym none) linked)
+
+  pub kept_push : (frame : Circuit) (slots next : List (Option (Entry R))) (f g : List ℕ → Option ℕ) (before after : Links) (old number : ℕ) (e : Entry R) → IsKeptUp frame slots f before old
+      → AreTaken frame (standing (written_slots slots)) number → has (used_names (with_tables frame (standing (written_slots slots)))) e.output ≡ false → IsOverInputs e.table → all_different e.table.inputs ≡ true
+      → next ≡ slots ++ Some e ∷ [] → ((q : List ℕ) → g q ≡ (if bytes_eq e.output q then Some (length slots) else f q)) → AreLinked after (written_slots slots ++ Some (written_of e) ∷ [])
+      → IsKeptUp frame next g after number
   unfolding named
-  kept_push frame slots f g before after old number place e h taken free k over once at linked = record {
-    indexed = indexed_push slots f g e h.indexed absent k;
-    over = over_push slots e h.over over;
-    once = once_push slots e h.once once;
-    linked = subst (AreLinked after) (sym (written_push slots e)) (linked (written_slots slots) e.output h.linked (length-map slots (option_map written_of) ∙ sym at));
-    taken = subst (λ (ts : List Written). AreTaken frame ts number) (sym (ap (λ (ss : List (Option Written)). standing ss) (written_push slots e) ∙ standing_push (written_slots slots) (written_of e)))
-        (taken_push frame (standing (written_slots slots)) (written_of e) number taken);
-  }
+  kept_push frame slots next f g before after old number e h taken free over once is k linked =
+      subst (λ (ss : List (Option (Entry R))). IsKeptUp frame ss g after number) (sym is) (record {
+        indexed = indexed_push slots f g e h.indexed absent k;
+        over = over_push slots e h.over over;
+        once = once_push slots e h.once once;
+        linked = subst (AreLinked after) (sym (written_push slots e)) linked;
+        taken = subst (λ (ts : List Written). AreTaken frame ts number) (sym (ap (λ (ss : List (Option Written)). standing ss) (written_push slots e) ∙ standing_push (written_slots slots) (written_of e)))
+            (taken_push frame (standing (written_slots slots)) (written_of e) number taken);
+      })
     where
       first : (a b : Bool) → (a || b) ≡ false → a ≡ false
       first true b z = cc

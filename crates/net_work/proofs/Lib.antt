@@ -2,3 +2,5 @@ pub mod Standing
 pub mod Linked
 pub mod Kept
 pub mod Noted
+pub mod Views
+pub mod Ordered

@@ -2,6 +2,7 @@
 -- Source: De Micheli, "Synthesis and Optimization of Digital Circuits", chapter 8 (a logic network as a set of nodes, changed one
 -- after the other); Brayton, Rudell, Sangiovanni-Vincentelli and Wang, "MIS: A Multiple-Level Logic Optimization System" (1987).
 use Rattle.std.specs.Prelude.{◌≡◌, ℕ, ◌<◌, ◌≤◌, Result, Ok, Err, Option, Some, None, List, [], ◌∷◌, ◌++◌, slice_get, slice_set}
+use Rattle.std.specs.Option.{option_map}
 use Rattle.circuit_model.specs.declared.circuit.Table.{Table}
 use Rattle.circuit_model.specs.declared.circuit.Circuit.{Circuit}
 use Rattle.circuit_laws.specs.Edits.{with_tables}
@@ -34,6 +35,10 @@ joined (Some slot) = slot
 -- the table at a place
 abbrev pub table_at : List (Option Table) → ℕ → Option Table
 table_at slots place = joined (slice_get slots place)
+
+-- the name of the table at a place
+abbrev pub name_at : List (Option Table) → ℕ → Option (List ℕ)
+name_at slots place = option_map (λ (table : Table). table.output) (table_at slots place)
 
 -- the network with something else at a place
 abbrev pub with_slot : Placed → ℕ → Option Table → Placed

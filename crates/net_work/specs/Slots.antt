@@ -2,7 +2,7 @@
 -- to which number all names in brackets are taken.
 -- Source: Brayton, Rudell, Sangiovanni-Vincentelli and Wang, "MIS: A Multiple-Level Logic Optimization System" (1987): fanouts and
 -- values of nodes.
-use Rattle.std.specs.Prelude.{◌≡◌, ℕ, ◌<◌, true, Option, Some, None, List, [], map, slice_get}
+use Rattle.std.specs.Prelude.{◌≡◌, ℕ, ◌<◌, true, false, Option, Some, None, List, [], map, slice_get}
 use Rattle.std.specs.Option.{option_map}
 use Rattle.circuit_model.specs.Names.{has, all_different}
 use Rattle.circuit_model.specs.declared.circuit.Table.{Table as Written}
@@ -20,6 +20,10 @@ use Rattle.net_work.specs.declared.links.Links.{Links}
 -- the tables of a circuit that entries are
 abbrev pub written_slots : {R : Type 0} → List (Option (Entry R)) → List (Option Written)
 written_slots slots = map (option_map written_of) slots
+
+-- a table with its names alone: an order of tables asks for no more
+abbrev pub bare : Written → Written
+bare table = record table { rows = []; phase = false }
 
 -- the inputs of a table, none where there is none
 abbrev pub inputs_in : Option Written → List (List ℕ)

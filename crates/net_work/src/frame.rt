@@ -9,7 +9,7 @@ ghost use Rattle.net_work.specs.Frames.{reserved_by, roots_of};
 
 use circuit_model::{Circuit, Latch, Name, Table, Timing};
 use indexmap::IndexSet;
-use sis_base::{Copied, Sequence};
+use sis_base::Copied;
 use std::alloc::{AllocError, Global};
 use std::marker::Model;
 
@@ -142,22 +142,6 @@ fn root_names(alloc: Global, circuit: &Circuit) -> Result<IndexSet<Name>, AllocE
     Ok(names)
 }
 
-// A circuit without anything.
-fn empty_circuit(alloc: Global) -> Circuit
-    ensures { (reserved_by result ≡ []) × (roots_of result ≡ []) }
-{
-    Circuit {
-        name: Name::new(alloc),
-        inputs: Sequence::new(alloc),
-        outputs: Sequence::new(alloc),
-        clocks: Sequence::new(alloc),
-        timing: None,
-        latches: Sequence::new(alloc),
-        tables: Sequence::new(alloc),
-        dont_care: Sequence::new(alloc),
-    }
-}
-
 impl Frame {
     /// The frame of a circuit; an error only for want of memory.
     pub fn of(alloc: Global, circuit: Circuit) -> Result<Frame, AllocError>
@@ -170,15 +154,6 @@ impl Frame {
             reserved,
             roots,
         })
-    }
-
-    /// The frame of a circuit without anything; takes no memory.
-    pub fn empty(alloc: Global) -> Frame {
-        Frame {
-            circuit: empty_circuit(alloc),
-            reserved: IndexSet::new(alloc),
-            roots: IndexSet::new(alloc),
-        }
     }
 
     /// Whether no new table may take a name, that of no table.

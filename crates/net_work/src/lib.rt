@@ -4,13 +4,18 @@
 //! Brayton, Rudell, Sangiovanni-Vincentelli and Wang, "MIS: A Multiple-Level Logic Optimization System" (1987), for fanouts and
 //! values of nodes. A `Work<R>` is seen by contracts as a frame, which does not change, and as its tables at places that they keep
 //! (`specs/Placed.antt`). Beside them it keeps an index by name, the readers and the uses of each signal, the roots, and a number
-//! below which no name in brackets is free. Promised: a network becomes one and comes back by moves, and what is told of tables,
-//! places, readers, roots and worth is exact. That the circuit is sound is no part of it: a step goes through circuits that are
-//! not, and only the way back to a network asks for it.
+//! below which no name in brackets is free. Promised: a network becomes one and comes back by moves; what is told of tables,
+//! places, readers, roots, worth and order is exact; a change sets, removes or adds one table and nothing else, and a table that
+//! is added takes the least free name. A change goes over the names that its tables read; no clause says
+//! so. Where memory is wanting in the midst of a change no table is left. That the circuit is sound is no part of it: a step goes
+//! through circuits that are not, and only the way back to a network asks for it.
 #![tactic(auto)]
 
+mod changes;
+mod changing;
 mod frame;
 mod links;
+mod ordering;
 mod work;
 
 pub use links::Links;

@@ -29,11 +29,11 @@ use use_counts::{literal_count, worth};
 /// A network whose tables stand at places.
 #[derive(Drop)]
 pub struct Work<R: Row> {
-    frame: Frame,
-    slots: Vec<Option<Entry<R>>>,
-    places: IndexMap<Name, usize>,
-    links: Links,
-    number: u64,
+    pub(crate) frame: Frame,
+    pub(crate) slots: Vec<Option<Entry<R>>>,
+    pub(crate) places: IndexMap<Name, usize>,
+    pub(crate) links: Links,
+    pub(crate) number: u64,
 }
 
 impl<R: Row> Model for Work<R> {
