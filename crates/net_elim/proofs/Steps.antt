@@ -1,0 +1,351 @@
+-- Steps of elimination on a network at work: which table is next, what comes when it goes, and that the tables grow fewer.
+use Rattle.std.proofs.Common.{◌≡◌, ℕ, ◌+◌, ◌<◌, ◌==◌, zero, suc, ℤ, Bool, true, false, not, ◌&&◌, ◌||◌, Result, Ok, IfOk, cond, if◌then◌else◌, Option, Some, None, is_some, List, [], ◌∷◌, ◌++◌, length, map, filter, bytes_eq, int_lt, slice_get, set, refl, sym, ap, ap₂, ◌∙◌, subst, arith, length-append}
+use Rattle.std.specs.List.{AllByRecursion}
+use Rattle.std.specs.Option.{option_map, option_map_or}
+use Rattle.std.proofs.lemmas.Bool.{false≢true, eqb-true, eqb-false}
+use Rattle.std.proofs.lemmas.List.{length-map, length-set}
+use Rattle.std.proofs.lemmas.Option.{same_Some}
+use Rattle.circuit_model.specs.Names.{has, all_different}
+use Rattle.circuit_model.specs.Values.{driver}
+use Rattle.circuit_model.specs.Soundness.{outputs_of, IsSound}
+use Rattle.circuit_model.specs.declared.circuit.Table.{Table}
+use Rattle.circuit_model.specs.declared.circuit.Circuit.{Circuit}
+use Rattle.circuit_laws.specs.Chains.{Leads, Chain}
+use Rattle.circuit_laws.specs.Edits.{tables_kept, with_tables, without, is_root}
+use Rattle.circuit_laws.proofs.Names.{name_itself, name_not, different_head, different_tail, has_head, has_tail}
+use Rattle.elim_rules.specs.Eliminating.{all_take, is_candidate, lesser, least, with_taken, with_eliminated, eliminate_step}
+use Rattle.elim_rules.proofs.Leasts.{least_only}
+use Rattle.elim_rules.proofs.Putting.{taking_reduced}
+use Rattle.elim_rules.proofs.Stepping.{step_reduced}
+use Rattle.net_core.specs.Places.{written_of}
+use Rattle.net_core.specs.Reads.{value_of}
+use Rattle.net_core.specs.Tables.{named}
+use Rattle.net_core.specs.declared.places.Entry.{Entry}
+use Rattle.net_core.proofs.Lookups.{get_set_same, get_set_other, get_push_left, get_push_at}
+use Rattle.net_core.proofs.Removals.{removed_table, tables_differ}
+use Rattle.net_work.specs.Placed.{Placed, standing, circuit_of, joined, table_at, with_slot}
+use Rattle.sweep_rules.proofs.Mapped.{outputs-mapped}
+use Rattle.table_algebra.specs.Taking.{taken_in}
+use Rattle.table_algebra.proofs.Taken.{taken_output}
+use Rattle.net_elim.specs.Putting.{slots_taken, with_put}
+use Rattle.net_elim.specs.Waiting.{when, worth_within, worth_at, flat, waits_at, AreWaiting, IsLeast, IsLeastTo}
+use Rattle.net_elim.proofs.Leasts.{value_there, value_within}
+use Rattle.net_elim.proofs.Places.{drives_at, standing_map}
+use Rattle.net_elim.proofs.Readers.{taken_there}
+
+-- a table that goes
+without_none : (tables : List Table) (name : List ℕ) → has (outputs_of tables) name ≡ false → without tables name ≡ tables
+unfolding tables_kept
+without_none [] name h = refl
+without_none (table ∷ tables) name h = cases (bytes_eq name table.output) h (λ k. without_none tables name k)
+  where
+    cases : (b : Bool) → (b || has (outputs_of tables) name) ≡ false → (has (outputs_of tables) name ≡ false → without tables name ≡ tables) → cond (not b) (table ∷ without tables name) (without tables name) ≡ table ∷ tables
+    cases true k rest = absurd (false≢true (sym k))
+    cases false k rest = ap (λ (ts : List Table). table ∷ ts) (rest k)
+
+there_named : (slots : List (Option Table)) (place : ℕ) (t : Table) → table_at slots place ≡ Some t → has (outputs_of (standing slots)) t.output ≡ true
+unfolding standing
+there_named [] place t e = absurd (let z : None ≡ Some t = e in cc)
+there_named (None ∷ slots) zero t e = absurd (let z : None ≡ Some t = e in cc)
+there_named (None ∷ slots) (suc place) t e = there_named slots place t e
+there_named (Some s ∷ slots) zero t e = subst (λ (u : Table). has (outputs_of (s ∷ standing slots)) u.output ≡ true) (same_Some s t e) (has_head s.output (outputs_of (standing slots)))
+there_named (Some s ∷ slots) (suc place) t e = has_tail s.output (outputs_of (standing slots)) t.output (there_named slots place t e)
+
+pub standing_gone : (slots : List (Option Table)) (place : ℕ) (t : Table) → all_different (outputs_of (standing slots)) ≡ true → table_at slots place ≡ Some t → standing (set slots place None) ≡ without (standing slots) t.output
+unfolding standing tables_kept
+standing_gone [] place t different e = absurd (let z : None ≡ Some t = e in cc)
+standing_gone (None ∷ slots) zero t different e = absurd (let z : None ≡ Some t = e in cc)
+standing_gone (None ∷ slots) (suc place) t different e = standing_gone slots place t different e
+standing_gone (Some s ∷ slots) zero t different e =
+    subst (λ (u : Table). standing slots ≡ without (s ∷ standing slots) u.output) (same_Some s t e)
+    (sym (ap (λ (b : Bool). cond (not b) (s ∷ without (standing slots) s.output) (without (standing slots) s.output)) (name_itself s.output)
+    ∙ without_none (standing slots) s.output (different_head s.output (outputs_of (standing slots)) different)))
+standing_gone (Some s ∷ slots) (suc place) t different e =
+    let apart : bytes_eq t.output s.output ≡ false =
+    name_not t.output s.output (λ same.
+    false≢true (sym (different_head s.output (outputs_of (standing slots)) different) ∙ subst (λ (name : List ℕ). has (outputs_of (standing slots)) name ≡ true) same (there_named slots place t e))) in
+    ap (λ (ts : List Table). s ∷ ts) (standing_gone slots place t (different_tail s.output (outputs_of (standing slots)) different) e)
+    ∙ sym (ap (λ (b : Bool). cond (not b) (s ∷ without (standing slots) t.output) (without (standing slots) t.output)) apart)
+
+standing_fewer : (slots : List (Option Table)) (place : ℕ) (t : Table) → table_at slots place ≡ Some t → suc (length (standing (set slots place None))) ≡ length (standing slots)
+unfolding standing
+standing_fewer [] place t e = absurd (let z : None ≡ Some t = e in cc)
+standing_fewer (None ∷ slots) zero t e = absurd (let z : None ≡ Some t = e in cc)
+standing_fewer (None ∷ slots) (suc place) t e = standing_fewer slots place t e
+standing_fewer (Some s ∷ slots) zero t e = refl
+standing_fewer (Some s ∷ slots) (suc place) t e = ap suc (standing_fewer slots place t e)
+
+taken_at_place : (slots : List (Option Table)) (place : ℕ) (inner : Table) → table_at slots place ≡ Some inner → table_at (slots_taken inner slots) place ≡ Some (taken_in inner inner)
+taken_at_place slots place inner e = ap joined (taken_there inner slots place inner e)
+
+pub eliminated_circuit : (placed next : Placed) (place : ℕ) (inner : Table) → IsSound (circuit_of placed) → table_at placed.slots place ≡ Some inner → next ≡ with_slot (with_put inner placed) place None
+    → circuit_of next ≡ with_eliminated (circuit_of placed) inner
+eliminated_circuit placed next place inner sound e is =
+    let put : standing (slots_taken inner placed.slots) ≡ map (taken_in inner) (standing placed.slots) = standing_map (taken_in inner) placed.slots in
+    let outputs : outputs_of (map (taken_in inner) (standing placed.slots)) ≡ outputs_of (standing placed.slots) = outputs-mapped (taken_in inner) (taken_output inner) (standing placed.slots) in
+    let different : all_different (outputs_of (standing (slots_taken inner placed.slots))) ≡ true =
+    ap (λ (ts : List Table). all_different (outputs_of ts)) put ∙ (ap all_different outputs ∙ tables_differ (circuit_of placed) sound) in
+    let gone : standing (set (slots_taken inner placed.slots) place None) ≡ without (map (taken_in inner) (standing placed.slots)) inner.output =
+    standing_gone (slots_taken inner placed.slots) place (taken_in inner inner) different (taken_at_place placed.slots place inner e)
+    ∙ (ap (λ (ts : List Table). without ts (taken_in inner inner).output) put ∙ ap (without (map (taken_in inner) (standing placed.slots))) (taken_output inner inner)) in
+    let at : driver (standing placed.slots) inner.output ≡ Some inner = drives_at placed.slots (tables_differ (circuit_of placed) sound) place inner e in
+    let drives : has (outputs_of (map (taken_in inner) (standing placed.slots))) inner.output ≡ true = ap (λ (names : List (List ℕ)). has names inner.output) outputs ∙ there_named placed.slots place inner e in
+    ap circuit_of is ∙ (ap (λ (ts : List Table). with_tables placed.frame ts) gone
+    ∙ sym (removed_table (with_taken (circuit_of placed) inner) inner.output (taking_reduced (circuit_of placed) inner sound at).change.sound drives))
+
+pub eliminated_fewer : (placed next : Placed) (place : ℕ) (inner : Table) → table_at placed.slots place ≡ Some inner → next ≡ with_slot (with_put inner placed) place None
+    → length (standing next.slots) < length (standing placed.slots)
+eliminated_fewer placed next place inner e is =
+    let same : length (standing (slots_taken inner placed.slots)) ≡ length (standing placed.slots) =
+    ap length (standing_map (taken_in inner) placed.slots) ∙ length-map (standing placed.slots) (taken_in inner) in
+    let fewer : suc (length (standing (set (slots_taken inner placed.slots) place None))) ≡ length (standing (slots_taken inner placed.slots)) =
+    standing_fewer (slots_taken inner placed.slots) place (taken_in inner inner) (taken_at_place placed.slots place inner e) in
+    let now : length (standing next.slots) ≡ length (standing (set (slots_taken inner placed.slots) place None)) = ap (λ (p : Placed). length (standing p.slots)) is in
+    omega (arith, same, fewer, now)
+
+-- the first least of the tables that pass a test
+filtered_at : (P : Table → Type 0) (test : Table → Bool) (slots : List (Option Table)) → ((place : ℕ) (t : Table) → table_at slots place ≡ Some t → test t ≡ true → P t) → AllByRecursion P (filter test (standing slots))
+unfolding standing
+filtered_at P test [] h = tt
+filtered_at P test (None ∷ slots) h = filtered_at P test slots (λ place. h (suc place))
+filtered_at P test (Some s ∷ slots) h = cases (test s) refl (filtered_at P test slots (λ place. h (suc place)))
+  where
+    cases : (b : Bool) → test s ≡ b → AllByRecursion P (filter test (standing slots)) → AllByRecursion P (cond b (s ∷ filter test (standing slots)) (filter test (standing slots)))
+    cases true e rest = (h 0 s refl e, rest)
+    cases false e rest = rest
+
+filtered_none : (test : Table → Bool) (slots : List (Option Table)) → ((place : ℕ) (t : Table) → table_at slots place ≡ Some t → test t ≡ true → ⊥) → filter test (standing slots) ≡ []
+unfolding standing
+filtered_none test [] h = refl
+filtered_none test (None ∷ slots) h = filtered_none test slots (λ place. h (suc place))
+filtered_none test (Some s ∷ slots) h = cases (test s) refl (filtered_none test slots (λ place. h (suc place)))
+  where
+    cases : (b : Bool) → test s ≡ b → filter test (standing slots) ≡ [] → cond b (s ∷ filter test (standing slots)) (filter test (standing slots)) ≡ []
+    cases true e rest = absurd (h 0 s refl e)
+    cases false e rest = rest
+
+least_at : (value : Table → ℤ) (test : Table → Bool) (slots : List (Option Table)) (place : ℕ) (t : Table) → table_at slots place ≡ Some t → test t ≡ true
+    → ((other : ℕ) (u : Table) → table_at slots other ≡ Some u → test u ≡ true → int_lt (value u) (value t) ≡ false)
+    → ((other : ℕ) (u : Table) → other < place → table_at slots other ≡ Some u → test u ≡ true → int_lt (value t) (value u) ≡ true)
+    → least value (filter test (standing slots)) ≡ Some t
+unfolding standing least
+least_at value test [] place t e h no_lesser greater = absurd (let z : None ≡ Some t = e in cc)
+least_at value test (None ∷ slots) zero t e h no_lesser greater = absurd (let z : None ≡ Some t = e in cc)
+least_at value test (None ∷ slots) (suc place) t e h no_lesser greater =
+    least_at value test slots place t e h (λ other. no_lesser (suc other)) (λ other u lt. greater (suc other) u (omega (arith, lt)))
+least_at value test (Some s ∷ slots) zero t e h no_lesser greater =
+    let same : s ≡ t = same_Some s t e in
+    ap (λ (b : Bool). least value (cond b (s ∷ filter test (standing slots)) (filter test (standing slots)))) (ap test same ∙ h)
+    ∙ (least_only value (s ∷ filter test (standing slots)) s (record {
+      before = [];
+      after = filter test (standing slots);
+      among = refl;
+      greater = tt;
+      no_lesser = subst (λ (u : Table). AllByRecursion (λ (o : Table). int_lt (value o) (value u) ≡ false) (filter test (standing slots))) (sym same)
+          (filtered_at (λ (o : Table). int_lt (value o) (value t) ≡ false) test slots (λ other. no_lesser (suc other)));
+    })
+    ∙ ap (λ (u : Table). Some u) same)
+least_at value test (Some s ∷ slots) (suc place) t e h no_lesser greater =
+    cases (test s) refl (least_at value test slots place t e h (λ other. no_lesser (suc other)) (λ other u lt. greater (suc other) u (omega (arith, lt))))
+  where
+    cases : (b : Bool) → test s ≡ b → least value (filter test (standing slots)) ≡ Some t → least value (cond b (s ∷ filter test (standing slots)) (filter test (standing slots))) ≡ Some t
+    cases true k rest = ap (λ (later : Option Table). Some (lesser value s later)) rest ∙ ap (λ (b : Bool). Some (cond b t s)) (greater 0 s (omega arith) refl k)
+    cases false k rest = rest
+
+-- what waits
+when_some : (b : Bool) (v w : ℤ) → when b v ≡ Some w → (b ≡ true) × (v ≡ w)
+when_some true v w e = (refl, same_Some v w e)
+when_some false v w e = absurd (let z : None ≡ Some w = e in cc)
+
+worth_of_table : (threshold : ℤ) (placed : Placed) (place : ℕ) (t : Table) → table_at placed.slots place ≡ Some t → worth_at threshold placed place ≡ worth_within threshold placed t
+worth_of_table threshold placed place t e = ap (λ (o : Option Table). option_map_or (worth_within threshold placed) o None) e
+
+rootless : (placed : Placed) (name : List ℕ) → is_root (circuit_of placed) name ≡ is_root placed.frame name
+unfolding is_root
+rootless placed name = refl
+
+candidate_worth : (threshold : ℤ) (rows : ℕ) (placed : Placed) (t : Table) → is_candidate threshold rows (circuit_of placed) t ≡ true
+    → (worth_within threshold placed t ≡ Some (value_of (standing placed.slots) t.output)) × (all_take rows (circuit_of placed) t ≡ true)
+unfolding is_candidate is_root
+candidate_worth threshold rows placed t h =
+    cases (not (is_root placed.frame t.output)) (not (int_lt threshold (value_of (standing placed.slots) t.output))) (all_take rows (circuit_of placed) t) h
+  where
+    cases : (a b c : Bool) → (a && (b && c)) ≡ true → (when (a && b) (value_of (standing placed.slots) t.output) ≡ Some (value_of (standing placed.slots) t.output)) × (c ≡ true)
+    cases true true true k = (refl, refl)
+    cases true true false k = absurd (false≢true k)
+    cases true false c k = absurd (false≢true k)
+    cases false b c k = absurd (false≢true k)
+
+worth_candidate : (threshold : ℤ) (rows : ℕ) (placed : Placed) (t : Table) (v : ℤ) → worth_within threshold placed t ≡ Some v → all_take rows (circuit_of placed) t ≡ true
+    → is_candidate threshold rows (circuit_of placed) t ≡ true
+unfolding is_candidate is_root
+worth_candidate threshold rows placed t v h takes =
+    cases (not (is_root placed.frame t.output)) (not (int_lt threshold (value_of (standing placed.slots) t.output))) (all_take rows (circuit_of placed) t)
+    (when_some (not (is_root placed.frame t.output) && not (int_lt threshold (value_of (standing placed.slots) t.output))) (value_of (standing placed.slots) t.output) v h).0 takes
+  where
+    cases : (a b c : Bool) → (a && b) ≡ true → c ≡ true → (a && (b && c)) ≡ true
+    cases true true true k m = refl
+    cases true true false k m = m
+    cases true false c k m = absurd (false≢true k)
+    cases false b c k m = absurd (false≢true k)
+
+pub place_within : (slots : List (Option Table)) (place : ℕ) (t : Table) → table_at slots place ≡ Some t → place < length slots
+place_within [] place t e = absurd (let z : None ≡ Some t = e in cc)
+place_within (s ∷ slots) zero t e = omega arith
+place_within (s ∷ slots) (suc place) t e = omega (arith, place_within slots place t e)
+
+pub worth_counted : {R : Type 0} (threshold : ℤ) (placed : Placed) (place : ℕ) (entry : Entry R) (inner : Bool) (v : ℤ) (made : Option ℤ) → Some (written_of entry) ≡ table_at placed.slots place
+    → inner ≡ not (is_root placed.frame entry.output) → ((t : Table) → table_at placed.slots place ≡ Some t → v ≡ value_of (standing placed.slots) t.output)
+    → made ≡ when (inner && not (int_lt threshold v)) v → made ≡ worth_at threshold placed place
+unfolding named
+worth_counted threshold placed place entry inner v made there root value is =
+    is ∙ (ap₂ (λ (a : Bool) (w : ℤ). when (a && not (int_lt threshold w)) w) root (value (written_of entry) (sym there)) ∙ sym (worth_of_table threshold placed place (written_of entry) (sym there)))
+
+pub worth_answered : {R E : Type 0} (threshold : ℤ) (placed : Placed) (place : ℕ) (entry : Entry R) (inner : Bool) (found : Result ℤ E) (made : Option ℤ) → Some (written_of entry) ≡ table_at placed.slots place
+    → inner ≡ not (is_root placed.frame entry.output) → IfOk found (λ v. (t : Table) → table_at placed.slots place ≡ Some t → v ≡ value_of (standing placed.slots) t.output)
+    → (v : ℤ) × (found ≡ Ok v) × (made ≡ when (inner && not (int_lt threshold v)) v) → made ≡ worth_at threshold placed place
+worth_answered threshold placed place entry inner found made there root value h =
+    worth_counted threshold placed place entry inner h.0 made there root
+    (subst (λ r. IfOk r (λ v. (t : Table) → table_at placed.slots place ≡ Some t → v ≡ value_of (standing placed.slots) t.output)) h.1 value) h.2
+
+-- one value more
+pub pushed_long : (values next : List (Option ℤ)) (v : Option ℤ) (place : ℕ) → length values ≡ place → next ≡ values ++ v ∷ [] → length next ≡ place + 1
+pushed_long values next v place long grown =
+    let more : length (values ++ v ∷ []) ≡ length values + 1 = length-append values (v ∷ []) in
+    let same : length next ≡ length (values ++ v ∷ []) = ap length grown in
+    omega (arith, long, more, same)
+
+pub worths_more : (threshold : ℤ) (placed : Placed) (values next : List (Option ℤ)) (place : ℕ) (v : Option ℤ) → length values ≡ place
+    → ((other : ℕ) → other < place → slice_get values other ≡ Some (worth_at threshold placed other)) → v ≡ worth_at threshold placed place → next ≡ values ++ v ∷ []
+    → (other : ℕ) → other < place + 1 → slice_get next other ≡ Some (worth_at threshold placed other)
+worths_more threshold placed values next place v long each is grown other lt = ap (λ (xs : List (Option ℤ)). slice_get xs other) grown ∙ cases (other == place) refl
+  where
+    cases : (b : Bool) → (other == place) ≡ b → slice_get (values ++ v ∷ []) other ≡ Some (worth_at threshold placed other)
+    cases true e =
+        let at : other ≡ length values = eqb-true other place e ∙ sym long in
+        ap (slice_get (values ++ v ∷ [])) at ∙ (get_push_at values v ∙ ap (λ (x : Option ℤ). Some x) (is ∙ ap (worth_at threshold placed) (sym (eqb-true other place e))))
+    cases false e =
+        let apart : other ≡ place → ⊥ = eqb-false other place e in get_push_left values v (worth_at threshold placed other) other (each other (omega (arith, lt, apart)))
+
+pub begun_waiting : (threshold : ℤ) (rows : ℕ) (placed : Placed) (values : List (Option ℤ)) → length values ≡ length placed.slots
+    → ((place : ℕ) → place < length placed.slots → slice_get values place ≡ Some (worth_at threshold placed place)) → AreWaiting threshold rows placed values
+begun_waiting threshold rows placed values long each = record {
+  long = long;
+  worth = λ place v h. ap flat (sym (each place (omega (arith, long, value_within values place v h)))) ∙ h;
+  all = λ place t e h. ap flat (each place (place_within placed.slots place t e));
+}
+
+-- a value that waits is that of a table
+pub waits_there : (threshold : ℤ) (rows : ℕ) (placed : Placed) (values : List (Option ℤ)) (place : ℕ) (v : ℤ) → AreWaiting threshold rows placed values → waits_at values place ≡ Some v
+    → (t : Table) × (table_at placed.slots place ≡ Some t)
+waits_there threshold rows placed values place v are here = cases (table_at placed.slots place) refl (are.worth place v here)
+  where
+    cases : (o : Option Table) → table_at placed.slots place ≡ o → option_map_or (worth_within threshold placed) o None ≡ Some v → (t : Table) × (table_at placed.slots place ≡ Some t)
+    cases None e k = absurd (let z : None ≡ Some v = k in cc)
+    cases (Some t) e k = (t, e)
+
+pub there_is : (threshold : ℤ) (rows : ℕ) (placed : Placed) (values : List (Option ℤ)) (place : ℕ) (v : ℤ) → AreWaiting threshold rows placed values → waits_at values place ≡ Some v → is_some (table_at placed.slots place) ≡ true
+there_is threshold rows placed values place v are here = let (t, e) = waits_there threshold rows placed values place v are here in ap is_some e
+
+-- the next one
+pub step_found : (threshold : ℤ) (rows : ℕ) (placed : Placed) (values : List (Option ℤ)) (place : ℕ) → AreWaiting threshold rows placed values → IsLeast values (length values) place
+    → (inner : Table) → table_at placed.slots place ≡ Some inner → all_take rows (circuit_of placed) inner ≡ true → eliminate_step threshold rows (circuit_of placed) ≡ Some (with_eliminated (circuit_of placed) inner)
+unfolding eliminate_step
+step_found threshold rows placed values place are first inner e takes =
+    let own : worth_within threshold placed inner ≡ Some first.value = sym (worth_of_table threshold placed place inner e) ∙ are.worth place first.value first.here in
+    let value : value_of (standing placed.slots) inner.output ≡ first.value =
+    (when_some (not (is_root placed.frame inner.output) && not (int_lt threshold (value_of (standing placed.slots) inner.output))) (value_of (standing placed.slots) inner.output) first.value own).1 in
+    ap (option_map (with_eliminated (circuit_of placed)))
+    (least_at (λ (t : Table). value_of (standing placed.slots) t.output) (is_candidate threshold rows (circuit_of placed)) placed.slots place inner e
+    (worth_candidate threshold rows placed inner first.value own takes)
+    (λ other u at fits.
+    subst (λ (v : ℤ). int_lt (value_of (standing placed.slots) u.output) v ≡ false) (sym value)
+    (first.no_lesser other (value_of (standing placed.slots) u.output) (omega (arith, are.long, place_within placed.slots other u at)) (waiting other u at fits)))
+    (λ other u lt at fits.
+    subst (λ (v : ℤ). int_lt v (value_of (standing placed.slots) u.output) ≡ true) (sym value) (first.greater other (value_of (standing placed.slots) u.output) lt (waiting other u at fits))))
+  where
+    waiting : (other : ℕ) (u : Table) → table_at placed.slots other ≡ Some u → is_candidate threshold rows (circuit_of placed) u ≡ true → waits_at values other ≡ Some (value_of (standing placed.slots) u.output)
+    waiting other u at fits = are.all other u at fits ∙ (worth_of_table threshold placed other u at ∙ (candidate_worth threshold rows placed u fits).0)
+
+pub step_none : (threshold : ℤ) (rows : ℕ) (placed : Placed) (values : List (Option ℤ)) → AreWaiting threshold rows placed values → IsLeastTo values (length values) None
+    → eliminate_step threshold rows (circuit_of placed) ≡ None
+unfolding eliminate_step least
+step_none threshold rows placed values are none =
+    ap (λ (ts : List Table). option_map (with_eliminated (circuit_of placed)) (least (λ (t : Table). value_of (standing placed.slots) t.output) ts))
+    (filtered_none (is_candidate threshold rows (circuit_of placed)) placed.slots
+    (λ place t at fits.
+    none place (value_of (standing placed.slots) t.output) (omega (arith, are.long, place_within placed.slots place t at))
+    (are.all place t at fits ∙ (worth_of_table threshold placed place t at ∙ (candidate_worth threshold rows placed t fits).0))))
+
+-- the answers of a try
+pub step_done : (threshold : ℤ) (rows : ℕ) (placed mid next : Placed) (values list : List (Option ℤ)) (place : ℕ) (done : Bool) → mid ≡ placed → AreWaiting threshold rows placed values → list ≡ values
+    → IsLeast list (length list) place → done ≡ true → ((inner : Table) → table_at mid.slots place ≡ Some inner → done ≡ all_take rows (circuit_of mid) inner)
+    → (done ≡ true → (inner : Table) → table_at mid.slots place ≡ Some inner → circuit_of next ≡ with_eliminated (circuit_of mid) inner) → eliminate_step threshold rows (circuit_of placed) ≡ Some (circuit_of next)
+step_done threshold rows placed mid next values list place done same are is first yes_ answer circuit =
+    let least : IsLeast values (length values) place = subst (λ (xs : List (Option ℤ)). IsLeast xs (length xs) place) is first in
+    let (inner, e) = waits_there threshold rows placed values place least.value are least.here in
+    let e_mid : table_at mid.slots place ≡ Some inner = ap (λ (p : Placed). table_at p.slots place) same ∙ e in
+    let takes : all_take rows (circuit_of placed) inner ≡ true = ap (λ (p : Placed). all_take rows (circuit_of p) inner) (sym same) ∙ (sym (answer inner e_mid) ∙ yes_) in
+    step_found threshold rows placed values place are least inner e takes
+    ∙ ap (λ (c : Circuit). Some c) (ap (λ (p : Placed). with_eliminated (circuit_of p) inner) (sym same) ∙ sym (circuit yes_ inner e_mid))
+
+pub done_fewer : (threshold : ℤ) (rows : ℕ) (placed mid next : Placed) (values list : List (Option ℤ)) (place : ℕ) (done : Bool) → mid ≡ placed → AreWaiting threshold rows placed values → list ≡ values
+    → IsLeast list (length list) place → done ≡ true → (done ≡ true → (inner : Table) → table_at mid.slots place ≡ Some inner → next ≡ with_slot (with_put inner mid) place None)
+    → length (standing next.slots) < length (standing placed.slots)
+done_fewer threshold rows placed mid next values list place done same are is first yes_ gone =
+    let least : IsLeast values (length values) place = subst (λ (xs : List (Option ℤ)). IsLeast xs (length xs) place) is first in
+    let (inner, e) = waits_there threshold rows placed values place least.value are least.here in
+    let e_mid : table_at mid.slots place ≡ Some inner = ap (λ (p : Placed). table_at p.slots place) same ∙ e in
+    eliminated_fewer placed next place inner e (gone yes_ inner e_mid ∙ ap (λ (p : Placed). with_slot (with_put inner p) place None) same)
+
+pub refused_before : (rows : ℕ) (placed mid : Placed) (place : ℕ) (done : Bool) → mid ≡ placed → done ≡ false → ((inner : Table) → table_at mid.slots place ≡ Some inner → done ≡ all_take rows (circuit_of mid) inner)
+    → (inner : Table) → table_at placed.slots place ≡ Some inner → false ≡ all_take rows (circuit_of placed) inner
+refused_before rows placed mid place done same none answer inner e =
+    sym none ∙ (answer inner (ap (λ (p : Placed). table_at p.slots place) same ∙ e) ∙ ap (λ (p : Placed). all_take rows (circuit_of p) inner) same)
+
+pub chosen : (bit : Bool) (o : Option Circuit) (next : Circuit) → o ≡ (if bit then Some next else None) → bit ≡ true → o ≡ Some next
+chosen bit o next is h = is ∙ ap (λ (b : Bool). if b then Some next else None) h
+
+-- one that is refused waits no more
+pub waiting_less : (threshold : ℤ) (rows : ℕ) (placed : Placed) (values : List (Option ℤ)) (place : ℕ) (v : ℤ) → AreWaiting threshold rows placed values → waits_at values place ≡ Some v
+    → ((inner : Table) → table_at placed.slots place ≡ Some inner → false ≡ all_take rows (circuit_of placed) inner) → AreWaiting threshold rows placed (set values place None)
+waiting_less threshold rows placed values place v are here refused = record {
+  long = length-set values place None ∙ are.long;
+  worth = λ other w h. worth other w h (place == other) refl;
+  all = λ other t e h. all other t e h (place == other) refl;
+}
+  where
+    stays : (other : ℕ) → (place == other) ≡ false → waits_at (set values place None) other ≡ waits_at values other
+    stays other apart = ap flat (get_set_other values place other None (λ same. eqb-false place other apart (sym same)))
+
+    worth : (other : ℕ) (w : ℤ) → waits_at (set values place None) other ≡ Some w → (b : Bool) → (place == other) ≡ b → worth_at threshold placed other ≡ Some w
+    worth other w h true same =
+        absurd (let z : None ≡ Some w = sym (ap flat (get_set_same values place (Some v) None (value_there values place v here))) ∙ (ap (waits_at (set values place None)) (eqb-true place other same) ∙ h) in cc)
+    worth other w h false apart = are.worth other w (sym (stays other apart) ∙ h)
+
+    all : (other : ℕ) (t : Table) → table_at placed.slots other ≡ Some t → is_candidate threshold rows (circuit_of placed) t ≡ true → (b : Bool) → (place == other) ≡ b
+        → waits_at (set values place None) other ≡ worth_at threshold placed other
+    all other t e h true same =
+        absurd (false≢true (refused t (ap (table_at placed.slots) (eqb-true place other same) ∙ e) ∙ (candidate_worth threshold rows placed t h).1))
+    all other t e h false apart = stays other apart ∙ are.all other t e h
+
+-- chains of steps
+pub record IsLed (step : Circuit → Option Circuit) (from to : Circuit) : Type 0 where
+  pub between : List Circuit
+  pub leads : Leads step between from to
+
+leads_more : (step : Circuit → Option Circuit) (between : List Circuit) (from to next : Circuit) → Leads step between from to → step to ≡ Some next → Leads step (between ++ next ∷ []) from next
+leads_more step [] from to next same e = (ap step same ∙ e, refl)
+leads_more step (first ∷ between) from to next h e = (h.0, leads_more step between first to next h.1 e)
+
+pub led_itself : (step : Circuit → Option Circuit) (from : Circuit) → IsLed step from from
+led_itself step from = record { between = []; leads = refl }
+
+pub led_more : (step : Circuit → Option Circuit) (from to next : Circuit) → IsLed step from to → step to ≡ Some next → IsLed step from next
+led_more step from to next led e = record { between = led.between ++ next ∷ []; leads = leads_more step led.between from to next led.leads e }
+
+pub led_chain : (step : Circuit → Option Circuit) (from to : Circuit) → IsLed step from to → step to ≡ None → Chain step from to
+led_chain step from to led e = record { between = led.between; leads = led.leads; finished = e }
+
+pub next_sound : (threshold : ℤ) (rows : ℕ) (circuit next : Circuit) → IsSound circuit → eliminate_step threshold rows circuit ≡ Some next → IsSound next
+next_sound threshold rows circuit next sound e = (step_reduced threshold rows circuit next sound e).change.sound

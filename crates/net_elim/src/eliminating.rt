@@ -1,0 +1,145 @@
+//! Elimination, step by step.
+
+ghost use Rattle.std.specs.Prelude.{◌≡◌, ℕ, ℤ, ◌<◌, Ok, Bool, true, false, not, ◌&&◌, if◌then◌else◌, Option, Some, None, List, length, is_some, slice_get, int_lt, IfOk, OnOk};
+ghost use Rattle.circuit_model.specs.Soundness.{IsSound};
+ghost use Rattle.circuit_model.specs.declared.circuit.Table.{Table as TheWritten};
+ghost use Rattle.circuit_laws.specs.Chains.{Chain};
+ghost use Rattle.elim_rules.specs.Eliminating.{all_take, with_eliminated, eliminate_step};
+ghost use Rattle.net_work.specs.Placed.{standing, circuit_of, table_at, with_slot};
+ghost use Rattle.net_elim.specs.Putting.{with_put};
+ghost use Rattle.net_elim.specs.Waiting.{when, worth_at};
+
+use crate::least::least_place;
+use crate::putting::{PutFault, put_at};
+use cube_cover::Row;
+use net_core::Network;
+use net_work::Work;
+use std::alloc::{AllocError, Global};
+
+/// The table at a place is taken into all that read it, and goes; or a reader cannot take it in, and nothing changed. An error only
+/// for want of memory, and then any network may stand.
+pub(crate) fn eliminate_at<R: Row>(
+    alloc: Global,
+    work: &mut Work<R>,
+    place: usize,
+    rows: usize,
+) -> Result<bool, AllocError>
+    requires sound { IsSound (circuit_of work.old) }
+    requires there { is_some (table_at work.old.slots place) ≡ true }
+    ensures answer { IfOk result (λ done. (inner : TheWritten) → table_at work.old.slots place ≡ Some inner → done ≡ all_take rows (circuit_of work.old) inner) }
+    ensures done { IfOk result (λ done. done ≡ true → (inner : TheWritten) → table_at work.old.slots place ≡ Some inner → work.new ≡ with_slot (with_put inner work.old) place None) }
+    ensures circuit { IfOk result (λ done. done ≡ true → (inner : TheWritten) → table_at work.old.slots place ≡ Some inner → circuit_of work.new ≡ with_eliminated (circuit_of work.old) inner) }
+    ensures same { IfOk result (λ done. done ≡ false → work.new ≡ work.old) }
+{
+    match put_at(alloc, work, place, rows) {
+        Ok(()) => {
+            work.remove(alloc, place)?;
+            Ok(true)
+        }
+        Err(PutFault::Refused) => Ok(false),
+        Err(PutFault::Memory) => Err(AllocError),
+    }
+}
+
+// A value, where it counts and is not above a threshold.
+fn counted(
+    counts: bool,
+    value: Result<i128, AllocError>,
+    threshold: i32,
+) -> Result<Option<i128>, AllocError>
+    ensures { IfOk result (λ made. (worth : ℤ) × (value ≡ Ok worth) × (made ≡ when (counts && not (int_lt threshold worth)) worth)) }
+{
+    match value {
+        Err(fault) => Err(fault),
+        Ok(value) => {
+            if counts && value <= i128::from(threshold) {
+                Ok(Some(value))
+            } else {
+                Ok(None)
+            }
+        }
+    }
+}
+
+// What the table at a place is worth, where it is no root's and not worth more than a threshold.
+fn worth_of<R: Row>(
+    work: &Work<R>,
+    place: usize,
+    threshold: i32,
+) -> Result<Option<i128>, AllocError>
+    ensures { IfOk result (λ value. value ≡ worth_at threshold work.now place) }
+{
+    match work.entry(place) {
+        None => Ok(None),
+        Some(entry) => counted(work.is_inner(&entry.output), work.value(place), threshold),
+    }
+}
+
+// What the tables at all places are worth.
+fn all_worths<R: Row>(
+    alloc: Global,
+    work: &Work<R>,
+    threshold: i32,
+) -> Result<Vec<Option<i128>>, AllocError>
+    ensures long { IfOk result (λ values. length values.items ≡ length work.now.slots) }
+    ensures each { IfOk result (λ values. (place : ℕ) → place < length work.now.slots → slice_get values.items place ≡ Some (worth_at threshold work.now place)) }
+{
+    let mut values = Vec::with_capacity(alloc, work.len())?;
+    for place in 0..work.len() {
+        values.push(worth_of(work, place, threshold)?)?;
+    }
+    Ok(values)
+}
+
+// Takes the next step, if there is one: of the tables that are worth least the first that its readers can take in goes.
+fn take_step<R: Row>(
+    alloc: Global,
+    work: &mut Work<R>,
+    threshold: i32,
+    rows: usize,
+) -> Result<bool, AllocError>
+    requires { IsSound (circuit_of work.old) }
+    ensures step { IfOk result (λ taken. eliminate_step threshold rows (circuit_of work.old) ≡ (if taken then Some (circuit_of work.new) else None)) }
+    ensures same { IfOk result (λ taken. taken ≡ false → work.new ≡ work.old) }
+    ensures fewer { IfOk result (λ taken. taken ≡ true → length (standing work.new.slots) < length (standing work.old.slots)) }
+{
+    let mut values = all_worths(alloc, work, threshold)?;
+    while let Some(place) = least_place(values.as_slice()) {
+        if eliminate_at(alloc, work, place, rows)? {
+            return Ok(true);
+        }
+        values[place] = None;
+    }
+    Ok(false)
+}
+
+// Takes steps until none applies.
+fn take_steps<R: Row>(
+    alloc: Global,
+    work: &mut Work<R>,
+    threshold: i32,
+    rows: usize,
+) -> Result<(), AllocError>
+    requires { IsSound (circuit_of work.old) }
+    ensures sound { OnOk result (IsSound (circuit_of work.new)) }
+    ensures chain { OnOk result (Chain (eliminate_step threshold rows) (circuit_of work.old) (circuit_of work.new)) }
+{
+    while take_step(alloc, work, threshold, rows)? {}
+    Ok(())
+}
+
+/// The network in which table after table was eliminated: always the first inner table of least value, not above the threshold, that
+/// all its readers can take in with no list of more than 32,767 rows and no result of more than `rows` rows or 1,000 inputs; until
+/// there is none. An error only for want of memory.
+pub fn eliminated<R: Row>(
+    alloc: Global,
+    network: Network<R>,
+    threshold: i32,
+    rows: usize,
+) -> Result<Network<R>, AllocError>
+    ensures { IfOk result (λ new. Chain (eliminate_step threshold rows) network new) }
+{
+    let mut work = Work::from_network(alloc, network)?;
+    take_steps(alloc, &mut work, threshold, rows)?;
+    Ok(work.into_network())
+}

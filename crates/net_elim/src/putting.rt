@@ -1,0 +1,212 @@
+//! A table is taken into all that read it: first all results are made, then each is set at its place.
+
+ghost use Rattle.std.specs.Prelude.{◌≡◌, ℕ, true, false, Some, None, List, [], ◌∷◌, ◌++◌, length, is_some, IfOk, IfErr, OnOk, ◌⊎◌};
+ghost use Rattle.std.specs.List.{AllByRecursion};
+ghost use Rattle.circuit_model.specs.Names.{has, all_different};
+ghost use Rattle.circuit_model.specs.Soundness.{IsSound};
+ghost use Rattle.circuit_model.specs.declared.circuit.Table.{Table as TheWritten};
+ghost use Rattle.elim_rules.specs.Eliminating.{all_take};
+ghost use Rattle.input_readers.specs.Readers.{is_in};
+ghost use Rattle.net_core.specs.Places.{written_of};
+ghost use Rattle.net_core.specs.Tables.{named, IsOverInputs};
+ghost use Rattle.net_work.specs.Placed.{standing, circuit_of, table_at};
+ghost use Rattle.net_work.specs.Slots.{inputs_at};
+ghost use Rattle.table_algebra.specs.Taking.{taken_in, take_refusal};
+ghost use Rattle.table_algebra.specs.declared.taking.TakeFault.TheVariants.{Memory as NoMemory};
+ghost use Rattle.net_elim.specs.Putting.{with_put, IsMade, IsFit, AreMade, places_of};
+ghost use Rattle.net_elim.specs.declared.putting.PutFault.TheVariants.{Refused, Memory};
+
+use cube_cover::Row;
+use net_core::{Entry, Table};
+use net_work::Work;
+use std::alloc::{AllocError, Global};
+use table_algebra::{TakeFault, take_in};
+
+/// How many rows a list may have by which a table is taken into another one.
+pub(crate) const LIST_LIMIT: usize = 32_767;
+
+/// Why a table is not taken into all that read it.
+#[derive(Clone, Copy, Debug, PartialEq, Eq, Drop)]
+pub(crate) enum PutFault {
+    /// Some reader cannot take it in.
+    Refused,
+    /// There is not enough memory.
+    Memory,
+}
+
+impl From<AllocError> for PutFault {
+    ghost use Rattle.std.specs.Prelude.{◌≡◌};
+    ghost use Rattle.net_elim.specs.declared.putting.PutFault.TheVariants.{Memory};
+
+    ghost from_gives = { λ _ fault. fault ≡ Memory };
+
+    fn from(_error: AllocError) -> PutFault {
+        PutFault::Memory
+    }
+}
+
+/// What the table at a place becomes.
+#[derive(Drop)]
+pub(crate) struct Made<R: Row> {
+    pub(crate) place: usize,
+    pub(crate) table: Table<R>,
+}
+
+// What the table at a place becomes where another one is taken into it.
+fn taken_at<R: Row>(
+    alloc: Global,
+    work: &Work<R>,
+    inner: &Entry<R>,
+    place: usize,
+    rows: usize,
+) -> Result<Table<R>, TakeFault>
+    requires there { is_some (table_at work.now.slots place) ≡ true }
+    requires over { IsOverInputs inner.now.table }
+    requires once { all_different inner.now.table.inputs ≡ true }
+    requires apart { has inner.now.table.inputs inner.now.output ≡ false }
+    ensures ok { IfOk result (λ made. (outer : TheWritten) → table_at work.now.slots place ≡ Some outer → named outer.output made ≡ taken_in (written_of inner.now) outer) }
+    ensures over { IfOk result IsOverInputs }
+    ensures once { IfOk result (λ made. all_different made.inputs ≡ true) }
+    ensures within { OnOk result ((outer : TheWritten) → table_at work.now.slots place ≡ Some outer → take_refusal 32767 rows (written_of inner.now) outer ≡ None) }
+    ensures fault { IfErr result (λ fault. (fault ≡ NoMemory) ⊎ ((outer : TheWritten) → table_at work.now.slots place ≡ Some outer → take_refusal 32767 rows (written_of inner.now) outer ≡ Some fault)) }
+{
+    match work.entry(place) {
+        None => unreachable!(),
+        Some(outer) => take_in(
+            alloc,
+            &inner.output,
+            &inner.table,
+            &outer.table,
+            LIST_LIMIT,
+            rows,
+        ),
+    }
+}
+
+// The fault of a network for that of one reader.
+fn fault_of(fault: TakeFault) -> PutFault
+    ensures memory { fault ≡ TakeFault.Memory → result ≡ PutFault.Memory }
+    ensures refused { result ≡ PutFault.Memory → fault ≡ TakeFault.Memory }
+{
+    match fault {
+        TakeFault::CubeLimit => PutFault::Refused,
+        TakeFault::TooWide(_) => PutFault::Refused,
+        TakeFault::Memory => PutFault::Memory,
+    }
+}
+
+// Puts what was made behind the last.
+fn put_last<R: Row>(made: &mut Vec<Made<R>>, one: Made<R>) -> Result<(), AllocError>
+    ensures { OnOk result (made.new.items ≡ made.old.items ++ one ∷ []) }
+{
+    made.push(one)?;
+    Ok(())
+}
+
+// Puts what the table at a place becomes behind the last.
+fn push_made<R: Row>(
+    alloc: Global,
+    work: &Work<R>,
+    inner: &Entry<R>,
+    place: usize,
+    rows: usize,
+    made: &mut Vec<Made<R>>,
+) -> Result<(), PutFault>
+    requires there { is_some (table_at work.now.slots place) ≡ true }
+    requires over { IsOverInputs inner.now.table }
+    requires once { all_different inner.now.table.inputs ≡ true }
+    requires apart { has inner.now.table.inputs inner.now.output ≡ false }
+    ensures places { OnOk result (places_of made.new.items ≡ places_of made.old.items ++ place ∷ []) }
+    ensures made { OnOk result (AllByRecursion (IsMade (written_of inner.now) work.now.slots) made.old.items → AllByRecursion (IsMade (written_of inner.now) work.now.slots) made.new.items) }
+    ensures fit { OnOk result (AllByRecursion IsFit made.old.items → AllByRecursion IsFit made.new.items) }
+    ensures within { OnOk result ((outer : TheWritten) → table_at work.now.slots place ≡ Some outer → take_refusal 32767 rows (written_of inner.now) outer ≡ None) }
+    ensures fault { IfErr result (λ fault. (fault ≡ Memory) ⊎ ((fault ≡ Refused) × ((outer : TheWritten) → table_at work.now.slots place ≡ Some outer → is_some (take_refusal 32767 rows (written_of inner.now) outer) ≡ true))) }
+{
+    match taken_at(alloc, work, inner, place, rows) {
+        Ok(table) => {
+            put_last(made, Made { place, table })?;
+            Ok(())
+        }
+        Err(fault) => Err(fault_of(fault)),
+    }
+}
+
+// What the tables at some places become where another one is taken into them.
+fn all_made<R: Row>(
+    alloc: Global,
+    work: &Work<R>,
+    inner: &Entry<R>,
+    readers: &[usize],
+    rows: usize,
+) -> Result<Vec<Made<R>>, PutFault>
+    requires there { (place : ℕ) → is_in readers.now place ≡ true → is_some (table_at work.now.slots place) ≡ true }
+    requires over { IsOverInputs inner.now.table }
+    requires once { all_different inner.now.table.inputs ≡ true }
+    requires apart { has inner.now.table.inputs inner.now.output ≡ false }
+    ensures places { IfOk result (λ made. places_of made.items ≡ readers.now) }
+    ensures made { IfOk result (λ made. AllByRecursion (IsMade (written_of inner.now) work.now.slots) made.items) }
+    ensures fit { IfOk result (λ made. AllByRecursion IsFit made.items) }
+    ensures within { OnOk result ((place : ℕ) (outer : TheWritten) → is_in readers.now place ≡ true → table_at work.now.slots place ≡ Some outer → take_refusal 32767 rows (written_of inner.now) outer ≡ None) }
+    ensures fault { IfErr result (λ fault. (fault ≡ Memory) ⊎ ((fault ≡ Refused) × ((place : ℕ) × ((outer : TheWritten) → table_at work.now.slots place ≡ Some outer → is_some (take_refusal 32767 rows (written_of inner.now) outer) ≡ true) × (is_some (table_at work.now.slots place) ≡ true)))) }
+{
+    let mut made = Vec::with_capacity(alloc, readers.len())?;
+    for place in readers {
+        push_made(alloc, work, inner, *place, rows, &mut made)?;
+    }
+    Ok(made)
+}
+
+// What the tables that read the one at a place become where it is taken into them.
+fn made_for<R: Row>(
+    alloc: Global,
+    work: &Work<R>,
+    place: usize,
+    rows: usize,
+) -> Result<Vec<Made<R>>, PutFault>
+    requires sound { IsSound (circuit_of work.now) }
+    requires there { is_some (table_at work.now.slots place) ≡ true }
+    ensures made { IfOk result (λ made. (inner : TheWritten) → table_at work.now.slots place ≡ Some inner → AreMade inner work.now.slots made.items) }
+    ensures fit { IfOk result (λ made. AllByRecursion IsFit made.items) }
+    ensures within { OnOk result ((inner : TheWritten) → table_at work.now.slots place ≡ Some inner → all_take rows (circuit_of work.now) inner ≡ true) }
+    ensures fault { IfErr result (λ fault. (fault ≡ Memory) ⊎ ((fault ≡ Refused) × ((inner : TheWritten) → table_at work.now.slots place ≡ Some inner → all_take rows (circuit_of work.now) inner ≡ false))) }
+{
+    match work.entry(place) {
+        None => unreachable!(),
+        Some(inner) => {
+            let readers = work.readers(alloc, &inner.output)?;
+            all_made(alloc, work, inner, readers.as_slice(), rows)
+        }
+    }
+}
+
+// Sets what was made at its places, where tables stand.
+fn set_all<R: Row>(alloc: Global, work: &mut Work<R>, made: Vec<Made<R>>) -> Result<(), AllocError>
+    requires fit { AllByRecursion IsFit made.items }
+    requires made { (inner : TheWritten) × AreMade inner work.old.slots made.items }
+    ensures { OnOk result ((inner : TheWritten) → AreMade inner work.old.slots made.items → work.new ≡ with_put inner work.old) }
+{
+    let mut left = made;
+    while let Some(one) = left.pop() {
+        work.set(alloc, one.place, one.table)?;
+    }
+    Ok(())
+}
+
+/// The table at a place is taken into all that read it, and stays; refused where a reader cannot take it in, and then nothing
+/// changed. For want of memory any network may stand.
+pub(crate) fn put_at<R: Row>(
+    alloc: Global,
+    work: &mut Work<R>,
+    place: usize,
+    rows: usize,
+) -> Result<(), PutFault>
+    requires sound { IsSound (circuit_of work.old) }
+    requires there { is_some (table_at work.old.slots place) ≡ true }
+    ensures put { OnOk result ((inner : TheWritten) → table_at work.old.slots place ≡ Some inner → work.new ≡ with_put inner work.old) }
+    ensures within { OnOk result ((inner : TheWritten) → table_at work.old.slots place ≡ Some inner → all_take rows (circuit_of work.old) inner ≡ true) }
+    ensures fault { IfErr result (λ fault. (fault ≡ Memory) ⊎ ((fault ≡ Refused) × (work.new ≡ work.old) × ((inner : TheWritten) → table_at work.old.slots place ≡ Some inner → all_take rows (circuit_of work.old) inner ≡ false))) }
+{
+    let made = made_for(alloc, work, place, rows)?;
+    set_all(alloc, work, made)?;
+    Ok(())
+}
