@@ -3,3 +3,4 @@ pub mod Grammar
 pub mod Machine
 pub mod Text
 pub mod Texts
+pub mod Values

@@ -1,3 +1,14 @@
 pub mod Steps
 pub mod Statements
 pub mod PinSteps
+pub mod EntrySteps
+pub mod PinFaults
+pub mod Spelled
+pub mod Indexing
+pub mod WellNamed
+pub mod Bounds
+pub mod Cells
+pub mod Mentions
+pub mod Sound
+pub mod ReadSteps
+pub mod Shorter

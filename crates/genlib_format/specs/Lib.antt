@@ -2,3 +2,10 @@ pub mod Words
 pub mod Statements
 pub mod Pins
 pub mod Gates
+pub mod Entries
+pub mod Faults
+pub mod Reader
+pub mod Answers
+pub mod Library
+pub mod Soundness
+pub mod Taken

@@ -1,18 +1,25 @@
-//! Library files of the mapper: their words, and the entry of a gate.
+//! Library files of the mapper: the gates of a file, or its first fault.
 //!
-//! Source: the genlib format of SIS (UCB/ERL M92/41). Promised: `words_of` gives the words of the file, each with the
-//! number of its line (`specs/Words.antt`); `gate_lines` reads the entry of a gate just as `specs/Gates.antt` says, and
-//! leaves the words behind it, `Rest::statement` the text to the first `;` (`specs/Statements.antt`), `pin_lines` the
-//! lines of pins (`specs/Pins.antt`). Each gives none just where its definition does; then the words that are left are
-//! not told. Numbers and expressions are not looked at here. The only error is want of memory.
+//! Source: the genlib format of SIS (UCB/ERL M92/41). `specs/Words.antt` to `specs/Entries.antt` say which entries a file
+//! has, `specs/Faults.antt` and `specs/Reader.antt` what is wrong with them and which gates they say. Promised: `read`
+//! gives exactly the library that the file says, or exactly the first fault in the order of the entries; the library is
+//! sound; `Library::gate` is the first gate of a name, and `Gate::rows` the rows of its function. Each other error is want of
+//! memory.
 #![tactic(auto)]
 
+mod checks;
+mod entries;
+mod fault;
+mod gate;
 mod gates;
+pub mod laws;
+mod library;
 mod pins;
+mod reading;
 mod rest;
 mod words;
 
-pub use gates::{GateLines, gate_lines};
-pub use pins::{PinLine, PinLines, pin_lines};
-pub use rest::Rest;
-pub use words::{Lined, words_of};
+pub use fault::{LibFault, LimitKind, ReadFault};
+pub use gate::{Block, Blocks, Gate};
+pub use library::Library;
+pub use reading::read;

@@ -1,0 +1,165 @@
+//! What is wrong with the entry of a gate, whatever stands before it.
+
+ghost use Rattle.std.specs.Prelude.{◌≡◌, ◌≤◌, bytes_eq, ℕ, List, ◌∷◌, [], ◌&&◌, ◌||◌, not, nat_lt, None, length, find, is_some, map, option_map, option_copied, take};
+ghost use Rattle.std.specs.List.{list_all, list_any};
+ghost use Rattle.circuit_model.specs.Names.{has};
+ghost use Rattle.genlib_expr.specs.Text.{pins_of, depth_of};
+ghost use Rattle.genlib_format.specs.declared.pins.PinLine.{PinLine as ThePinLine};
+ghost use Rattle.genlib_format.specs.Faults.{is_number, has_delays, number_fault, limit_fault, star, is_named, has_line, wrong_line, bare_pin, wrong_name, long_name};
+
+use crate::fault::{LibFault, LimitKind};
+use crate::gates::GateLines;
+use crate::pins::PinLine;
+use genlib_expr::Parsed;
+use sis_base::Name;
+use sis_text::Decimal;
+
+/// Whether a word is a number.
+fn is_number(word: &Name) -> bool
+    ensures { result ≡ is_number word.now }
+{
+    Decimal::parse(word.as_slice()).is_some()
+}
+
+/// Whether the delays of a pin are numbers.
+fn has_delays(pin: &PinLine) -> bool
+    ensures { result ≡ has_delays pin.now }
+{
+    is_number(&pin.rise) && is_number(&pin.fall)
+}
+
+/// Whether the delays of all pins are numbers.
+fn have_delays(pins: &[PinLine]) -> bool
+    ensures { result ≡ list_all has_delays pins.now }
+{
+    pins.iter().all(|pin| has_delays(pin))
+}
+
+/// The fault of a number that is wanting.
+#[tactic(auto, unfolding(crate::specs::Faults::number_fault))]
+pub fn number_fault(lines: &GateLines) -> Option<LibFault>
+    ensures { result ≡ number_fault lines.now }
+{
+    if is_number(&lines.area) && have_delays(lines.pins.as_slice()) {
+        return None;
+    }
+    Some(LibFault::BadNumber(lines.line))
+}
+
+/// The first of some names that is longer than a name may be.
+fn first_long(names: &[Name]) -> Option<&Name>
+    ensures { option_copied result ≡ find (λ (name : List ℕ). nat_lt 1023 (length name)) names.now }
+{
+    names.iter().find(|name| name.len() > 1023)
+}
+
+/// The fault of the first of some names that is too long.
+#[tactic(auto, unfolding(crate::specs::Faults::long_name))]
+fn long_name(names: &[Name]) -> Option<LibFault>
+    ensures { result ≡ long_name names.now }
+{
+    match first_long(names) {
+        None => None,
+        Some(name) => Some(LibFault::Limit(LimitKind::Name, name.len())),
+    }
+}
+
+/// The fault of a gate's names: its cell's, its output's, its pins'.
+#[tactic(auto, unfolding(crate::specs::Faults::long_name))]
+fn names_fault(cell: &Name, output: &Name, pins: &[Name]) -> Option<LibFault>
+    ensures { result ≡ long_name (cell.now ∷ output.now ∷ pins.now) }
+{
+    if cell.len() > 1023 {
+        return Some(LibFault::Limit(LimitKind::Name, cell.len()));
+    }
+    if output.len() > 1023 {
+        return Some(LibFault::Limit(LimitKind::Name, output.len()));
+    }
+    long_name(pins)
+}
+
+/// The fault of a limit that is passed.
+#[tactic(auto, unfolding(crate::specs::Faults::limit_fault, crate::specs::Faults::first_of))]
+pub fn limit_fault(lines: &GateLines, parsed: &Parsed) -> Option<LibFault>
+    requires pins { parsed.now.pins ≡ pins_of lines.now.text }
+    requires depth { parsed.now.depth ≡ depth_of lines.now.text }
+    ensures value { result ≡ limit_fault lines.now }
+    ensures few { result ≡ None → length parsed.now.pins ≤ 15 }
+{
+    if let Some(fault) = names_fault(&lines.cell, &lines.output, parsed.pins.as_slice()) {
+        return Some(fault);
+    }
+    if parsed.depth > 64 {
+        return Some(LibFault::Limit(LimitKind::Depth, parsed.depth));
+    }
+    if parsed.pins.len() > 15 {
+        return Some(LibFault::Limit(LimitKind::Pins, parsed.pins.len()));
+    }
+    None
+}
+
+/// Whether a name is among some.
+pub fn has(names: &[Name], name: &Name) -> bool
+    ensures { result ≡ has names.now name.now }
+{
+    names.iter().any(|other| name == other)
+}
+
+/// Whether a name has a line.
+pub fn has_line(lines: &[PinLine], name: &[u8]) -> bool
+    ensures { result ≡ has_line lines.now name.now }
+{
+    lines.iter().any(|line| name == line.name.as_slice())
+}
+
+/// Whether the name of a line is neither `*` nor a pin, or has a line before.
+fn is_wrong(before: &[PinLine], pins: &[Name], name: &Name) -> bool
+    ensures { result ≡ (not (bytes_eq star name.now || has pins.now name.now) || has_line before.now name.now) }
+{
+    !(b"*".as_slice() == name.as_slice() || has(pins, name)) || has_line(before, name.as_slice())
+}
+
+/// The first name of a line that is neither `*` nor a pin, or that a line before it has.
+#[tactic(auto, using(crate::proofs::PinFaults::line_wrong, crate::proofs::PinFaults::line_right, crate::proofs::PinFaults::lines_done, std::proofs::lemmas::Grind::common_steps))]
+fn wrong_line<'a>(pins: &[Name], lines: &'a [PinLine]) -> Option<&'a Name>
+    ensures { option_copied result ≡ wrong_line [] pins.now lines.now }
+{
+    for (i, line) in lines.iter().enumerate() {
+        if is_wrong(&lines[..i], pins, &line.name) {
+            return Some(&line.name);
+        }
+    }
+    None
+}
+
+/// The first pin that has no line.
+fn first_bare<'a>(lines: &[PinLine], pins: &'a [Name]) -> Option<&'a Name>
+    ensures { option_copied result ≡ find (λ (pin : List ℕ). not (has_line lines.now pin)) pins.now }
+{
+    pins.iter().find(|pin| !has_line(lines, pin.as_slice()))
+}
+
+/// The first pin without a line, where no line stands for all others.
+#[tactic(auto, unfolding(crate::specs::Faults::bare_pin))]
+fn bare_pin<'a>(lines: &[PinLine], pins: &'a [Name]) -> Option<&'a Name>
+    ensures { option_copied result ≡ bare_pin lines.now pins.now }
+{
+    if has_line(lines, b"*") {
+        return None;
+    }
+    first_bare(lines, pins)
+}
+
+/// The first name that is wrong: the output as a pin, a line's name, a pin without a line.
+#[tactic(auto, unfolding(crate::specs::Faults::wrong_name, crate::specs::Faults::first_of))]
+pub fn wrong_name<'a>(output: &'a Name, pins: &'a [Name], lines: &'a [PinLine]) -> Option<&'a Name>
+    ensures { option_copied result ≡ wrong_name output.now pins.now lines.now }
+{
+    if has(pins, output) {
+        return Some(output);
+    }
+    if let Some(name) = wrong_line(pins, lines) {
+        return Some(name);
+    }
+    bare_pin(lines, pins)
+}
