@@ -4,8 +4,8 @@ use Rattle.std.specs.List.{list_all, list_any}
 use Rattle.subject_tree.specs.Trees.{Tree, product_of, sum_of, value_at}
 use Rattle.subject_tree.proofs.Values.{complement-value, product-value, sum-value}
 use Rattle.genlib_expr.specs.Formula.{Formula, constant, pin, complement, product, sum}
+use Rattle.genlib_expr.specs.Values.{formula_value}
 use Rattle.pattern_set.specs.Patterns.{factors, terms, IsParting, none_left, to_first, to_second, IsPattern, of_pin, of_complement, of_product, of_sum, IsJoined, of_one, of_parts}
-use Rattle.pattern_set.specs.Values.{formula_value}
 
 and_assoc : (a b c : Bool) → (a && (b && c)) ≡ ((a && b) && c)
 and_assoc true b c = refl

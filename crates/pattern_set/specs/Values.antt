@@ -1,16 +1,8 @@
--- What a formula says of its pins: its value, and which pins stand in it.
--- Source: the genlib format of SIS (UCB/ERL M92/41): `!` is the complement, `*` the product, `+` the sum.
-use Rattle.std.specs.Prelude.{◌≡◌, ℕ, Bool, not, ◌&&◌, ◌||◌, ◌⊎◌}
+-- Which pins stand in a formula, and which leaves in a tree.
+-- Source: the genlib format of SIS (UCB/ERL M92/41): a gate's pins are the names of its expression.
+use Rattle.std.specs.Prelude.{◌≡◌, ℕ, ◌⊎◌}
 use Rattle.subject_tree.specs.Trees.{Tree, Leaf, Inv, Nand}
 use Rattle.genlib_expr.specs.Formula.{Formula, constant, pin, complement, product, sum}
-
--- the value of a formula where those of its pins are given
-unfoldable pub formula_value : (ℕ → Bool) → Formula → Bool
-formula_value value (constant bit) = bit
-formula_value value (pin place) = value place
-formula_value value (complement e) = not (formula_value value e)
-formula_value value (product d e) = formula_value value d && formula_value value e
-formula_value value (sum d e) = formula_value value d || formula_value value e
 
 -- a pin stands in a formula
 unfoldable pub HasPin : ℕ → Formula → Type 0

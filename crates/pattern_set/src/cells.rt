@@ -5,6 +5,7 @@ use sis_base::Sequence;
 use subject_tree::Arena;
 
 /// A cell of a library: its area in millionths, the formula of its output, and how many pins it has.
+#[derive(Clone, Copy)]
 pub struct Cell<'a> {
     pub area: u128,
     pub expr: &'a Expr,

@@ -3,8 +3,9 @@
 ghost use Rattle.std.specs.Prelude.{◌≡◌, ℕ, Bool, ◌↔◌};
 ghost use Rattle.subject_tree.specs.Trees.{Tree, value_at};
 ghost use Rattle.genlib_expr.specs.Formula.{Formula};
+ghost use Rattle.genlib_expr.specs.Values.{formula_value};
 ghost use Rattle.pattern_set.specs.Patterns.{IsPattern};
-ghost use Rattle.pattern_set.specs.Values.{formula_value, HasPin, HasLeaf};
+ghost use Rattle.pattern_set.specs.Values.{HasPin, HasLeaf};
 
 /// A pattern of a formula has the formula's value.
 pub fn patterns_have_values()

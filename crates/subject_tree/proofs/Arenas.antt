@@ -167,6 +167,24 @@ put-has eq old new v w number put arena over at same =
           ∙ built-agrees (trees old) (trees new) (length old) v over (λ n h. (put-keeps eq old new v put n h).1)),
     )
 
+-- each number that is taken was taken before, or has the vertex's tree
+pub put-added : (eq : Vertex → Vertex → Bool) (old new : List Vertex) (v : Vertex) → IsPut eq old new v → IsArena old → IsOver (length old) v → (n : ℕ) → n < length new → (n < length old) ⊎ (tree_at new n ≡ built (trees old) v)
+put-added eq old new v put arena over n lt = elim (put-either eq old new v put) as (λ _. (n < length old) ⊎ (tree_at new n ≡ built (trees old) v)) [
+  | inl e ↦ inl (subst (λ (vs : List Vertex). n < length vs) e lt)
+  | inr (e, other) ↦ elim (cases_lt n (length old)) as (λ _. (n < length old) ⊎ (tree_at new n ≡ built (trees old) v)) [
+    | inl before ↦ inl before
+    | inr past ↦ inr (last e past)
+  ]
+]
+  where
+    last : new ≡ old ++ v ∷ [] → length old ≤ n → tree_at new n ≡ built (trees old) v
+    last e past =
+        let long : length new ≡ length (old ++ v ∷ []) = ap (λ (vs : List Vertex). length vs) e in
+        let one : length (v ∷ []) ≡ 1 = refl in
+        let at : n ≡ length old = omega (arith, lt, past, long, one, length-append old (v ∷ [])) in
+        let here : vertex_at new n ≡ v = ap (λ (vs : List Vertex). vertex_at vs n) e ∙ (ap (λ (k : ℕ). vertex_at (old ++ v ∷ []) k) at ∙ get_or-append_seam old v [] (AtLeaf 0)) in
+        (put-arena eq old new v put arena over).reads n lt ∙ (ap (built (trees new)) here ∙ built-agrees (trees old) (trees new) (length old) v over (λ m h. (put-keeps eq old new v put m h).1))
+
 -- past the last number the tree is the leaf that the vertex there is
 reads_past : (vs : List Vertex) (n : ℕ) → length vs ≤ n → tree_at vs n ≡ built (trees vs) (vertex_at vs n)
 reads_past vs n past =

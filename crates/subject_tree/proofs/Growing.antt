@@ -31,7 +31,7 @@ put_table circuit signal put = cases (driver circuit.tables signal) refl put
     cases None e put = absurd (false≢true put)
     cases (Some table) e put = (table, e, put_full _ _ _ put)
 
-same_map : {X : Type 0} (f g : List ℕ → X) (names : List (List ℕ)) → AllByRecursion (λ name. f name ≡ g name) names → map f names ≡ map g names
+pub same_map : {X : Type 0} (f g : List ℕ → X) (names : List (List ℕ)) → AllByRecursion (λ name. f name ≡ g name) names → map f names ≡ map g names
 same_map f g [] h = refl
 same_map {X} f g (name ∷ names) h =
     ap (λ (x : X). x ∷ map f names) h.0 ∙ ap (λ (xs : List X). g name ∷ xs) (same_map f g names h.1)
@@ -58,7 +58,7 @@ mapped_value value tree [] h = refl
 mapped_value value tree (name ∷ names) h =
     ap (λ (x : Bool). x ∷ map (value_at value) (map tree names)) h.0 ∙ ap (λ (xs : List Bool). value name ∷ xs) (mapped_value value tree names h.1)
 
-mapped_length : (tree : List ℕ → Tree (List ℕ)) (names : List (List ℕ)) → length (map tree names) ≡ length names
+pub mapped_length : (tree : List ℕ → Tree (List ℕ)) (names : List (List ℕ)) → length (map tree names) ≡ length names
 mapped_length tree [] = refl
 mapped_length tree (name ∷ names) = ap (λ (n : ℕ). suc n) (mapped_length tree names)
 

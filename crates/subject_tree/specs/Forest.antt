@@ -84,3 +84,7 @@ pub record AreTrees (circuit : Circuit) (tree : List ℕ → Tree (List ℕ)) : 
 abbrev pub PutObey : Circuit → (List ℕ → Bool) → Type 0
 PutObey circuit value =
     (signal : List ℕ) (table : Table) → is_put circuit signal ≡ true → driver circuit.tables signal ≡ Some table → value signal ≡ table_value table (map value table.inputs)
+
+-- the table of a signal, if it is put into its reader
+unfoldable pub put_driver : Circuit → List ℕ → Option Table
+put_driver circuit signal = if is_put circuit signal then driver circuit.tables signal else None

@@ -5,3 +5,6 @@ pub mod Sizes
 pub mod Steps
 pub mod Tables
 pub mod Forest
+pub mod Roots
+pub mod Reading
+pub mod Pruning

@@ -1,6 +1,6 @@
 //! Numbered vertices, and the trees that they are.
 
-ghost use Rattle.std.specs.Prelude.{◌≡◌, ◌==◌, ◌<◌, ℕ, [], length, IfOk};
+ghost use Rattle.std.specs.Prelude.{◌≡◌, ◌==◌, ◌<◌, ◌⊎◌, ℕ, [], length, IfOk, OnOk};
 ghost use Rattle.subject_tree.specs.Trees.{Leaf as TheLeaf, Nand as TheNand, complement_of, product_of, sum_of};
 ghost use Rattle.subject_tree.specs.Arenas.{trees, tree_at, built, vertex_at, IsOver, IsArena, KeepsTrees, Has};
 
@@ -77,11 +77,13 @@ impl Arena {
         }
     }
 
-    /// The number of a vertex over numbers that are taken, which is a new one where no tree was equal to its own.
+    /// The number of a vertex over numbers that are taken, which is a new one where no tree was equal to its own; nothing else is
+    /// added.
     pub fn number_of(&mut self, vertex: Vertex) -> Result<usize, AllocError>
         requires { IsOver (length self.old) vertex }
         ensures ok { IfOk result (λ number. Has self.new number (built (trees self.old) vertex)) }
         ensures kept { KeepsTrees self.old self.new }
+        ensures added { OnOk result ((n : ℕ) → n < length self.new → (n < length self.old) ⊎ (tree_at self.new n ≡ built (trees self.old) vertex)) }
     {
         let (number, _) = self.nodes.insert_full(vertex)?;
         Ok(number)

@@ -1,16 +1,20 @@
 //! What holds of trees, of their order and of their values.
 
-ghost use Rattle.std.specs.Prelude.{◌≡◌, ◌<◌, ℕ, Bool, true, false, not, ◌&&◌, ◌||◌, Some, List, map, length};
+ghost use Rattle.std.specs.Prelude.{◌≡◌, ◌<◌, ℕ, Bool, true, false, not, ◌&&◌, ◌||◌, Some, List, map, length, slice_get};
 ghost use Rattle.std.specs.List.{AllByRecursion};
 ghost use Rattle.std.specs.Cmp.{IsTotalOrder};
 ghost use Rattle.std.specs.declared.cmp.Ordering.TheVariants.{Equal};
 ghost use Rattle.circuit_model.specs.Names.{all_different};
 ghost use Rattle.circuit_model.specs.Values.{driver, table_value};
-ghost use Rattle.circuit_model.specs.Soundness.{IsAcyclic, IsShaped};
+ghost use Rattle.circuit_model.specs.Soundness.{IsAcyclic, IsShaped, outputs_of};
 ghost use Rattle.circuit_model.specs.declared.circuit.Circuit.{Circuit as TheCircuit};
 ghost use Rattle.circuit_model.specs.declared.circuit.Tri.{Tri as TheTri};
 ghost use Rattle.circuit_model.specs.declared.circuit.Table.{Table as TheTable};
 ghost use Rattle.subject_tree.specs.Trees.{Tree, complement_of, product_of, sum_of, value_at, renamed};
+ghost use Rattle.subject_tree.specs.Arenas.{tree_at};
+ghost use Rattle.subject_tree.specs.Roots.{roots_of, IsForest};
+ghost use Rattle.subject_tree.specs.declared.arena.Vertex.{Vertex as TheVertex};
+ghost use Rattle.subject_tree.specs.declared.forest.Root.{Root as TheRoot};
 ghost use Rattle.subject_tree.specs.Order.{tree_cmp, place_cmp, name_cmp, name_at, LeavesBelow};
 ghost use Rattle.subject_tree.specs.Tables.{table_tree, is_constant};
 ghost use Rattle.subject_tree.specs.Forest.{AreTrees, PutObey};
@@ -49,4 +53,20 @@ pub fn forest_trees_have_values()
     ensures { (circuit : TheCircuit) (tree : List ℕ → Tree (List ℕ)) (value : List ℕ → Bool) → IsAcyclic circuit.tables → AllByRecursion IsShaped circuit.tables → AreTrees circuit tree → PutObey circuit value
         → (signal : List ℕ) (table : TheTable) → driver circuit.tables signal ≡ Some table → is_constant table ≡ false → (t : Tree (List ℕ)) → table_tree (map tree table.inputs) table ≡ Some t
         → value_at value t ≡ table_value table (map value table.inputs) }
+{}
+
+/// Where no table is reached from itself and all are shaped, there are trees of signals.
+pub fn forest_trees_are_there()
+    ensures { (circuit : TheCircuit) → IsAcyclic circuit.tables → AllByRecursion IsShaped circuit.tables → (tree : List ℕ → Tree (List ℕ)) × AreTrees circuit tree }
+{}
+
+/// The tree of a root of a forest has its table's value, at every valuation of names in which the tables that are put into
+/// their readers have theirs, and each of its leaves has a name.
+pub fn forest_roots_have_values()
+    ensures values { (circuit : TheCircuit) (vertices : List TheVertex) (names : List (List ℕ)) (roots : List TheRoot) (value : List ℕ → Bool) → IsAcyclic circuit.tables → all_different (outputs_of circuit.tables) ≡ true → AllByRecursion IsShaped circuit.tables
+        → IsForest circuit vertices names roots → PutObey circuit value
+        → (place : ℕ) (root : TheRoot) (table : TheTable) → slice_get roots place ≡ Some root → slice_get (roots_of circuit) place ≡ Some table
+        → value_at (λ leaf. value (name_at names leaf)) (tree_at vertices root.number) ≡ table_value table (map value table.inputs) }
+    ensures leaves { (circuit : TheCircuit) (vertices : List TheVertex) (names : List (List ℕ)) (roots : List TheRoot) → IsForest circuit vertices names roots
+        → (place : ℕ) (root : TheRoot) → slice_get roots place ≡ Some root → LeavesBelow (length names) (tree_at vertices root.number) }
 {}

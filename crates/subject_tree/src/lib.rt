@@ -4,19 +4,23 @@
 //! 1987); Rudell, "Logic Synthesis for VLSI Design" (thesis, University of California, Berkeley, 1989). `specs/Trees.antt`
 //! says what a tree is. An `Arena` keeps trees as numbered vertices in which equal trees share one number, so that no tree
 //! is walked to compare, to copy or to drop it; `Leaves` numbers the signals at their leaves. `table_number` makes the tree of
-//! a table, and `fates` tells which tables of a circuit are constant, put into their reader, left out, or roots of trees. Each
-//! error is want of memory.
+//! a table, `fates` tells which tables of a circuit are constant, put into their reader, left out, or roots of trees, and
+//! `forest_of` makes the trees of the roots (`specs/Roots.antt`). `laws` says what values trees have. Each error but
+//! TreeLimit is want of memory.
 #![tactic(auto)]
 
 mod arena;
+mod forest;
 mod judging;
 pub mod laws;
 mod leaves;
 mod order;
+mod pruning;
 mod sizes;
 mod tables;
 
 pub use arena::{Arena, Vertex};
+pub use forest::{Forest, ForestFault, LIMIT, Root, forest_of};
 pub use judging::{Fate, fates};
 pub use leaves::Leaves;
 pub use tables::table_number;

@@ -7,8 +7,8 @@ ghost use Rattle.subject_tree.specs.Sizes.{word_size, size_over as size_over_wor
 use crate::arena::{Arena, Vertex};
 use std::alloc::{AllocError, Global};
 
-// The size at a place; past the last that of a leaf.
-fn size_at(sizes: &[u64], number: usize) -> u64
+/// The size at a place; past the last that of a leaf.
+pub fn size_at(sizes: &[u64], number: usize) -> u64
     ensures { result ≡ slice_index_or sizes.now number 1 }
 {
     match sizes.get(number) {

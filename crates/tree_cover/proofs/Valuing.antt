@@ -4,8 +4,8 @@ use Rattle.std.proofs.lemmas.Option.{get_or_from_slice_get}
 use Rattle.subject_tree.specs.Trees.{Tree, Leaf, Inv, Nand, value_at}
 use Rattle.subject_tree.specs.Arenas.{tree_in, nowhere}
 use Rattle.genlib_expr.specs.Formula.{Formula}
+use Rattle.genlib_expr.specs.Values.{formula_value}
 use Rattle.pattern_set.specs.Patterns.{IsPattern}
-use Rattle.pattern_set.specs.Values.{formula_value}
 use Rattle.pattern_set.proofs.Values.{pattern-value}
 use Rattle.tree_cover.specs.Covers.{Tile, Matches, Least, LeastOfAll}
 
