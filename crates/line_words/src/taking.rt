@@ -1,0 +1,96 @@
+//! Words as a reader takes them.
+
+ghost use Rattle.std.specs.Prelude.{◌≡◌, ◌++◌, nat_lt, length, map, find, option_copied, IfOk, OnOk};
+ghost use Rattle.std.specs.List.{list_all};
+ghost use Rattle.line_words.specs.LineWords.{texts, first_word as first_of, other_words as others_of, long_name as long_among, is_character as is_character_byte, character_of as character_by};
+
+use circuit_model::{Name, Names, Row, Tri};
+use std::alloc::{AllocError, Global};
+
+/// The first word; the empty one where there is none.
+pub fn first_word<'a>(words: &[&'a [u8]]) -> &'a [u8]
+    ensures { result.now ≡ first_of (texts words.now) }
+{
+    match words {
+        [] => b"".as_slice(),
+        [first, ..] => first,
+    }
+}
+
+/// The words behind the first.
+pub fn other_words<'a, 'w>(words: &'w [&'a [u8]]) -> &'w [&'a [u8]]
+    ensures { texts result.now ≡ others_of (texts words.now) }
+{
+    match words {
+        [] => words,
+        [_, others @ ..] => others,
+    }
+}
+
+/// The name of a word; an error only for want of memory.
+pub fn name_of(alloc: Global, word: &[u8]) -> Result<Name, AllocError>
+    ensures { IfOk result (λ name. name ≡ word.now) }
+{
+    Name::from_slice(alloc, word)
+}
+
+/// Puts a name for each word behind the last of some names; an error only for want of memory.
+pub fn add_names(alloc: Global, names: &mut Names, words: &[&[u8]]) -> Result<(), AllocError>
+    ensures { OnOk result (names.new ≡ names.old ++ texts words.now) }
+{
+    for word in words {
+        names.push(name_of(alloc, word)?)?;
+    }
+    Ok(())
+}
+
+/// The first of some words that is longer than a name may be.
+fn first_long<'a, 'w>(words: &'w [&'a [u8]]) -> Option<&'w &'a [u8]>
+    ensures { option_copied result ≡ find (λ word. nat_lt 1023 (length word.now)) words.now }
+{
+    words.iter().find(|word| word.len() > 1023)
+}
+
+/// The length, in bytes, of the first word that is longer than a name may be.
+#[tactic(auto, unfolding(crate::specs::LineWords::long_name))]
+pub fn long_name(words: &[&[u8]]) -> Option<usize>
+    ensures { result ≡ long_among (texts words.now) }
+{
+    match first_long(words) {
+        None => None,
+        Some(word) => Some(word.len()),
+    }
+}
+
+/// Whether all bytes are cube characters: `0`, `1` or `-`.
+pub fn are_characters(bytes: &[u8]) -> bool
+    ensures { result ≡ list_all is_character_byte bytes.now }
+{
+    bytes
+        .iter()
+        .all(|byte| *byte == b'0' || *byte == b'1' || *byte == b'-')
+}
+
+/// The cube character of a byte; any byte but `0` and `1` is a dash.
+fn character_of(byte: u8) -> Tri
+    ensures { result ≡ character_by byte }
+{
+    if byte == b'0' {
+        Tri::Zero
+    } else if byte == b'1' {
+        Tri::One
+    } else {
+        Tri::Free
+    }
+}
+
+/// The cube characters of some bytes; an error only for want of memory.
+pub fn characters(alloc: Global, bytes: &[u8]) -> Result<Row, AllocError>
+    ensures { IfOk result (λ row. row ≡ map character_by bytes.now) }
+{
+    let mut row = Row::new(alloc);
+    for byte in bytes {
+        row.push(character_of(*byte))?;
+    }
+    Ok(row)
+}

@@ -1,0 +1,10 @@
+//! Finds the first two rows of a machine that clash.
+//!
+//! Two rows clash where they share an input point and a state and specify a next state or an output differently (De
+//! Micheli, "Synthesis and Optimization of Digital Circuits", chapter 9; `specs/Clashes.antt` of `machine_model`).
+//! Promised: just the definition's answer, the least later row and the least row before it that it clashes with.
+#![tactic(auto)]
+
+mod finding;
+
+pub use finding::first_clash;

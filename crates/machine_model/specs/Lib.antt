@@ -1,0 +1,5 @@
+pub mod Runs
+pub mod Behaviors
+pub mod Clashes
+pub mod Soundness
+pub mod Text
