@@ -4,6 +4,8 @@ use Rattle.std.specs.Prelude.{codes}
 use Rattle.sis_text.specs.Decimals.{number_of}
 use Rattle.sis_script.specs.Kinds.{number_within, integer_of, value_of}
 use Rattle.sis_script.specs.Grammar.{fill, parse_at, parse}
+use Rattle.sis_script.specs.Script.{parse_words}
+use Rattle.sis_script.specs.declared.script.Verb.TheVariants as verb
 use Rattle.sis_script.specs.declared.command.ScriptFault.{ScriptFault}
 use Rattle.sis_script.specs.declared.command.ScriptFault.TheVariants.{BadOption, MissingWord}
 use Rattle.sis_script.specs.declared.kinds.Kind.TheVariants as kind
@@ -17,7 +19,7 @@ valued : ℕ → ℕ → ℕ → OptionForm
 valued letter least most = record { letter = letter; kind = Some (kind.Number least most) }
 
 eliminate : List (List ℕ) → Result Given ScriptFault
-eliminate words = parse (valued 108 1 32767 ∷ []) (Needed kind.Integer ∷ []) words
+eliminate words = parse_words verb.Eliminate words
 
 tech_decomp : List (List ℕ) → Result Given ScriptFault
 tech_decomp words = parse (valued 97 2 1000 ∷ valued 111 2 1000 ∷ []) [] words

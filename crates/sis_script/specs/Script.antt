@@ -1,12 +1,12 @@
 -- The commands of a script.
 -- Source: the SIS manual's command language (UCB/ERL M92/41): commands are parted by `;` and line ends, words by
 -- blanks, and `#` begins a comment. No quotes or escapes. What the words behind a command's name give is the grammar's.
-use Rattle.std.specs.Prelude.{ℕ, Option, Some, None, Result, Ok, Err, List, [], ◌∷◌, bytes_eq, codes, if◌then◌else◌}
+use Rattle.std.specs.Prelude.{ℕ, ◌==◌, Option, Some, None, Result, Ok, Err, List, [], ◌∷◌, bytes_eq, codes, find, min, unwrap_or, if◌then◌else◌}
 use Rattle.sis_text.specs.Entries.{Entry}
 use Rattle.sis_script.specs.Grammar.{parse}
 use Rattle.sis_script.specs.declared.command.Op.{Op}
-use Rattle.sis_script.specs.declared.command.Op.TheVariants.{Echo, Quit, ReadBlif, WriteBlif, PrintStats, Print, PrintLatch, Change, Undo, Source, Bad}
-use Rattle.sis_script.specs.declared.command.Change.TheVariants.{Sweep}
+use Rattle.sis_script.specs.declared.command.Op.TheVariants.{Echo, Quit, ReadBlif, WriteBlif, PrintStats, Print, PrintLatch, PrintFactor, PrintKernel, Change, Undo, Source, Bad}
+use Rattle.sis_script.specs.declared.command.Change.TheVariants.{Sweep, Eliminate, Collapse}
 use Rattle.sis_script.specs.declared.command.ScriptFault.{ScriptFault}
 use Rattle.sis_script.specs.declared.command.ScriptFault.TheVariants.{BadCommand, MissingWord}
 use Rattle.sis_script.specs.declared.command.Command.{Command}
@@ -15,6 +15,7 @@ use Rattle.sis_script.specs.declared.script.Verb.TheVariants as verb
 use Rattle.sis_script.specs.declared.kinds.Kind.TheVariants as kind
 use Rattle.sis_script.specs.declared.kinds.Value.{Value}
 use Rattle.sis_script.specs.declared.kinds.Value.TheVariants as value
+use Rattle.sis_script.specs.declared.grammar.OptionGiven.{OptionGiven}
 use Rattle.sis_script.specs.declared.grammar.Slot.TheVariants.{Needed, Optional}
 use Rattle.sis_script.specs.declared.grammar.Given.{Given}
 
@@ -69,6 +70,45 @@ abbrev pub print_op : Result (Option (List ℕ)) ScriptFault → Op
 print_op (Ok name) = Print name
 print_op (Err fault) = Bad fault
 
+-- `print_factor`, by its name, if it has one
+abbrev pub print_factor_op : Result (Option (List ℕ)) ScriptFault → Op
+print_factor_op (Ok name) = PrintFactor name
+print_factor_op (Err fault) = Bad fault
+
+-- `print_kernel`, by the name that it needs
+abbrev pub print_kernel_op : Result (Option (List ℕ)) ScriptFault → Op
+print_kernel_op (Ok (Some name)) = PrintKernel name
+print_kernel_op (Ok None) = Bad MissingWord
+print_kernel_op (Err fault) = Bad fault
+
+-- the number that a value is, if there is one
+abbrev pub number_in : Option Value → Option ℕ
+number_in (Some (value.Number number)) = Some number
+number_in other = None
+
+-- the option of a letter, if it was given
+abbrev pub option_given : ℕ → List OptionGiven → Option OptionGiven
+option_given letter options = find (λ (option : OptionGiven). option.letter == letter) options
+
+-- the number behind an option, if there is one
+abbrev pub number_of : Option OptionGiven → Option ℕ
+number_of None = None
+number_of (Some option) = number_in option.value
+
+-- the number behind the option of a letter, if it was given
+unfoldable pub number_behind : ℕ → List OptionGiven → Option ℕ
+number_behind letter options = number_of (option_given letter options)
+
+-- `eliminate` with the most rows that a result may have, by the threshold that it needs
+abbrev pub eliminate_by : ℕ → Option Value → Op
+eliminate_by rows (Some (value.Integer threshold)) = Change (Eliminate threshold rows)
+eliminate_by rows other = Bad MissingWord
+
+-- `eliminate`: the most rows are the number behind `-l`, which is 32,767 at most; 1,000 where it is not given
+abbrev pub eliminate_op : Result Given ScriptFault → Op
+eliminate_op (Ok given) = eliminate_by (min (unwrap_or (number_behind 108 given.options) 1000) 32767) (first_word given)
+eliminate_op (Err fault) = Bad fault
+
 -- the commands by their names; `echo` is none of them, since it takes any words
 unfoldable pub verb_of : List ℕ → Option Verb
 verb_of word =
@@ -78,10 +118,14 @@ verb_of word =
     else (if bytes_eq word (codes "print_stats") then Some verb.PrintStats
     else (if bytes_eq word (codes "print") then Some verb.Print
     else (if bytes_eq word (codes "print_latch") then Some verb.PrintLatch
+    else (if bytes_eq word (codes "print_factor") then Some verb.PrintFactor
+    else (if bytes_eq word (codes "print_kernel") then Some verb.PrintKernel
     else (if bytes_eq word (codes "sweep") then Some verb.Sweep
+    else (if bytes_eq word (codes "eliminate") then Some verb.Eliminate
+    else (if bytes_eq word (codes "collapse") then Some verb.Collapse
     else (if bytes_eq word (codes "undo") then Some verb.Undo
     else (if bytes_eq word (codes "source") then Some verb.Source
-    else None))))))))
+    else None))))))))))))
 
 -- the grammar of each command: its options, then the slots for its other words
 abbrev pub parse_words : Verb → List (List ℕ) → Result Given ScriptFault
@@ -91,7 +135,11 @@ parse_words verb.WriteBlif words = parse [] (Optional kind.File ∷ []) words
 parse_words verb.PrintStats words = parse [] [] words
 parse_words verb.Print words = parse [] (Optional kind.Name ∷ []) words
 parse_words verb.PrintLatch words = parse [] [] words
+parse_words verb.PrintFactor words = parse [] (Optional kind.Name ∷ []) words
+parse_words verb.PrintKernel words = parse [] (Needed kind.Name ∷ []) words
 parse_words verb.Sweep words = parse [] [] words
+parse_words verb.Eliminate words = parse (record { letter = 108; kind = Some (kind.Number 1 32767) } ∷ []) (Needed kind.Integer ∷ []) words
+parse_words verb.Collapse words = parse [] [] words
 parse_words verb.Undo words = parse [] [] words
 parse_words verb.Source words = parse [] (Needed kind.File ∷ []) words
 
@@ -103,7 +151,11 @@ op_given verb.WriteBlif given = write_op (file_in given)
 op_given verb.PrintStats given = plain_op PrintStats given
 op_given verb.Print given = print_op (name_in given)
 op_given verb.PrintLatch given = plain_op PrintLatch given
+op_given verb.PrintFactor given = print_factor_op (name_in given)
+op_given verb.PrintKernel given = print_kernel_op (name_in given)
 op_given verb.Sweep given = plain_op (Change Sweep) given
+op_given verb.Eliminate given = eliminate_op given
+op_given verb.Collapse given = plain_op (Change Collapse) given
 op_given verb.Undo given = plain_op Undo given
 op_given verb.Source given = source_op (file_in given)
 

@@ -25,6 +25,10 @@ pub enum Op {
     Print(Option<RawWord>),
     /// Prints the latches.
     PrintLatch,
+    /// Prints the factored form of the table of a name, or of all tables where none is named.
+    PrintFactor(Option<RawWord>),
+    /// Prints the kernels of the table of a name.
+    PrintKernel(RawWord),
     /// Changes the network.
     Change(Change),
     /// Takes the last change of the network back.
@@ -40,6 +44,10 @@ pub enum Op {
 pub enum Change {
     /// Takes constants, single inputs and what is not needed out of it.
     Sweep,
+    /// Takes inner tables of a value up to this number into their readers, where no reader comes to more rows than this.
+    Eliminate(i32, u16),
+    /// Takes all inner tables into their readers.
+    Collapse,
 }
 
 /// Why a command is refused for its words alone.

@@ -1,18 +1,24 @@
 //! The commands of a script.
 
-ghost use Rattle.std.specs.Prelude.{◌≡◌, map, IfOk};
+ghost use Rattle.std.specs.Prelude.{◌≡◌, map, option_map, IfOk};
 ghost use Rattle.sis_text.specs.Words.{bytes_at};
 ghost use Rattle.sis_text.specs.Entries.{entry_at, script_entries_of};
 ghost use Rattle.sis_script.specs.Script.{
   command_of,
+  eliminate_op,
   file_in,
   first_word,
   name_in,
+  number_behind,
+  number_in,
   op_by,
   op_given,
   op_of,
+  option_given,
   parse_words,
   plain_op,
+  print_factor_op,
+  print_kernel_op,
   print_op,
   read_op,
   source_op,
@@ -21,7 +27,7 @@ ghost use Rattle.sis_script.specs.Script.{
 };
 
 use crate::command::{Change, Command, Commands, Op, RawWord, RawWords, ScriptFault};
-use crate::grammar::{Given, Slot, parse};
+use crate::grammar::{Given, OptionForm, OptionGiven, Slot, parse};
 use crate::kinds::{Kind, Value, raw_word};
 use sis_base::Sequence;
 use sis_text::{Line, Span, Word, bytes_at, script_pieces};
@@ -36,7 +42,11 @@ enum Verb {
     PrintStats,
     Print,
     PrintLatch,
+    PrintFactor,
+    PrintKernel,
     Sweep,
+    Eliminate,
+    Collapse,
     Undo,
     Source,
 }
@@ -81,6 +91,34 @@ fn name_in(given: Result<Given, ScriptFault>) -> Result<Option<RawWord>, ScriptF
     match first_word(given?) {
         Some(Value::Name(name)) => Ok(Some(name)),
         _ => Ok(None),
+    }
+}
+
+/// The number that a value is, if there is one.
+fn number_in(value: &Option<Value>) -> Option<u64>
+    ensures { result ≡ number_in value.now }
+{
+    match value {
+        Some(Value::Number(number)) => Some(*number),
+        _ => None,
+    }
+}
+
+/// The option of a letter, if it was given.
+fn option_given(letter: u8, options: &[OptionGiven]) -> Option<&OptionGiven>
+    ensures { option_map (λ option. option.now) result ≡ option_given letter options.now }
+{
+    options.iter().find(|option| option.letter == letter)
+}
+
+/// The number behind the option of a letter, if it was given.
+#[tactic(auto, unfolding(crate::specs::Script::number_behind))]
+fn number_behind(letter: u8, options: &[OptionGiven]) -> Option<u64>
+    ensures { result ≡ number_behind letter options.now }
+{
+    match option_given(letter, options) {
+        Some(option) => number_in(&option.value),
+        None => None,
     }
 }
 
@@ -136,6 +174,43 @@ fn print_op(name: Result<Option<RawWord>, ScriptFault>) -> Op
     }
 }
 
+/// `print_factor`, by its name, if it has one.
+fn print_factor_op(name: Result<Option<RawWord>, ScriptFault>) -> Op
+    ensures { result ≡ print_factor_op name }
+{
+    match name {
+        Ok(name) => Op::PrintFactor(name),
+        Err(fault) => Op::Bad(fault),
+    }
+}
+
+/// `print_kernel`, by the name that it needs.
+fn print_kernel_op(name: Result<Option<RawWord>, ScriptFault>) -> Op
+    ensures { result ≡ print_kernel_op name }
+{
+    match name {
+        Ok(Some(name)) => Op::PrintKernel(name),
+        Ok(None) => Op::Bad(ScriptFault::MissingWord),
+        Err(fault) => Op::Bad(fault),
+    }
+}
+
+/// `eliminate`, by its threshold and the most rows that it allows, 1,000 where nothing is said.
+fn eliminate_op(given: Result<Given, ScriptFault>) -> Op
+    ensures { result ≡ eliminate_op given }
+{
+    let given = match given {
+        Ok(given) => given,
+        Err(fault) => return Op::Bad(fault),
+    };
+    let most = number_behind(b'l', given.options.as_slice()).unwrap_or(1_000);
+    let rows = most.min(32_767) as u16;
+    match first_word(given) {
+        Some(Value::Integer(threshold)) => Op::Change(Change::Eliminate(threshold, rows)),
+        _ => Op::Bad(ScriptFault::MissingWord),
+    }
+}
+
 /// The command of a name; `echo` is none, since it takes any words.
 #[tactic(auto, unfolding(crate::specs::Script::verb_of))]
 fn verb_of(name: &[u8]) -> Option<Verb>
@@ -153,8 +228,16 @@ fn verb_of(name: &[u8]) -> Option<Verb>
         Some(Verb::Print)
     } else if name == b"print_latch".as_slice() {
         Some(Verb::PrintLatch)
+    } else if name == b"print_factor".as_slice() {
+        Some(Verb::PrintFactor)
+    } else if name == b"print_kernel".as_slice() {
+        Some(Verb::PrintKernel)
     } else if name == b"sweep".as_slice() {
         Some(Verb::Sweep)
+    } else if name == b"eliminate".as_slice() {
+        Some(Verb::Eliminate)
+    } else if name == b"collapse".as_slice() {
+        Some(Verb::Collapse)
     } else if name == b"undo".as_slice() {
         Some(Verb::Undo)
     } else if name == b"source".as_slice() {
@@ -180,7 +263,23 @@ fn parse_words(
         Verb::PrintStats => parse(alloc, &[], &[], source, words),
         Verb::Print => parse(alloc, &[], &[Slot::Optional(Kind::Name)], source, words),
         Verb::PrintLatch => parse(alloc, &[], &[], source, words),
+        Verb::PrintFactor => parse(alloc, &[], &[Slot::Optional(Kind::Name)], source, words),
+        Verb::PrintKernel => parse(alloc, &[], &[Slot::Needed(Kind::Name)], source, words),
         Verb::Sweep => parse(alloc, &[], &[], source, words),
+        Verb::Eliminate => {
+            let rows = OptionForm {
+                letter: b'l',
+                kind: Some(Kind::Number(1, 32_767)),
+            };
+            parse(
+                alloc,
+                &[rows],
+                &[Slot::Needed(Kind::Integer)],
+                source,
+                words,
+            )
+        }
+        Verb::Collapse => parse(alloc, &[], &[], source, words),
         Verb::Undo => parse(alloc, &[], &[], source, words),
         Verb::Source => parse(alloc, &[], &[Slot::Needed(Kind::File)], source, words),
     }
@@ -197,7 +296,11 @@ fn op_given(verb: Verb, given: Result<Given, ScriptFault>) -> Op
         Verb::PrintStats => plain_op(Op::PrintStats, given),
         Verb::Print => print_op(name_in(given)),
         Verb::PrintLatch => plain_op(Op::PrintLatch, given),
+        Verb::PrintFactor => print_factor_op(name_in(given)),
+        Verb::PrintKernel => print_kernel_op(name_in(given)),
         Verb::Sweep => plain_op(Op::Change(Change::Sweep), given),
+        Verb::Eliminate => eliminate_op(given),
+        Verb::Collapse => plain_op(Op::Change(Change::Collapse), given),
         Verb::Undo => plain_op(Op::Undo, given),
         Verb::Source => source_op(file_in(given)),
     }

@@ -20,11 +20,15 @@ use Rattle.blif_read.proofs.WhatIsRead.{sound_read}
 use Rattle.blif_read.specs.Reader.{read_lines}
 use Rattle.blif_read.specs.declared.fault.BlifFault.{BlifFault}
 use Rattle.sweep_rules.proofs.Chaining.{chain_kept}
+use Rattle.elim_rules.specs.Collapsing.{collapsed}
+use Rattle.elim_rules.proofs.Stepping.{chain_keeps, chain_refines}
+use Rattle.elim_rules.proofs.Gathered.{collapse_reduced, collapse_refines}
+use Rattle.std.proofs.lemmas.Option.{same_Some}
 use Rattle.sis_script.specs.declared.command.Change.{Change}
-use Rattle.sis_script.specs.declared.command.Change.TheVariants.{Sweep}
+use Rattle.sis_script.specs.declared.command.Change.TheVariants.{Sweep, Eliminate, Collapse}
 use Rattle.sis_script.specs.declared.command.Op.{Op}
-use Rattle.sis_script.specs.declared.command.Op.TheVariants.{Echo, Quit, ReadBlif, WriteBlif, PrintStats, Print, PrintLatch, Change as ChangeOp, Undo, Source, Bad}
-use Rattle.sis_session.specs.Commands.{Changes, ChangePlans, Plans, changed_by, commands_in, last_read, latches_told, read_by, sends, stats_told, stays, tables_told, text_told, told_of, undo_plan}
+use Rattle.sis_script.specs.declared.command.Op.TheVariants.{Echo, Quit, ReadBlif, WriteBlif, PrintStats, Print, PrintLatch, PrintFactor, PrintKernel, Change as ChangeOp, Undo, Source, Bad}
+use Rattle.sis_session.specs.Commands.{Changes, ChangePlans, Plans, Prints, changed_by, commands_in, last_read, latches_told, read_by, sends, stats_told, stays, tables_told, text_told, told_of, undo_plan}
 use Rattle.sis_session.specs.Keeping.{RefinesRead, RefinesSpec, IsRefined, Holds, HasText}
 use Rattle.sis_session.specs.Plan.{MAX_DEPTH, Asked, Nothing, OnStore, OnOut, OnInput, Comes, ComesLoaded, ComesSaved, ComesPut, Done, Ending, Goes, Loads, Outcome, Does, Refuses, Plan, Quiet, Puts, Saves, Takes, Steps, by_plan, no_memory}
 use Rattle.sis_session.specs.Replies.{echo_line}
@@ -133,6 +137,14 @@ changed_refines spec Sweep old new chain before circuit same =
     let kept = chain_kept old new sound chain in
     let equal : new ≡ circuit = cc in
     (read, is, subst IsSound equal kept.sound, subst (RefinesRead read) equal (refines_on read old new refines kept.refines))
+changed_refines spec (Eliminate threshold rows) old new chain before circuit same =
+    let (read, is, sound, refines) = before old refl in
+    let equal : new ≡ circuit = cc in
+    (read, is, subst IsSound equal (chain_keeps threshold rows old new sound chain).change.sound, subst (RefinesRead read) equal (refines_on read old new refines (chain_refines threshold rows old new sound chain)))
+changed_refines spec Collapse old new (none, made) before circuit same =
+    let (read, is, sound, refines) = before old refl in
+    let equal : collapsed old ≡ circuit = sym made ∙ same_Some new circuit same in
+    (read, is, subst IsSound equal (collapse_reduced old sound).change.sound, subst (RefinesRead read) equal (refines_on read old (collapsed old) refines (collapse_refines old sound)))
 
 change_leads : (spec : Option Spec) (held : Held) (change : Change) (network : Option Circuit) (plan : Plan) → held.network ≡ network → IsRefined spec held
     → ChangePlans held change network plan → Leads (λ h. IsRefined spec h) plan
@@ -154,6 +166,10 @@ source_leads : (is : Held → Type 0) (shallow : Bool) (held : Held) (name : Lis
 source_leads is true held name holds = loads_leads is name (λ bytes. Does held (Script (commands_in bytes))) (λ bytes. holds)
 source_leads is false held name holds = quiet_leads is (Refuses refusal.Nested) tt
 
+prints_leads : (spec : Option Spec) (held : Held) (tells : Result (List ℕ) Refusal → Type 0) (plan : Plan) → IsRefined spec held → Prints held tells plan
+    → Leads (λ h. IsRefined spec h) plan
+prints_leads spec held tells plan refined (what, told, is) = subst (Leads (λ h. IsRefined spec h)) (sym is) (sends_leads (λ h. IsRefined spec h) held None what refined)
+
 plan_leads : (depth : ℕ) (spec : Option Spec) (held : Held) (op : Op) (plan : Plan) → IsRefined spec held → Plans depth held op plan
     → Leads (λ h. IsRefined (last_read op h spec) h) plan
 plan_leads depth spec held (Echo words) plan refined is = subst (Leads (λ h. IsRefined spec h)) (sym is) (sends_leads (λ h. IsRefined spec h) held None (Ok (echo_line words)) refined)
@@ -165,6 +181,8 @@ plan_leads depth spec held (WriteBlif file) plan refined is = subst (Leads (λ h
 plan_leads depth spec held PrintStats plan refined is = subst (Leads (λ h. IsRefined spec h)) (sym is) (sends_leads (λ h. IsRefined spec h) held None (told_of stats_told held.network) refined)
 plan_leads depth spec held (Print name) plan refined is = subst (Leads (λ h. IsRefined spec h)) (sym is) (sends_leads (λ h. IsRefined spec h) held None (told_of (tables_told name) held.network) refined)
 plan_leads depth spec held PrintLatch plan refined is = subst (Leads (λ h. IsRefined spec h)) (sym is) (sends_leads (λ h. IsRefined spec h) held None (told_of latches_told held.network) refined)
+plan_leads depth spec held (PrintFactor name) plan refined is = prints_leads spec held _ plan refined is
+plan_leads depth spec held (PrintKernel name) plan refined is = prints_leads spec held _ plan refined is
 plan_leads depth spec held (ChangeOp change) plan refined is = change_leads spec held change held.network plan refl refined is
 plan_leads depth spec held Undo plan refined is = subst (Leads (λ h. IsRefined spec h)) (sym is) (undo_leads spec held held.previous refined)
 plan_leads depth spec held (Source name) plan refined is =
@@ -214,6 +232,9 @@ puts_save_nothing held (Ok []) name bytes saves = saves
 puts_save_nothing held (Ok (byte ∷ rest)) name bytes saves = saves
 puts_save_nothing held (Err why) name bytes saves = saves
 
+prints_save_nothing : (held : Held) (tells : Result (List ℕ) Refusal → Type 0) (plan : Plan) (name bytes : List ℕ) → Prints held tells plan → IsSave name bytes plan → ⊥
+prints_save_nothing held tells plan name bytes (what, told, is) saves = puts_save_nothing held what name bytes (subst (IsSave name bytes) is saves)
+
 undo_saves_nothing : (held : Held) (previous : Option Circuit) (name bytes : List ℕ) → IsSave name bytes (undo_plan held previous) → ⊥
 undo_saves_nothing held None name bytes saves = saves
 undo_saves_nothing held (Some circuit) name bytes saves = saves
@@ -242,6 +263,8 @@ plan_saves depth held (WriteBlif file) plan name bytes is saves = write_saves he
 plan_saves depth held PrintStats plan name bytes is saves = absurd (puts_save_nothing held (told_of stats_told held.network) name bytes (subst (IsSave name bytes) is saves))
 plan_saves depth held (Print signal) plan name bytes is saves = absurd (puts_save_nothing held (told_of (tables_told signal) held.network) name bytes (subst (IsSave name bytes) is saves))
 plan_saves depth held PrintLatch plan name bytes is saves = absurd (puts_save_nothing held (told_of latches_told held.network) name bytes (subst (IsSave name bytes) is saves))
+plan_saves depth held (PrintFactor signal) plan name bytes is saves = absurd (prints_save_nothing held _ plan name bytes is saves)
+plan_saves depth held (PrintKernel signal) plan name bytes is saves = absurd (prints_save_nothing held _ plan name bytes is saves)
 plan_saves depth held (ChangeOp change) plan name bytes is saves = absurd (change_saves_nothing held change held.network plan name bytes is saves)
 plan_saves depth held Undo plan name bytes is saves = absurd (undo_saves_nothing held held.previous name bytes (subst (IsSave name bytes) is saves))
 plan_saves depth held (Source from) plan name bytes is saves =

@@ -7,9 +7,9 @@ use Rattle.sis_outside.specs.declared.store.LoadFault.{LoadFault}
 use Rattle.sis_outside.specs.declared.store.LoadFault.TheVariants as load
 use Rattle.sis_outside.specs.declared.store.SaveFault.TheVariants as save
 use Rattle.sis_outside.specs.declared.sink.PutFault.TheVariants as put
-use Rattle.sis_session.specs.Commands.{sends, stays}
-use Rattle.sis_session.specs.Methods.{HasLoaded, HasSaved, HasPut, IsTold}
-use Rattle.sis_session.specs.Plan.{MAX_BYTES, Outcome, Does, Refuses, Plan, Quiet, Loads, Saves, Puts, Nothing, OnStore, OnOut, Ending, Done, Refused, Cut, Comes, ComesLoaded, by_plan, no_memory, Did, AskedNone, NestsBelow, faulted, ended}
+use Rattle.sis_session.specs.Commands.{Prints, sends, stays}
+use Rattle.sis_session.specs.Methods.{HasLoaded, HasSaved, HasPut, HasToldPut, IsTold, IsToldBy}
+use Rattle.sis_session.specs.Plan.{MAX_BYTES, Outcome, Does, Refuses, Plan, Quiet, Loads, Saves, Puts, Asked, Nothing, OnStore, OnOut, Ending, Done, Refused, Cut, Comes, ComesLoaded, Steps, by_plan, no_memory, Did, AskedNone, NestsBelow, faulted, ended}
 use Rattle.sis_session.specs.State.{Held}
 use Rattle.sis_session.specs.declared.refusal.Failed.TheVariants as failed
 use Rattle.sis_session.specs.declared.refusal.Next.{Next}
@@ -91,6 +91,9 @@ unloaded_did goes name used old new (fault.Refused refusal.Nested) h = absurd h
 unloaded_did goes name used old new (fault.Refused refusal.NoNetwork) h = absurd h
 unloaded_did goes name used old new (fault.Refused refusal.NothingToUndo) h = absurd h
 unloaded_did goes name used old new (fault.Refused (refusal.NoSignal signal)) h = absurd h
+unloaded_did goes name used old new (fault.Refused (refusal.CubeLimit table)) h = absurd h
+unloaded_did goes name used old new (fault.Refused (refusal.TooWide table count)) h = absurd h
+unloaded_did goes name used old new (fault.Refused (refusal.KernelLimit table)) h = absurd h
 unloaded_did goes name used old new (fault.Refused (refusal.Blif file why)) h = absurd h
 unloaded_did goes name used old new (fault.Refused refusal.LongScript) h = absurd h
 unloaded_did goes name used old new fault.StoreFault h = by_load goes name used old new (Err load.Failed) _ h refl
@@ -194,3 +197,35 @@ untold_did held file what (fault.Refused why) h =
 untold_did held file what fault.StoreFault h = absurd h
 untold_did held file what fault.SinkFault h = absurd h
 untold_did held file what fault.Memory h = wanting_did (λ plan. plan ≡ sends held file what)
+
+-- a step by one of some plans is a step by one of more
+steps_as : (plans more : Plan → Type 0) (asked : Asked) (ending : Ending) → ((plan : Plan) → plans plan → more plan) → Steps plans asked ending → Steps more asked ending
+steps_as plans more asked ending more_so (by_plan plan is goes) = by_plan plan (more_so plan is) goes
+steps_as plans more asked ending more_so (no_memory none cut) = no_memory none cut
+
+did_as : (plans more : Plan → Type 0) (store : List StoreCall → Type 0) (out : List PutCall → Type 0) (ending : Ending)
+    → ((plan : Plan) → plans plan → more plan) → Did plans store out ending → Did more store out ending
+did_as plans more store out ending more_so h =
+    record { asked = h.asked; steps = steps_as plans more h.asked ending more_so h.steps; store_went = h.store_went; out_went = h.out_went; input_kept = h.input_kept }
+
+-- a text was put, and it is one that may be told
+told_put : {O : Type 0} (puts : O → PutCall → O → Type 0) (held : Held) (tells : Result (List ℕ) Refusal → Type 0) (text : List ℕ) (old new : O) (answer : Result Next StepFault)
+    → tells (Ok text) → HasPut puts text old answer new → Did (Prints held tells) AskedNone (Follows puts old new) (ended answer held)
+told_put puts held tells text old new answer may h =
+    did_as (λ plan. plan ≡ sends held None (Ok text)) (Prints held tells) AskedNone (Follows puts old new) (ended answer held) (λ plan is. (Ok text, may, is)) (put_sent puts held text old new answer h)
+
+-- nothing was put, since a refusal is told, or for want of memory
+untold_by : (held : Held) (tells : Result (List ℕ) Refusal → Type 0) (why : StepFault) → IsToldBy tells (Err why) → Did (Prints held tells) AskedNone AskedNone (faulted why)
+untold_by held tells (fault.Refused why) h = quiet_did (Prints held tells) (Refuses why) (Refused why) (Err why, h, refl) (inl refl)
+untold_by held tells fault.StoreFault h = absurd h
+untold_by held tells fault.SinkFault h = absurd h
+untold_by held tells fault.Memory h = wanting_did (Prints held tells)
+
+-- what may be told was put, or handed on
+pub told_did : {O : Type 0} (puts : O → PutCall → O → Type 0) (held : Held) (tells : Result (List ℕ) Refusal → Type 0) (told : Result (Vec ℕ) StepFault) (old new : O)
+    (answer : Result Next StepFault) → IsToldBy tells told → HasToldPut puts told old answer new → Did (Prints held tells) AskedNone (Follows puts old new) (ended answer held)
+told_did puts held tells (Ok text) old new answer may h = told_put puts held tells text.items old new answer may h
+told_did {O} puts held tells (Err why) old new answer may (is, same) =
+    subst (λ (a : Result Next StepFault). Did (Prints held tells) AskedNone (Follows puts old new) (ended a held)) (sym is)
+    (subst (λ (o : O). Did (Prints held tells) AskedNone (Follows puts old o) (faulted why)) (sym same)
+    (store_alone puts (Prints held tells) AskedNone old (faulted why) (untold_by held tells why may)))

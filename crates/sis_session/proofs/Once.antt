@@ -1,6 +1,6 @@
 -- A command ends in one way where the outside answers the same.
 use Rattle.std.proofs.Common.{◌≡◌, ℕ, List, [], ◌∷◌, sym, ap, subst, ◌∙◌, inl, inr}
-use Rattle.std.specs.Prelude.{◌⊎◌, ◌++◌, Option, Some, None, Result, Ok, Err}
+use Rattle.std.specs.Prelude.{◌⊎◌, ◌++◌, ℤ, Option, Some, None, Result, Ok, Err}
 use Rattle.sis_outside.specs.Calls.{Load, Save, TakeCall}
 use Rattle.sis_outside.specs.declared.store.LoadFault.{LoadFault}
 use Rattle.sis_outside.specs.declared.store.LoadFault.TheVariants as load
@@ -10,14 +10,21 @@ use Rattle.sis_outside.specs.declared.sink.PutFault.{PutFault}
 use Rattle.sis_outside.specs.declared.sink.PutFault.TheVariants as put
 use Rattle.sis_outside.specs.declared.source.TakeFault.{TakeFault}
 use Rattle.sis_outside.specs.declared.source.TakeFault.TheVariants as take
+use Rattle.circuit_model.specs.Values.{driver}
 use Rattle.circuit_model.specs.declared.circuit.Circuit.{Circuit}
+use Rattle.circuit_model.specs.declared.circuit.Table.{Table}
+use Rattle.algebra_texts.proofs.Once.{factor_line_once, factor_lines_once, kernel_lines_once}
 use Rattle.circuit_laws.specs.Chains.{Leads, Chain}
 use Rattle.sweep_rules.specs.Rules.{sweep_step}
+use Rattle.table_algebra.specs.declared.taking.TakeFault.{TakeFault as TableFault}
+use Rattle.table_algebra.specs.declared.taking.TakeFault.TheVariants.{CubeLimit, TooWide, Memory}
+use Rattle.elim_rules.specs.Eliminating.{eliminate_step}
+use Rattle.elim_rules.specs.Collapsing.{collapse_refusal}
 use Rattle.sis_script.specs.declared.command.Change.{Change}
-use Rattle.sis_script.specs.declared.command.Change.TheVariants.{Sweep}
+use Rattle.sis_script.specs.declared.command.Change.TheVariants.{Sweep, Eliminate, Collapse}
 use Rattle.sis_script.specs.declared.command.Op.{Op}
-use Rattle.sis_script.specs.declared.command.Op.TheVariants.{Echo, Quit, ReadBlif, WriteBlif, PrintStats, Print, PrintLatch, Change as ChangeOp, Undo, Source, Bad}
-use Rattle.sis_session.specs.Commands.{ChangePlans, Plans, changed_by}
+use Rattle.sis_script.specs.declared.command.Op.TheVariants.{Echo, Quit, ReadBlif, WriteBlif, PrintStats, Print, PrintLatch, PrintFactor, PrintKernel, Change as ChangeOp, Undo, Source, Bad}
+use Rattle.sis_session.specs.Commands.{ChangePlans, IsCollapseRefusal, FactorsTold, FactorTold, KernelsOf, KernelsTold, KernelTold, Plans, Prints, ToldBy, changed_by, sends}
 use Rattle.sis_session.specs.Keeping.{ChangesOnce, HasOneOutcome}
 use Rattle.sis_session.specs.Plan.{Asked, Nothing, OnStore, OnOut, OnInput, Comes, ComesLoaded, ComesSaved, ComesPut, ComesTaken, ComesPiece, Cut, Done, Ending, Goes, Loads, Outcome, Does, Refuses, Plan, Quiet, Puts, Refused, Saves, Takes, Steps, by_plan, no_memory}
 use Rattle.sis_session.specs.State.{Held}
@@ -108,6 +115,41 @@ change_once held change None plan plan' once h k = h ∙ sym k
 change_once held change (Some old) plan plan' once (answer, changes, is) (answer', changes', is') =
     is ∙ ap (λ (a : Result Circuit Refusal). Quiet (changed_by held a)) (once old answer answer' changes changes') ∙ sym is'
 
+-- what is told by a relation is one thing
+IsOne : (Result (List ℕ) Refusal → Type 0) → Type 0
+IsOne tells = (what other : Result (List ℕ) Refusal) → tells what → tells other → what ≡ other
+
+told_once : (tells : Circuit → Result (List ℕ) Refusal → Type 0) (network : Option Circuit) → ((circuit : Circuit) → IsOne (tells circuit)) → IsOne (ToldBy tells network)
+unfolding IsOne
+told_once tells None one what other h k = h ∙ sym k
+told_once tells (Some circuit) one what other h k = one circuit what other h k
+
+prints_once : (held : Held) (tells : Result (List ℕ) Refusal → Type 0) (plan plan' : Plan) → IsOne tells → Prints held tells plan → Prints held tells plan' → plan ≡ plan'
+unfolding IsOne
+prints_once held tells plan plan' one (what, told, is) (other, told', is') = is ∙ ap (sends held None) (one what other told told') ∙ sym is'
+
+factor_once : (name : List ℕ) (driven : Option Table) → IsOne (FactorTold name driven)
+unfolding IsOne
+factor_once name None what other h k = h ∙ sym k
+factor_once name (Some table) what other (line, is, told) (line', is', told') = told ∙ ap (λ (l : List ℕ). Ok l) (factor_line_once table line line' is is') ∙ sym told'
+
+factors_once : (name : Option (List ℕ)) (circuit : Circuit) → IsOne (FactorsTold name circuit)
+unfolding IsOne
+factors_once None circuit what other (text, are, told) (text', are', told') = told ∙ ap (λ (l : List ℕ). Ok l) (factor_lines_once circuit.tables text text' are are') ∙ sym told'
+factors_once (Some name) circuit what other h k = factor_once name (driver circuit.tables name) what other h k
+
+kernels_once : (name : List ℕ) (table : Table) → IsOne (KernelsOf name table)
+unfolding IsOne
+kernels_once name table (Ok text) (Ok other) h k = ap (λ (l : List ℕ). Ok l) (kernel_lines_once table text other h.0 k.0)
+kernels_once name table (Ok text) (Err why) h k = absurd (h.1 k.1)
+kernels_once name table (Err why) (Ok text) h k = absurd (k.1 h.1)
+kernels_once name table (Err why) (Err other) h k = ap (λ (r : Refusal). Err r) (h.0 ∙ sym k.0)
+
+kernel_once : (name : List ℕ) (driven : Option Table) → IsOne (KernelTold name driven)
+unfolding IsOne
+kernel_once name None what other h k = h ∙ sym k
+kernel_once name (Some table) what other h k = kernels_once name table what other h k
+
 plans_once : (depth : ℕ) (held : Held) (op : Op) (plan plan' : Plan) → HasOneOutcome op → Plans depth held op plan → Plans depth held op plan' → plan ≡ plan'
 plans_once depth held (Echo words) plan plan' once h k = h ∙ sym k
 plans_once depth held Quit plan plan' once h k = h ∙ sym k
@@ -116,6 +158,10 @@ plans_once depth held (WriteBlif file) plan plan' once h k = h ∙ sym k
 plans_once depth held PrintStats plan plan' once h k = h ∙ sym k
 plans_once depth held (Print name) plan plan' once h k = h ∙ sym k
 plans_once depth held PrintLatch plan plan' once h k = h ∙ sym k
+plans_once depth held (PrintFactor name) plan plan' once h k =
+    prints_once held (ToldBy (FactorsTold name) held.network) plan plan' (told_once (FactorsTold name) held.network (factors_once name)) h k
+plans_once depth held (PrintKernel name) plan plan' once h k =
+    prints_once held (ToldBy (KernelsTold name) held.network) plan plan' (told_once (KernelsTold name) held.network (λ circuit. kernel_once name (driver circuit.tables name))) h k
 plans_once depth held (ChangeOp change) plan plan' once h k = change_once held change held.network plan plan' once h k
 plans_once depth held Undo plan plan' once h k = h ∙ sym k
 plans_once depth held (Source name) plan plan' once h k = h ∙ sym k
@@ -151,7 +197,35 @@ chains_once : {N : Type 0} (step : N → Option N) (begin one other : N) → Cha
 chains_once step begin one other h k = leads_once step h.between k.between begin one other h.leads k.leads h.finished k.finished
 
 -- a sweep makes one thing of each network
-pub sweeps_once : ChangesOnce Sweep
+sweeps_once : ChangesOnce Sweep
 sweeps_once old (Ok one) (Ok other) h k = ap (λ (c : Circuit). Ok c) (chains_once sweep_step old one other h k)
 sweeps_once old (Ok one) (Err why) h k = absurd k
 sweeps_once old (Err why) other h k = absurd h
+
+-- so does an elimination
+eliminations_once : (threshold : ℤ) (rows : ℕ) → ChangesOnce (Eliminate threshold rows)
+eliminations_once threshold rows old (Ok one) (Ok other) h k = ap (λ (c : Circuit). Ok c) (chains_once (eliminate_step threshold rows) old one other h k)
+eliminations_once threshold rows old (Ok one) (Err why) h k = absurd k
+eliminations_once threshold rows old (Err why) other h k = absurd h
+
+refusals_once : (found : Option (List ℕ × TableFault)) (why other : Refusal) → IsCollapseRefusal found why → IsCollapseRefusal found other → why ≡ other
+refusals_once (Some (name, CubeLimit)) why other h k = h ∙ sym k
+refusals_once (Some (name, TooWide count)) why other h k = h ∙ sym k
+refusals_once (Some (name, Memory)) why other h k = absurd h
+refusals_once None why other h k = absurd h
+
+refused_or_not : (found : Option (List ℕ × TableFault)) (why : Refusal) → found ≡ None → IsCollapseRefusal found why → ⊥
+refused_or_not found why none refused = subst (λ f. IsCollapseRefusal f why) none refused
+
+-- and a collapse
+collapses_once : ChangesOnce Collapse
+collapses_once old (Ok one) (Ok other) h k = ap (λ (c : Circuit). Ok c) (h.1 ∙ sym k.1)
+collapses_once old (Ok one) (Err why) h k = absurd (refused_or_not (collapse_refusal old) why h.0 k)
+collapses_once old (Err why) (Ok other) h k = absurd (refused_or_not (collapse_refusal old) why k.0 h)
+collapses_once old (Err why) (Err other) h k = ap (λ (r : Refusal). Err r) (refusals_once (collapse_refusal old) why other h k)
+
+-- each change makes one thing of each network
+pub changes_once : (change : Change) → ChangesOnce change
+changes_once Sweep = sweeps_once
+changes_once (Eliminate threshold rows) = eliminations_once threshold rows
+changes_once Collapse = collapses_once

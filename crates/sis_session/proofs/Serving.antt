@@ -5,14 +5,19 @@ use Rattle.std.specs.Prelude.{◌⊎◌, Bool, Option, Some, None, Result, Ok, E
 use Rattle.sis_text.specs.Entries.{entries_of}
 use Rattle.sis_outside.specs.Calls.{Load, Save}
 use Rattle.sis_outside.specs.declared.sink.PutFault.{PutFault}
+use Rattle.circuit_model.specs.Values.{driver}
 use Rattle.circuit_model.specs.declared.circuit.Circuit.{Circuit}
+use Rattle.circuit_model.specs.declared.circuit.Table.{Table}
+use Rattle.algebra_texts.specs.Told.{HasManyKernels}
+use Rattle.table_algebra.specs.declared.taking.TakeFault.{TakeFault}
+use Rattle.elim_rules.specs.Collapsing.{collapse_refusal}
 use Rattle.blif_read.specs.Reader.{read_lines}
 use Rattle.sis_script.specs.declared.command.Change.{Change}
-use Rattle.sis_script.specs.declared.command.Change.TheVariants.{Sweep}
+use Rattle.sis_script.specs.declared.command.Change.TheVariants.{Sweep, Eliminate, Collapse}
 use Rattle.sis_script.specs.declared.command.Op.{Op}
-use Rattle.sis_script.specs.declared.command.Op.TheVariants.{Echo, Quit, ReadBlif, WriteBlif, PrintStats, Print, PrintLatch, Change as ChangeOp, Undo, Source, Bad}
-use Rattle.sis_session.specs.Commands.{ChangePlans, Plans, commands_in, latches_told, named_told, read_by, sends, source_plan, stats_told, stays, tables_told, text_told, told_of, undo_plan}
-use Rattle.sis_session.specs.Keeping.{Allows, HasBytes, HasNeeds, HasNetwork, HasTable, IsAnswered, IsServed}
+use Rattle.sis_script.specs.declared.command.Op.TheVariants.{Echo, Quit, ReadBlif, WriteBlif, PrintStats, Print, PrintLatch, PrintFactor, PrintKernel, Change as ChangeOp, Undo, Source, Bad}
+use Rattle.sis_session.specs.Commands.{ChangePlans, IsCollapseRefusal, FactorsTold, FactorTold, KernelsOf, KernelsTold, KernelTold, Plans, Prints, ToldBy, commands_in, latches_told, named_told, read_by, sends, source_plan, stats_told, stays, tables_told, text_told, told_of, undo_plan}
+use Rattle.sis_session.specs.Keeping.{Allows, HasBytes, HasKernels, HasNeeds, HasNetwork, HasTable, IsAnswered, IsServed}
 use Rattle.sis_session.specs.Plan.{MAX_DEPTH, Asked, Nothing, OnStore, OnOut, OnInput, Comes, ComesPut, Cut, Done, Ending, Goes, Loads, Outcome, Does, Refuses, Plan, Quiet, Puts, Saves, Steps, by_plan, no_memory}
 use Rattle.sis_session.specs.State.{Held, with_read, with_changed, with_exchanged}
 use Rattle.sis_session.specs.declared.refusal.Failed.TheVariants as failed
@@ -84,6 +89,31 @@ table_works op held name network (circuit, there, table, found) =
     subst (λ n. Works op (sends held None (told_of (tables_told (Some name)) n))) (sym there)
     (subst (λ t. Works op (sends held None (named_told name t))) (sym found) (sends_works op held None _))
 
+-- a relation that says what is told, and of a network with what it needs tells a text
+prints_works : (op : Op) (held : Held) (tells : Result (List ℕ) Refusal → Type 0) (plan : Plan)
+    → ((what : Result (List ℕ) Refusal) → tells what → (text : List ℕ) × (what ≡ Ok text)) → Prints held tells plan → Works op plan
+prints_works op held tells plan gives (what, told, is) =
+    let (text, same) = gives what told in
+    subst (Works op) (sym is) (subst (λ w. Works op (sends held None w)) (sym same) (sends_works op held None text))
+
+factors_text : (name : Option (List ℕ)) (network : Option Circuit) (circuit : Circuit) (what : Result (List ℕ) Refusal) → network ≡ Some circuit
+    → ((what : Result (List ℕ) Refusal) → FactorsTold name circuit what → (text : List ℕ) × (what ≡ Ok text))
+    → ToldBy (FactorsTold name) network what → (text : List ℕ) × (what ≡ Ok text)
+factors_text name network circuit what there gives told = gives what (subst (λ n. ToldBy (FactorsTold name) n what) there told)
+
+named_factor_text : (name : List ℕ) (driven : Option Table) (table : Table) (what : Result (List ℕ) Refusal) → driven ≡ Some table
+    → FactorTold name driven what → (text : List ℕ) × (what ≡ Ok text)
+named_factor_text name driven table what found told = let (line, is, same) = subst (λ d. FactorTold name d what) found told in (line, same)
+
+kernels_text : (name : List ℕ) (table : Table) (what : Result (List ℕ) Refusal) → (HasManyKernels table → ⊥) → KernelsOf name table what → (text : List ℕ) × (what ≡ Ok text)
+kernels_text name table (Ok text) few told = (text, refl)
+kernels_text name table (Err why) few told = absurd (few told.1)
+
+kernels_told_text : (name : List ℕ) (network : Option Circuit) (what : Result (List ℕ) Refusal) → HasKernels network name → ToldBy (KernelsTold name) network what
+    → (text : List ℕ) × (what ≡ Ok text)
+kernels_told_text name network what (circuit, there, table, found, few) told =
+    kernels_text name table what few (subst (λ d. KernelTold name d what) found (subst (λ n. ToldBy (KernelsTold name) n what) there told))
+
 read_works : (held : Held) (name bytes : List ℕ) (ending : Ending) → HasBytes (ReadBlif name) bytes → Comes (read_by held name (read_lines (entries_of bytes))) ending → IsDone ending
 read_works held name bytes ending (circuit, reads) comes =
     does_done (with_read held circuit) Go ending (subst (λ r. Comes (read_by held name r) ending) reads comes)
@@ -103,6 +133,13 @@ change_works : (held : Held) (change : Change) (network : Option Circuit) (plan 
 change_works held change None plan old there allows planned = cc
 change_works held Sweep (Some circuit) plan old there allows (Ok new, changes, is) = subst (Works (ChangeOp Sweep)) (sym is) (quiet_works (ChangeOp Sweep) (with_changed held new) Go)
 change_works held Sweep (Some circuit) plan old there allows (Err why, changes, is) = absurd changes
+change_works held (Eliminate threshold rows) (Some circuit) plan old there allows (Ok new, changes, is) =
+    subst (Works (ChangeOp (Eliminate threshold rows))) (sym is) (quiet_works (ChangeOp (Eliminate threshold rows)) (with_changed held new) Go)
+change_works held (Eliminate threshold rows) (Some circuit) plan old there allows (Err why, changes, is) = absurd changes
+change_works held Collapse (Some circuit) plan old there allows (Ok new, changes, is) = subst (Works (ChangeOp Collapse)) (sym is) (quiet_works (ChangeOp Collapse) (with_changed held new) Go)
+change_works held Collapse (Some circuit) plan old there allows (Err why, changes, is) =
+    let same : old ≡ circuit = cc in
+    absurd (subst (λ (found : Option (List ℕ × TakeFault)). IsCollapseRefusal found why) (subst (λ (c : Circuit). collapse_refusal c ≡ None) same allows) changes)
 
 plan_works : (depth : ℕ) (held : Held) (op : Op) (plan : Plan) → HasNeeds depth held op → Plans depth held op plan → Works op plan
 plan_works depth held (Echo words) plan needs is = subst (Works (Echo words)) (sym is) (sends_works (Echo words) held None _)
@@ -117,6 +154,14 @@ plan_works depth held (Print None) plan needs is =
 plan_works depth held (Print (Some name)) plan needs is = subst (Works (Print (Some name))) (sym is) (table_works (Print (Some name)) held name held.network needs)
 plan_works depth held PrintLatch plan needs is =
     subst (Works PrintLatch) (sym is) (tells_works PrintLatch held None latches_told held.network (λ circuit there. (_, refl)) needs)
+plan_works depth held (PrintFactor None) plan (circuit, there) is =
+    prints_works (PrintFactor None) held (ToldBy (FactorsTold None) held.network) plan
+    (λ what. factors_text None held.network circuit what there (λ w told. let (text, are, same) = told in (text, same))) is
+plan_works depth held (PrintFactor (Some name)) plan (circuit, there, table, found) is =
+    prints_works (PrintFactor (Some name)) held (ToldBy (FactorsTold (Some name)) held.network) plan
+    (λ what. factors_text (Some name) held.network circuit what there (λ w. named_factor_text name (driver circuit.tables name) table w found)) is
+plan_works depth held (PrintKernel name) plan needs is =
+    prints_works (PrintKernel name) held (ToldBy (KernelsTold name) held.network) plan (λ what. kernels_told_text name held.network what needs) is
 plan_works depth held (ChangeOp change) plan (old, there, allows) is = change_works held change held.network plan old there allows is
 plan_works depth held Undo plan needs is = subst (Works Undo) (sym is) (undo_works held held.previous needs)
 plan_works depth held (Source name) plan needs is = subst (Works (Source name)) (sym is) (source_works depth held name needs)

@@ -11,13 +11,18 @@ use Rattle.circuit_model.specs.declared.circuit.Table.{Table}
 use Rattle.blif_read.specs.Reader.{read_lines}
 use Rattle.blif_read.specs.declared.fault.BlifFault.{BlifFault}
 use Rattle.circuit_laws.specs.Chains.{Chain}
+use Rattle.algebra_texts.specs.Told.{IsFactorLine, AreFactorLines, AreKernelLines, HasManyKernels}
 use Rattle.sweep_rules.specs.Rules.{sweep_step}
+use Rattle.table_algebra.specs.declared.taking.TakeFault.{TakeFault}
+use Rattle.table_algebra.specs.declared.taking.TakeFault.TheVariants.{CubeLimit, TooWide}
+use Rattle.elim_rules.specs.Eliminating.{eliminate_step}
+use Rattle.elim_rules.specs.Collapsing.{collapsed, collapse_refusal}
 use Rattle.sis_script.specs.Script.{command_of}
 use Rattle.sis_script.specs.declared.command.Command.{Command}
 use Rattle.sis_script.specs.declared.command.Change.{Change}
-use Rattle.sis_script.specs.declared.command.Change.TheVariants.{Sweep}
+use Rattle.sis_script.specs.declared.command.Change.TheVariants.{Sweep, Eliminate, Collapse}
 use Rattle.sis_script.specs.declared.command.Op.{Op}
-use Rattle.sis_script.specs.declared.command.Op.TheVariants.{Echo, Quit, ReadBlif, WriteBlif, PrintStats, Print, PrintLatch, Change as ChangeOp, Undo, Source, Bad}
+use Rattle.sis_script.specs.declared.command.Op.TheVariants.{Echo, Quit, ReadBlif, WriteBlif, PrintStats, Print, PrintLatch, PrintFactor, PrintKernel, Change as ChangeOp, Undo, Source, Bad}
 use Rattle.sis_session.specs.Plan.{MAX_DEPTH, Outcome, Does, Refuses, Plan, Quiet, Loads, Saves, replies}
 use Rattle.sis_session.specs.Replies.{stats_line, echo_line}
 use Rattle.sis_session.specs.State.{Held, Spec, CircuitRead, with_read, with_changed, with_exchanged}
@@ -75,10 +80,54 @@ latches_told circuit = Ok (lines_text (map (latch_line circuit.timing) circuit.l
 abbrev pub stats_told : Circuit → Result (List ℕ) Refusal
 stats_told circuit = Ok (stats_line circuit)
 
--- What a command that changes the network makes of it: a new network, or a refusal. `sweep`: steps are taken until none applies.
+-- what may be told of the network where a relation says it, or the refusal where there is none
+abbrev pub ToldBy : (Circuit → Result (List ℕ) Refusal → Type 0) → Option Circuit → Result (List ℕ) Refusal → Type 0
+ToldBy tells None what = what ≡ Err refusal.NoNetwork
+ToldBy tells (Some circuit) what = tells circuit what
+
+-- one thing that may be told is put, or is the refusal
+abbrev pub Prints : Held → (Result (List ℕ) Refusal → Type 0) → Plan → Type 0
+Prints held tells plan = (what : Result (List ℕ) Refusal) × tells what × (plan ≡ sends held None what)
+
+-- `print_factor` of a name: the line of its table's factored form, or a refusal where there is none
+abbrev pub FactorTold : List ℕ → Option Table → Result (List ℕ) Refusal → Type 0
+FactorTold name None what = what ≡ Err (refusal.NoSignal name)
+FactorTold name (Some table) what = (line : List ℕ) × IsFactorLine table line × (what ≡ Ok line)
+
+-- `print_factor`: the lines of all tables, or that of the one that is named
+abbrev pub FactorsTold : Option (List ℕ) → Circuit → Result (List ℕ) Refusal → Type 0
+FactorsTold None circuit what = (text : List ℕ) × AreFactorLines circuit.tables text × (what ≡ Ok text)
+FactorsTold (Some name) circuit what = FactorTold name (driver circuit.tables name) what
+
+-- what is told of a table's kernels: their lines, or a refusal just where there are more than are listed
+abbrev pub KernelsOf : List ℕ → Table → Result (List ℕ) Refusal → Type 0
+KernelsOf name table (Ok text) = AreKernelLines table text × (HasManyKernels table → ⊥)
+KernelsOf name table (Err why) = (why ≡ refusal.KernelLimit name) × HasManyKernels table
+
+-- the same of the table of a name, or a refusal where there is none
+abbrev pub KernelTold : List ℕ → Option Table → Result (List ℕ) Refusal → Type 0
+KernelTold name None what = what ≡ Err (refusal.NoSignal name)
+KernelTold name (Some table) what = KernelsOf name table what
+
+-- `print_kernel`: the kernels of the table that is named
+abbrev pub KernelsTold : List ℕ → Circuit → Result (List ℕ) Refusal → Type 0
+KernelsTold name circuit what = KernelTold name (driver circuit.tables name) what
+
+-- why a network is not collapsed: a table that cannot take another one in
+abbrev pub IsCollapseRefusal : Option (List ℕ × TakeFault) → Refusal → Type 0
+IsCollapseRefusal (Some (name, CubeLimit)) why = why ≡ refusal.CubeLimit name
+IsCollapseRefusal (Some (name, TooWide count)) why = why ≡ refusal.TooWide name count
+IsCollapseRefusal other why = ⊥
+
+-- What a command that changes the network makes of it: a new network, or a refusal. `sweep`, `eliminate`: steps are taken until none
+-- applies. `collapse`: all tables are taken into their readers, or the first that cannot take one in is told.
 abbrev pub Changes : Change → Circuit → Result Circuit Refusal → Type 0
 Changes Sweep old (Ok new) = Chain sweep_step old new
 Changes Sweep old (Err why) = ⊥
+Changes (Eliminate threshold rows) old (Ok new) = Chain (eliminate_step threshold rows) old new
+Changes (Eliminate threshold rows) old (Err why) = ⊥
+Changes Collapse old (Ok new) = (collapse_refusal old ≡ None) × (new ≡ collapsed old)
+Changes Collapse old (Err why) = IsCollapseRefusal (collapse_refusal old) why
 
 -- what comes of a change: the new network is held, and the old one is the previous one; or the refusal
 abbrev pub changed_by : Held → Result Circuit Refusal → Outcome
@@ -110,6 +159,8 @@ Plans depth held (WriteBlif file) plan = plan ≡ sends held file (told_of text_
 Plans depth held PrintStats plan = plan ≡ sends held None (told_of stats_told held.network)
 Plans depth held (Print name) plan = plan ≡ sends held None (told_of (tables_told name) held.network)
 Plans depth held PrintLatch plan = plan ≡ sends held None (told_of latches_told held.network)
+Plans depth held (PrintFactor name) plan = Prints held (ToldBy (FactorsTold name) held.network) plan
+Plans depth held (PrintKernel name) plan = Prints held (ToldBy (KernelsTold name) held.network) plan
 Plans depth held (ChangeOp change) plan = ChangePlans held change held.network plan
 Plans depth held Undo plan = plan ≡ undo_plan held held.previous
 Plans depth held (Source name) plan = plan ≡ source_plan depth held name

@@ -11,11 +11,13 @@ use Rattle.circuit_model.specs.Text.{text_of}
 use Rattle.circuit_model.specs.Values.{driver}
 use Rattle.circuit_model.specs.declared.circuit.Circuit.{Circuit}
 use Rattle.circuit_model.specs.declared.circuit.Table.{Table}
+use Rattle.algebra_texts.specs.Told.{HasManyKernels}
 use Rattle.blif_read.specs.Reader.{read_lines}
 use Rattle.sis_script.specs.declared.command.Op.{Op}
-use Rattle.sis_script.specs.declared.command.Op.TheVariants.{Echo, Quit, ReadBlif, WriteBlif, PrintStats, Print, PrintLatch, Change as ChangeOp, Undo, Source, Bad}
+use Rattle.sis_script.specs.declared.command.Op.TheVariants.{Echo, Quit, ReadBlif, WriteBlif, PrintStats, Print, PrintLatch, PrintFactor, PrintKernel, Change as ChangeOp, Undo, Source, Bad}
 use Rattle.sis_script.specs.declared.command.Change.{Change}
-use Rattle.sis_script.specs.declared.command.Change.TheVariants.{Sweep}
+use Rattle.sis_script.specs.declared.command.Change.TheVariants.{Sweep, Eliminate, Collapse}
+use Rattle.elim_rules.specs.Collapsing.{collapse_refusal}
 use Rattle.sis_session.specs.Commands.{Changes}
 use Rattle.sis_session.specs.Plan.{MAX_DEPTH, Asked, Nothing, OnStore, OnOut, OnInput}
 use Rattle.sis_session.specs.State.{Held, Spec, CircuitRead, MachineRead, Written, CircuitWritten, MachineWritten, NetlistWritten}
@@ -62,9 +64,16 @@ HasNetwork network = (circuit : Circuit) × (network ≡ Some circuit)
 abbrev pub HasTable : Option Circuit → List ℕ → Type 0
 HasTable network name = (circuit : Circuit) × (network ≡ Some circuit) × (table : Table) × (driver circuit.tables name ≡ Some table)
 
+-- there is a network, and a table of the name in it that has no more kernels than are listed
+abbrev pub HasKernels : Option Circuit → List ℕ → Type 0
+HasKernels network name =
+    (circuit : Circuit) × (network ≡ Some circuit) × (table : Table) × (driver circuit.tables name ≡ Some table) × (HasManyKernels table → ⊥)
+
 -- what a change needs of the network so that it is not refused
 abbrev pub Allows : Change → Circuit → Type 0
 Allows Sweep circuit = Unit {0}
+Allows (Eliminate threshold rows) circuit = Unit {0}
+Allows Collapse circuit = collapse_refusal circuit ≡ None
 
 -- what a command needs of what is held: its words fit, its scripts are not nested too deep, and the network or the previous
 -- one and the table that it names are there
@@ -77,6 +86,9 @@ HasNeeds depth held PrintStats = HasNetwork held.network
 HasNeeds depth held (Print None) = HasNetwork held.network
 HasNeeds depth held (Print (Some name)) = HasTable held.network name
 HasNeeds depth held PrintLatch = HasNetwork held.network
+HasNeeds depth held (PrintFactor None) = HasNetwork held.network
+HasNeeds depth held (PrintFactor (Some name)) = HasTable held.network name
+HasNeeds depth held (PrintKernel name) = HasKernels held.network name
 HasNeeds depth held (ChangeOp change) = (circuit : Circuit) × (held.network ≡ Some circuit) × Allows change circuit
 HasNeeds depth held Undo = HasNetwork held.previous
 HasNeeds depth held (Source name) = depth < MAX_DEPTH

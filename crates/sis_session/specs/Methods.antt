@@ -49,12 +49,21 @@ HasPut goes (byte ∷ bytes) old (Err fault.SinkFault) new = goes old (record { 
 HasPut goes (byte ∷ bytes) old (Err fault.Memory) new = goes old (record { piece = byte ∷ bytes; answer = Err put.Memory }) new
 HasPut goes (byte ∷ bytes) old (Err other) new = ⊥
 
+-- a text, or a refusal, may be told; or memory was wanting
+abbrev pub IsToldBy : (Result (List ℕ) Refusal → Type 0) → Result (Vec ℕ) StepFault → Type 0
+IsToldBy tells (Ok text) = tells (Ok text.items)
+IsToldBy tells (Err (fault.Refused why)) = tells (Err why)
+IsToldBy tells (Err fault.Memory) = Unit {0}
+IsToldBy tells (Err other) = ⊥
+
 -- a text is what is told, or the refusal is; or memory was wanting
 abbrev pub IsTold : Result (List ℕ) Refusal → Result (Vec ℕ) StepFault → Type 0
-IsTold told (Ok text) = told ≡ Ok text.items
-IsTold told (Err (fault.Refused why)) = told ≡ Err why
-IsTold told (Err fault.Memory) = Unit {0}
-IsTold told (Err other) = ⊥
+IsTold told = IsToldBy (λ what. told ≡ what)
+
+-- what a command tells was put by one call; what it does not tell is handed on
+abbrev pub HasToldPut : {S : Type 0} → (S → PutCall → S → Type 0) → Result (Vec ℕ) StepFault → S → Result Next StepFault → S → Type 0
+HasToldPut goes (Ok text) old answer new = HasPut goes text.items old answer new
+HasToldPut goes (Err why) old answer new = (answer ≡ Err why) × (new ≡ old)
 
 -- what reading a circuit from bytes leaves
 abbrev pub HasRead : List ℕ → Held → Result (Unit {0}) ReadFault → Held → Type 0

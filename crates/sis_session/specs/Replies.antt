@@ -11,7 +11,7 @@ use Rattle.blif_read.specs.declared.fault.LimitKind.TheVariants.{Name, Tables, R
 use Rattle.sis_script.specs.declared.command.ScriptFault.{ScriptFault}
 use Rattle.sis_script.specs.declared.command.ScriptFault.TheVariants.{BadCommand, BadOption, MissingWord}
 use Rattle.sis_session.specs.declared.refusal.Refusal.{Refusal}
-use Rattle.sis_session.specs.declared.refusal.Refusal.TheVariants.{Script, Nested, NoNetwork, NothingToUndo, NoSignal, Missing, TooLong, Blif, LongScript}
+use Rattle.sis_session.specs.declared.refusal.Refusal.TheVariants.{Script, Nested, NoNetwork, NothingToUndo, NoSignal, CubeLimit, TooWide, KernelLimit, Missing, TooLong, Blif, LongScript}
 use Rattle.sis_session.specs.declared.texts.Stats.{Stats}
 
 -- words as a line, with one blank between
@@ -83,6 +83,9 @@ refusal_text Nested = codes "sources nested deeper than 16"
 refusal_text NoNetwork = codes "no network"
 refusal_text NothingToUndo = codes "nothing to undo"
 refusal_text (NoSignal name) = codes "no table " ++ name
+refusal_text (CubeLimit name) = codes "too many rows at " ++ name
+refusal_text (TooWide name count) = decimal count ++ (codes " inputs at " ++ name)
+refusal_text (KernelLimit name) = codes "too many kernels at " ++ name
 refusal_text (Missing file) = codes "no file " ++ file
 refusal_text (TooLong file) = codes "file " ++ (file ++ codes " is longer than 67108864 bytes")
 refusal_text (Blif file fault) = file ++ (codes ": " ++ blif_fault_text fault)

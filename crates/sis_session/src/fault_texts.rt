@@ -22,6 +22,25 @@ pub fn put_three(
     Ok(())
 }
 
+/// Puts a text.
+#[tactic(auto, using(std::proofs::lemmas::Grind::common_steps))]
+pub fn put_text(out: &mut Vec<u8>, text: &[u8]) -> Result<(), AllocError>
+    ensures { OnOk result (out.new.items ≡ out.old.items ++ text.now) }
+{
+    out.extend_from_slice(text)?;
+    Ok(())
+}
+
+/// Puts two texts.
+#[tactic(auto, using(std::proofs::lemmas::Grind::common_steps))]
+pub fn put_two(out: &mut Vec<u8>, first: &[u8], second: &[u8]) -> Result<(), AllocError>
+    ensures { OnOk result (out.new.items ≡ out.old.items ++ (first.now ++ second.now)) }
+{
+    out.extend_from_slice(first)?;
+    out.extend_from_slice(second)?;
+    Ok(())
+}
+
 /// Puts what is wrong with a line.
 #[tactic(auto, unfolding(crate::specs::Replies::line_fault_text), using(std::proofs::lemmas::Grind::common_steps))]
 fn put_line_fault(

@@ -3,7 +3,7 @@
 ghost use Rattle.std.specs.Prelude.{◌≡◌, ◌⊎◌, List, None, Option, Result, Some, ℕ};
 ghost use Rattle.sis_outside.specs.Calls.{PutCall, Save};
 ghost use Rattle.sis_outside.specs.declared.store.SaveFault.{SaveFault as TheSaveFault};
-ghost use Rattle.sis_script.specs.declared.command.Change.TheVariants.{Sweep};
+ghost use Rattle.sis_script.specs.declared.command.Change.{Change as TheChange};
 ghost use Rattle.sis_script.specs.declared.command.Op.{Op as TheOp};
 ghost use Rattle.sis_script.specs.declared.command.Op.TheVariants.{WriteBlif};
 ghost use Rattle.sis_session.specs.Commands.{Plans, last_read};
@@ -45,7 +45,7 @@ pub fn commands_end_once()
         → (one ≡ other) ⊎ ((one ≡ Cut Memory) ⊎ (other ≡ Cut Memory)) }
 {}
 
-/// A law, no work: a sweep makes one thing of each network.
-pub fn sweeps_have_one_outcome()
-    ensures { ChangesOnce Sweep }
+/// A law, no work: each change makes one thing of each network.
+pub fn changes_have_one_outcome()
+    ensures { (change : TheChange) → ChangesOnce change }
 {}

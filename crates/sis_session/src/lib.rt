@@ -7,10 +7,13 @@
 //! nothing is saved but the network's text, a command that has what it needs is done (`specs/Keeping`), and it ends in
 //! one way.
 //!
-//! Rooms: `session` (what is held, and the step), `printing` (what commands tell), `outside` (the calls on files and
-//! output), `texts` and `fault_texts` (what is printed), `refusal`.
+//! Rooms: `session` (what is held, and the step), `printing` (what commands tell), `algebra` (what they tell of tables
+//! as algebra), `changing` (what they make of the network), `outside` (the calls on files and output), `texts` and
+//! `fault_texts` (what is printed), `refusal`.
 #![tactic(auto)]
 
+mod algebra;
+mod changing;
 mod fault_texts;
 mod laws;
 mod outside;
@@ -20,8 +23,8 @@ mod session;
 mod texts;
 
 pub use laws::{
-    commands_end_once, networks_are_written, served_commands_are_done, steps_keep_refinement,
-    sweeps_have_one_outcome,
+    changes_have_one_outcome, commands_end_once, networks_are_written, served_commands_are_done,
+    steps_keep_refinement,
 };
 pub use outside::load;
 pub use refusal::{Failed, Next, Refusal, StepFault};

@@ -3,7 +3,7 @@
 ghost use Rattle.std.specs.Prelude.{◌≡◌, ◌≤◌, IfOk, List, ℕ, None, Result, length};
 ghost use Rattle.sis_outside.specs.Calls.{Follows};
 ghost use Rattle.sis_session.specs.Commands.{sends, source_plan};
-ghost use Rattle.sis_session.specs.Methods.{HasLoaded, HasPut, HasSaved, IsTold};
+ghost use Rattle.sis_session.specs.Methods.{HasLoaded, HasPut, HasSaved, HasToldPut, IsTold};
 ghost use Rattle.sis_session.specs.Plan.{AskedNone, Did, MAX_BYTES, NestsBelow, ended};
 ghost use Rattle.sis_session.specs.State.{Held};
 ghost use Rattle.sis_session.specs.declared.refusal.Refusal.{Refusal as TheRefusal};
@@ -61,6 +61,7 @@ fn put<O: Sink>(out: &mut O, reply: &[u8]) -> Result<Next, StepFault>
 /// Puts what a command tells, or hands on why it tells nothing.
 pub fn put_told<O: Sink>(told: Result<Vec<u8>, StepFault>, out: &mut O) -> Result<Next, StepFault>
     ensures did { (held : Held) (what : Result (List ℕ) TheRefusal) → IsTold what told → Did (λ plan. plan ≡ sends held None what) AskedNone (Follows O.calls out.old out.new) (ended result held) }
+    ensures put { HasToldPut O.calls told out.old result out.new }
     ensures nests { (depth : ℕ) → IfOk result (NestsBelow depth) }
 {
     match told {

@@ -44,6 +44,12 @@ pub enum Refusal {
     NothingToUndo,
     /// No table has this name.
     NoSignal(RawWord),
+    /// What would come into the table of this name has too many rows.
+    CubeLimit(RawWord),
+    /// The table of this name would have so many inputs, which are too many.
+    TooWide(RawWord, usize),
+    /// The table of this name has more kernels than are listed.
+    KernelLimit(RawWord),
     /// There is no file of this name.
     Missing(Word),
     /// The file of this name is longer than is read.

@@ -4,14 +4,15 @@
 //! when nothing can fail any more.
 
 ghost use Rattle.std.specs.Prelude.{◌≡◌, ◌<◌, IfOk, IfSome, OnErr, option_map};
-ghost use Rattle.net_core.specs.Reads.{HasBounds};
 ghost use Rattle.sis_outside.specs.Calls.{Follows};
 ghost use Rattle.sis_session.specs.Commands.{ChangePlans, Plans, read_plan, undo_plan};
-ghost use Rattle.sis_session.specs.Methods.{HasRead, IsChanged, Undoes};
+ghost use Rattle.sis_session.specs.Methods.{HasRead, Undoes};
 ghost use Rattle.sis_session.specs.Plan.{AskedNone, Did, NestsBelow, ended};
 ghost use Rattle.sis_session.specs.Replies.{stats_of};
 ghost use Rattle.sis_session.specs.State.{nothing_held};
 
+use crate::algebra::{print_factor, print_kernel};
+use crate::changing::changed;
 use crate::outside::{load, put_told, send_told, source};
 use crate::printing::{echo, network_text, print, print_latch, print_stats, stats_of};
 use crate::refusal::{Next, Refusal, StepFault};
@@ -19,7 +20,6 @@ use crate::texts::Stats;
 use blif_read::{ReadFault, read};
 use cube_cover::PlainRow;
 use net_core::Network;
-use net_sweep::{SweepFault, swept_copy};
 use sis_outside::{Sink, Store};
 use sis_script::{Change, Command, Op};
 use sis_text::Word;
@@ -51,25 +51,6 @@ impl Model for Session {
     ghost view = { λ s. networks_held s.network s.previous };
 
     ghost invariant = { λ s. IfSome s.network HasBounds × IfSome s.previous HasBounds };
-}
-
-/// What a change makes of a network: a new one beside it.
-#[tactic(auto, using(crate::proofs::Bounds::bounds_swept))]
-fn changed(
-    alloc: Global,
-    network: &Network<PlainRow>,
-    change: Change,
-) -> Result<Network<PlainRow>, StepFault>
-    requires { HasBounds network.now }
-    ensures changes { IsChanged change network.now result }
-    ensures bounds { IfOk result HasBounds }
-{
-    match change {
-        Change::Sweep => match swept_copy(alloc, network) {
-            Ok((swept, _)) => Ok(swept),
-            Err(SweepFault::Memory) => Err(StepFault::Memory),
-        },
-    }
 }
 
 impl Session {
@@ -183,6 +164,8 @@ impl Session {
             Op::PrintStats => put_told(print_stats(alloc, &self.network), out),
             Op::Print(name) => put_told(print(alloc, &self.network, name), out),
             Op::PrintLatch => put_told(print_latch(alloc, &self.network), out),
+            Op::PrintFactor(name) => put_told(print_factor(alloc, &self.network, name), out),
+            Op::PrintKernel(name) => put_told(print_kernel(alloc, &self.network, name), out),
             Op::Change(change) => self.change(alloc, *change),
             Op::Undo => self.undo_or_refuse(),
             Op::Source(name) => source(alloc, name, depth, store),

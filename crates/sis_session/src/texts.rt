@@ -12,7 +12,7 @@ ghost use Rattle.sis_session.specs.Replies.{
   script_fault_text,
 };
 
-use crate::fault_texts::{put_blif_fault, put_three};
+use crate::fault_texts::{put_blif_fault, put_text, put_three, put_two};
 use crate::refusal::Refusal;
 use blif_read::BlifFault;
 use sis_script::{RawWord, ScriptFault};
@@ -132,6 +132,23 @@ fn put_file_fault(
     Ok(())
 }
 
+/// Puts how many inputs the table of a name would have.
+#[tactic(auto, using(std::proofs::lemmas::Grind::common_steps))]
+fn put_width(
+    out: &mut Vec<u8>,
+    alloc: Global,
+    count: usize,
+    name: &RawWord,
+) -> Result<(), AllocError>
+    ensures { OnOk result (out.new.items ≡ out.old.items ++ (decimal count ++ (codes " inputs at " ++ name.now))) }
+{
+    let number = format!(in alloc; "{count}")?;
+    out.extend_from_slice(number.as_bytes())?;
+    out.extend_from_slice(b" inputs at ".as_slice())?;
+    out.extend_from_slice(name.as_slice())?;
+    Ok(())
+}
+
 /// Puts why a command is refused.
 #[tactic(auto, unfolding(crate::specs::Replies::refusal_text), using(std::proofs::lemmas::Grind::common_steps))]
 fn put_refusal(out: &mut Vec<u8>, alloc: Global, refusal: &Refusal) -> Result<(), AllocError>
@@ -142,20 +159,15 @@ fn put_refusal(out: &mut Vec<u8>, alloc: Global, refusal: &Refusal) -> Result<()
         Refusal::Nested => out.extend_from_slice(b"sources nested deeper than 16".as_slice()),
         Refusal::NoNetwork => out.extend_from_slice(b"no network".as_slice()),
         Refusal::NothingToUndo => out.extend_from_slice(b"nothing to undo".as_slice()),
-        Refusal::NoSignal(name) => {
-            put_three(
-                out,
-                b"no table ".as_slice(),
-                name.as_slice(),
-                b"".as_slice(),
-            )
+        Refusal::NoSignal(name) => put_two(out, b"no table ".as_slice(), name.as_slice()),
+        Refusal::CubeLimit(name) => {
+            put_two(out, b"too many rows at ".as_slice(), name.as_slice())
         }
-        Refusal::Missing(file) => put_three(
-            out,
-            b"no file ".as_slice(),
-            file.text().as_bytes(),
-            b"".as_slice(),
-        ),
+        Refusal::TooWide(name, count) => put_width(out, alloc, *count, name),
+        Refusal::KernelLimit(name) => {
+            put_two(out, b"too many kernels at ".as_slice(), name.as_slice())
+        }
+        Refusal::Missing(file) => put_two(out, b"no file ".as_slice(), file.text().as_bytes()),
         Refusal::TooLong(file) => put_three(
             out,
             b"file ".as_slice(),
@@ -163,9 +175,7 @@ fn put_refusal(out: &mut Vec<u8>, alloc: Global, refusal: &Refusal) -> Result<()
             b" is longer than 67108864 bytes".as_slice(),
         ),
         Refusal::Blif(file, fault) => put_file_fault(out, alloc, file, fault),
-        Refusal::LongScript => {
-            out.extend_from_slice(b"script is longer than 67108864 bytes".as_slice())
-        }
+        Refusal::LongScript => { put_text(out, b"script is longer than 67108864 bytes".as_slice()) }
     }
 }
 

@@ -71,6 +71,22 @@ const FILES: &[(&str, &[u8])] = &[
     ),
     ("u", b".inputs a\n.outputs y z\n.names a y\n1 1\n"),
     (
+        "d",
+        b".model d\n.inputs i0 i1 i2 i3 i4 i5 i6 i7 i8 i9 i10 i11 i12 i13 i14 i15 i16 i17 i18 i19 i20 i21 i22 i23 i24 i25 i26 i27 i28 i29 z\n.outputs y\n.names i0 i1 i2 i3 i4 i5 i6 i7 i8 i9 i10 i11 i12 i13 i14 i15 i16 i17 i18 i19 i20 i21 i22 i23 i24 i25 i26 i27 i28 i29 x\n11---------------------------- 0\n--11-------------------------- 0\n----11------------------------ 0\n------11---------------------- 0\n--------11-------------------- 0\n----------11------------------ 0\n------------11---------------- 0\n--------------11-------------- 0\n----------------11------------ 0\n------------------11---------- 0\n--------------------11-------- 0\n----------------------11------ 0\n------------------------11---- 0\n--------------------------11-- 0\n----------------------------11 0\n.names x z y\n11 1\n.end\n",
+    ),
+    (
+        "e",
+        b".model e\n.inputs a b c\n.outputs y\n.names a b x\n11 1\n.names x c y\n1- 1\n-1 1\n.end\n",
+    ),
+    (
+        "g",
+        b".model g\n.inputs a b c d\n.outputs y\n.names a b x\n11 1\n.names x c d y\n11- 1\n1-1 1\n.end\n",
+    ),
+    (
+        "v",
+        b".model v\n.inputs a b c d\n.outputs f g\n.names a b c d f\n1-1- 1\n1--1 1\n-11- 1\n-1-1 1\n.names a f g\n11 0\n.end\n",
+    ),
+    (
         "s",
         b"echo hi\nfrob # no command\necho bye; quit; echo no\n",
     ),
@@ -249,6 +265,48 @@ const DONE: &[(&[&str], &[u8], &[u8], Option<&[u8]>)] = &[
         b".names a b x\n11 1\n.names x c y\n01 1\n\n.names a b x\n11 1\n.names x n\n0 1\n.names n c y\n11 1\n\n.names a b x\n11 1\n.names x c y\n01 1\n",
         None,
     ),
+    (
+        &[
+            "-c",
+            "read_blif e; eliminate -1; print; echo; undo; print; echo; undo; collapse; print",
+        ],
+        b"",
+        b".names a b c y\n11- 1\n--1 1\n\n.names a b x\n11 1\n.names x c y\n1- 1\n-1 1\n\n.names a b c y\n11- 1\n--1 1\n",
+        None,
+    ),
+    (
+        &[
+            "-c",
+            "read_blif g; eliminate -1; print; echo; eliminate -l 2 0; print",
+        ],
+        b"",
+        b".names a b x\n11 1\n.names x c d y\n11- 1\n1-1 1\n\n.names a b c d y\n111- 1\n11-1 1\n",
+        None,
+    ),
+    (
+        &["-c", "read_blif e; collapse; print"],
+        b"",
+        b".names a b c y\n11- 1\n--1 1\n",
+        None,
+    ),
+    (
+        &["-c", "read_blif d; eliminate 100000; print_stats"],
+        b"",
+        b"d pi=31 po=1 nodes=2 latches=0 lits=32 dc=0\n",
+        None,
+    ),
+    (
+        &["-c", "read_blif v; print_kernel f; print_kernel g"],
+        b"",
+        b"d + c\nb + a\nb*d + b*c + a*d + a*c\n",
+        None,
+    ),
+    (
+        &["-c", "read_blif v; print_factor f; echo; print_factor"],
+        b"",
+        b"f = a*(c + d) + b*(c + d)\n\nf = a*(c + d) + b*(c + d)\n!g = a*f\n",
+        None,
+    ),
     (&[], b"echo ready\nquit\n", b"ready\n", None),
     (&["-k"], b"", b"", None),
     (&["-c", "source h; echo bye"], b"", b"hi\nbye\n", None),
@@ -362,6 +420,33 @@ const REFUSED: &[(&[&str], &[u8], &[u8])] = &[
         b"hi\nbye\n",
         b"sis: line 2: unknown command\n",
     ),
+    (&["-c", "eliminate 0"], b"", b"sis: line 1: no network\n"),
+    (
+        &[
+            "-k",
+            "-c",
+            "eliminate; eliminate -l 0 1; eliminate 1 2; collapse 1",
+        ],
+        b"",
+        b"sis: line 1: missing word\nsis: line 1: bad option\nsis: line 1: bad option\nsis: line 1: bad option\n",
+    ),
+    (
+        &["-c", "read_blif d; collapse"],
+        b"",
+        b"sis: line 1: too many rows at y\n",
+    ),
+    (&["-c", "print_factor"], b"", b"sis: line 1: no network\n"),
+    (&["-c", "print_kernel"], b"", b"sis: line 1: missing word\n"),
+    (
+        &["-k", "-c", "read_blif v; print_factor h; print_kernel -h"],
+        b"",
+        b"sis: line 1: no table h\nsis: line 1: no table -h\n",
+    ),
+    (
+        &["-c", "read_blif v; print_kernel f g"],
+        b"",
+        b"sis: line 1: bad option\n",
+    ),
     (&["-c", "source"], b"", b"sis: line 1: missing word\n"),
     (&["-c", "source -h"], b"", b"sis: line 1: bad option\n"),
 ];
@@ -377,6 +462,62 @@ fn commands_are_refused(rt: HostRuntime) -> Result<(), AllocError> {
         };
         assert_call(&rt, rt.alloc(), words, b"", Failing::Nothing, &left)?;
     }
+    Ok(())
+}
+
+/// Puts names, each behind a blank.
+fn put_names(alloc: Global, text: &mut Vec<u8>, from: usize, to: usize) -> Result<(), AllocError> {
+    for number in from..to {
+        let name = format!(in alloc; " i{number}")?;
+        text.extend_from_slice(name.as_bytes())?;
+    }
+    Ok(())
+}
+
+/// Puts a table over so many inputs, with one row of ones.
+fn put_wide_table(
+    alloc: Global,
+    text: &mut Vec<u8>,
+    from: usize,
+    to: usize,
+    output: &[u8],
+) -> Result<(), AllocError> {
+    text.extend_from_slice(b".names".as_slice())?;
+    put_names(alloc, text, from, to)?;
+    text.extend_from_slice(output)?;
+    for _ in from..to {
+        text.push(b'1')?;
+    }
+    text.extend_from_slice(b" 1\n".as_slice())
+}
+
+/// A file of two tables over 600 inputs each, and one that reads both.
+fn wide_file(alloc: Global) -> Result<Vec<u8>, AllocError> {
+    let mut text = Vec::new(alloc);
+    text.extend_from_slice(b".model w\n.inputs".as_slice())?;
+    put_names(alloc, &mut text, 0, 1200)?;
+    text.extend_from_slice(b"\n.outputs y\n".as_slice())?;
+    put_wide_table(alloc, &mut text, 0, 600, b" x1\n".as_slice())?;
+    put_wide_table(alloc, &mut text, 600, 1200, b" x2\n".as_slice())?;
+    text.extend_from_slice(b".names x1 x2 y\n11 1\n.end\n".as_slice())?;
+    Ok(text)
+}
+
+#[test]
+fn wide_tables_are_refused(rt: HostRuntime) -> Result<(), AllocError> {
+    let alloc = rt.alloc();
+    let texts = ["-c", "read_blif wide; collapse"];
+    let left = Left {
+        status: Status::Refused,
+        out: b"",
+        err: b"sis: line 1: 1200 inputs at y\n",
+        written: None,
+    };
+    let mut outside = Outside::new(alloc, b"")?;
+    let file = wide_file(alloc)?;
+    outside.store.put_file("wide", file.as_slice())?;
+    let status = outside.call(alloc, &texts)?;
+    outside.assert_left(&rt, status, &left, &texts);
     Ok(())
 }
 

@@ -4,7 +4,7 @@ use Rattle.sis_session.specs.Commands.{Plans}
 use Rattle.sis_session.specs.Plan.{Does, Refuses, Done, Refused}
 use Rattle.sis_session.specs.declared.refusal.Next.TheVariants as next
 use Rattle.sis_session.specs.declared.refusal.Refusal.TheVariants as refusal
-use Rattle.sis_session.proofs.Going.{both_alone, out_alone, store_alone, quiet_did}
+use Rattle.sis_session.proofs.Going.{both_alone, out_alone, store_alone, told_did, quiet_did}
 use Rattle.sis_session.proofs.session.Session.step.Goals as goal
 
 pub returns-in-Echo-clause-did : goal.returns-in-Echo-clause-did
@@ -36,6 +36,14 @@ returns-in-Print-clause-did g c =
 pub returns-in-PrintLatch-clause-did : goal.returns-in-PrintLatch-clause-did
 returns-in-PrintLatch-clause-did g c =
     rw (c.in-PrintLatch.is, ← c.self-in-PrintLatch.view_is) (out_alone g.S.Store.calls _ _ c.args.store.now _ (c.put_told-in-PrintLatch.ensures.did _ _ c.print_latch.ensures))
+
+pub returns-in-PrintFactor-clause-did : goal.returns-in-PrintFactor-clause-did
+returns-in-PrintFactor-clause-did g c =
+    rw (c.in-PrintFactor.is, ← c.self-in-PrintFactor.view_is) (out_alone g.S.Store.calls _ _ c.args.store.now _ (told_did g.O.Sink.calls _ _ _ _ _ _ c.print_factor.ensures c.put_told-in-PrintFactor.ensures.put))
+
+pub returns-in-PrintKernel-clause-did : goal.returns-in-PrintKernel-clause-did
+returns-in-PrintKernel-clause-did g c =
+    rw (c.in-PrintKernel.is, ← c.self-in-PrintKernel.view_is) (out_alone g.S.Store.calls _ _ c.args.store.now _ (told_did g.O.Sink.calls _ _ _ _ _ _ c.print_kernel.ensures c.put_told-in-PrintKernel.ensures.put))
 
 pub returns-in-Change-clause-did : goal.returns-in-Change-clause-did
 returns-in-Change-clause-did g c =
@@ -69,3 +77,9 @@ returns-in-Print-clause-nests g c = c.put_told-in-Print.ensures.nests c.args.dep
 
 pub returns-in-PrintLatch-clause-nests : goal.returns-in-PrintLatch-clause-nests
 returns-in-PrintLatch-clause-nests g c = c.put_told-in-PrintLatch.ensures.nests c.args.depth
+
+pub returns-in-PrintFactor-clause-nests : goal.returns-in-PrintFactor-clause-nests
+returns-in-PrintFactor-clause-nests g c = c.put_told-in-PrintFactor.ensures.nests c.args.depth
+
+pub returns-in-PrintKernel-clause-nests : goal.returns-in-PrintKernel-clause-nests
+returns-in-PrintKernel-clause-nests g c = c.put_told-in-PrintKernel.ensures.nests c.args.depth
