@@ -10,7 +10,7 @@ use Rattle.circuit_model.specs.declared.circuit.Circuit.{Circuit}
 use Rattle.circuit_laws.specs.Edits.{tables_kept, latches_kept, with_kept, with_added, with_fixed, is_other, constant_table}
 use Rattle.circuit_laws.specs.Fixed.{IsFixed}
 use Rattle.circuit_laws.specs.Kept.{IsClosed, bits_kept}
-use Rattle.circuit_laws.specs.Left.{Held, state_left, KeepsLeft}
+use Rattle.circuit_laws.specs.Left.{ConstantLatch, state_left, KeepsLeft}
 use Rattle.circuit_laws.specs.Same.{KeepsEach}
 use Rattle.circuit_laws.proofs.Names.{same_name, has_head, has_tail, has_front, has_back, has_either}
 use Rattle.circuit_laws.proofs.Kept.{all_weaker, bit_kept, bits_all, latches_all, has_tables_kept, has_latches_kept, kept_keeps}
@@ -117,16 +117,16 @@ latch_before old new latches name h =
     (and_parts (has (latch_outputs new) name) (has (latch_outputs old) name)
     (sym (has_latches_kept (has (latch_outputs new)) old.latches name) ∙ sym (ap (λ (all : List Latch). has (map (λ (l : Latch). l.output) all) name) latches) ∙ h)).1
 
-pub left_through : (before after : List Held) (first second third : Circuit) → KeepsLeft before first second → KeepsLeft after second third → KeepsLeft (before ++ after) first third
+pub left_through : (before after : List ConstantLatch) (first second third : Circuit) → KeepsLeft before first second → KeepsLeft after second third → KeepsLeft (before ++ after) first third
 left_through before after first second third p q = record {
   inputs = p.inputs ∙ q.inputs;
   latches = q.latches ∙ ap (latches_kept (has (latch_outputs third))) p.latches ∙ latches_twice (has (latch_outputs second)) (has (latch_outputs third)) (latch_before second third q.latches) first.latches;
   signals = λ signal h. p.signals signal (q.signals signal h);
-  among = all_append (λ (latch : Held). has (latch_outputs first) latch.0 ≡ true) before after p.among
-      (all_weaker (λ (latch : Held). has (latch_outputs second) latch.0 ≡ true) (λ (latch : Held). has (latch_outputs first) latch.0 ≡ true)
+  among = all_append (λ (latch : ConstantLatch). has (latch_outputs first) latch.0 ≡ true) before after p.among
+      (all_weaker (λ (latch : ConstantLatch). has (latch_outputs second) latch.0 ≡ true) (λ (latch : ConstantLatch). has (latch_outputs first) latch.0 ≡ true)
       (λ latch h. latch_before first second p.latches latch.0 h) after q.among);
   kept = λ state row a held signal there.
-      let parts = all_parts (λ (latch : Held). bit_of (latch_outputs first) state latch.0 ≡ Some latch.1) before after held in
+      let parts = all_parts (λ (latch : ConstantLatch). bit_of (latch_outputs first) state latch.0 ≡ Some latch.1) before after held in
       p.kept state row a parts.0 signal (q.signals signal there)
       ∙ q.kept (state_left first second state) row
       (bits_long (has (latch_outputs second)) first.latches state a.0 ∙ ap length (sym p.latches), a.1 ∙ ap length p.inputs)
@@ -134,9 +134,9 @@ left_through before after first second third p q = record {
       ∙ ap (λ (s : List Bool). value_in third s row signal) (state_twice state);
 }
   where
-    bits_held : (held : List Held) (state : List Bool) → AllByRecursion (λ (latch : Held). has (latch_outputs second) latch.0 ≡ true) held
-        → AllByRecursion (λ (latch : Held). bit_of (latch_outputs first) state latch.0 ≡ Some latch.1) held
-        → AllByRecursion (λ (latch : Held). bit_of (latch_outputs second) (state_left first second state) latch.0 ≡ Some latch.1) held
+    bits_held : (held : List ConstantLatch) (state : List Bool) → AllByRecursion (λ (latch : ConstantLatch). has (latch_outputs second) latch.0 ≡ true) held
+        → AllByRecursion (λ (latch : ConstantLatch). bit_of (latch_outputs first) state latch.0 ≡ Some latch.1) held
+        → AllByRecursion (λ (latch : ConstantLatch). bit_of (latch_outputs second) (state_left first second state) latch.0 ≡ Some latch.1) held
     bits_held [] state among bits = tt
     bits_held (latch ∷ held) state among bits = (
       ap (λ (all : List Latch). bit_of (map (λ (l : Latch). l.output) all) (state_left first second state) latch.0) p.latches

@@ -1,29 +1,16 @@
 -- A circuit refines another one where related states show the same and stay related: induction over time, once.
 use Rattle.std.proofs.Common.{◌≡◌, suc, Bool, List, [], ◌∷◌, length, refl, ap, subst}
 use Rattle.std.specs.List.{AllZip, AllByRecursion}
-use Rattle.circuit_model.specs.Runs.{outputs_at, next_state, run, IsStart, may_start, Meets, MeetsAll, IsInputRow, Refines}
+use Rattle.circuit_model.specs.Behaviors.{MeetsAll}
+use Rattle.circuit_model.specs.Runs.{outputs_at, next_state, run, IsStart, may_start, IsInputRow, Refines}
 use Rattle.circuit_model.specs.declared.circuit.Tri.{Tri}
-use Rattle.circuit_model.specs.declared.circuit.Tri.TheVariants.{Zero, One, Free}
 use Rattle.circuit_model.specs.declared.circuit.Latch.{Latch}
 use Rattle.circuit_model.specs.declared.circuit.Circuit.{Circuit}
-
-meets_itself : (shown : Tri) → Meets shown shown
-meets_itself Zero = refl
-meets_itself One = refl
-meets_itself Free = tt
-
-row_meets : (shown : List Tri) → AllZip Meets shown shown
-row_meets [] = tt
-row_meets (first ∷ shown) = (meets_itself first, row_meets shown)
-
-rows_meet : (shown : List (List Tri)) → AllZip (AllZip Meets) shown shown
-rows_meet [] = tt
-rows_meet (first ∷ shown) = (row_meets first, rows_meet shown)
+use Rattle.circuit_model.proofs.Refinement.{all-meet-same}
 
 -- what is shown is met by the same
 pub equal_meets : (asked shown : List (List Tri)) → asked ≡ shown → MeetsAll asked shown
-unfolding MeetsAll
-equal_meets asked shown e = subst (λ (rows : List (List Tri)). AllZip (AllZip Meets) asked rows) e (rows_meet asked)
+equal_meets asked shown e = subst (MeetsAll asked) e (all-meet-same asked)
 
 -- one step of two circuits in related states
 pub record IsStep (R : List Bool → List Bool → Type 0) (old new : Circuit) (start state row : List Bool) : Type 0 where

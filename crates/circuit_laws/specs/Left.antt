@@ -12,8 +12,8 @@ use Rattle.circuit_laws.specs.Kept.{bits_kept}
 use Rattle.circuit_laws.specs.Same.{IsAssignment}
 
 -- a latch's name and a bit
-abbrev pub Held : Type 0
-Held = List ℕ × Bool
+abbrev pub ConstantLatch : Type 0
+ConstantLatch = List ℕ × Bool
 
 -- of a state, the bits of the latches that are left
 abbrev pub state_left : Circuit → Circuit → List Bool → List Bool
@@ -21,11 +21,11 @@ state_left old new state = bits_kept (has (latch_outputs new)) old.latches state
 
 -- the inputs stay, no signal and no latch comes, and at each leaf assignment in which these latches have their bits
 -- each signal that is left has its value
-pub record KeepsLeft (held : List Held) (old new : Circuit) : Type 0 where
+pub record KeepsLeft (held : List ConstantLatch) (old new : Circuit) : Type 0 where
   pub inputs : old.inputs ≡ new.inputs
   pub latches : new.latches ≡ latches_kept (has (latch_outputs new)) old.latches
   pub signals : (signal : List ℕ) → has (given new) signal ≡ true → has (given old) signal ≡ true
-  pub among : AllByRecursion (λ (latch : Held). has (latch_outputs old) latch.0 ≡ true) held
+  pub among : AllByRecursion (λ (latch : ConstantLatch). has (latch_outputs old) latch.0 ≡ true) held
   pub kept : (state row : List Bool) → IsAssignment old state row
-      → AllByRecursion (λ (latch : Held). bit_of (latch_outputs old) state latch.0 ≡ Some latch.1) held
+      → AllByRecursion (λ (latch : ConstantLatch). bit_of (latch_outputs old) state latch.0 ≡ Some latch.1) held
       → (signal : List ℕ) → has (given new) signal ≡ true → value_in old state row signal ≡ value_in new (state_left old new state) row signal

@@ -12,7 +12,7 @@ ghost use Rattle.circuit_model.specs.declared.circuit.Circuit.{Circuit as TheCir
 ghost use Rattle.circuit_laws.specs.Edits.{replaced, with_tables, with_replaced, with_added, with_kept, with_removed, with_fixed, is_other, is_read, is_root};
 ghost use Rattle.circuit_laws.specs.Fixed.{IsFixed};
 ghost use Rattle.circuit_laws.specs.Kept.{IsClosed, bits_kept};
-ghost use Rattle.circuit_laws.specs.Left.{Held, KeepsLeft};
+ghost use Rattle.circuit_laws.specs.Left.{ConstantLatch, KeepsLeft};
 ghost use Rattle.circuit_laws.specs.Same.{IsAssignment, IsSame, KeepsValues, KeepsEach, IsSettled};
 ghost use Rattle.circuit_laws.specs.Valuations.{Obeys};
 
@@ -103,7 +103,7 @@ pub fn fixing_refines()
 /// became tables have their bits.
 pub fn leaving_keeps()
     ensures itself { (circuit : TheCircuit) → KeepsLeft [] circuit circuit }
-    ensures through { (before after : List Held) (first second third : TheCircuit) → KeepsLeft before first second → KeepsLeft after second third
+    ensures through { (before after : List ConstantLatch) (first second third : TheCircuit) → KeepsLeft before first second → KeepsLeft after second third
         → KeepsLeft (before ++ after) first third }
     ensures each { (old new : TheCircuit) → KeepsEach old new → ((signal : List ℕ) → has (given new) signal ≡ true → has (given old) signal ≡ true)
         → KeepsLeft [] old new }

@@ -1,7 +1,8 @@
--- Refinement is reflexive and transitive.
+-- Refinement of behaviors is reflexive and transitive, and so is that of circuits.
 use Rattle.std.proofs.Common.{◌≡◌, ℕ, Bool, List, [], ◌∷◌, refl, ◌∙◌, sym, subst, length}
 use Rattle.std.specs.List.{AllZip, AllByRecursion}
-use Rattle.circuit_model.specs.Runs.{Meets, MeetsAll, Refines}
+use Rattle.circuit_model.specs.Behaviors.{Behavior, Meets, MeetsAll, RefinesAs}
+use Rattle.circuit_model.specs.Runs.{of_circuit, Refines}
 use Rattle.circuit_model.specs.declared.circuit.Tri.{Tri}
 use Rattle.circuit_model.specs.declared.circuit.Tri.TheVariants.{Zero, One, Free}
 use Rattle.circuit_model.specs.declared.circuit.Circuit.{Circuit}
@@ -29,7 +30,7 @@ zip-then R h (a ∷ xs) [] zs p q = absurd p
 zip-then R h (a ∷ xs) (b ∷ ys) [] p q = absurd q
 zip-then R h (a ∷ xs) (b ∷ ys) (c ∷ zs) p q = (h a b c p.0 q.0, zip-then R h xs ys zs p.1 q.1)
 
-all-meet-same : (rows : List (List Tri)) → MeetsAll rows rows
+pub all-meet-same : (rows : List (List Tri)) → MeetsAll rows rows
 unfolding MeetsAll
 all-meet-same rows = zip-same (AllZip Meets) (zip-same Meets meets-same) rows
 
@@ -37,15 +38,15 @@ all-meet-then : (xs ys zs : List (List Tri)) → MeetsAll xs ys → MeetsAll ys 
 unfolding MeetsAll
 all-meet-then xs ys zs p q = zip-then (AllZip Meets) (zip-then Meets meets-then) xs ys zs p q
 
-pub refines-itself : (circuit : Circuit) → Refines circuit circuit
-refines-itself circuit = record {
+pub behaves-as-itself : (one : Behavior) → RefinesAs one one
+behaves-as-itself one = record {
   inputs = refl;
   outputs = refl;
   runs = λ state starts. (state, starts, λ rows wide. all-meet-same _);
 }
 
-pub refines-through : (first second third : Circuit) → Refines first second → Refines second third → Refines first third
-refines-through first second third p q = record {
+pub behaves-through : (first second third : Behavior) → RefinesAs first second → RefinesAs second third → RefinesAs first third
+behaves-through first second third p q = record {
   inputs = p.inputs ∙ q.inputs;
   outputs = p.outputs ∙ q.outputs;
   runs = λ state starts.
@@ -59,3 +60,9 @@ refines-through first second third p q = record {
             (middle_meets rows wide),
       );
 }
+
+pub refines-itself : (circuit : Circuit) → Refines circuit circuit
+refines-itself circuit = behaves-as-itself (of_circuit circuit)
+
+pub refines-through : (first second third : Circuit) → Refines first second → Refines second third → Refines first third
+refines-through first second third = behaves-through (of_circuit first) (of_circuit second) (of_circuit third)

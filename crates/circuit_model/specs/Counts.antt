@@ -32,7 +32,8 @@ pub record IsSmallTable (table : Table) : Type 0 where
   pub inputs : length table.inputs ≤ 1000
   pub widths : AllByRecursion (λ (row : List Tri). length row ≤ 1000) table.rows
 
--- at most 65,535 tables and latches, those of the don't-care part with them, and each of the circuit's own tables small
+-- at most 65,535 tables and latches, those of the don't-care part with them, and each table small
 pub record IsWithinLimits (circuit : Circuit) : Type 0 where
   pub nodes : length circuit.tables + length circuit.latches + length circuit.dont_care ≤ 65535
   pub tables : AllByRecursion IsSmallTable circuit.tables
+  pub dont_care : AllByRecursion IsSmallTable circuit.dont_care

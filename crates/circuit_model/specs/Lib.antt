@@ -1,6 +1,7 @@
 pub mod Counts
 pub mod Names
 pub mod Values
+pub mod Behaviors
 pub mod Runs
 pub mod Soundness
 pub mod Text

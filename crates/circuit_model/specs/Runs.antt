@@ -1,11 +1,12 @@
--- A circuit as a machine: its steps, its start states, its runs, and when one circuit refines another.
+-- A circuit as a machine: its steps, its start states, its runs, and so its behavior, which may stand for another one's.
 -- Source: BLIF appendix of the SIS report (UCB/ERL M92/41), `.latch` and `.exdc`; De Micheli, "Synthesis and
 -- Optimization of Digital Circuits", chapter 9 (synchronous circuits as finite-state machines).
 -- Leaves are what tables take from outside them: the inputs and what the latches hold. A row gives the inputs' bits, a
 -- state those of the latches, each in the order of its list.
 use Rattle.std.specs.Prelude.{◌≡◌, ℕ, zero, suc, Bool, true, false, Option, Some, None, List, [], ◌∷◌, map, length, bytes_eq, if◌then◌else◌}
-use Rattle.std.specs.List.{AllZip, AllByRecursion}
+use Rattle.std.specs.List.{AllZip}
 use Rattle.std.specs.Option.{option_or}
+use Rattle.circuit_model.specs.Behaviors.{Behavior, RefinesAs}
 use Rattle.circuit_model.specs.Values.{Leaves, signal_value, is_free_under}
 use Rattle.circuit_model.specs.declared.circuit.Tri.{Tri}
 use Rattle.circuit_model.specs.declared.circuit.Tri.TheVariants.{Zero, One, Free}
@@ -67,25 +68,20 @@ may_start init bit = Unit {0}
 unfoldable pub IsStart : Circuit → List Bool → Type 0
 IsStart circuit state = AllZip (λ (latch : Latch) bit. may_start latch.init bit) circuit.latches state
 
--- what the circuit shows meets what was asked for: the same bit wherever 0 or 1 was asked for
-abbrev pub Meets : Tri → Tri → Type 0
-Meets Free shown = Unit {0}
-Meets Zero shown = shown ≡ Zero
-Meets One shown = shown ≡ One
-
--- a run meets what was asked for at every step and output, and has as many of both
-unfoldable pub MeetsAll : List (List Tri) → List (List Tri) → Type 0
-MeetsAll asked shown = AllZip (AllZip Meets) asked shown
-
 -- an input row has one bit for each input
 abbrev pub IsInputRow : Circuit → List Bool → Type 0
 IsInputRow circuit row = length row ≡ length circuit.inputs
 
--- the second circuit may stand for the first, which was asked for: it has the first one's ports, in order, and wherever
--- it starts, the first has a start from which no list of input rows leads it to a run that the second does not meet
-pub record Refines (asked circuit : Circuit) : Type 0 where
-  pub inputs : asked.inputs ≡ circuit.inputs
-  pub outputs : asked.outputs ≡ circuit.outputs
-  pub runs : (state : List Bool) → IsStart circuit state →
-      (start : List Bool) × IsStart asked start
-      × ((rows : List (List Bool)) → AllByRecursion (IsInputRow circuit) rows → MeetsAll (run asked start rows) (run circuit state rows))
+-- a circuit starts where its latches may, and shows its run
+abbrev pub of_circuit : Circuit → Behavior
+of_circuit circuit = record {
+  inputs = circuit.inputs;
+  outputs = circuit.outputs;
+  Start = List Bool;
+  may_begin = IsStart circuit;
+  shown = run circuit;
+}
+
+-- the second circuit may stand for the first, which was asked for
+abbrev pub Refines : Circuit → Circuit → Type 0
+Refines asked circuit = RefinesAs (of_circuit asked) (of_circuit circuit)

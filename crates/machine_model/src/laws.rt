@@ -1,11 +1,10 @@
 //! Laws over the definitions of machines and behaviors, each the contract of a call that does nothing.
 
 ghost use Rattle.std.specs.Prelude.{◌≡◌, ℕ, List, None, Some, slice_get, false, ◌<◌};
-ghost use Rattle.circuit_model.specs.declared.circuit.Circuit.{Circuit as TheCircuit};
-ghost use Rattle.circuit_model.specs.Runs.{Refines};
+ghost use Rattle.circuit_model.specs.Behaviors.{RefinesAs};
 ghost use Rattle.machine_model.specs.declared.machine.MachineRow.{MachineRow as TheRow};
 ghost use Rattle.machine_model.specs.declared.machine.Spec.{Spec as TheSpec};
-ghost use Rattle.machine_model.specs.Behaviors.{RefinesAs, of_circuit, of_spec};
+ghost use Rattle.machine_model.specs.Behaviors.{of_spec};
 ghost use Rattle.machine_model.specs.Clashes.{clash, first_clash};
 
 /// Every circuit and every machine refines itself.
@@ -16,12 +15,6 @@ pub fn refines_is_reflexive()
 /// What refines a circuit or machine that refines another one refines that one.
 pub fn refines_is_transitive()
     ensures { (first second third : TheSpec) → RefinesAs (of_spec first) (of_spec second) → RefinesAs (of_spec second) (of_spec third) → RefinesAs (of_spec first) (of_spec third) }
-{}
-
-/// Between circuits, refinement of behaviors is refinement of circuits.
-pub fn circuits_refine_alike()
-    ensures as_behaviors { (asked circuit : TheCircuit) → Refines asked circuit → RefinesAs (of_circuit asked) (of_circuit circuit) }
-    ensures as_circuits { (asked circuit : TheCircuit) → RefinesAs (of_circuit asked) (of_circuit circuit) → Refines asked circuit }
 {}
 
 /// Where no clash is found, no two rows clash.
