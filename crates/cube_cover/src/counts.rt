@@ -113,6 +113,34 @@ impl Counts {
     }
 }
 
+// Whether a row has its literals, which stand at these places, where the given row has the same ones.
+fn stands_in<R: Row>(given: &R, row: &R, places: &[u32]) -> bool {
+    for number in places {
+        let place = *number as usize;
+        if place >= given.width() || place >= row.width() || given.at(place) != row.at(place) {
+            return false;
+        }
+    }
+    true
+}
+
+/// Which of some rows has no literal but those of the given one, if there is such a row.
+pub fn first_within<R: Row>(
+    given: &R,
+    rows: &[R],
+    literals: &[Vec<u32>],
+    numbers: &[usize],
+) -> Option<usize> {
+    for (i, number) in numbers.iter().enumerate() {
+        if *number < rows.len()
+            && stands_in(given, &rows[*number], literal_places(literals, *number))
+        {
+            return Some(i);
+        }
+    }
+    None
+}
+
 // How many of some places are open.
 fn open_count<R: Row>(given: &R, places: &[u32]) -> usize {
     let mut open: usize = 0;

@@ -10,7 +10,7 @@ ghost use Rattle.sis_base.specs.Rows.{HasWidth};
 ghost use Rattle.cube_cover.specs.Covers.{picked_rows, IsCovered, IsTautology};
 ghost use Rattle.cube_cover.specs.Literals.{some_contains, no_dash};
 
-use crate::counts::{choose_split, literals_of_rows};
+use crate::counts::{choose_split, first_within, literals_of_rows};
 use crate::cover::Cover;
 use crate::picks::{all_numbers, has_points};
 use crate::row::Row;
@@ -112,8 +112,9 @@ fn row_with<R: Row>(alloc: Global, row: &R, place: usize, bit: bool) -> Result<R
     Ok(made)
 }
 
-// Whether some rows have each point of the given one; `last` is the place decided last, of which nothing is asked. Leaves
-// out rows that do not count, and splits at a dash until a row or the want of rows decides.
+// Whether some rows have each point of the given one; `last` is the place decided last, of which nothing is asked. Looks for a
+// row that decides at once, before rows are left out: one after the other goes in a chain of implications, each in a round of
+// its own. Then leaves out rows that do not count, and splits at a dash until a row or the want of rows decides.
 fn is_covered<R: Row>(
     alloc: Global,
     given: &R,
@@ -125,6 +126,10 @@ fn is_covered<R: Row>(
     requires { HasWidth (length (R.literals given.now)) (picked_rows (map R.literals rows.now) numbers.now) }
     ensures { IfOk result (λ answer. IsTrue answer ↔ IsCovered (R.literals given.now) (picked_rows (map R.literals rows.now) numbers.now)) }
 {
+    let within = first_within(given, rows, literals, numbers);
+    if choice_has_points(given, rows, numbers, within) {
+        return Ok(true);
+    }
     let kept = reduce(alloc, given, rows, literals, numbers, last)?;
     if kept.len() == 0 {
         return Ok(false);

@@ -11,9 +11,12 @@ returns-then-len-eq0 g t c =
     (empty_answer (g.R.Row.literals c.args.given.now) (picked_rows (map g.R.Row.literals c.args.rows.now) c.in_ok-kept.kept.items) (ap (picked_rows (map g.R.Row.literals c.args.rows.now)) (nil_from_length c.in_ok-kept.kept.items (omega (arith, c.if-len-eq0.true, c.len.ensures)))))
 
 pub returns-then-choice_has_points : goal.returns-then-choice_has_points
-returns-then-choice_has_points g t c =
+returns-then-choice_has_points g t c = contained_answer _ _ c.requires (c.choice_has_points.ensures c.if-choice_has_points.true)
+
+pub returns-then-choice_has_points-2 : goal.returns-then-choice_has_points-2
+returns-then-choice_has_points-2 g t c =
     reduction_answer _ _ _ true c.in_ok-kept.ensures
-    (contained_answer _ _ c.in_ok-kept.ensures.widths (rw (← c.as_slice-2.ensures.value) (c.choice_has_points.ensures c.if-choice_has_points.true)))
+    (contained_answer _ _ c.in_ok-kept.ensures.widths (rw (← c.as_slice-2.ensures.value) (c.choice_has_points-2.ensures c.if-choice_has_points-2.true)))
 
 pub returns-in-None : goal.returns-in-None
 returns-in-None g t c =
