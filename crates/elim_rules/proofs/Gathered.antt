@@ -18,7 +18,7 @@ use Rattle.circuit_laws.proofs.Names.{same_name, all_has, all_from_has, has_head
 use Rattle.circuit_laws.proofs.Drivers.{driver_name, driver_all, driver_reads, output_driver, driver_mapped}
 use Rattle.chain_laws.specs.Changes.{IsReduced}
 use Rattle.chain_laws.proofs.Changes.{reduced_itself, reduced_through, kept_reduced, changed_refines}
-use Rattle.sweep_rules.proofs.Mapped.{live_reads, outputs-mapped}
+use Rattle.chain_laws.proofs.Mapped.{live_reads, outputs-mapped}
 use Rattle.net_core.proofs.Removals.{no_latch, tables_differ}
 use Rattle.table_order.specs.Order.{order_of, IsOrdered}
 use Rattle.table_order.proofs.Orders.{ordered}

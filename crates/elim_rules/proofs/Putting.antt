@@ -18,7 +18,7 @@ use Rattle.circuit_laws.proofs.Sound.{sound_settled}
 use Rattle.circuit_laws.proofs.Tables.{obeying_mapped}
 use Rattle.chain_laws.specs.Changes.{IsReduced}
 use Rattle.chain_laws.proofs.Changes.{each_reduced, removed_reduced, reduced_through}
-use Rattle.sweep_rules.proofs.Mapped.{IsTurn, live_reads, outputs-mapped, sound_mapped}
+use Rattle.chain_laws.proofs.Mapped.{IsTurn, live_reads, outputs-mapped, sound_mapped}
 use Rattle.net_core.proofs.Removals.{no_latch}
 use Rattle.table_algebra.specs.Taking.{taken_in}
 use Rattle.table_algebra.proofs.Taken.{taken_output, taken_once, taken_shaped, taken_reads, taken_unread, taken_value}

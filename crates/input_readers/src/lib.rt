@@ -179,7 +179,7 @@ impl Readers {
     }
 
     /// Whether a name is read at some place.
-    pub fn is_read(&self, name: &Name) -> bool
+    pub fn has_readers(&self, name: &Name) -> bool
         ensures { MatchBool result ((place : ℕ) × (told self.now name.now place ≡ true)) ((place : ℕ) → told self.now name.now place ≡ false) }
     {
         match self.sets.get(name) {

@@ -10,7 +10,7 @@ use Rattle.circuit_model.specs.declared.circuit.Circuit.{Circuit}
 use Rattle.circuit_laws.specs.Edits.{with_kept, tables_kept, latches_kept, timing_with}
 use Rattle.circuit_laws.proofs.Names.{different_apart}
 use Rattle.sweep_rules.specs.Needed.{is_needed, all_needed, only_needed}
-use Rattle.sweep_rules.specs.Rules.{need_rule}
+use Rattle.sweep_rules.specs.Rules.{remove_dangling}
 use Rattle.net_needed.specs.Reading.{held_by}
 
 -- the signals of a sound circuit differ
@@ -41,18 +41,18 @@ all_marked circuit names h =
       all_same (λ (latch : Latch). has names latch.output) (λ (latch : Latch). is_needed circuit latch.output) (λ l. h l.output) circuit.latches,
     ) refl
 
-pub need_none : (circuit : Circuit) (names : List (List ℕ)) → ((name : List ℕ) → has names name ≡ is_needed circuit name)
-    → (list_all (λ (table : Table). has names table.output) circuit.tables && list_all (λ (latch : Latch). has names latch.output) circuit.latches) ≡ true → None ≡ need_rule circuit
-unfolding need_rule
-need_none circuit names h e =
+pub dangling_none : (circuit : Circuit) (names : List (List ℕ)) → ((name : List ℕ) → has names name ≡ is_needed circuit name)
+    → (list_all (λ (table : Table). has names table.output) circuit.tables && list_all (λ (latch : Latch). has names latch.output) circuit.latches) ≡ true → None ≡ remove_dangling circuit
+unfolding remove_dangling
+dangling_none circuit names h e =
     sym (ap (λ (b : Bool). if b then None else Some (only_needed circuit)) (sym (all_marked circuit names h) ∙ e))
 
-pub need_taken : (circuit : Circuit) (names : List (List ℕ)) (tables : List Table) (latches : List Latch) (new : Circuit) → ((name : List ℕ) → has names name ≡ is_needed circuit name)
+pub dangling_taken : (circuit : Circuit) (names : List (List ℕ)) (tables : List Table) (latches : List Latch) (new : Circuit) → ((name : List ℕ) → has names name ≡ is_needed circuit name)
     → (list_all (λ (table : Table). has names table.output) circuit.tables && list_all (λ (latch : Latch). has names latch.output) circuit.latches) ≡ false
     → tables ≡ tables_kept (has names) circuit.tables → latches ≡ latches_kept (has names) circuit.latches
-    → new ≡ record circuit { tables = tables; latches = latches; timing = timing_with latches circuit.timing } → Some new ≡ need_rule circuit
-unfolding need_rule only_needed with_kept tables_kept latches_kept
-need_taken circuit names tables latches new h e t l n =
+    → new ≡ record circuit { tables = tables; latches = latches; timing = timing_with latches circuit.timing } → Some new ≡ remove_dangling circuit
+unfolding remove_dangling only_needed with_kept tables_kept latches_kept
+dangling_taken circuit names tables latches new h e t l n =
     let ts : tables ≡ filter (λ (table : Table). is_needed circuit table.output) circuit.tables =
     t ∙ filter_same (λ (table : Table). has names table.output) (λ (table : Table). is_needed circuit table.output) (λ x. h x.output) circuit.tables in
     let ls : latches ≡ filter (λ (latch : Latch). is_needed circuit latch.output) circuit.latches =

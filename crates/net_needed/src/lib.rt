@@ -13,5 +13,5 @@ mod places;
 
 pub use constants::{constant_table, written_bit};
 pub use leaves::{driven_names, is_among, leaves_read};
-pub use needed::need_step;
+pub use needed::dangling_step;
 pub use places::note_place;

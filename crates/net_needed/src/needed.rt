@@ -10,7 +10,7 @@ ghost use Rattle.circuit_model.specs.Runs.{latch_outputs};
 ghost use Rattle.circuit_model.specs.Soundness.{outputs_of};
 ghost use Rattle.table_fold.specs.Listing.{names_with};
 ghost use Rattle.sweep_rules.specs.Needed.{dont_care_reads, is_needed};
-ghost use Rattle.sweep_rules.specs.Rules.{need_rule};
+ghost use Rattle.sweep_rules.specs.Rules.{remove_dangling};
 ghost use Rattle.net_needed.specs.Places.{LeadsToTables, LeadsToLatches};
 ghost use Rattle.net_needed.specs.Reading.{read_by_tables, read_by_latches, held_by, IsReached};
 
@@ -136,10 +136,10 @@ fn needed_names(alloc: Global, circuit: &Circuit) -> Result<IndexSet<Name>, Allo
 
 /// The circuit of what is needed, where something is not; an error only for want of memory. No two tables and no two
 /// latches may have one signal.
-pub fn need_step(alloc: Global, circuit: &Circuit) -> Result<Option<Circuit>, AllocError>
+pub fn dangling_step(alloc: Global, circuit: &Circuit) -> Result<Option<Circuit>, AllocError>
     requires tables_differ { all_different (outputs_of circuit.now.tables) ≡ true }
     requires latches_differ { all_different (latch_outputs circuit.now) ≡ true }
-    ensures { IfOk result (λ next. next ≡ need_rule circuit.now) }
+    ensures { IfOk result (λ next. next ≡ remove_dangling circuit.now) }
 {
     let needed = needed_names(alloc, circuit)?;
     if are_all_among(circuit, &needed) {

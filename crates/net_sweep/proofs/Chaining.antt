@@ -9,7 +9,7 @@ use Rattle.circuit_laws.specs.Chains.{Chain}
 use Rattle.circuit_laws.specs.Edits.{constant_table}
 use Rattle.circuit_laws.proofs.Drivers.{output_driver}
 use Rattle.std.proofs.lemmas.Bool.{false≢true}
-use Rattle.sweep_rules.specs.Rules.{tidy_rule, constant_rule, put_rule, bypass_rule, latch_rule, need_rule, sweep_step}
+use Rattle.sweep_rules.specs.Rules.{tidy_table, write_constant, propagate_constant, collapse_single_input, fix_constant_latch, remove_dangling, sweep_step}
 use Rattle.sweep_rules.specs.Keeping.{IsKept}
 use Rattle.sweep_rules.specs.Sweeping.{IsSwept, tables_gone, latches_gone}
 use Rattle.sweep_rules.proofs.Chaining.{step_kept, chain_kept, chain_swept}
@@ -70,7 +70,7 @@ at_end from to sound h e = goes_ends h.between from to to sound h.goes (record {
 -- a step of the rules that change tables is a step; where they do not apply the other rules decide
 pub table_step_is : (circuit next : Circuit) → table_step circuit ≡ Some next → sweep_step circuit ≡ Some next
 unfolding table_step sweep_step
-table_step_is circuit next h = by (tidy_rule circuit) (constant_rule circuit) (put_rule circuit) (bypass_rule circuit) (option_or (latch_rule circuit) (need_rule circuit)) h
+table_step_is circuit next h = by (tidy_table circuit) (write_constant circuit) (propagate_constant circuit) (collapse_single_input circuit) (option_or (fix_constant_latch circuit) (remove_dangling circuit)) h
   where
     by : (a b c d e : Option Circuit) → option_or a (option_or b (option_or c d)) ≡ Some next → option_or a (option_or b (option_or c (option_or d e))) ≡ Some next
     by (Some x) b c d e k = k
@@ -79,9 +79,9 @@ table_step_is circuit next h = by (tidy_rule circuit) (constant_rule circuit) (p
     by None None None (Some x) e k = k
     by None None None None e k = let z : None ≡ Some next = k in absurd cc
 
-pub other_step_is : (circuit : Circuit) (next : Option Circuit) → table_step circuit ≡ None → next ≡ option_or (latch_rule circuit) (need_rule circuit) → sweep_step circuit ≡ next
+pub other_step_is : (circuit : Circuit) (next : Option Circuit) → table_step circuit ≡ None → next ≡ option_or (fix_constant_latch circuit) (remove_dangling circuit) → sweep_step circuit ≡ next
 unfolding table_step sweep_step
-other_step_is circuit next h n = by (tidy_rule circuit) (constant_rule circuit) (put_rule circuit) (bypass_rule circuit) (option_or (latch_rule circuit) (need_rule circuit)) h (sym n)
+other_step_is circuit next h n = by (tidy_table circuit) (write_constant circuit) (propagate_constant circuit) (collapse_single_input circuit) (option_or (fix_constant_latch circuit) (remove_dangling circuit)) h (sym n)
   where
     by : (a b c d e : Option Circuit) → option_or a (option_or b (option_or c d)) ≡ None → e ≡ next → option_or a (option_or b (option_or c (option_or d e))) ≡ next
     by (Some x) b c d e k m = let z : Some x ≡ None = k in absurd cc
@@ -117,19 +117,19 @@ pub no_heavier : (from to : Circuit) → IsSound from → HasLed from to → wei
 no_heavier from to sound h = lighter h.between from to sound h.goes
 
 -- a step of the last rule, and then steps of the others
-last_step_is : (circuit : Circuit) (next : Option Circuit) → table_step circuit ≡ None → latch_rule circuit ≡ None → next ≡ need_rule circuit → sweep_step circuit ≡ next
-last_step_is circuit next none unfixed n = other_step_is circuit next none (n ∙ sym (ap (λ (o : Option Circuit). option_or o (need_rule circuit)) unfixed))
+last_step_is : (circuit : Circuit) (next : Option Circuit) → table_step circuit ≡ None → fix_constant_latch circuit ≡ None → next ≡ remove_dangling circuit → sweep_step circuit ≡ next
+last_step_is circuit next none unfixed n = other_step_is circuit next none (n ∙ sym (ap (λ (o : Option Circuit). option_or o (remove_dangling circuit)) unfixed))
 
-pub next_led : (from to next : Circuit) (o : Option Circuit) → HasLed from to → table_step to ≡ None → latch_rule to ≡ None → o ≡ need_rule to → o ≡ Some next → HasLed from next
+pub next_led : (from to next : Circuit) (o : Option Circuit) → HasLed from to → table_step to ≡ None → fix_constant_latch to ≡ None → o ≡ remove_dangling to → o ≡ Some next → HasLed from next
 next_led from to next o h none unfixed is some = one_more from to next h (last_step_is to (Some next) none unfixed (sym some ∙ is))
 
-pub next_falls : (from to next end : Circuit) (o : Option Circuit) → HasLed from to → table_step to ≡ None → latch_rule to ≡ None → o ≡ need_rule to → o ≡ Some next → HasLed next end → weight end < weight to
+pub next_falls : (from to next end : Circuit) (o : Option Circuit) → HasLed from to → table_step to ≡ None → fix_constant_latch to ≡ None → o ≡ remove_dangling to → o ≡ Some next → HasLed next end → weight end < weight to
 next_falls from to next end o h none unfixed is some more =
     let one : weight next < weight to = step_falls to next h.sound (last_step_is to (Some next) none unfixed (sym some ∙ is)) in
     let rest : weight end ≤ weight next = no_heavier next end (next_led from to next o h none unfixed is some).sound more in
     omega (arith, one, rest)
 
-pub all_finished : (from to : Circuit) (o : Option Circuit) → IsSound from → HasLed from to → table_step to ≡ None → latch_rule to ≡ None → o ≡ need_rule to → o ≡ None → Chain sweep_step from to
+pub all_finished : (from to : Circuit) (o : Option Circuit) → IsSound from → HasLed from to → table_step to ≡ None → fix_constant_latch to ≡ None → o ≡ remove_dangling to → o ≡ None → Chain sweep_step from to
 all_finished from to o sound h none unfixed is some = at_end from to sound h (last_step_is to None none unfixed (sym some ∙ is))
 
 -- the end of a chain, however the circuits at its ends are called

@@ -20,35 +20,37 @@ use Rattle.circuit_laws.proofs.Ranks.{leads_one}
 use Rattle.net_core.proofs.Lookups.{get_set_same, get_set_other}
 use Rattle.table_tidy.specs.Tidy.{used_places, rows_differ, is_tidy, tidied}
 use Rattle.sweep_rules.specs.Points.{written_bit}
-use Rattle.sweep_rules.specs.Rules.{tidy_rule, constant_rule, put_rule, bypass_rule, unwritten_bit, only_input, is_inverter, at_bit, rewired}
+use Rattle.sweep_rules.specs.Rules.{tidy_table, write_constant, propagate_constant, collapse_single_input, unwritten_bit, only_input, is_inverter, at_bit, rewired}
 use Rattle.sweep_rules.proofs.Points.{only_is}
 use Rattle.table_tidy.proofs.Tidied.{tidied_reads, tidied_output, tidied_tidy}
 use Rattle.sweep_rules.proofs.Turned.{with_rows_at, at_either, at_output, at_reads, at_shaped, rows_at_wide, rewires, rewired_either, rewired_output, rewired_reads, rewires_wide, rewired_shaped}
 use Rattle.sweep_rules.proofs.Sizes.{at_without, rewired_without}
 use Rattle.net_sweep.specs.declared.queues.Rule.{Rule}
-use Rattle.net_sweep.specs.declared.queues.Rule.TheVariants.{Tidy, Constant, Put, Bypass}
+use Rattle.net_sweep.specs.declared.queues.Rule.TheVariants.{TidyTable, WriteConstant, PropagateConstant, CollapseSingleInput}
 use Rattle.net_sweep.specs.declared.applying.Change.{Change}
 use Rattle.net_sweep.specs.declared.applying.Change.TheVariants.{Bit, Input}
 use Rattle.table_tidy.specs.Tidy.{IsWide}
 use Rattle.net_sweep.specs.Settled.{IsFirst}
 use Rattle.net_sweep.specs.Settled.{passes, rule_applied, table_step, IsNext, changed_by, is_apart, may_apply_to_written, AreWaiting, AreCandidates, IsAlike, IsAlikeThere, AreAlikeBut, AreSound}
-use Rattle.net_readers.specs.Readers.{is_in, reads_at as is_read_at}
+use Rattle.input_readers.specs.Readers.{is_in}
+use Rattle.net_wires.specs.Aliases.{inputs_at}
+use Rattle.net_wires.proofs.Reading.{inputs_here}
 use Rattle.net_sweep.proofs.Marking.{read_by, reads_at}
 
 -- the next step of the rules that change tables
 
 abbrev named_step : Rule → Circuit → Option Circuit
-named_step Tidy circuit = tidy_rule circuit
-named_step Constant circuit = constant_rule circuit
-named_step Put circuit = put_rule circuit
-named_step Bypass circuit = bypass_rule circuit
+named_step TidyTable circuit = tidy_table circuit
+named_step WriteConstant circuit = write_constant circuit
+named_step PropagateConstant circuit = propagate_constant circuit
+named_step CollapseSingleInput circuit = collapse_single_input circuit
 
 named_is : (rule : Rule) (circuit : Circuit) → named_step rule circuit ≡ option_map (rule_applied rule circuit) (find (passes rule circuit.tables) circuit.tables)
-unfolding tidy_rule constant_rule put_rule bypass_rule
-named_is Tidy circuit = refl
-named_is Constant circuit = refl
-named_is Put circuit = refl
-named_is Bypass circuit = refl
+unfolding tidy_table write_constant propagate_constant collapse_single_input
+named_is TidyTable circuit = refl
+named_is WriteConstant circuit = refl
+named_is PropagateConstant circuit = refl
+named_is CollapseSingleInput circuit = refl
 
 absent : (rule : Rule) (circuit : Circuit) → find (passes rule circuit.tables) circuit.tables ≡ None → named_step rule circuit ≡ None
 absent rule circuit h = named_is rule circuit ∙ ap (option_map (rule_applied rule circuit)) h
@@ -58,67 +60,67 @@ present : (rule : Rule) (circuit : Circuit) (place : ℕ) → IsFirst (passes ru
 present rule circuit place first =
     let (lt, table, at, found) = first in (table, at, named_is rule circuit ∙ ap (option_map (rule_applied rule circuit)) found)
 
-pub next_tidy : (circuit : Circuit) (place : ℕ) → IsFirst (passes Tidy circuit.tables) circuit.tables (Some place) → IsNext circuit (Some (Tidy, place))
+pub next_tidy : (circuit : Circuit) (place : ℕ) → IsFirst (passes TidyTable circuit.tables) circuit.tables (Some place) → IsNext circuit (Some (TidyTable, place))
 unfolding table_step
 next_tidy circuit place first =
-    let (table, at, step) = present Tidy circuit place first in (
+    let (table, at, step) = present TidyTable circuit place first in (
       table,
       at,
-      ap (λ (o : Option Circuit). option_or o (option_or (constant_rule circuit) (option_or (put_rule circuit) (bypass_rule circuit)))) step,
-      λ is. let z : Tidy ≡ Bypass = is in absurd cc,
+      ap (λ (o : Option Circuit). option_or o (option_or (write_constant circuit) (option_or (propagate_constant circuit) (collapse_single_input circuit)))) step,
+      λ is. let z : TidyTable ≡ CollapseSingleInput = is in absurd cc,
     )
 
-pub next_constant : (circuit : Circuit) (place : ℕ) → find (passes Tidy circuit.tables) circuit.tables ≡ None → IsFirst (passes Constant circuit.tables) circuit.tables (Some place) → IsNext circuit (Some (Constant, place))
+pub next_constant : (circuit : Circuit) (place : ℕ) → find (passes TidyTable circuit.tables) circuit.tables ≡ None → IsFirst (passes WriteConstant circuit.tables) circuit.tables (Some place) → IsNext circuit (Some (WriteConstant, place))
 unfolding table_step
 next_constant circuit place a first =
-    let (table, at, step) = present Constant circuit place first in (
+    let (table, at, step) = present WriteConstant circuit place first in (
       table,
       at,
-      ap (λ (o : Option Circuit). option_or o (option_or (constant_rule circuit) (option_or (put_rule circuit) (bypass_rule circuit)))) (absent Tidy circuit a)
-          ∙ ap (λ (o : Option Circuit). option_or o (option_or (put_rule circuit) (bypass_rule circuit))) step,
-      λ is. let z : Constant ≡ Bypass = is in absurd cc,
+      ap (λ (o : Option Circuit). option_or o (option_or (write_constant circuit) (option_or (propagate_constant circuit) (collapse_single_input circuit)))) (absent TidyTable circuit a)
+          ∙ ap (λ (o : Option Circuit). option_or o (option_or (propagate_constant circuit) (collapse_single_input circuit))) step,
+      λ is. let z : WriteConstant ≡ CollapseSingleInput = is in absurd cc,
     )
 
-pub next_put : (circuit : Circuit) (place : ℕ) → find (passes Tidy circuit.tables) circuit.tables ≡ None → find (passes Constant circuit.tables) circuit.tables ≡ None
-    → IsFirst (passes Put circuit.tables) circuit.tables (Some place) → IsNext circuit (Some (Put, place))
+pub next_propagate : (circuit : Circuit) (place : ℕ) → find (passes TidyTable circuit.tables) circuit.tables ≡ None → find (passes WriteConstant circuit.tables) circuit.tables ≡ None
+    → IsFirst (passes PropagateConstant circuit.tables) circuit.tables (Some place) → IsNext circuit (Some (PropagateConstant, place))
 unfolding table_step
-next_put circuit place a b first =
-    let (table, at, step) = present Put circuit place first in (
+next_propagate circuit place a b first =
+    let (table, at, step) = present PropagateConstant circuit place first in (
       table,
       at,
-      ap (λ (o : Option Circuit). option_or o (option_or (constant_rule circuit) (option_or (put_rule circuit) (bypass_rule circuit)))) (absent Tidy circuit a)
-          ∙ (ap (λ (o : Option Circuit). option_or o (option_or (put_rule circuit) (bypass_rule circuit))) (absent Constant circuit b)
-          ∙ ap (λ (o : Option Circuit). option_or o (bypass_rule circuit)) step),
-      λ is. let z : Put ≡ Bypass = is in absurd cc,
+      ap (λ (o : Option Circuit). option_or o (option_or (write_constant circuit) (option_or (propagate_constant circuit) (collapse_single_input circuit)))) (absent TidyTable circuit a)
+          ∙ (ap (λ (o : Option Circuit). option_or o (option_or (propagate_constant circuit) (collapse_single_input circuit))) (absent WriteConstant circuit b)
+          ∙ ap (λ (o : Option Circuit). option_or o (collapse_single_input circuit)) step),
+      λ is. let z : PropagateConstant ≡ CollapseSingleInput = is in absurd cc,
     )
 
-pub next_bypass : (circuit : Circuit) (place : ℕ) → find (passes Tidy circuit.tables) circuit.tables ≡ None → find (passes Constant circuit.tables) circuit.tables ≡ None
-    → find (passes Put circuit.tables) circuit.tables ≡ None → IsFirst (passes Bypass circuit.tables) circuit.tables (Some place) → IsNext circuit (Some (Bypass, place))
+pub next_collapse : (circuit : Circuit) (place : ℕ) → find (passes TidyTable circuit.tables) circuit.tables ≡ None → find (passes WriteConstant circuit.tables) circuit.tables ≡ None
+    → find (passes PropagateConstant circuit.tables) circuit.tables ≡ None → IsFirst (passes CollapseSingleInput circuit.tables) circuit.tables (Some place) → IsNext circuit (Some (CollapseSingleInput, place))
 unfolding table_step
-next_bypass circuit place a b c first =
-    let (table, at, step) = present Bypass circuit place first in (
+next_collapse circuit place a b c first =
+    let (table, at, step) = present CollapseSingleInput circuit place first in (
       table,
       at,
-      ap (λ (o : Option Circuit). option_or o (option_or (constant_rule circuit) (option_or (put_rule circuit) (bypass_rule circuit)))) (absent Tidy circuit a)
-          ∙ (ap (λ (o : Option Circuit). option_or o (option_or (put_rule circuit) (bypass_rule circuit))) (absent Constant circuit b)
-          ∙ (ap (λ (o : Option Circuit). option_or o (bypass_rule circuit)) (absent Put circuit c) ∙ step)),
+      ap (λ (o : Option Circuit). option_or o (option_or (write_constant circuit) (option_or (propagate_constant circuit) (collapse_single_input circuit)))) (absent TidyTable circuit a)
+          ∙ (ap (λ (o : Option Circuit). option_or o (option_or (propagate_constant circuit) (collapse_single_input circuit))) (absent WriteConstant circuit b)
+          ∙ (ap (λ (o : Option Circuit). option_or o (collapse_single_input circuit)) (absent PropagateConstant circuit c) ∙ step)),
       λ is. a,
     )
 
-pub next_none : (circuit : Circuit) → find (passes Tidy circuit.tables) circuit.tables ≡ None → find (passes Constant circuit.tables) circuit.tables ≡ None
-    → find (passes Put circuit.tables) circuit.tables ≡ None → find (passes Bypass circuit.tables) circuit.tables ≡ None → IsNext circuit None
+pub next_none : (circuit : Circuit) → find (passes TidyTable circuit.tables) circuit.tables ≡ None → find (passes WriteConstant circuit.tables) circuit.tables ≡ None
+    → find (passes PropagateConstant circuit.tables) circuit.tables ≡ None → find (passes CollapseSingleInput circuit.tables) circuit.tables ≡ None → IsNext circuit None
 unfolding table_step
 next_none circuit a b c d =
-    ap (λ (o : Option Circuit). option_or o (option_or (constant_rule circuit) (option_or (put_rule circuit) (bypass_rule circuit)))) (absent Tidy circuit a)
-    ∙ (ap (λ (o : Option Circuit). option_or o (option_or (put_rule circuit) (bypass_rule circuit))) (absent Constant circuit b)
-    ∙ (ap (λ (o : Option Circuit). option_or o (bypass_rule circuit)) (absent Put circuit c) ∙ absent Bypass circuit d))
+    ap (λ (o : Option Circuit). option_or o (option_or (write_constant circuit) (option_or (propagate_constant circuit) (collapse_single_input circuit)))) (absent TidyTable circuit a)
+    ∙ (ap (λ (o : Option Circuit). option_or o (option_or (propagate_constant circuit) (collapse_single_input circuit))) (absent WriteConstant circuit b)
+    ∙ (ap (λ (o : Option Circuit). option_or o (collapse_single_input circuit)) (absent PropagateConstant circuit c) ∙ absent CollapseSingleInput circuit d))
 
-pub marked_for_each : (marked : Rule → ℕ → Bool) (tables : List Table) → AreWaiting (passes Tidy tables) (marked Tidy) tables → AreWaiting (passes Constant tables) (marked Constant) tables
-    → AreWaiting (passes Put tables) (marked Put) tables → AreWaiting (passes Bypass tables) (marked Bypass) tables → AreCandidates marked tables
-marked_for_each marked tables a b c d Tidy = a
-marked_for_each marked tables a b c d Constant = b
-marked_for_each marked tables a b c d Put = c
-marked_for_each marked tables a b c d Bypass = d
+pub marked_for_each : (marked : Rule → ℕ → Bool) (tables : List Table) → AreWaiting (passes TidyTable tables) (marked TidyTable) tables → AreWaiting (passes WriteConstant tables) (marked WriteConstant) tables
+    → AreWaiting (passes PropagateConstant tables) (marked PropagateConstant) tables → AreWaiting (passes CollapseSingleInput tables) (marked CollapseSingleInput) tables → AreCandidates marked tables
+marked_for_each marked tables a b c d TidyTable = a
+marked_for_each marked tables a b c d WriteConstant = b
+marked_for_each marked tables a b c d PropagateConstant = c
+marked_for_each marked tables a b c d CollapseSingleInput = d
 
 -- tables of which the rules find the same
 
@@ -321,33 +323,33 @@ partly_wide name change done old new sound h =
 
 -- what each rule makes
 
-tidied_set : (circuit : Circuit) (place : ℕ) (table : Table) → AreSound circuit.tables → slice_get circuit.tables place ≡ Some table → rule_applied Tidy circuit table ≡ with_tables circuit (set circuit.tables place (tidied table))
+tidied_set : (circuit : Circuit) (place : ℕ) (table : Table) → AreSound circuit.tables → slice_get circuit.tables place ≡ Some table → rule_applied TidyTable circuit table ≡ with_tables circuit (set circuit.tables place (tidied table))
 unfolding with_replaced
 tidied_set circuit place table sound at =
     ap (with_tables circuit) (sym (set_replaced circuit.tables place table (tidied table) sound.differ at (sym (tidied_output table))))
 
 constant_set : (circuit : Circuit) (place : ℕ) (table : Table) (bit : Bool) → AreSound circuit.tables → slice_get circuit.tables place ≡ Some table → unwritten_bit table ≡ Some bit
-    → rule_applied Constant circuit table ≡ with_tables circuit (set circuit.tables place (constant_table table.output bit))
+    → rule_applied WriteConstant circuit table ≡ with_tables circuit (set circuit.tables place (constant_table table.output bit))
 unfolding with_replaced
 constant_set circuit place table bit sound at is =
     ap (λ (o : Option Bool). option_map_or (λ b. with_tables circuit (replaced circuit.tables (constant_table table.output b))) o circuit) is
     ∙ ap (with_tables circuit) (sym (set_replaced circuit.tables place table (constant_table table.output bit) sound.differ at refl))
 
-constant_same : (circuit : Circuit) (table : Table) → unwritten_bit table ≡ None → rule_applied Constant circuit table ≡ circuit
+constant_same : (circuit : Circuit) (table : Table) → unwritten_bit table ≡ None → rule_applied WriteConstant circuit table ≡ circuit
 constant_same circuit table is = ap (λ (o : Option Bool). option_map_or (λ b. with_replaced circuit (constant_table table.output b)) o circuit) is
 
-put_map : (circuit : Circuit) (table : Table) (bit : Bool) → written_bit table ≡ Some bit → rule_applied Put circuit table ≡ with_tables circuit (map (changed_by table.output (Bit bit)) circuit.tables)
-put_map circuit table bit is = ap (λ (o : Option Bool). option_map_or (λ b. with_tables circuit (map (at_bit table.output b) circuit.tables)) o circuit) is
+propagate_map : (circuit : Circuit) (table : Table) (bit : Bool) → written_bit table ≡ Some bit → rule_applied PropagateConstant circuit table ≡ with_tables circuit (map (changed_by table.output (Bit bit)) circuit.tables)
+propagate_map circuit table bit is = ap (λ (o : Option Bool). option_map_or (λ b. with_tables circuit (map (at_bit table.output b) circuit.tables)) o circuit) is
 
-put_same : (circuit : Circuit) (table : Table) → written_bit table ≡ None → rule_applied Put circuit table ≡ circuit
-put_same circuit table is = ap (λ (o : Option Bool). option_map_or (λ b. with_tables circuit (map (at_bit table.output b) circuit.tables)) o circuit) is
+propagate_same : (circuit : Circuit) (table : Table) → written_bit table ≡ None → rule_applied PropagateConstant circuit table ≡ circuit
+propagate_same circuit table is = ap (λ (o : Option Bool). option_map_or (λ b. with_tables circuit (map (at_bit table.output b) circuit.tables)) o circuit) is
 
-bypass_map : (circuit : Circuit) (table : Table) (input : List ℕ) → only_input table.inputs ≡ Some input → rule_applied Bypass circuit table ≡ with_tables circuit (map (changed_by table.output (Input input (is_inverter table))) circuit.tables)
-bypass_map circuit table input is =
+collapse_map : (circuit : Circuit) (table : Table) (input : List ℕ) → only_input table.inputs ≡ Some input → rule_applied CollapseSingleInput circuit table ≡ with_tables circuit (map (changed_by table.output (Input input (is_inverter table))) circuit.tables)
+collapse_map circuit table input is =
     ap (λ (o : Option (List ℕ)). option_map_or (λ i. with_tables circuit (map (rewired table.output i (is_inverter table)) circuit.tables)) o circuit) is
 
-bypass_same : (circuit : Circuit) (table : Table) → only_input table.inputs ≡ None → rule_applied Bypass circuit table ≡ circuit
-bypass_same circuit table is =
+collapse_same : (circuit : Circuit) (table : Table) → only_input table.inputs ≡ None → rule_applied CollapseSingleInput circuit table ≡ circuit
+collapse_same circuit table is =
     ap (λ (o : Option (List ℕ)). option_map_or (λ i. with_tables circuit (map (rewired table.output i (is_inverter table)) circuit.tables)) o circuit) is
 
 reads_input : (table : Table) (input : List ℕ) → only_input table.inputs ≡ Some input → has table.inputs input ≡ true
@@ -367,25 +369,25 @@ Narrows old new = (name : List ℕ) → has (table_inputs new.tables) name ≡ t
 pub applied_reads : (rule : Rule) (circuit : Circuit) (place : ℕ) (table : Table) → AreSound circuit.tables → slice_get circuit.tables place ≡ Some table
     → (name : List ℕ) → has (table_inputs (rule_applied rule circuit table).tables) name ≡ true → has (table_inputs circuit.tables) name ≡ true
 unfolding Narrows
-applied_reads Tidy circuit place table sound at =
+applied_reads TidyTable circuit place table sound at =
     subst (Narrows circuit) (sym (tidied_set circuit place table sound at)) (set_reads circuit.tables place table (tidied table) at (λ name h. tidied_reads table name h))
-applied_reads Constant circuit place table sound at = cases (unwritten_bit table) refl
+applied_reads WriteConstant circuit place table sound at = cases (unwritten_bit table) refl
   where
-    cases : (o : Option Bool) → unwritten_bit table ≡ o → Narrows circuit (rule_applied Constant circuit table)
+    cases : (o : Option Bool) → unwritten_bit table ≡ o → Narrows circuit (rule_applied WriteConstant circuit table)
     cases None e = subst (Narrows circuit) (sym (constant_same circuit table e)) (λ name h. h)
     cases (Some bit) e =
         subst (Narrows circuit) (sym (constant_set circuit place table bit sound at e)) (set_reads circuit.tables place table (constant_table table.output bit) at (λ name h. absurd (false≢true h)))
-applied_reads Put circuit place table sound at = cases (written_bit table) refl
+applied_reads PropagateConstant circuit place table sound at = cases (written_bit table) refl
   where
-    cases : (o : Option Bool) → written_bit table ≡ o → Narrows circuit (rule_applied Put circuit table)
-    cases None e = subst (Narrows circuit) (sym (put_same circuit table e)) (λ name h. h)
-    cases (Some bit) e = subst (Narrows circuit) (sym (put_map circuit table bit e)) (map_reads table.output (Bit bit) circuit.tables (λ x never. absurd never))
-applied_reads Bypass circuit place table sound at = cases (only_input table.inputs) refl
+    cases : (o : Option Bool) → written_bit table ≡ o → Narrows circuit (rule_applied PropagateConstant circuit table)
+    cases None e = subst (Narrows circuit) (sym (propagate_same circuit table e)) (λ name h. h)
+    cases (Some bit) e = subst (Narrows circuit) (sym (propagate_map circuit table bit e)) (map_reads table.output (Bit bit) circuit.tables (λ x never. absurd never))
+applied_reads CollapseSingleInput circuit place table sound at = cases (only_input table.inputs) refl
   where
-    cases : (o : Option (List ℕ)) → only_input table.inputs ≡ o → Narrows circuit (rule_applied Bypass circuit table)
-    cases None e = subst (Narrows circuit) (sym (bypass_same circuit table e)) (λ name h. h)
+    cases : (o : Option (List ℕ)) → only_input table.inputs ≡ o → Narrows circuit (rule_applied CollapseSingleInput circuit table)
+    cases None e = subst (Narrows circuit) (sym (collapse_same circuit table e)) (λ name h. h)
     cases (Some input) e =
-        subst (Narrows circuit) (sym (bypass_map circuit table input e))
+        subst (Narrows circuit) (sym (collapse_map circuit table input e))
         (map_reads table.output (Input input (is_inverter table)) circuit.tables (λ x is. subst (λ (n : List ℕ). has (table_inputs circuit.tables) n ≡ true) (sym is) (reads_at circuit.tables place table input at (reads_input table input e))))
 
 -- and have the names that they had
@@ -410,23 +412,23 @@ Names old new = outputs_of new.tables ≡ outputs_of old.tables
 pub applied_names : (rule : Rule) (circuit : Circuit) (place : ℕ) (table : Table) → AreSound circuit.tables → slice_get circuit.tables place ≡ Some table
     → outputs_of (rule_applied rule circuit table).tables ≡ outputs_of circuit.tables
 unfolding Names
-applied_names Tidy circuit place table sound at =
+applied_names TidyTable circuit place table sound at =
     subst (Names circuit) (sym (tidied_set circuit place table sound at)) (set_names circuit.tables place table (tidied table) at (tidied_output table))
-applied_names Constant circuit place table sound at = cases (unwritten_bit table) refl
+applied_names WriteConstant circuit place table sound at = cases (unwritten_bit table) refl
   where
-    cases : (o : Option Bool) → unwritten_bit table ≡ o → Names circuit (rule_applied Constant circuit table)
+    cases : (o : Option Bool) → unwritten_bit table ≡ o → Names circuit (rule_applied WriteConstant circuit table)
     cases None e = subst (Names circuit) (sym (constant_same circuit table e)) refl
     cases (Some bit) e = subst (Names circuit) (sym (constant_set circuit place table bit sound at e)) (set_names circuit.tables place table (constant_table table.output bit) at refl)
-applied_names Put circuit place table sound at = cases (written_bit table) refl
+applied_names PropagateConstant circuit place table sound at = cases (written_bit table) refl
   where
-    cases : (o : Option Bool) → written_bit table ≡ o → Names circuit (rule_applied Put circuit table)
-    cases None e = subst (Names circuit) (sym (put_same circuit table e)) refl
-    cases (Some bit) e = subst (Names circuit) (sym (put_map circuit table bit e)) (map_names table.output (Bit bit) circuit.tables)
-applied_names Bypass circuit place table sound at = cases (only_input table.inputs) refl
+    cases : (o : Option Bool) → written_bit table ≡ o → Names circuit (rule_applied PropagateConstant circuit table)
+    cases None e = subst (Names circuit) (sym (propagate_same circuit table e)) refl
+    cases (Some bit) e = subst (Names circuit) (sym (propagate_map circuit table bit e)) (map_names table.output (Bit bit) circuit.tables)
+applied_names CollapseSingleInput circuit place table sound at = cases (only_input table.inputs) refl
   where
-    cases : (o : Option (List ℕ)) → only_input table.inputs ≡ o → Names circuit (rule_applied Bypass circuit table)
-    cases None e = subst (Names circuit) (sym (bypass_same circuit table e)) refl
-    cases (Some input) e = subst (Names circuit) (sym (bypass_map circuit table input e)) (map_names table.output (Input input (is_inverter table)) circuit.tables)
+    cases : (o : Option (List ℕ)) → only_input table.inputs ≡ o → Names circuit (rule_applied CollapseSingleInput circuit table)
+    cases None e = subst (Names circuit) (sym (collapse_same circuit table e)) refl
+    cases (Some input) e = subst (Names circuit) (sym (collapse_map circuit table input e)) (map_names table.output (Input input (is_inverter table)) circuit.tables)
 
 -- and the don't-care part stays
 Cares : Circuit → Circuit → Type 0
@@ -434,22 +436,22 @@ Cares old new = new.dont_care ≡ old.dont_care
 
 pub applied_cares : (rule : Rule) (circuit : Circuit) (table : Table) → (rule_applied rule circuit table).dont_care ≡ circuit.dont_care
 unfolding with_replaced Cares
-applied_cares Tidy circuit table = refl
-applied_cares Constant circuit table = cases (unwritten_bit table) refl
+applied_cares TidyTable circuit table = refl
+applied_cares WriteConstant circuit table = cases (unwritten_bit table) refl
   where
-    cases : (o : Option Bool) → unwritten_bit table ≡ o → Cares circuit (rule_applied Constant circuit table)
+    cases : (o : Option Bool) → unwritten_bit table ≡ o → Cares circuit (rule_applied WriteConstant circuit table)
     cases None e = subst (Cares circuit) (sym (constant_same circuit table e)) refl
     cases (Some bit) e = ap (λ (o : Option Bool). (option_map_or (λ b. with_replaced circuit (constant_table table.output b)) o circuit).dont_care) e
-applied_cares Put circuit table = cases (written_bit table) refl
+applied_cares PropagateConstant circuit table = cases (written_bit table) refl
   where
-    cases : (o : Option Bool) → written_bit table ≡ o → Cares circuit (rule_applied Put circuit table)
-    cases None e = subst (Cares circuit) (sym (put_same circuit table e)) refl
-    cases (Some bit) e = subst (Cares circuit) (sym (put_map circuit table bit e)) refl
-applied_cares Bypass circuit table = cases (only_input table.inputs) refl
+    cases : (o : Option Bool) → written_bit table ≡ o → Cares circuit (rule_applied PropagateConstant circuit table)
+    cases None e = subst (Cares circuit) (sym (propagate_same circuit table e)) refl
+    cases (Some bit) e = subst (Cares circuit) (sym (propagate_map circuit table bit e)) refl
+applied_cares CollapseSingleInput circuit table = cases (only_input table.inputs) refl
   where
-    cases : (o : Option (List ℕ)) → only_input table.inputs ≡ o → Cares circuit (rule_applied Bypass circuit table)
-    cases None e = subst (Cares circuit) (sym (bypass_same circuit table e)) refl
-    cases (Some input) e = subst (Cares circuit) (sym (bypass_map circuit table input e)) refl
+    cases : (o : Option (List ℕ)) → only_input table.inputs ≡ o → Cares circuit (rule_applied CollapseSingleInput circuit table)
+    cases None e = subst (Cares circuit) (sym (collapse_same circuit table e)) refl
+    cases (Some input) e = subst (Cares circuit) (sym (collapse_map circuit table input e)) refl
 
 -- and the outputs stay
 Ports : Circuit → Circuit → Type 0
@@ -457,22 +459,22 @@ Ports old new = new.outputs ≡ old.outputs
 
 pub applied_outputs : (rule : Rule) (circuit : Circuit) (table : Table) → (rule_applied rule circuit table).outputs ≡ circuit.outputs
 unfolding with_replaced Ports
-applied_outputs Tidy circuit table = refl
-applied_outputs Constant circuit table = cases (unwritten_bit table) refl
+applied_outputs TidyTable circuit table = refl
+applied_outputs WriteConstant circuit table = cases (unwritten_bit table) refl
   where
-    cases : (o : Option Bool) → unwritten_bit table ≡ o → Ports circuit (rule_applied Constant circuit table)
+    cases : (o : Option Bool) → unwritten_bit table ≡ o → Ports circuit (rule_applied WriteConstant circuit table)
     cases None e = subst (Ports circuit) (sym (constant_same circuit table e)) refl
     cases (Some bit) e = ap (λ (o : Option Bool). (option_map_or (λ b. with_replaced circuit (constant_table table.output b)) o circuit).outputs) e
-applied_outputs Put circuit table = cases (written_bit table) refl
+applied_outputs PropagateConstant circuit table = cases (written_bit table) refl
   where
-    cases : (o : Option Bool) → written_bit table ≡ o → Ports circuit (rule_applied Put circuit table)
-    cases None e = subst (Ports circuit) (sym (put_same circuit table e)) refl
-    cases (Some bit) e = subst (Ports circuit) (sym (put_map circuit table bit e)) refl
-applied_outputs Bypass circuit table = cases (only_input table.inputs) refl
+    cases : (o : Option Bool) → written_bit table ≡ o → Ports circuit (rule_applied PropagateConstant circuit table)
+    cases None e = subst (Ports circuit) (sym (propagate_same circuit table e)) refl
+    cases (Some bit) e = subst (Ports circuit) (sym (propagate_map circuit table bit e)) refl
+applied_outputs CollapseSingleInput circuit table = cases (only_input table.inputs) refl
   where
-    cases : (o : Option (List ℕ)) → only_input table.inputs ≡ o → Ports circuit (rule_applied Bypass circuit table)
-    cases None e = subst (Ports circuit) (sym (bypass_same circuit table e)) refl
-    cases (Some input) e = subst (Ports circuit) (sym (bypass_map circuit table input e)) refl
+    cases : (o : Option (List ℕ)) → only_input table.inputs ≡ o → Ports circuit (rule_applied CollapseSingleInput circuit table)
+    cases None e = subst (Ports circuit) (sym (collapse_same circuit table e)) refl
+    cases (Some input) e = subst (Ports circuit) (sym (collapse_map circuit table input e)) refl
 
 -- a constant is tidy
 pub constant_tidy : (name : List ℕ) (bit : Bool) → is_tidy (constant_table name bit) ≡ true
@@ -482,10 +484,10 @@ constant_tidy name false = refl
 
 -- a rule that applies to a tidy table is not the one that tidies
 pub written_asks : (rule : Rule) (tables : List Table) (table : Table) → is_tidy table ≡ true → passes rule tables table ≡ true → may_apply_to_written rule ≡ true
-written_asks Tidy tables table tidy h = absurd (false≢true (ap (λ (b : Bool). not b) (sym tidy) ∙ h))
-written_asks Constant tables table tidy h = refl
-written_asks Put tables table tidy h = refl
-written_asks Bypass tables table tidy h = refl
+written_asks TidyTable tables table tidy h = absurd (false≢true (ap (λ (b : Bool). not b) (sym tidy) ∙ h))
+written_asks WriteConstant tables table tidy h = refl
+written_asks PropagateConstant tables table tidy h = refl
+written_asks CollapseSingleInput tables table tidy h = refl
 
 -- what rules write is tidy: a table that is not stood there before
 abbrev pub Tidies : List Table → List Table → Type 0
@@ -510,46 +512,46 @@ map_tidies name change tables shaped place made at untidy =
     here ∙ ap Some (sym same)
 
 applied_tidies : (rule : Rule) (circuit : Circuit) (place : ℕ) (table : Table) → AreSound circuit.tables → slice_get circuit.tables place ≡ Some table → Tidies circuit.tables (rule_applied rule circuit table).tables
-applied_tidies Tidy circuit place table sound at =
+applied_tidies TidyTable circuit place table sound at =
     subst (λ (c : Circuit). Tidies circuit.tables c.tables) (sym (tidied_set circuit place table sound at))
     (set_tidies circuit.tables place table (tidied table) at (tidied_tidy table (all_at IsShaped circuit.tables place table sound.shaped at).0))
-applied_tidies Constant circuit place table sound at = cases (unwritten_bit table) refl
+applied_tidies WriteConstant circuit place table sound at = cases (unwritten_bit table) refl
   where
-    cases : (o : Option Bool) → unwritten_bit table ≡ o → Tidies circuit.tables (rule_applied Constant circuit table).tables
+    cases : (o : Option Bool) → unwritten_bit table ≡ o → Tidies circuit.tables (rule_applied WriteConstant circuit table).tables
     cases None e = subst (λ (c : Circuit). Tidies circuit.tables c.tables) (sym (constant_same circuit table e)) (λ i t h untidy. h)
     cases (Some bit) e =
         subst (λ (c : Circuit). Tidies circuit.tables c.tables) (sym (constant_set circuit place table bit sound at e))
         (set_tidies circuit.tables place table (constant_table table.output bit) at (constant_tidy table.output bit))
-applied_tidies Put circuit place table sound at = cases (written_bit table) refl
+applied_tidies PropagateConstant circuit place table sound at = cases (written_bit table) refl
   where
-    cases : (o : Option Bool) → written_bit table ≡ o → Tidies circuit.tables (rule_applied Put circuit table).tables
-    cases None e = subst (λ (c : Circuit). Tidies circuit.tables c.tables) (sym (put_same circuit table e)) (λ i t h untidy. h)
-    cases (Some bit) e = subst (λ (c : Circuit). Tidies circuit.tables c.tables) (sym (put_map circuit table bit e)) (map_tidies table.output (Bit bit) circuit.tables sound.shaped)
-applied_tidies Bypass circuit place table sound at = cases (only_input table.inputs) refl
+    cases : (o : Option Bool) → written_bit table ≡ o → Tidies circuit.tables (rule_applied PropagateConstant circuit table).tables
+    cases None e = subst (λ (c : Circuit). Tidies circuit.tables c.tables) (sym (propagate_same circuit table e)) (λ i t h untidy. h)
+    cases (Some bit) e = subst (λ (c : Circuit). Tidies circuit.tables c.tables) (sym (propagate_map circuit table bit e)) (map_tidies table.output (Bit bit) circuit.tables sound.shaped)
+applied_tidies CollapseSingleInput circuit place table sound at = cases (only_input table.inputs) refl
   where
-    cases : (o : Option (List ℕ)) → only_input table.inputs ≡ o → Tidies circuit.tables (rule_applied Bypass circuit table).tables
-    cases None e = subst (λ (c : Circuit). Tidies circuit.tables c.tables) (sym (bypass_same circuit table e)) (λ i t h untidy. h)
+    cases : (o : Option (List ℕ)) → only_input table.inputs ≡ o → Tidies circuit.tables (rule_applied CollapseSingleInput circuit table).tables
+    cases None e = subst (λ (c : Circuit). Tidies circuit.tables c.tables) (sym (collapse_same circuit table e)) (λ i t h untidy. h)
     cases (Some input) e =
-        subst (λ (c : Circuit). Tidies circuit.tables c.tables) (sym (bypass_map circuit table input e)) (map_tidies table.output (Input input (is_inverter table)) circuit.tables sound.shaped)
+        subst (λ (c : Circuit). Tidies circuit.tables c.tables) (sym (collapse_map circuit table input e)) (map_tidies table.output (Input input (is_inverter table)) circuit.tables sound.shaped)
 
 -- where tables read no more, a rule applies to a table only if it did before
 pub still_passes : (rule : Rule) (old new : List Table) (table : Table) → ((name : List ℕ) → has (table_inputs new) name ≡ true → has (table_inputs old) name ≡ true) → passes rule new table ≡ true → passes rule old table ≡ true
-still_passes Tidy old new table less h = h
-still_passes Constant old new table less h = h
-still_passes Put old new table less h =
+still_passes TidyTable old new table less h = h
+still_passes WriteConstant old new table less h = h
+still_passes PropagateConstant old new table less h =
     let (a, b) = and_parts (is_some (written_bit table)) (has (table_inputs new) table.output) h in rw (a, less table.output b) refl
-still_passes Bypass old new table less h =
+still_passes CollapseSingleInput old new table less h =
     let (a, b) = and_parts (is_some (only_input table.inputs)) (has (table_inputs new) table.output) h in rw (a, less table.output b) refl
 
 -- so it does to a table of which the rules find the same
 alike_passes : (rule : Rule) (old new : List Table) (before table : Table) → ((name : List ℕ) → has (table_inputs new) name ≡ true → has (table_inputs old) name ≡ true) → IsAlike before table
     → passes rule new table ≡ true → passes rule old before ≡ true
-alike_passes Tidy old new before table less alike h = ap (λ (b : Bool). not b) (sym alike.tidy) ∙ h
-alike_passes Constant old new before table less alike h = ap (λ (o : Option Bool). is_some o) (sym alike.unwritten) ∙ h
-alike_passes Put old new before table less alike h =
+alike_passes TidyTable old new before table less alike h = ap (λ (b : Bool). not b) (sym alike.tidy) ∙ h
+alike_passes WriteConstant old new before table less alike h = ap (λ (o : Option Bool). is_some o) (sym alike.unwritten) ∙ h
+alike_passes PropagateConstant old new before table less alike h =
     let (a, b) = and_parts (is_some (written_bit table)) (has (table_inputs new) table.output) h in
     rw (ap (λ (o : Option Bool). is_some o) (sym alike.written) ∙ a, ap (has (table_inputs old)) (sym alike.output) ∙ less table.output b) refl
-alike_passes Bypass old new before table less alike h =
+alike_passes CollapseSingleInput old new before table less alike h =
     let (a, b) = and_parts (is_some (only_input table.inputs)) (has (table_inputs new) table.output) h in
     rw (sym alike.single ∙ a, ap (has (table_inputs old)) (sym alike.output) ∙ less table.output b) refl
 
@@ -573,29 +575,29 @@ marked_again old new places before after all alike tidies less put kept rule pla
 -- one turn
 
 pub tidy_applied : (circuit new : Circuit) (place : ℕ) (here made : Table) → AreSound circuit.tables → slice_get circuit.tables place ≡ Some here → made ≡ tidied here → new ≡ with_tables circuit (set circuit.tables place made)
-    → (table : Table) → slice_get circuit.tables place ≡ Some table → new ≡ rule_applied Tidy circuit table
+    → (table : Table) → slice_get circuit.tables place ≡ Some table → new ≡ rule_applied TidyTable circuit table
 tidy_applied circuit new place here made sound at is n table there =
     n ∙ (ap (λ (t : Table). with_tables circuit (set circuit.tables place t)) (is ∙ ap tidied (same_Some here table (sym at ∙ there))) ∙ sym (tidied_set circuit place table sound there))
 
 pub constant_applied : (circuit new : Circuit) (place : ℕ) (here made : Table) (bit : Bool) → AreSound circuit.tables → slice_get circuit.tables place ≡ Some here → unwritten_bit here ≡ Some bit → made ≡ constant_table here.output bit
-    → new ≡ with_tables circuit (set circuit.tables place made) → (table : Table) → slice_get circuit.tables place ≡ Some table → new ≡ rule_applied Constant circuit table
+    → new ≡ with_tables circuit (set circuit.tables place made) → (table : Table) → slice_get circuit.tables place ≡ Some table → new ≡ rule_applied WriteConstant circuit table
 constant_applied circuit new place here made bit sound at has_bit is n table there =
     let same : here ≡ table = same_Some here table (sym at ∙ there) in
     n ∙ (ap (λ (t : Table). with_tables circuit (set circuit.tables place t)) (is ∙ ap (λ (t : Table). constant_table t.output bit) same)
     ∙ sym (constant_set circuit place table bit sound there (ap unwritten_bit (sym same) ∙ has_bit)))
 
 pub constant_put : (circuit new : Circuit) (place : ℕ) (here made : Table) → AreSound circuit.tables → slice_get circuit.tables place ≡ Some here → Some made ≡ option_map (constant_table here.output) (unwritten_bit here)
-    → new ≡ with_tables circuit (set circuit.tables place made) → (table : Table) → slice_get circuit.tables place ≡ Some table → new ≡ rule_applied Constant circuit table
+    → new ≡ with_tables circuit (set circuit.tables place made) → (table : Table) → slice_get circuit.tables place ≡ Some table → new ≡ rule_applied WriteConstant circuit table
 constant_put circuit new place here made sound at is n = by (unwritten_bit here) refl is
   where
     by : (bit : Option Bool) → unwritten_bit here ≡ bit → Some made ≡ option_map (constant_table here.output) bit
-        → (table : Table) → slice_get circuit.tables place ≡ Some table → new ≡ rule_applied Constant circuit table
+        → (table : Table) → slice_get circuit.tables place ≡ Some table → new ≡ rule_applied WriteConstant circuit table
     by None e d = absurd (let no : Some made ≡ None = d in cc)
     by (Some bit) e d = constant_applied circuit new place here made bit sound at e (same_Some made (constant_table here.output bit) d) n
 
 -- a table that is no constant, or written as it, stays
 pub constant_left : (circuit : Circuit) (place : ℕ) (here : Table) → slice_get circuit.tables place ≡ Some here → None ≡ option_map (constant_table here.output) (unwritten_bit here)
-    → (table : Table) → slice_get circuit.tables place ≡ Some table → circuit ≡ rule_applied Constant circuit table
+    → (table : Table) → slice_get circuit.tables place ≡ Some table → circuit ≡ rule_applied WriteConstant circuit table
 constant_left circuit place here at none table there = by (unwritten_bit table) (ap (λ (t : Table). option_map (constant_table t.output) (unwritten_bit t)) (same_Some here table (sym at ∙ there)))
   where
     by : (bit : Option Bool) → option_map (constant_table here.output) (unwritten_bit here) ≡ option_map (constant_table table.output) bit
@@ -609,20 +611,20 @@ set_others circuit new place made places n p =
     (subst (λ (c : Circuit). AreAlikeBut (place ∷ []) circuit.tables c.tables) (sym n)
     (same_alike (place ∷ []) circuit.tables (set circuit.tables place made) (same_but_one circuit.tables place made)))
 
-pub put_applied : (circuit new : Circuit) (place : ℕ) (here : Table) (bit : Bool) → slice_get circuit.tables place ≡ Some here → written_bit here ≡ Some bit
-    → new ≡ with_tables circuit (map (changed_by here.output (Bit bit)) circuit.tables) → (table : Table) → slice_get circuit.tables place ≡ Some table → new ≡ rule_applied Put circuit table
-put_applied circuit new place here bit at has_bit n table there =
+pub propagate_applied : (circuit new : Circuit) (place : ℕ) (here : Table) (bit : Bool) → slice_get circuit.tables place ≡ Some here → written_bit here ≡ Some bit
+    → new ≡ with_tables circuit (map (changed_by here.output (Bit bit)) circuit.tables) → (table : Table) → slice_get circuit.tables place ≡ Some table → new ≡ rule_applied PropagateConstant circuit table
+propagate_applied circuit new place here bit at has_bit n table there =
     let same : here ≡ table = same_Some here table (sym at ∙ there) in
-    n ∙ (ap (λ (t : Table). with_tables circuit (map (changed_by t.output (Bit bit)) circuit.tables)) same ∙ sym (put_map circuit table bit (ap written_bit (sym same) ∙ has_bit)))
+    n ∙ (ap (λ (t : Table). with_tables circuit (map (changed_by t.output (Bit bit)) circuit.tables)) same ∙ sym (propagate_map circuit table bit (ap written_bit (sym same) ∙ has_bit)))
 
-pub bypass_applied : (circuit new : Circuit) (place : ℕ) (here : Table) (input : List ℕ) (inverts : Bool) → slice_get circuit.tables place ≡ Some here → only_input here.inputs ≡ Some input → inverts ≡ is_inverter here
-    → new ≡ with_tables circuit (map (changed_by here.output (Input input inverts)) circuit.tables) → (table : Table) → slice_get circuit.tables place ≡ Some table → new ≡ rule_applied Bypass circuit table
-bypass_applied circuit new place here input inverts at single i n table there =
+pub collapse_applied : (circuit new : Circuit) (place : ℕ) (here : Table) (input : List ℕ) (inverts : Bool) → slice_get circuit.tables place ≡ Some here → only_input here.inputs ≡ Some input → inverts ≡ is_inverter here
+    → new ≡ with_tables circuit (map (changed_by here.output (Input input inverts)) circuit.tables) → (table : Table) → slice_get circuit.tables place ≡ Some table → new ≡ rule_applied CollapseSingleInput circuit table
+collapse_applied circuit new place here input inverts at single i n table there =
     let same : here ≡ table = same_Some here table (sym at ∙ there) in
     let change : Input input inverts ≡ Input input (is_inverter table) = rw (i, same) refl in
     n ∙ (ap (λ (t : Table). with_tables circuit (map (changed_by t.output (Input input inverts)) circuit.tables)) same
     ∙ (ap (λ (ch : Change). with_tables circuit (map (changed_by table.output ch) circuit.tables)) change
-    ∙ sym (bypass_map circuit table input (ap (λ (t : Table). only_input t.inputs) (sym same) ∙ single))))
+    ∙ sym (collapse_map circuit table input (ap (λ (t : Table). only_input t.inputs) (sym same) ∙ single))))
 
 pub mapped_others : (circuit new : Circuit) (name : List ℕ) (change : Change) (places : List ℕ)
     → ((place : ℕ) (table : Table) → slice_get circuit.tables place ≡ Some table → has table.inputs name ≡ true → is_in places place ≡ true)
@@ -663,9 +665,9 @@ partly_ended name change places i old new le h all =
     partly_all name change places old new (subst (λ (ps : List ℕ). IsPartly (changed_by name change) ps old new) (take_all i places le) h) all
 
 -- a reader is listed
-pub reads_listed : (tables : List Table) (name : List ℕ) (places : List ℕ) → ((place : ℕ) → is_read_at tables name place ≡ true → is_in places place ≡ true)
+pub reads_listed : (tables : List Table) (name : List ℕ) (places : List ℕ) → ((place : ℕ) → has (inputs_at tables place) name ≡ true → is_in places place ≡ true)
     → (place : ℕ) (table : Table) → slice_get tables place ≡ Some table → has table.inputs name ≡ true → is_in places place ≡ true
-reads_listed tables name places within place table at reads = within place (ap (λ (o : Option Table). option_map_or (λ (t : Table). has t.inputs name) o false) at ∙ reads)
+reads_listed tables name places within place table at reads = within place (ap (λ (names : List (List ℕ)). has names name) (inputs_here tables place table at) ∙ reads)
 
 pub on_ok_both : {T E : Type 0} (r : Result T E) {A B C : Type 0} → (A → B → C) → OnOk r A → OnOk r B → OnOk r C
 on_ok_both (Ok x) f h k = f h k

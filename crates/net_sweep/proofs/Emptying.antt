@@ -17,10 +17,10 @@ use Rattle.sweep_rules.specs.Needed.{dont_care_reads}
 use Rattle.sweep_rules.specs.Points.{written_bit}
 use Rattle.sweep_rules.specs.Rules.{unwritten_bit}
 use Rattle.net_sweep.specs.declared.queues.Rule.{Rule}
-use Rattle.net_sweep.specs.declared.queues.Rule.TheVariants.{Tidy, Constant, Put, Bypass}
+use Rattle.net_sweep.specs.declared.queues.Rule.TheVariants.{TidyTable, WriteConstant, PropagateConstant, CollapseSingleInput}
 use Rattle.net_sweep.specs.Settled.{passes, listed, AreWaiting, AreCandidates, AreSound, HasLed}
-use Rattle.net_readers.specs.Readers.{is_in}
-use Rattle.net_sweep.specs.Latches.{left_at, with_latches, is_fixed, AreFed, IsPlaced, IsBeside}
+use Rattle.input_readers.specs.Readers.{is_in}
+use Rattle.net_sweep.specs.Latches.{left_at, with_latches, is_fixed, AreInFanout, IsPlaced, IsBeside}
 use Rattle.net_sweep.proofs.Changing.{set_reads, set_names, at_set, still_passes}
 use Rattle.net_sweep.proofs.Latching.{sound_tables, fixed_same}
 use Rattle.net_sweep.proofs.Chaining.{one_emptied}
@@ -39,26 +39,26 @@ left_input (Some latch ∷ slots) name h = by (bytes_eq name latch.input) refl h
     by true e k more = (0, latch, refl, e)
     by false e k more = let (place, other, at, is) = more k in (suc place, other, at, is)
 
-unfed : (slots : List (Option Latch)) (fed : List ℕ → Option (List ℕ)) (name : List ℕ) → AreFed fed slots → fed name ≡ None → (place : ℕ) (latch : Latch) → slice_get slots place ≡ Some (Some latch) → name ≡ latch.input → ⊥
-unfed slots fed name all none place latch at same =
-    false≢true (sym (ap (λ (o : Option (List ℕ)). is_in (listed o) place) (subst (λ (n : List ℕ). fed n ≡ None) same none)) ∙ all place latch at)
+no_fanout : (slots : List (Option Latch)) (fanout : List ℕ → Option (List ℕ)) (name : List ℕ) → AreInFanout fanout slots → fanout name ≡ None → (place : ℕ) (latch : Latch) → slice_get slots place ≡ Some (Some latch) → name ≡ latch.input → ⊥
+no_fanout slots fanout name all none place latch at same =
+    false≢true (sym (ap (λ (o : Option (List ℕ)). is_in (listed o) place) (subst (λ (n : List ℕ). fanout n ≡ None) same none)) ∙ all place latch at)
 
-pub untaken_root : (circuit : Circuit) (slots : List (Option Latch)) (fed : List ℕ → Option (List ℕ)) (places : List ℕ → Option ℕ) (read : List (List ℕ)) (marked : ℕ → Bool) (name : List ℕ) → IsBeside slots fed places read marked circuit
-    → fed name ≡ None → is_root (with_latches circuit (left_at slots)) name ≡ false
+pub untaken_root : (circuit : Circuit) (slots : List (Option Latch)) (fanout : List ℕ → Option (List ℕ)) (places : List ℕ → Option ℕ) (read : List (List ℕ)) (marked : ℕ → Bool) (name : List ℕ) → IsBeside slots fanout places read marked circuit
+    → fanout name ≡ None → is_root (with_latches circuit (left_at slots)) name ≡ false
 unfolding is_root
-untaken_root circuit slots fed places read marked name h none =
+untaken_root circuit slots fanout places read marked name h none =
     by (has circuit.outputs name) refl
     (has_not (map (λ (latch : Latch). latch.input) (left_at slots)) name (λ k.
-    let (place, latch, at, is) = left_input slots name k in unfed slots fed name h.fed none place latch at (same_name name latch.input is)))
+    let (place, latch, at, is) = left_input slots name k in no_fanout slots fanout name h.fanout none place latch at (same_name name latch.input is)))
   where
     by : (b : Bool) → has circuit.outputs name ≡ b → has (map (λ (latch : Latch). latch.input) (left_at slots)) name ≡ false → (has circuit.outputs name || has (map (λ (latch : Latch). latch.input) (left_at slots)) name) ≡ false
     by true e k = absurd (false≢true (sym (ap (λ (o : Option (List ℕ)). is_some o) none) ∙ h.asked name e))
     by false e k = ap (λ (b : Bool). b || has (map (λ (latch : Latch). latch.input) (left_at slots)) name) e ∙ k
 
-pub untaken_read : (circuit : Circuit) (slots : List (Option Latch)) (fed : List ℕ → Option (List ℕ)) (places : List ℕ → Option ℕ) (read : List (List ℕ)) (marked : ℕ → Bool) (name : List ℕ) → IsBeside slots fed places read marked circuit
+pub untaken_read : (circuit : Circuit) (slots : List (Option Latch)) (fanout : List ℕ → Option (List ℕ)) (places : List ℕ → Option ℕ) (read : List (List ℕ)) (marked : ℕ → Bool) (name : List ℕ) → IsBeside slots fanout places read marked circuit
     → has (table_inputs circuit.tables) name ≡ false → has read name ≡ false → is_read (with_latches circuit (left_at slots)) name ≡ false
 unfolding is_read dont_care_reads
-untaken_read circuit slots fed places read marked name h tables cares =
+untaken_read circuit slots fanout places read marked name h tables cares =
     ap (λ (b : Bool). b || (not (has (outputs_of circuit.dont_care) name) && has (table_inputs circuit.dont_care) name)) tables ∙ (sym (h.read name) ∙ cares)
 
 -- the constant is put at the place
@@ -76,25 +76,25 @@ emptied_whole circuit new slots place table sound at is =
     ∙ ap (λ (ts : List Table). with_tables (with_latches circuit (left_at slots)) ts)
     (set_replaced circuit.tables place table (constant_table table.output false) (sound_tables (with_latches circuit (left_at slots)) sound).differ at refl))
 
-pub emptied_led : (circuit new : Circuit) (slots : List (Option Latch)) (fed : List ℕ → Option (List ℕ)) (places : List ℕ → Option ℕ) (read : List (List ℕ)) (marked : ℕ → Bool) (place : ℕ) (table : Table)
-    → IsSound (with_latches circuit (left_at slots)) → IsBeside slots fed places read marked circuit → slice_get circuit.tables place ≡ Some table
-    → has (table_inputs circuit.tables) table.output ≡ false → fed table.output ≡ None → has read table.output ≡ false
+pub emptied_led : (circuit new : Circuit) (slots : List (Option Latch)) (fanout : List ℕ → Option (List ℕ)) (places : List ℕ → Option ℕ) (read : List (List ℕ)) (marked : ℕ → Bool) (place : ℕ) (table : Table)
+    → IsSound (with_latches circuit (left_at slots)) → IsBeside slots fanout places read marked circuit → slice_get circuit.tables place ≡ Some table
+    → has (table_inputs circuit.tables) table.output ≡ false → fanout table.output ≡ None → has read table.output ≡ false
     → new ≡ with_tables circuit (set circuit.tables place (constant_table table.output false)) → HasLed (with_latches circuit (left_at slots)) (with_latches new (left_at slots))
-emptied_led circuit new slots fed places read marked place table sound h at unread unfed_too uncared is =
+emptied_led circuit new slots fanout places read marked place table sound h at unread no_fanout_too uncared is =
     subst (HasLed (with_latches circuit (left_at slots))) (emptied_whole circuit new slots place table sound at is)
     (one_emptied (with_latches circuit (left_at slots)) table.output sound record {
       driven = placed_name (λ (t : Table). t.output) circuit.tables place table at;
-      unread = untaken_read circuit slots fed places read marked table.output h unread uncared;
-      unasked = untaken_root circuit slots fed places read marked table.output h unfed_too;
+      unread = untaken_read circuit slots fanout places read marked table.output h unread uncared;
+      unasked = untaken_root circuit slots fanout places read marked table.output h no_fanout_too;
     })
 
 -- no rule applies to the emptied table
 empty_passes : (rule : Rule) (tables : List Table) (name : List ℕ) → has (table_inputs tables) name ≡ false → passes rule tables (constant_table name false) ≡ false
 unfolding is_tidy used_places rows_differ all_different unwritten_bit written_bit
-empty_passes Tidy tables name unread = refl
-empty_passes Constant tables name unread = refl
-empty_passes Put tables name unread = unread
-empty_passes Bypass tables name unread = refl
+empty_passes TidyTable tables name unread = refl
+empty_passes WriteConstant tables name unread = refl
+empty_passes PropagateConstant tables name unread = unread
+empty_passes CollapseSingleInput tables name unread = refl
 
 pub emptied_marked : (circuit new : Circuit) (place : ℕ) (table : Table) → slice_get circuit.tables place ≡ Some table → has (table_inputs circuit.tables) table.output ≡ false
     → new ≡ with_tables circuit (set circuit.tables place (constant_table table.output false)) → (marks : Rule → ℕ → Bool) → AreCandidates marks circuit.tables → AreCandidates marks new.tables
@@ -114,14 +114,14 @@ emptied_marked circuit new place table at unread is marks all = subst (λ (c : C
         (λ old k. all rule i other old (still_passes rule circuit.tables (set circuit.tables place (constant_table table.output false)) other less k)) passed
 
 -- what stands beside the circuit tells of the new one
-pub emptied_beside : (circuit new : Circuit) (slots : List (Option Latch)) (fed : List ℕ → Option (List ℕ)) (places : List ℕ → Option ℕ) (read : List (List ℕ)) (marked : ℕ → Bool) (place : ℕ) (table : Table)
-    → AreSound circuit.tables → IsBeside slots fed places read marked circuit → slice_get circuit.tables place ≡ Some table → fed table.output ≡ None
-    → new ≡ with_tables circuit (set circuit.tables place (constant_table table.output false)) → IsBeside slots fed places read marked new
+pub emptied_beside : (circuit new : Circuit) (slots : List (Option Latch)) (fanout : List ℕ → Option (List ℕ)) (places : List ℕ → Option ℕ) (read : List (List ℕ)) (marked : ℕ → Bool) (place : ℕ) (table : Table)
+    → AreSound circuit.tables → IsBeside slots fanout places read marked circuit → slice_get circuit.tables place ≡ Some table → fanout table.output ≡ None
+    → new ≡ with_tables circuit (set circuit.tables place (constant_table table.output false)) → IsBeside slots fanout places read marked new
 unfolding dont_care_reads
-emptied_beside circuit new slots fed places read marked place table sound h at none is = subst (IsBeside slots fed places read marked) (sym is) record {
+emptied_beside circuit new slots fanout places read marked place table sound h at none is = subst (IsBeside slots fanout places read marked) (sym is) record {
   placed = subst (IsPlaced places) (sym (set_names circuit.tables place table (constant_table table.output false) at refl)) h.placed;
   read = h.read;
-  fed = h.fed;
+  fanout = h.fanout;
   asked = h.asked;
   waiting = waiting;
 }
@@ -135,4 +135,4 @@ emptied_beside circuit new slots fed places read marked place table sound h at n
     waiting i None here fixed = absurd (false≢true fixed)
     waiting i (Some latch) here fixed =
         h.waiting i (Some latch) here (sym (ap (λ (o : Option Bool). is_some o) (fixed_same circuit (with_tables circuit (set circuit.tables place (constant_table table.output false))) latch refl
-        (drives latch (name_not latch.input table.output (λ same. unfed slots fed table.output h.fed none i latch here (sym same)))))) ∙ fixed)
+        (drives latch (name_not latch.input table.output (λ same. no_fanout slots fanout table.output h.fanout none i latch here (sym same)))))) ∙ fixed)

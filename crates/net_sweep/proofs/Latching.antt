@@ -23,8 +23,8 @@ use Rattle.sweep_rules.specs.Needed.{dont_care_reads}
 use Rattle.sweep_rules.specs.Rules.{fixed_bit, bit_from_start, starts_at}
 use Rattle.net_sweep.specs.declared.queues.Rule.{Rule}
 use Rattle.net_sweep.specs.Settled.{rule_applied, listed, may_apply_to_written, AreWaiting, AreCandidates, AreAlikeBut, AreSound}
-use Rattle.net_readers.specs.Readers.{is_in}
-use Rattle.net_sweep.specs.Latches.{left_at, slot_bit, is_fixed, IsFirstFixed, IsPlaced, AreFed, IsBeside}
+use Rattle.input_readers.specs.Readers.{is_in}
+use Rattle.net_sweep.specs.Latches.{left_at, slot_bit, is_fixed, IsFirstFixed, IsPlaced, AreInFanout, IsBeside}
 use Rattle.net_sweep.proofs.Marking.{least_first, read_by, reads_at}
 use Rattle.net_sweep.proofs.Changing.{there, alike_before, still_passes, constant_tidy, written_asks, applied_names, applied_cares, applied_outputs}
 
@@ -136,10 +136,10 @@ fixed_written circuit latch h = by (driver circuit.tables latch.input) refl h
 -- changed table which is a constant now
 pub waiting_applied : (slots : List (Option Latch)) (lists : List ℕ → Option (List ℕ)) (places : List ℕ → Option ℕ) (old new : Circuit) (changed : List ℕ) (before after : ℕ → Bool)
     → all_different (outputs_of old.tables) ≡ true → IsPlaced places (outputs_of old.tables) → outputs_of new.tables ≡ outputs_of old.tables → new.dont_care ≡ old.dont_care
-    → AreAlikeBut changed old.tables new.tables → AreFed lists slots → AreWaiting (is_fixed old) before slots
+    → AreAlikeBut changed old.tables new.tables → AreInFanout lists slots → AreWaiting (is_fixed old) before slots
     → ((place : ℕ) (table : Table) (latch : ℕ) → is_in changed place ≡ true → slice_get new.tables place ≡ Some table → is_some (written_bit table) ≡ true → is_in (listed (lists table.output)) latch ≡ true → after latch ≡ true)
     → ((latch : ℕ) → before latch ≡ true → after latch ≡ true) → AreWaiting (is_fixed new) after slots
-waiting_applied slots lists places old new changed before after differ placed names cares alike fed all put kept = marked
+waiting_applied slots lists places old new changed before after differ placed names cares alike fanout all put kept = marked
   where
     old_leads : LeadsToTables places old.tables
     old_leads = placed_leads places old.tables differ placed
@@ -161,7 +161,7 @@ waiting_applied slots lists places old new changed before after differ placed na
         by true k =
             let (table, drives, written) = fixed_written new latch fixed in
             put i table place k (ap (item_at new.tables) (sym e) ∙ (new_leads latch.input ∙ drives)) written
-            (subst (λ (n : List ℕ). is_in (listed (lists n)) place ≡ true) (sym (driver_name new.tables latch.input table drives)) (fed place latch at))
+            (subst (λ (n : List ℕ). is_in (listed (lists n)) place ≡ true) (sym (driver_name new.tables latch.input table drives)) (fanout place latch at))
         by false k =
             let (table, drives, written) = fixed_written new latch fixed in
             let (before, there, like) = alike_before changed old.tables new.tables i table alike k (ap (item_at new.tables) (sym e) ∙ (new_leads latch.input ∙ drives)) in
@@ -207,22 +207,22 @@ cleared slots place other here latch there at = cases (other == place) refl
         let y : None ≡ Some latch = same_Some None (Some latch) z in absurd cc
     cases false e = sym (get_set_other slots place other None (eqb-false other place e)) ∙ at
 
-pub fed_cleared : (lists : List ℕ → Option (List ℕ)) (slots : List (Option Latch)) (place : ℕ) (here : Latch) → slice_get slots place ≡ Some (Some here) → AreFed lists slots → AreFed lists (set slots place None)
-fed_cleared lists slots place here there fed other latch at = fed other latch (cleared slots place other here latch there at)
+pub fanout_cleared : (lists : List ℕ → Option (List ℕ)) (slots : List (Option Latch)) (place : ℕ) (here : Latch) → slice_get slots place ≡ Some (Some here) → AreInFanout lists slots → AreInFanout lists (set slots place None)
+fanout_cleared lists slots place here there fanout other latch at = fanout other latch (cleared slots place other here latch there at)
 
 -- the constant table of a latch's name is added
 pub waiting_fixed : (slots : List (Option Latch)) (lists : List ℕ → Option (List ℕ)) (old : Circuit) (place : ℕ) (here : Latch) (bit : Bool) (before after : ℕ → Bool)
-    → slice_get slots place ≡ Some (Some here) → AreFed lists slots → AreWaiting (is_fixed old) before slots
+    → slice_get slots place ≡ Some (Some here) → AreInFanout lists slots → AreWaiting (is_fixed old) before slots
     → ((latch : ℕ) → is_in (listed (lists here.output)) latch ≡ true → after latch ≡ true) → ((latch : ℕ) → before latch ≡ true → after latch ≡ true)
     → AreWaiting (is_fixed (with_added old (constant_table here.output bit))) after (set slots place None)
 unfolding with_added
-waiting_fixed slots lists old place here bit before after there fed all put kept = marked
+waiting_fixed slots lists old place here bit before after there fanout all put kept = marked
   where
     new : Circuit
     new = record old { tables = old.tables ++ constant_table here.output bit ∷ [] }
 
     at_place : (other : ℕ) (latch : Latch) → slice_get slots other ≡ Some (Some latch) → is_some (fixed_bit new latch) ≡ true → (b : Bool) → bytes_eq latch.input here.output ≡ b → after other ≡ true
-    at_place other latch at fixed true e = put other (subst (λ (n : List ℕ). is_in (listed (lists n)) other ≡ true) (same_name latch.input here.output e) (fed other latch at))
+    at_place other latch at fixed true e = put other (subst (λ (n : List ℕ). is_in (listed (lists n)) other ≡ true) (same_name latch.input here.output e) (fanout other latch at))
     at_place other latch at fixed false e =
         kept other (all other (Some latch) at
         (sym (ap (λ (o : Option Bool). is_some o) (fixed_same old new latch refl (driver_added_other old.tables (constant_table here.output bit) latch.input e))) ∙ fixed))
@@ -318,39 +318,39 @@ left_cleared (Some first ∷ slots) (suc place) latch differ at =
 
 -- what stands beside the circuit afterwards
 
-pub applied_beside : (rule : Rule) (circuit new : Circuit) (place : ℕ) (slots : List (Option Latch)) (fed : List ℕ → Option (List ℕ)) (places : List ℕ → Option ℕ) (read : List (List ℕ)) (before after : ℕ → Bool) (changed now : List ℕ)
-    → AreSound circuit.tables → place < length circuit.tables → IsBeside slots fed places read before circuit
+pub applied_beside : (rule : Rule) (circuit new : Circuit) (place : ℕ) (slots : List (Option Latch)) (fanout : List ℕ → Option (List ℕ)) (places : List ℕ → Option ℕ) (read : List (List ℕ)) (before after : ℕ → Bool) (changed now : List ℕ)
+    → AreSound circuit.tables → place < length circuit.tables → IsBeside slots fanout places read before circuit
     → ((table : Table) → slice_get circuit.tables place ≡ Some table → new ≡ rule_applied rule circuit table) → AreAlikeBut changed circuit.tables new.tables → now ≡ changed
-    → ((i : ℕ) (table : Table) (latch : ℕ) → is_in now i ≡ true → slice_get new.tables i ≡ Some table → is_some (written_bit table) ≡ true → is_in (listed (fed table.output)) latch ≡ true → after latch ≡ true)
-    → ((latch : ℕ) → before latch ≡ true → after latch ≡ true) → IsBeside slots fed places read after new
-applied_beside rule circuit new place slots fed places read before after changed now sound lt h turned alike is put kept =
+    → ((i : ℕ) (table : Table) (latch : ℕ) → is_in now i ≡ true → slice_get new.tables i ≡ Some table → is_some (written_bit table) ≡ true → is_in (listed (fanout table.output)) latch ≡ true → after latch ≡ true)
+    → ((latch : ℕ) → before latch ≡ true → after latch ≡ true) → IsBeside slots fanout places read after new
+applied_beside rule circuit new place slots fanout places read before after changed now sound lt h turned alike is put kept =
     let (table, at) = there circuit.tables place lt in
     let names : outputs_of new.tables ≡ outputs_of circuit.tables = ap (λ (c : Circuit). outputs_of c.tables) (turned table at) ∙ applied_names rule circuit place table sound at in
     let cares : new.dont_care ≡ circuit.dont_care = ap (λ (c : Circuit). c.dont_care) (turned table at) ∙ applied_cares rule circuit table in
     let ports : new.outputs ≡ circuit.outputs = ap (λ (c : Circuit). c.outputs) (turned table at) ∙ applied_outputs rule circuit table in record {
       placed = subst (IsPlaced places) (sym names) h.placed;
       read = λ name. h.read name ∙ sym (cares_same circuit new name cares);
-      fed = h.fed;
+      fanout = h.fanout;
       asked = λ name asks. h.asked name (ap (λ (names : List (List ℕ)). has names name) (sym ports) ∙ asks);
-      waiting = waiting_applied slots fed places circuit new changed before after sound.differ h.placed names cares alike h.fed h.waiting
+      waiting = waiting_applied slots fanout places circuit new changed before after sound.differ h.placed names cares alike h.fanout h.waiting
           (λ i t latch k at_new. put i t latch (subst (λ (ps : List ℕ). is_in ps i ≡ true) (sym is) k) at_new) kept;
     }
 
-pub fixed_beside : (circuit new : Circuit) (place last : ℕ) (latch : Latch) (bit : Bool) (output key : List ℕ) (slots slots_after : List (Option Latch)) (fed : List ℕ → Option (List ℕ)) (places places_after : List ℕ → Option ℕ) (read : List (List ℕ)) (before after : ℕ → Bool)
-    → has (outputs_of circuit.tables) latch.output ≡ false → IsBeside slots fed places read before circuit → slice_get slots place ≡ Some (Some latch)
+pub fixed_beside : (circuit new : Circuit) (place last : ℕ) (latch : Latch) (bit : Bool) (output key : List ℕ) (slots slots_after : List (Option Latch)) (fanout : List ℕ → Option (List ℕ)) (places places_after : List ℕ → Option ℕ) (read : List (List ℕ)) (before after : ℕ → Bool)
+    → has (outputs_of circuit.tables) latch.output ≡ false → IsBeside slots fanout places read before circuit → slice_get slots place ≡ Some (Some latch)
     → output ≡ latch.output → new ≡ with_added circuit (constant_table output bit) → last ≡ length circuit.tables → key ≡ latch.output → slots_after ≡ set slots place None
     → ((other : List ℕ) → places_after other ≡ (if bytes_eq key other then Some last else places other))
-    → ((q : ℕ) → is_in (listed (fed latch.output)) q ≡ true → after q ≡ true) → ((q : ℕ) → before q ≡ true → after q ≡ true) → IsBeside slots_after fed places_after read after new
-fixed_beside circuit new place last latch bit output key slots slots_after fed places places_after read before after undriven h at o n l k s put_place put kept =
+    → ((q : ℕ) → is_in (listed (fanout latch.output)) q ≡ true → after q ≡ true) → ((q : ℕ) → before q ≡ true → after q ≡ true) → IsBeside slots_after fanout places_after read after new
+fixed_beside circuit new place last latch bit output key slots slots_after fanout places places_after read before after undriven h at o n l k s put_place put kept =
     let made : new ≡ with_added circuit (constant_table latch.output bit) = n ∙ ap (λ (name : List ℕ). with_added circuit (constant_table name bit)) o in
-    subst (λ (c : Circuit). IsBeside slots_after fed places_after read after c) (sym made)
-    (subst (λ (ss : List (Option Latch)). IsBeside ss fed places_after read after (with_added circuit (constant_table latch.output bit))) (sym s) record {
+    subst (λ (c : Circuit). IsBeside slots_after fanout places_after read after c) (sym made)
+    (subst (λ (ss : List (Option Latch)). IsBeside ss fanout places_after read after (with_added circuit (constant_table latch.output bit))) (sym s) record {
       placed = placed_added circuit latch bit places places_after h.placed undriven
           (λ other. put_place other ∙ (ap (λ (name : List ℕ). if bytes_eq name other then Some last else places other) k ∙ ap (λ (p : ℕ). if bytes_eq latch.output other then Some p else places other) (l ∙ sym (names_long circuit.tables))));
       read = λ name. h.read name ∙ sym (added_cares circuit (constant_table latch.output bit) name);
-      fed = fed_cleared fed slots place latch at h.fed;
+      fanout = fanout_cleared fanout slots place latch at h.fanout;
       asked = λ name asks. h.asked name (ap (λ (names : List (List ℕ)). has names name) (sym (added_ports circuit (constant_table latch.output bit))) ∙ asks);
-      waiting = waiting_fixed slots fed circuit place latch bit before after at h.fed h.waiting put kept;
+      waiting = waiting_fixed slots fanout circuit place latch bit before after at h.fanout h.waiting put kept;
     })
 
 pub fixed_marked : (circuit new : Circuit) (last : ℕ) (output : List ℕ) (bit : Bool) (before after : Rule → ℕ → Bool) → new ≡ with_added circuit (constant_table output bit) → last ≡ length circuit.tables

@@ -7,5 +7,5 @@ pub mod Changing
 pub mod Rewiring
 pub mod Latching
 pub mod Stepping
-pub mod Waking
+pub mod Enqueuing
 pub mod Emptying

@@ -13,11 +13,12 @@ use Rattle.circuit_laws.specs.Edits.{with_tables}
 use Rattle.net_core.proofs.Lookups.{get_set_same, get_set_other}
 use Rattle.table_tidy.specs.Tidy.{is_tidy, IsWide}
 use Rattle.sweep_rules.specs.Rules.{rewired}
-use Rattle.sweep_rules.proofs.Mapped.{find_none}
-use Rattle.net_readers.specs.Readers.{is_in, reads_at}
-use Rattle.net_wires.specs.Wires.{exchanged}
+use Rattle.chain_laws.proofs.Found.{find_none}
+use Rattle.input_readers.specs.Readers.{is_in}
+use Rattle.net_wires.specs.Aliases.{inputs_at, exchanged}
+use Rattle.net_wires.proofs.Reading.{inputs_here}
 use Rattle.net_wires.proofs.Exchanging.{exchanged_output, exchanged_tidy, exchanged_unwritten, exchanged_written, exchanged_single, rewired_exchanged}
-use Rattle.net_sweep.specs.declared.queues.Rule.TheVariants.{Tidy}
+use Rattle.net_sweep.specs.declared.queues.Rule.TheVariants.{TidyTable}
 use Rattle.net_sweep.specs.declared.applying.Change.TheVariants.{Input}
 use Rattle.net_sweep.specs.Settled.{passes, changed_by, IsAlike, IsAlikeThere, AreAlikeBut, AreSound}
 use Rattle.net_sweep.proofs.Finds.{all_wide}
@@ -109,10 +110,10 @@ not_false true h = refl
 not_false false h = absurd (false≢true (sym h))
 
 -- the place of a reader is one of a table
-pub reader_within : (tables : List Table) (name : List ℕ) (places : List ℕ) → ((place : ℕ) → is_in places place ≡ reads_at tables name place) → (place : ℕ) → is_in places place ≡ true → place < length tables
+pub reader_within : (tables : List Table) (name : List ℕ) (places : List ℕ) → ((place : ℕ) → is_in places place ≡ has (inputs_at tables place) name) → (place : ℕ) → is_in places place ≡ true → place < length tables
 reader_within tables name places readers place h = by (slice_get tables place) refl (sym (readers place) ∙ h)
   where
-    by : (o : Option Table) → slice_get tables place ≡ o → option_map_or (λ (table : Table). has table.inputs name) o false ≡ true → place < length tables
+    by : (o : Option Table) → slice_get tables place ≡ o → has (option_map_or (λ (table : Table). table.inputs) o []) name ≡ true → place < length tables
     by None e k = absurd (false≢true k)
     by (Some table) e k = slice_get_within tables place table e
 
@@ -158,12 +159,12 @@ rewired_places from to inverts places tables old mid new made m same set_at kept
   others = λ place h. kept place h ∙ (ap (λ (c : Circuit). slice_get c.tables place) m ∙ slice_get-map (exchanged from to inverts) old.tables place);
 }
 
-unread : (tables : List Table) (name : List ℕ) (places : List ℕ) (place : ℕ) (table : Table) → ((n : ℕ) → is_in places n ≡ reads_at tables name n) → is_in places place ≡ false → slice_get tables place ≡ Some table → has table.inputs name ≡ false
+unread : (tables : List Table) (name : List ℕ) (places : List ℕ) (place : ℕ) (table : Table) → ((n : ℕ) → is_in places n ≡ has (inputs_at tables n) name) → is_in places place ≡ false → slice_get tables place ≡ Some table → has table.inputs name ≡ false
 unread tables name places place table readers none at =
-    sym (ap (λ (o : Option Table). option_map_or (λ (t : Table). has t.inputs name) o false) at) ∙ (sym (readers place) ∙ none)
+    sym (ap (λ (names : List (List ℕ)). has names name) (inputs_here tables place table at)) ∙ (sym (readers place) ∙ none)
 
-tidy_at : (tables : List Table) (place : ℕ) (table : Table) → find (passes Tidy tables) tables ≡ None → slice_get tables place ≡ Some table → is_tidy table ≡ true
-tidy_at tables place table tidy at = not_false (is_tidy table) (all_at (λ (t : Table). not (is_tidy t) ≡ false) tables place table (find_none (passes Tidy tables) tables tidy) at)
+tidy_at : (tables : List Table) (place : ℕ) (table : Table) → find (passes TidyTable tables) tables ≡ None → slice_get tables place ≡ Some table → is_tidy table ≡ true
+tidy_at tables place table tidy at = not_false (is_tidy table) (all_at (λ (t : Table). not (is_tidy t) ≡ false) tables place table (find_none (passes TidyTable tables) tables tidy) at)
 
 exchanged_alike : (from to : List ℕ) (inverts : Bool) (table : Table) → IsAlike table (exchanged from to inverts table)
 exchanged_alike from to inverts table = record {
@@ -174,8 +175,8 @@ exchanged_alike from to inverts table = record {
   single = exchanged_single from to inverts table;
 }
 
-pub rewired_all : (from to : List ℕ) (inverts : Bool) (listed now then : List ℕ) (tables there : List Table) (old mid new : Circuit) → AreSound old.tables → find (passes Tidy old.tables) old.tables ≡ None
-    → ((place : ℕ) → is_in listed place ≡ reads_at old.tables to place) → now ≡ listed → then ≡ listed → there ≡ tables
+pub rewired_all : (from to : List ℕ) (inverts : Bool) (listed now then : List ℕ) (tables there : List Table) (old mid new : Circuit) → AreSound old.tables → find (passes TidyTable old.tables) old.tables ≡ None
+    → ((place : ℕ) → is_in listed place ≡ has (inputs_at old.tables place) to) → now ≡ listed → then ≡ listed → there ≡ tables
     → map Some tables ≡ map (λ place. option_map (rewired from to inverts) (slice_get old.tables place)) now
     → mid ≡ with_tables old (map (exchanged from to inverts) old.tables) → new ≡ with_tables mid new.tables → IsSetAt then there new → IsKeptBut then mid new
     → new ≡ with_tables old (map (changed_by from (Input to inverts)) old.tables)

@@ -12,7 +12,7 @@ use Rattle.sweep_rules.specs.Rules.{asks_against, row_at_bit, at_bit, row_turned
 use Rattle.circuit_model.specs.Names.{has}
 use Rattle.table_tidy.specs.Tidy.{tidied}
 use Rattle.net_core.specs.Tables.{HasCharacters}
-use Rattle.net_wires.specs.Wires.{row_over}
+use Rattle.net_wires.specs.Aliases.{row_over}
 use Rattle.net_sweep.specs.Columns.{opens_at_one, row_at_marks}
 
 -- the character of a place in a row where a signal has a bit

@@ -14,12 +14,12 @@ use Rattle.circuit_laws.proofs.Names.{has_not, different_apart}
 use Rattle.circuit_laws.proofs.Places.{tables_stay}
 use Rattle.net_needed.proofs.Taking.{latches_differ}
 use Rattle.sweep_rules.specs.Points.{written_bit}
-use Rattle.sweep_rules.specs.Rules.{tidy_rule, constant_rule, put_rule, bypass_rule, latch_rule, need_rule, unwritten_bit, only_input, fixed_bit, at_bit, rewired, is_inverter, with_latch_fixed, sweep_step}
+use Rattle.sweep_rules.specs.Rules.{tidy_table, write_constant, propagate_constant, collapse_single_input, fix_constant_latch, remove_dangling, unwritten_bit, only_input, fixed_bit, at_bit, rewired, is_inverter, with_latch_fixed, sweep_step}
 use Rattle.sweep_rules.proofs.Falling.{step_falls}
 use Rattle.sweep_rules.proofs.Weight.{weight}
 use Rattle.net_sweep.specs.declared.queues.Rule.{Rule}
-use Rattle.net_sweep.specs.declared.queues.Rule.TheVariants.{Tidy, Constant, Put, Bypass}
-use Rattle.net_sweep.specs.declared.latches.Standing.{Standing}
+use Rattle.net_sweep.specs.declared.queues.Rule.TheVariants.{TidyTable, WriteConstant, PropagateConstant, CollapseSingleInput}
+use Rattle.net_sweep.specs.declared.latches.TrackedLatches.{TrackedLatches}
 use Rattle.net_sweep.specs.declared.steps.Step.{Step}
 use Rattle.net_sweep.specs.declared.steps.Step.TheVariants.{Apply, Fix}
 use Rattle.net_sweep.specs.Settled.{passes, rule_applied, table_step, IsNext, HasLed, AreCandidates}
@@ -31,20 +31,20 @@ use Rattle.net_sweep.proofs.Latching.{fixed_same, found_left, none_left, left_ha
 
 applied_whole : (rule : Rule) (circuit : Circuit) (latches : List Latch) (table : Table) → rule_applied rule (with_latches circuit latches) table ≡ with_latches (rule_applied rule circuit table) latches
 unfolding with_replaced
-applied_whole Tidy circuit latches table = refl
-applied_whole Constant circuit latches table = by (unwritten_bit table)
+applied_whole TidyTable circuit latches table = refl
+applied_whole WriteConstant circuit latches table = by (unwritten_bit table)
   where
     by : (o : Option Bool) → option_map_or (λ bit. with_replaced (with_latches circuit latches) (constant_table table.output bit)) o (with_latches circuit latches)
         ≡ with_latches (option_map_or (λ bit. with_replaced circuit (constant_table table.output bit)) o circuit) latches
     by None = refl
     by (Some bit) = refl
-applied_whole Put circuit latches table = by (written_bit table)
+applied_whole PropagateConstant circuit latches table = by (written_bit table)
   where
     by : (o : Option Bool) → option_map_or (λ bit. with_tables (with_latches circuit latches) (map (at_bit table.output bit) circuit.tables)) o (with_latches circuit latches)
         ≡ with_latches (option_map_or (λ bit. with_tables circuit (map (at_bit table.output bit) circuit.tables)) o circuit) latches
     by None = refl
     by (Some bit) = refl
-applied_whole Bypass circuit latches table = by (only_input table.inputs)
+applied_whole CollapseSingleInput circuit latches table = by (only_input table.inputs)
   where
     by : (o : Option (List ℕ)) → option_map_or (λ input. with_tables (with_latches circuit latches) (map (rewired table.output input (is_inverter table)) circuit.tables)) o (with_latches circuit latches)
         ≡ with_latches (option_map_or (λ input. with_tables circuit (map (rewired table.output input (is_inverter table)) circuit.tables)) o circuit) latches
@@ -57,9 +57,9 @@ found_applied rule circuit latches None = refl
 found_applied rule circuit latches (Some table) = ap Some (applied_whole rule circuit latches table)
 
 pub table_step_whole : (circuit : Circuit) (latches : List Latch) → table_step (with_latches circuit latches) ≡ option_map (λ (c : Circuit). with_latches c latches) (table_step circuit)
-unfolding table_step tidy_rule constant_rule put_rule bypass_rule
+unfolding table_step tidy_table write_constant propagate_constant collapse_single_input
 table_step_whole circuit latches =
-    all (find (passes Tidy circuit.tables) circuit.tables) (find (passes Constant circuit.tables) circuit.tables) (find (passes Put circuit.tables) circuit.tables) (find (passes Bypass circuit.tables) circuit.tables)
+    all (find (passes TidyTable circuit.tables) circuit.tables) (find (passes WriteConstant circuit.tables) circuit.tables) (find (passes PropagateConstant circuit.tables) circuit.tables) (find (passes CollapseSingleInput circuit.tables) circuit.tables)
   where
     whole : Circuit
     whole = with_latches circuit latches
@@ -74,11 +74,11 @@ table_step_whole circuit latches =
     either None None None d = refl
 
     all : (o p q r : Option Table)
-        → option_or (option_map (rule_applied Tidy whole) o) (option_or (option_map (rule_applied Constant whole) p) (option_or (option_map (rule_applied Put whole) q) (option_map (rule_applied Bypass whole) r)))
-        ≡ option_map back (option_or (option_map (rule_applied Tidy circuit) o) (option_or (option_map (rule_applied Constant circuit) p) (option_or (option_map (rule_applied Put circuit) q) (option_map (rule_applied Bypass circuit) r))))
+        → option_or (option_map (rule_applied TidyTable whole) o) (option_or (option_map (rule_applied WriteConstant whole) p) (option_or (option_map (rule_applied PropagateConstant whole) q) (option_map (rule_applied CollapseSingleInput whole) r)))
+        ≡ option_map back (option_or (option_map (rule_applied TidyTable circuit) o) (option_or (option_map (rule_applied WriteConstant circuit) p) (option_or (option_map (rule_applied PropagateConstant circuit) q) (option_map (rule_applied CollapseSingleInput circuit) r))))
     all o p q r =
-        rw (found_applied Tidy circuit latches o, found_applied Constant circuit latches p, found_applied Put circuit latches q, found_applied Bypass circuit latches r)
-        (either (option_map (rule_applied Tidy circuit) o) (option_map (rule_applied Constant circuit) p) (option_map (rule_applied Put circuit) q) (option_map (rule_applied Bypass circuit) r))
+        rw (found_applied TidyTable circuit latches o, found_applied WriteConstant circuit latches p, found_applied PropagateConstant circuit latches q, found_applied CollapseSingleInput circuit latches r)
+        (either (option_map (rule_applied TidyTable circuit) o) (option_map (rule_applied WriteConstant circuit) p) (option_map (rule_applied PropagateConstant circuit) q) (option_map (rule_applied CollapseSingleInput circuit) r))
 
 -- the step that makes a latch a table
 
@@ -108,13 +108,13 @@ fixed_whole circuit slots place latch bit sound at =
     rw (time, ts, ls) refl
 
 latch_rule_is : (circuit : Circuit) (latch : Latch) (bit : Bool) → find (λ (l : Latch). is_some (fixed_bit circuit l)) circuit.latches ≡ Some latch → fixed_bit circuit latch ≡ Some bit
-    → latch_rule circuit ≡ Some (with_fixed circuit latch.output bit)
-unfolding latch_rule
+    → fix_constant_latch circuit ≡ Some (with_fixed circuit latch.output bit)
+unfolding fix_constant_latch
 latch_rule_is circuit latch bit found has_bit =
     ap (option_map (with_latch_fixed circuit)) found ∙ ap Some (ap (λ (o : Option Bool). option_map_or (λ b. with_fixed circuit latch.output b) o circuit) has_bit)
 
-latch_rule_none : (circuit : Circuit) → find (λ (l : Latch). is_some (fixed_bit circuit l)) circuit.latches ≡ None → latch_rule circuit ≡ None
-unfolding latch_rule
+latch_rule_none : (circuit : Circuit) → find (λ (l : Latch). is_some (fixed_bit circuit l)) circuit.latches ≡ None → fix_constant_latch circuit ≡ None
+unfolding fix_constant_latch
 latch_rule_none circuit none = ap (option_map (with_latch_fixed circuit)) none
 
 whole_bit : (circuit : Circuit) (latches : List Latch) (latch : Latch) → fixed_bit (with_latches circuit latches) latch ≡ fixed_bit circuit latch
@@ -144,7 +144,7 @@ fix_next circuit slots step place bit next is = subst (λ (s : Step). IsNextStep
 pub applied_within : (circuit : Circuit) (rule : Rule) (place : ℕ) → IsNext circuit (Some (rule, place)) → place < length circuit.tables
 applied_within circuit rule place next = let (table, at, step, tidy) = next in slice_get_within circuit.tables place table at
 
-pub applied_tidy : (circuit : Circuit) (rule : Rule) (place : ℕ) → IsNext circuit (Some (rule, place)) → rule ≡ Bypass → find (passes Tidy circuit.tables) circuit.tables ≡ None
+pub applied_tidy : (circuit : Circuit) (rule : Rule) (place : ℕ) → IsNext circuit (Some (rule, place)) → rule ≡ CollapseSingleInput → find (passes TidyTable circuit.tables) circuit.tables ≡ None
 applied_tidy circuit rule place next = let (table, at, step, tidy) = next in tidy
 
 pub fix_there : (circuit : Circuit) (slots : List (Option Latch)) (place : ℕ) (bit : Bool) → IsFirstFixed circuit slots (Some (place, bit)) → (latch : Latch) × (slice_get slots place ≡ Some (Some latch))
@@ -157,19 +157,19 @@ fix_stepped circuit new slots after place bit sound next fixed cleared =
     let (none, first) = next in
     let (latch, at, has_bit, found) = first in
     let whole : Circuit = with_latches circuit (left_at slots) in
-    let taken : latch_rule whole ≡ Some (with_fixed whole latch.output bit) =
+    let taken : fix_constant_latch whole ≡ Some (with_fixed whole latch.output bit) =
     latch_rule_is whole latch bit (whole_find circuit (left_at slots) (left_at slots) ∙ found_left circuit slots latch found) (whole_bit circuit (left_at slots) latch ∙ has_bit) in
     other_step_is whole (Some (with_latches new (left_at after))) (table_step_whole circuit (left_at slots) ∙ ap (option_map (λ (c : Circuit). with_latches c (left_at slots))) none)
     (ap Some (ap (λ (s : List (Option Latch)). with_latches new (left_at s)) cleared
     ∙ (ap (λ (c : Circuit). with_latches c (left_at (set slots place None))) (fixed latch at) ∙ sym (fixed_whole circuit slots place latch bit sound at)))
-    ∙ sym (ap (λ (o : Option Circuit). option_or o (need_rule whole)) taken))
+    ∙ sym (ap (λ (o : Option Circuit). option_or o (remove_dangling whole)) taken))
 
 -- steps one after the other
 
-pub record IsSettling (from to : Circuit) (standing : Standing) (marks : Rule → ℕ → Bool) : Type 0 where
-  pub led : HasLed from (with_latches to (left_at standing.slots.items))
+pub record IsSettling (from to : Circuit) (tracked : TrackedLatches) (marks : Rule → ℕ → Bool) : Type 0 where
+  pub led : HasLed from (with_latches to (left_at tracked.slots.items))
   pub marked : AreCandidates marks to.tables
-  pub ready : IsReady standing to
+  pub ready : IsReady tracked to
 
 whole_again : (circuit : Circuit) → IsSound circuit → with_latches circuit circuit.latches ≡ circuit
 whole_again circuit sound = ap (λ (timing : Option Timing). record circuit { timing = timing }) (by circuit.latches refl)
@@ -185,22 +185,22 @@ begun circuit slots sound left = subst (HasLed circuit) (sym (ap (with_latches c
 pub all_marked : (tables : List Table) (count : ℕ) (marks : Rule → ℕ → Bool) → count ≡ length tables → ((rule : Rule) (place : ℕ) → place < count → marks rule place ≡ true) → AreCandidates marks tables
 all_marked tables count marks long every rule place table at passed = every rule place (subst (λ (n : ℕ). place < n) (sym long) (slice_get_within tables place table at))
 
-pub settling_itself : (circuit : Circuit) (standing : Standing) (marks : Rule → ℕ → Bool) → IsSound (with_latches circuit (left_at standing.slots.items)) → AreCandidates marks circuit.tables → IsReady standing circuit
-    → IsSettling (with_latches circuit (left_at standing.slots.items)) circuit standing marks
-settling_itself circuit standing marks sound marked ready = record { led = not_yet (with_latches circuit (left_at standing.slots.items)) sound; marked = marked; ready = ready }
+pub settling_itself : (circuit : Circuit) (tracked : TrackedLatches) (marks : Rule → ℕ → Bool) → IsSound (with_latches circuit (left_at tracked.slots.items)) → AreCandidates marks circuit.tables → IsReady tracked circuit
+    → IsSettling (with_latches circuit (left_at tracked.slots.items)) circuit tracked marks
+settling_itself circuit tracked marks sound marked ready = record { led = not_yet (with_latches circuit (left_at tracked.slots.items)) sound; marked = marked; ready = ready }
 
 -- what is left of the latches may be told by slots that equal them
 pub led_on : (from to : Circuit) (slots mid : List (Option Latch)) → HasLed from (with_latches to (left_at slots)) → mid ≡ slots → HasLed from (with_latches to (left_at mid))
 led_on from to slots mid led same = subst (λ (ss : List (Option Latch)). HasLed from (with_latches to (left_at ss))) (sym same) led
 
 -- a step, and then the table at which it was taken is emptied where nothing takes it
-pub settling_more : (from to mid_circuit new : Circuit) (standing mid after : Standing) (marks marks_after : Rule → ℕ → Bool) → IsSettling from to standing marks
-    → mid.slots.items ≡ standing.slots.items → sweep_step (with_latches to (left_at mid.slots.items)) ≡ Some (with_latches mid_circuit (left_at after.slots.items))
+pub settling_more : (from to mid_circuit new : Circuit) (tracked mid after : TrackedLatches) (marks marks_after : Rule → ℕ → Bool) → IsSettling from to tracked marks
+    → mid.slots.items ≡ tracked.slots.items → sweep_step (with_latches to (left_at mid.slots.items)) ≡ Some (with_latches mid_circuit (left_at after.slots.items))
     → HasLed (with_latches mid_circuit (left_at after.slots.items)) (with_latches new (left_at after.slots.items))
     → AreCandidates marks_after new.tables → IsReady after new → IsSettling from new after marks_after
-settling_more from to mid_circuit new standing mid after marks marks_after h same step emptied marked ready = record {
+settling_more from to mid_circuit new tracked mid after marks marks_after h same step emptied marked ready = record {
   led = led_through from (with_latches mid_circuit (left_at after.slots.items)) (with_latches new (left_at after.slots.items))
-      (one_more from (with_latches to (left_at standing.slots.items)) (with_latches mid_circuit (left_at after.slots.items)) h.led
+      (one_more from (with_latches to (left_at tracked.slots.items)) (with_latches mid_circuit (left_at after.slots.items)) h.led
       (subst (λ (slots : List (Option Latch)). sweep_step (with_latches to (left_at slots)) ≡ Some (with_latches mid_circuit (left_at after.slots.items))) same step)) emptied;
   marked = marked;
   ready = ready;
@@ -249,7 +249,7 @@ settled_tables circuit left end slots next l is =
     ap table_step (is ∙ ap (λ (c : Circuit). with_latches c (left_at slots)) l)
     ∙ (table_step_whole circuit (left_at slots) ∙ ap (option_map (λ (c : Circuit). with_latches c (left_at slots))) next.0)
 
-pub settled_latches : (circuit left end : Circuit) (slots : List (Option Latch)) → IsNextStep circuit slots None → left ≡ circuit → end ≡ with_latches left (left_at slots) → latch_rule end ≡ None
+pub settled_latches : (circuit left end : Circuit) (slots : List (Option Latch)) → IsNextStep circuit slots None → left ≡ circuit → end ≡ with_latches left (left_at slots) → fix_constant_latch end ≡ None
 settled_latches circuit left end slots next l is =
-    ap latch_rule (is ∙ ap (λ (c : Circuit). with_latches c (left_at slots)) l)
+    ap fix_constant_latch (is ∙ ap (λ (c : Circuit). with_latches c (left_at slots)) l)
     ∙ latch_rule_none (with_latches circuit (left_at slots)) (whole_find circuit (left_at slots) (left_at slots) ∙ none_left circuit slots next.1)

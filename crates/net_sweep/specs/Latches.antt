@@ -14,8 +14,8 @@ use Rattle.circuit_laws.specs.Edits.{timing_with}
 use Rattle.sweep_rules.specs.Needed.{dont_care_reads}
 use Rattle.sweep_rules.specs.Rules.{fixed_bit}
 use Rattle.net_sweep.specs.Settled.{listed, table_step, IsNext, AreWaiting}
-use Rattle.net_readers.specs.Readers.{is_in}
-use Rattle.net_sweep.specs.declared.latches.Standing.{Standing}
+use Rattle.input_readers.specs.Readers.{is_in}
+use Rattle.net_sweep.specs.declared.latches.TrackedLatches.{TrackedLatches}
 use Rattle.net_sweep.specs.declared.steps.Step.{Step}
 use Rattle.net_sweep.specs.declared.steps.Step.TheVariants.{Apply, Fix}
 
@@ -50,8 +50,8 @@ pub record IsPlaced (places : List ℕ → Option ℕ) (names : List (List ℕ))
   pub only : (name : List ℕ) (place : ℕ) → places name ≡ Some place → slice_get names place ≡ Some name
 
 -- each latch is listed under its input
-abbrev pub AreFed : (List ℕ → Option (List ℕ)) → List (Option Latch) → Type 0
-AreFed lists slots = (place : ℕ) (latch : Latch) → slice_get slots place ≡ Some (Some latch) → is_in (listed (lists latch.input)) place ≡ true
+abbrev pub AreInFanout : (List ℕ → Option (List ℕ)) → List (Option Latch) → Type 0
+AreInFanout lists slots = (place : ℕ) (latch : Latch) → slice_get slots place ≡ Some (Some latch) → is_in (listed (lists latch.input)) place ≡ true
 
 -- what stands beside a circuit tells of it: the names of its tables lead to their places, what is read is what its
 -- don't-care part reads, the latches are listed under their inputs, each output has a list, and each latch that always has
@@ -59,14 +59,14 @@ AreFed lists slots = (place : ℕ) (latch : Latch) → slice_get slots place ≡
 pub record IsBeside (slots : List (Option Latch)) (lists : List ℕ → Option (List ℕ)) (places : List ℕ → Option ℕ) (leaves : List (List ℕ)) (waits : ℕ → Bool) (circuit : Circuit) : Type 0 where
   pub placed : IsPlaced places (outputs_of circuit.tables)
   pub read : (name : List ℕ) → has leaves name ≡ dont_care_reads circuit name
-  pub fed : AreFed lists slots
+  pub fanout : AreInFanout lists slots
   pub asked : (name : List ℕ) → has circuit.outputs name ≡ true → is_some (lists name) ≡ true
   pub waiting : AreWaiting (is_fixed circuit) waits slots
 
--- what `Standing` holds tells so of a circuit
-abbrev pub IsReady : Standing → Circuit → Type 0
-IsReady standing circuit =
-    IsBeside standing.slots.items (get bytes_eq standing.fed) (get bytes_eq standing.table_places) standing.leaves_read.keys (contains nat_cmp standing.waiting) circuit
+-- what `TrackedLatches` holds tells so of a circuit
+abbrev pub IsReady : TrackedLatches → Circuit → Type 0
+IsReady tracked circuit =
+    IsBeside tracked.slots.items (get bytes_eq tracked.fanout) (get bytes_eq tracked.table_places) tracked.leaves_read.keys (contains nat_cmp tracked.waiting) circuit
 
 -- the next step of the first five rules, if there is one
 abbrev pub IsNextStep : Circuit → List (Option Latch) → Option Step → Type 0

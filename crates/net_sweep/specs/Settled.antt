@@ -14,11 +14,11 @@ use Rattle.circuit_model.specs.declared.circuit.Circuit.{Circuit}
 use Rattle.circuit_laws.specs.Edits.{with_replaced}
 use Rattle.table_tidy.specs.Tidy.{is_tidy, tidied}
 use Rattle.sweep_rules.specs.Points.{written_bit}
-use Rattle.sweep_rules.specs.Rules.{tidy_rule, constant_rule, put_rule, bypass_rule, with_constant, with_bit_put, with_bypass, unwritten_bit, only_input, at_bit, rewired, sweep_step}
+use Rattle.sweep_rules.specs.Rules.{tidy_table, write_constant, propagate_constant, collapse_single_input, with_constant, with_constant_propagated, with_single_input_collapsed, unwritten_bit, only_input, at_bit, rewired, sweep_step}
 use Rattle.sweep_rules.specs.Idle.{IsIdle, with_emptied}
-use Rattle.net_readers.specs.Readers.{is_in}
+use Rattle.input_readers.specs.Readers.{is_in}
 use Rattle.net_sweep.specs.declared.queues.Rule.{Rule}
-use Rattle.net_sweep.specs.declared.queues.Rule.TheVariants.{Tidy, Constant, Put, Bypass}
+use Rattle.net_sweep.specs.declared.queues.Rule.TheVariants.{TidyTable, WriteConstant, PropagateConstant, CollapseSingleInput}
 use Rattle.net_sweep.specs.declared.queues.Candidates.{Candidates}
 use Rattle.net_sweep.specs.declared.applying.Change.{Change}
 use Rattle.net_sweep.specs.declared.applying.Change.TheVariants.{Bit, Input}
@@ -33,10 +33,10 @@ pub record AreSound (tables : List Table) : Type 0 where
 
 -- whether a rule applies to a table among others
 abbrev pub passes : Rule → List Table → Table → Bool
-passes Tidy tables table = not (is_tidy table)
-passes Constant tables table = is_some (unwritten_bit table)
-passes Put tables table = is_some (written_bit table) && has (table_inputs tables) table.output
-passes Bypass tables table = is_some (only_input table.inputs) && has (table_inputs tables) table.output
+passes TidyTable tables table = not (is_tidy table)
+passes WriteConstant tables table = is_some (unwritten_bit table)
+passes PropagateConstant tables table = is_some (written_bit table) && has (table_inputs tables) table.output
+passes CollapseSingleInput tables table = is_some (only_input table.inputs) && has (table_inputs tables) table.output
 
 -- the place of the first item that passes a test
 abbrev pub IsFirst : {X : Type 0} → (X → Bool) → List X → Option ℕ → Type 0
@@ -45,22 +45,22 @@ IsFirst {X} test items (Some place) = (place < length items) × (item : X) × (s
 
 -- what a rule makes of a circuit at a table to which it applies
 abbrev pub rule_applied : Rule → Circuit → Table → Circuit
-rule_applied Tidy circuit table = with_replaced circuit (tidied table)
-rule_applied Constant circuit table = with_constant circuit table
-rule_applied Put circuit table = with_bit_put circuit table
-rule_applied Bypass circuit table = with_bypass circuit table
+rule_applied TidyTable circuit table = with_replaced circuit (tidied table)
+rule_applied WriteConstant circuit table = with_constant circuit table
+rule_applied PropagateConstant circuit table = with_constant_propagated circuit table
+rule_applied CollapseSingleInput circuit table = with_single_input_collapsed circuit table
 
 -- one step of the rules that change tables
 unfoldable pub table_step : Circuit → Option Circuit
-table_step circuit = option_or (tidy_rule circuit) (option_or (constant_rule circuit) (option_or (put_rule circuit) (bypass_rule circuit)))
+table_step circuit = option_or (tidy_table circuit) (option_or (write_constant circuit) (option_or (propagate_constant circuit) (collapse_single_input circuit)))
 
--- the rule and the place of the table to which the next step of these rules applies it, if there is one; a table is passed
--- by only where all are tidy
+-- the rule and the place of the table to which the next step of these rules applies it, if there is one; a table
+-- of one input is collapsed only where all are tidy
 abbrev pub IsNext : Circuit → Option (Rule × ℕ) → Type 0
 IsNext circuit None = table_step circuit ≡ None
 IsNext circuit (Some (rule, place)) =
     (table : Table) × (slice_get circuit.tables place ≡ Some table) × (table_step circuit ≡ Some (rule_applied rule circuit table))
-    × (rule ≡ Bypass → find (passes Tidy circuit.tables) circuit.tables ≡ None)
+    × (rule ≡ CollapseSingleInput → find (passes TidyTable circuit.tables) circuit.tables ≡ None)
 
 -- a table in which a signal has a bit, or gives place to another one
 abbrev pub changed_by : List ℕ → Change → Table → Table
@@ -74,10 +74,10 @@ is_apart name (Input to inverts) = not (bytes_eq name to)
 
 -- whether a rule may apply to a table since it was written anew: any but the one that tidies, since what is written is tidy
 abbrev pub may_apply_to_written : Rule → Bool
-may_apply_to_written Tidy = false
-may_apply_to_written Constant = true
-may_apply_to_written Put = true
-may_apply_to_written Bypass = true
+may_apply_to_written TidyTable = false
+may_apply_to_written WriteConstant = true
+may_apply_to_written PropagateConstant = true
+may_apply_to_written CollapseSingleInput = true
 
 -- the places that are listed, none where there is no list
 abbrev pub listed : Option (List ℕ) → List ℕ
@@ -94,10 +94,10 @@ AreCandidates candidates tables = (rule : Rule) → AreWaiting (passes rule tabl
 
 -- whether a place waits for a rule
 abbrev pub is_candidate : Candidates → Rule → ℕ → Bool
-is_candidate candidates Tidy place = contains nat_cmp candidates.untidy place
-is_candidate candidates Constant place = contains nat_cmp candidates.unwritten place
-is_candidate candidates Put place = contains nat_cmp candidates.constants place
-is_candidate candidates Bypass place = contains nat_cmp candidates.singles place
+is_candidate candidates TidyTable place = contains nat_cmp candidates.untidy place
+is_candidate candidates WriteConstant place = contains nat_cmp candidates.unwritten place
+is_candidate candidates PropagateConstant place = contains nat_cmp candidates.constants place
+is_candidate candidates CollapseSingleInput place = contains nat_cmp candidates.singles place
 
 -- two tables that are alike in all that a rule asks of a table alone: the signal, whether it is tidy, the constant that it
 -- ought to be written as, the one that it is written as, and whether it has one input

@@ -11,22 +11,23 @@ ghost use Rattle.circuit_model.specs.declared.circuit.Table.{Table as TheTable};
 ghost use Rattle.circuit_laws.specs.Edits.{with_tables as tables_in};
 ghost use Rattle.net_core.specs.Tables.{HasCharacters};
 ghost use Rattle.net_sweep.specs.declared.queues.Rule.{Rule as TheRule};
-ghost use Rattle.net_sweep.specs.declared.queues.Rule.TheVariants.{Tidy, Constant, Put, Bypass};
+ghost use Rattle.net_sweep.specs.declared.queues.Rule.TheVariants.{TidyTable, WriteConstant, PropagateConstant, CollapseSingleInput};
 ghost use Rattle.net_sweep.specs.declared.applying.Change.TheVariants.{Input};
 ghost use Rattle.table_tidy.specs.Tidy.{IsWide};
 ghost use Rattle.sweep_rules.specs.Rules.{only_input as input_alone, rewired as table_rewired};
 ghost use Rattle.net_sweep.specs.Settled.{IsFirst};
 ghost use Rattle.net_sweep.specs.Settled.{passes, rule_applied, IsNext, changed_by, is_apart, is_candidate, AreWaiting, AreCandidates, AreAlikeBut, AreSound};
-ghost use Rattle.net_readers.specs.Readers.{is_in, reads_at};
+ghost use Rattle.input_readers.specs.Readers.{is_in};
+ghost use Rattle.net_wires.specs.Aliases.{inputs_at};
 
 use crate::constants::{constant_written, unwritten_bit};
-use crate::queues::{Candidates, Rule, add_candidates, put_place, take_least};
+use crate::queues::{Candidates, Rule, add_candidates, pop_least, put_place};
 use crate::rows::{at_bit, is_inverter, rewired};
 use circuit_model::{Name, Table};
 use cube_cover::Row;
+use input_readers::Places;
 use net_needed::written_bit;
-use net_readers::Places;
-use net_wires::Wires;
+use net_wires::AliasedTables;
 use sis_base::{Copied, Sequence};
 use std::alloc::{AllocError, Global};
 use std::collections::BTreeSet;
@@ -54,41 +55,41 @@ fn only_input(alloc: Global, inputs: &[Name]) -> Result<Option<Name>, AllocError
 fn applies_to<R: Row>(
     alloc: Global,
     rule: Rule,
-    wires: &Wires,
+    aliased: &AliasedTables,
     table: &Table,
 ) -> Result<bool, AllocError>
     requires { IsWide table.now }
-    ensures { IfOk result (λ answer. answer ≡ passes rule wires.now.tables table.now) }
+    ensures { IfOk result (λ answer. answer ≡ passes rule aliased.now.tables table.now) }
 {
     match rule {
-        Rule::Tidy => {
+        Rule::TidyTable => {
             let is_tidy = is_tidy_table(alloc, table)?;
             Ok(!is_tidy)
         }
-        Rule::Constant => {
+        Rule::WriteConstant => {
             let bit = unwritten_bit::<R>(alloc, table)?;
             Ok(bit.is_some())
         }
-        Rule::Put => {
+        Rule::PropagateConstant => {
             let is_written = written_bit(table).is_some();
-            Ok(is_written && wires.is_read(&table.output))
+            Ok(is_written && aliased.has_readers(&table.output))
         }
-        Rule::Bypass => {
+        Rule::CollapseSingleInput => {
             let is_single = table.inputs.len() == 1;
-            Ok(is_single && wires.is_read(&table.output))
+            Ok(is_single && aliased.has_readers(&table.output))
         }
     }
 }
 
-// Whether it is seen without a copy of the table at a place that a rule does not apply to it: to put a constant, the table
-// must be written as one; to be passed by, it must have one input.
-fn is_ruled_out(rule: Rule, wires: &Wires, place: usize) -> bool
-    ensures { result ≡ true → option_map_or (passes rule wires.now.tables) (slice_get wires.now.tables place) false ≡ false }
+// Whether it is seen without a copy of the table at a place that a rule does not apply to it: to propagate a constant, the
+// table must be written as one; to be collapsed, it must have one input.
+fn is_ruled_out(rule: Rule, aliased: &AliasedTables, place: usize) -> bool
+    ensures { result ≡ true → option_map_or (passes rule aliased.now.tables) (slice_get aliased.now.tables place) false ≡ false }
 {
     match rule {
-        Rule::Tidy | Rule::Constant => false,
-        Rule::Put => wires.bit(place).is_none(),
-        Rule::Bypass => wires.width(place) != 1,
+        Rule::TidyTable | Rule::WriteConstant => false,
+        Rule::PropagateConstant => aliased.bit(place).is_none(),
+        Rule::CollapseSingleInput => aliased.width(place) != 1,
     }
 }
 
@@ -96,18 +97,18 @@ fn is_ruled_out(rule: Rule, wires: &Wires, place: usize) -> bool
 fn applies_at<R: Row>(
     alloc: Global,
     rule: Rule,
-    wires: &Wires,
+    aliased: &AliasedTables,
     place: usize,
 ) -> Result<bool, AllocError>
-    requires { AllByRecursion IsWide wires.now.tables }
-    ensures { IfOk result (λ answer. answer ≡ option_map_or (passes rule wires.now.tables) (slice_get wires.now.tables place) false) }
+    requires { AllByRecursion IsWide aliased.now.tables }
+    ensures { IfOk result (λ answer. answer ≡ option_map_or (passes rule aliased.now.tables) (slice_get aliased.now.tables place) false) }
 {
-    if is_ruled_out(rule, wires, place) {
+    if is_ruled_out(rule, aliased, place) {
         return Ok(false);
     }
-    match wires.table(alloc, place)? {
+    match aliased.table(alloc, place)? {
         None => Ok(false),
-        Some(table) => applies_to::<R>(alloc, rule, wires, &table),
+        Some(table) => applies_to::<R>(alloc, rule, aliased, &table),
     }
 }
 
@@ -115,16 +116,16 @@ fn applies_at<R: Row>(
 fn first_place<R: Row>(
     alloc: Global,
     rule: Rule,
-    wires: &Wires,
+    aliased: &AliasedTables,
     waiting: &mut BTreeSet<usize>,
 ) -> Result<Option<usize>, AllocError>
-    requires sound { AreSound wires.now.tables }
-    requires candidates { AreWaiting (passes rule wires.now.tables) (contains nat_cmp waiting.old) wires.now.tables }
-    ensures first { IfOk result (λ place. IsFirst (passes rule wires.now.tables) wires.now.tables place) }
-    ensures candidates { OnOk result (AreWaiting (passes rule wires.now.tables) (contains nat_cmp waiting.new) wires.now.tables) }
+    requires sound { AreSound aliased.now.tables }
+    requires candidates { AreWaiting (passes rule aliased.now.tables) (contains nat_cmp waiting.old) aliased.now.tables }
+    ensures first { IfOk result (λ place. IsFirst (passes rule aliased.now.tables) aliased.now.tables place) }
+    ensures candidates { OnOk result (AreWaiting (passes rule aliased.now.tables) (contains nat_cmp waiting.new) aliased.now.tables) }
 {
-    while let Some(place) = take_least(waiting) {
-        if applies_at::<R>(alloc, rule, wires, place)? {
+    while let Some(place) = pop_least(waiting) {
+        if applies_at::<R>(alloc, rule, aliased, place)? {
             put_place(waiting, place)?;
             return Ok(Some(place));
         }
@@ -135,30 +136,45 @@ fn first_place<R: Row>(
 // The rule and the place of the next step, if there is one.
 pub(crate) fn next_rule<R: Row>(
     alloc: Global,
-    wires: &Wires,
+    aliased: &AliasedTables,
     candidates: &mut Candidates,
 ) -> Result<Option<(Rule, usize)>, AllocError>
-    requires sound { AreSound wires.now.tables }
-    requires candidates { AreCandidates (is_candidate candidates.old) wires.now.tables }
-    ensures next { IfOk result (λ next. IsNext wires.now next) }
-    ensures candidates { OnOk result (AreCandidates (is_candidate candidates.new) wires.now.tables) }
+    requires sound { AreSound aliased.now.tables }
+    requires candidates { AreCandidates (is_candidate candidates.old) aliased.now.tables }
+    ensures next { IfOk result (λ next. IsNext aliased.now next) }
+    ensures candidates { OnOk result (AreCandidates (is_candidate candidates.new) aliased.now.tables) }
 {
-    if let Some(place) = first_place::<R>(alloc, Rule::Tidy, wires, &mut candidates.untidy)? {
-        return Ok(Some((Rule::Tidy, place)));
+    if let Some(place) = first_place::<R>(
+        alloc,
+        Rule::TidyTable,
+        aliased,
+        &mut candidates.untidy,
+    )? {
+        return Ok(Some((Rule::TidyTable, place)));
     }
     if let Some(place) = first_place::<R>(
         alloc,
-        Rule::Constant,
-        wires,
+        Rule::WriteConstant,
+        aliased,
         &mut candidates.unwritten,
     )? {
-        return Ok(Some((Rule::Constant, place)));
+        return Ok(Some((Rule::WriteConstant, place)));
     }
-    if let Some(place) = first_place::<R>(alloc, Rule::Put, wires, &mut candidates.constants)? {
-        return Ok(Some((Rule::Put, place)));
+    if let Some(place) = first_place::<R>(
+        alloc,
+        Rule::PropagateConstant,
+        aliased,
+        &mut candidates.constants,
+    )? {
+        return Ok(Some((Rule::PropagateConstant, place)));
     }
-    if let Some(place) = first_place::<R>(alloc, Rule::Bypass, wires, &mut candidates.singles)? {
-        return Ok(Some((Rule::Bypass, place)));
+    if let Some(place) = first_place::<R>(
+        alloc,
+        Rule::CollapseSingleInput,
+        aliased,
+        &mut candidates.singles,
+    )? {
+        return Ok(Some((Rule::CollapseSingleInput, place)));
     }
     Ok(None)
 }
@@ -173,43 +189,47 @@ fn one_place(alloc: Global, place: usize) -> Result<Places, AllocError>
 }
 
 // A copy of the table at a place.
-fn table_at(alloc: Global, wires: &Wires, place: usize) -> Result<Table, AllocError>
-    requires { place < length wires.now.tables }
-    ensures { IfOk result (λ table. slice_get wires.now.tables place ≡ Some table) }
+fn table_at(alloc: Global, aliased: &AliasedTables, place: usize) -> Result<Table, AllocError>
+    requires { place < length aliased.now.tables }
+    ensures { IfOk result (λ table. slice_get aliased.now.tables place ≡ Some table) }
 {
-    match wires.table(alloc, place)? {
+    match aliased.table(alloc, place)? {
         Some(table) => Ok(table),
         None => unreachable!(),
     }
 }
 
 // Tidies the table at a place.
-fn tidy_at(alloc: Global, wires: &mut Wires, place: usize) -> Result<Places, AllocError>
-    requires sound { AreSound wires.old.tables }
-    requires within { place < length wires.old.tables }
-    ensures applied { OnOk result ((table : TheTable) → slice_get wires.old.tables place ≡ Some table → wires.new ≡ rule_applied Tidy wires.old table) }
-    ensures others { IfOk result (λ places. AreAlikeBut places wires.old.tables wires.new.tables) }
+fn tidy_at(alloc: Global, aliased: &mut AliasedTables, place: usize) -> Result<Places, AllocError>
+    requires sound { AreSound aliased.old.tables }
+    requires within { place < length aliased.old.tables }
+    ensures applied { OnOk result ((table : TheTable) → slice_get aliased.old.tables place ≡ Some table → aliased.new ≡ rule_applied TidyTable aliased.old table) }
+    ensures others { IfOk result (λ places. AreAlikeBut places aliased.old.tables aliased.new.tables) }
 {
     let places = one_place(alloc, place)?;
-    let table = table_at(alloc, wires, place)?;
+    let table = table_at(alloc, aliased, place)?;
     let tidied = tidied_table(alloc, table)?;
-    wires.set(alloc, place, tidied)?;
+    aliased.set(alloc, place, tidied)?;
     Ok(places)
 }
 
 // Writes the table at a place as a constant.
-fn write_at<R: Row>(alloc: Global, wires: &mut Wires, place: usize) -> Result<Places, AllocError>
-    requires sound { AreSound wires.old.tables }
-    requires within { place < length wires.old.tables }
-    ensures applied { OnOk result ((table : TheTable) → slice_get wires.old.tables place ≡ Some table → wires.new ≡ rule_applied Constant wires.old table) }
-    ensures others { IfOk result (λ places. AreAlikeBut places wires.old.tables wires.new.tables) }
+fn write_at<R: Row>(
+    alloc: Global,
+    aliased: &mut AliasedTables,
+    place: usize,
+) -> Result<Places, AllocError>
+    requires sound { AreSound aliased.old.tables }
+    requires within { place < length aliased.old.tables }
+    ensures applied { OnOk result ((table : TheTable) → slice_get aliased.old.tables place ≡ Some table → aliased.new ≡ rule_applied WriteConstant aliased.old table) }
+    ensures others { IfOk result (λ places. AreAlikeBut places aliased.old.tables aliased.new.tables) }
 {
     let places = one_place(alloc, place)?;
-    let table = table_at(alloc, wires, place)?;
+    let table = table_at(alloc, aliased, place)?;
     match constant_written::<R>(alloc, table)? {
         None => Ok(places),
         Some(constant) => {
-            wires.set(alloc, place, constant)?;
+            aliased.set(alloc, place, constant)?;
             Ok(places)
         }
     }
@@ -229,20 +249,20 @@ fn changed(alloc: Global, table: &Table, name: &Name, change: &Change) -> Result
 // Changes the table at a place, if there is one.
 fn change_at(
     alloc: Global,
-    wires: &mut Wires,
+    aliased: &mut AliasedTables,
     place: usize,
     name: &Name,
     change: &Change,
 ) -> Result<(), AllocError>
-    requires { AllByRecursion IsWide wires.old.tables }
-    ensures same { OnOk result (wires.new ≡ tables_in wires.old wires.new.tables) }
-    ensures changed { OnOk result ((other : ℕ) → slice_get wires.new.tables other ≡ (if place == other then option_map (changed_by name.now change.now) (slice_get wires.old.tables other) else slice_get wires.old.tables other)) }
+    requires { AllByRecursion IsWide aliased.old.tables }
+    ensures same { OnOk result (aliased.new ≡ tables_in aliased.old aliased.new.tables) }
+    ensures changed { OnOk result ((other : ℕ) → slice_get aliased.new.tables other ≡ (if place == other then option_map (changed_by name.now change.now) (slice_get aliased.old.tables other) else slice_get aliased.old.tables other)) }
 {
-    match wires.table(alloc, place)? {
+    match aliased.table(alloc, place)? {
         None => Ok(()),
         Some(table) => {
             let made = changed(alloc, &table, name, change)?;
-            wires.set(alloc, place, made)
+            aliased.set(alloc, place, made)
         }
     }
 }
@@ -250,18 +270,18 @@ fn change_at(
 // Changes the tables at some places, all that read a signal among them.
 fn change_all(
     alloc: Global,
-    wires: &mut Wires,
+    aliased: &mut AliasedTables,
     places: &[usize],
     name: &Name,
     change: &Change,
 ) -> Result<(), AllocError>
-    requires sound { AreSound wires.old.tables }
+    requires sound { AreSound aliased.old.tables }
     requires apart { is_apart name.now change.now ≡ true }
-    requires all { (place : ℕ) → reads_at wires.old.tables name.now place ≡ true → is_in places.now place ≡ true }
-    ensures { OnOk result (wires.new ≡ tables_in wires.old (map (changed_by name.now change.now) wires.old.tables)) }
+    requires all { (place : ℕ) → has (inputs_at aliased.old.tables place) name.now ≡ true → is_in places.now place ≡ true }
+    ensures { OnOk result (aliased.new ≡ tables_in aliased.old (map (changed_by name.now change.now) aliased.old.tables)) }
 {
     for place in places {
-        change_at(alloc, wires, *place, name, change)?;
+        change_at(alloc, aliased, *place, name, change)?;
     }
     Ok(())
 }
@@ -269,50 +289,54 @@ fn change_all(
 // Changes each table that reads a signal, and tells their places.
 fn change_readers(
     alloc: Global,
-    wires: &mut Wires,
+    aliased: &mut AliasedTables,
     name: &Name,
     change: &Change,
 ) -> Result<Places, AllocError>
-    requires sound { AreSound wires.old.tables }
+    requires sound { AreSound aliased.old.tables }
     requires apart { is_apart name.now change.now ≡ true }
-    ensures changed { OnOk result (wires.new ≡ tables_in wires.old (map (changed_by name.now change.now) wires.old.tables)) }
-    ensures others { IfOk result (λ places. AreAlikeBut places wires.old.tables wires.new.tables) }
+    ensures changed { OnOk result (aliased.new ≡ tables_in aliased.old (map (changed_by name.now change.now) aliased.old.tables)) }
+    ensures others { IfOk result (λ places. AreAlikeBut places aliased.old.tables aliased.new.tables) }
 {
-    let places = wires.places(alloc, name)?;
-    change_all(alloc, wires, places.as_slice(), name, change)?;
+    let places = aliased.places(alloc, name)?;
+    change_all(alloc, aliased, places.as_slice(), name, change)?;
     Ok(places)
 }
 
-// Puts the constant at a place into the tables that read it.
-fn put_at(alloc: Global, wires: &mut Wires, place: usize) -> Result<Places, AllocError>
-    requires sound { AreSound wires.old.tables }
-    requires within { place < length wires.old.tables }
-    ensures applied { OnOk result ((table : TheTable) → slice_get wires.old.tables place ≡ Some table → wires.new ≡ rule_applied Put wires.old table) }
-    ensures others { IfOk result (λ places. AreAlikeBut places wires.old.tables wires.new.tables) }
+// Propagates the constant at a place into the tables that read it.
+fn propagate_at(
+    alloc: Global,
+    aliased: &mut AliasedTables,
+    place: usize,
+) -> Result<Places, AllocError>
+    requires sound { AreSound aliased.old.tables }
+    requires within { place < length aliased.old.tables }
+    ensures applied { OnOk result ((table : TheTable) → slice_get aliased.old.tables place ≡ Some table → aliased.new ≡ rule_applied PropagateConstant aliased.old table) }
+    ensures others { IfOk result (λ places. AreAlikeBut places aliased.old.tables aliased.new.tables) }
 {
-    let table = table_at(alloc, wires, place)?;
+    let table = table_at(alloc, aliased, place)?;
     match written_bit(&table) {
         None => Ok(Sequence::new(alloc)),
-        Some(bit) => change_readers(alloc, wires, &table.output, &Change::Bit(bit)),
+        Some(bit) => change_readers(alloc, aliased, &table.output, &Change::Bit(bit)),
     }
 }
 
 // The tables at some places, each with one signal read in place of another one.
 fn rewired_tables(
     alloc: Global,
-    wires: &Wires,
+    aliased: &AliasedTables,
     places: &[usize],
     from: &Name,
     to: &Name,
     inverts: bool,
 ) -> Result<Vec<Table>, AllocError>
-    requires wide { AllByRecursion IsWide wires.now.tables }
-    requires within { (place : ℕ) → is_in places.now place ≡ true → place < length wires.now.tables }
-    ensures { IfOk result (λ made. map Some made.items ≡ map (λ place. option_map (table_rewired from.now to.now inverts) (slice_get wires.now.tables place)) places.now) }
+    requires wide { AllByRecursion IsWide aliased.now.tables }
+    requires within { (place : ℕ) → is_in places.now place ≡ true → place < length aliased.now.tables }
+    ensures { IfOk result (λ made. map Some made.items ≡ map (λ place. option_map (table_rewired from.now to.now inverts) (slice_get aliased.now.tables place)) places.now) }
 {
     let mut made = Vec::with_capacity(alloc, places.len())?;
     for place in places {
-        let table = table_at(alloc, wires, *place)?;
+        let table = table_at(alloc, aliased, *place)?;
         made.push(rewired(alloc, &table, from, to, inverts)?)?;
     }
     Ok(made)
@@ -321,18 +345,18 @@ fn rewired_tables(
 // Puts tables at some places, each at its own.
 fn set_tables(
     alloc: Global,
-    wires: &mut Wires,
+    aliased: &mut AliasedTables,
     places: &[usize],
     tables: &[Table],
 ) -> Result<(), AllocError>
     requires each { length tables.now ≡ length places.now }
-    requires within { (place : ℕ) → is_in places.now place ≡ true → place < length wires.old.tables }
-    ensures same { OnOk result (wires.new ≡ tables_in wires.old wires.new.tables) }
-    ensures set { OnOk result ((place : ℕ) → is_in places.now place ≡ true → (i : ℕ) × (slice_get places.now i ≡ Some place) × (slice_get wires.new.tables place ≡ slice_get tables.now i)) }
-    ensures others { OnOk result ((place : ℕ) → is_in places.now place ≡ false → slice_get wires.new.tables place ≡ slice_get wires.old.tables place) }
+    requires within { (place : ℕ) → is_in places.now place ≡ true → place < length aliased.old.tables }
+    ensures same { OnOk result (aliased.new ≡ tables_in aliased.old aliased.new.tables) }
+    ensures set { OnOk result ((place : ℕ) → is_in places.now place ≡ true → (i : ℕ) × (slice_get places.now i ≡ Some place) × (slice_get aliased.new.tables place ≡ slice_get tables.now i)) }
+    ensures others { OnOk result ((place : ℕ) → is_in places.now place ≡ false → slice_get aliased.new.tables place ≡ slice_get aliased.old.tables place) }
 {
     for (i, place) in places.iter().enumerate() {
-        wires.set(alloc, *place, tables[i].copy(alloc)?)?;
+        aliased.set(alloc, *place, tables[i].copy(alloc)?)?;
     }
     Ok(())
 }
@@ -341,21 +365,21 @@ fn set_tables(
 // then the tables that read the other one before are written as they are to be.
 fn rewire_by_exchange(
     alloc: Global,
-    wires: &mut Wires,
+    aliased: &mut AliasedTables,
     from: &Name,
     to: &Name,
     inverts: bool,
 ) -> Result<Places, AllocError>
-    requires sound { AreSound wires.old.tables }
-    requires tidy { find (passes Tidy wires.old.tables) wires.old.tables ≡ None }
+    requires sound { AreSound aliased.old.tables }
+    requires tidy { find (passes TidyTable aliased.old.tables) aliased.old.tables ≡ None }
     requires apart { bytes_eq from.now to.now ≡ false }
-    ensures changed { OnOk result (wires.new ≡ tables_in wires.old (map (changed_by from.now (Input to.now inverts)) wires.old.tables)) }
-    ensures others { IfOk result (λ places. AreAlikeBut places wires.old.tables wires.new.tables) }
+    ensures changed { OnOk result (aliased.new ≡ tables_in aliased.old (map (changed_by from.now (Input to.now inverts)) aliased.old.tables)) }
+    ensures others { IfOk result (λ places. AreAlikeBut places aliased.old.tables aliased.new.tables) }
 {
-    let places = wires.places(alloc, to)?;
-    let tables = rewired_tables(alloc, wires, places.as_slice(), from, to, inverts)?;
-    wires.exchange(alloc, from, to, inverts)?;
-    set_tables(alloc, wires, places.as_slice(), tables.as_slice())?;
+    let places = aliased.places(alloc, to)?;
+    let tables = rewired_tables(alloc, aliased, places.as_slice(), from, to, inverts)?;
+    aliased.exchange_aliases(alloc, from, to, inverts)?;
+    set_tables(alloc, aliased, places.as_slice(), tables.as_slice())?;
     Ok(places)
 }
 
@@ -364,37 +388,41 @@ fn rewire_by_exchange(
 // the larger.
 fn rewire(
     alloc: Global,
-    wires: &mut Wires,
+    aliased: &mut AliasedTables,
     from: &Name,
     to: Name,
     inverts: bool,
 ) -> Result<Places, AllocError>
-    requires sound { AreSound wires.old.tables }
-    requires tidy { find (passes Tidy wires.old.tables) wires.old.tables ≡ None }
+    requires sound { AreSound aliased.old.tables }
+    requires tidy { find (passes TidyTable aliased.old.tables) aliased.old.tables ≡ None }
     requires apart { bytes_eq from.now to ≡ false }
-    ensures changed { OnOk result (wires.new ≡ tables_in wires.old (map (changed_by from.now (Input to inverts)) wires.old.tables)) }
-    ensures others { IfOk result (λ places. AreAlikeBut places wires.old.tables wires.new.tables) }
+    ensures changed { OnOk result (aliased.new ≡ tables_in aliased.old (map (changed_by from.now (Input to inverts)) aliased.old.tables)) }
+    ensures others { IfOk result (λ places. AreAlikeBut places aliased.old.tables aliased.new.tables) }
 {
-    if wires.count(&to) <= wires.count(from) {
-        return rewire_by_exchange(alloc, wires, from, &to, inverts);
+    if aliased.count(&to) <= aliased.count(from) {
+        return rewire_by_exchange(alloc, aliased, from, &to, inverts);
     }
-    change_readers(alloc, wires, from, &Change::Input(to, inverts))
+    change_readers(alloc, aliased, from, &Change::Input(to, inverts))
 }
 
 // Readers of the table of one input at a place read that input in its place.
-fn bypass_at(alloc: Global, wires: &mut Wires, place: usize) -> Result<Places, AllocError>
-    requires sound { AreSound wires.old.tables }
-    requires within { place < length wires.old.tables }
-    requires tidy { find (passes Tidy wires.old.tables) wires.old.tables ≡ None }
-    ensures applied { OnOk result ((table : TheTable) → slice_get wires.old.tables place ≡ Some table → wires.new ≡ rule_applied Bypass wires.old table) }
-    ensures others { IfOk result (λ places. AreAlikeBut places wires.old.tables wires.new.tables) }
+fn collapse_at(
+    alloc: Global,
+    aliased: &mut AliasedTables,
+    place: usize,
+) -> Result<Places, AllocError>
+    requires sound { AreSound aliased.old.tables }
+    requires within { place < length aliased.old.tables }
+    requires tidy { find (passes TidyTable aliased.old.tables) aliased.old.tables ≡ None }
+    ensures applied { OnOk result ((table : TheTable) → slice_get aliased.old.tables place ≡ Some table → aliased.new ≡ rule_applied CollapseSingleInput aliased.old table) }
+    ensures others { IfOk result (λ places. AreAlikeBut places aliased.old.tables aliased.new.tables) }
 {
-    let table = table_at(alloc, wires, place)?;
+    let table = table_at(alloc, aliased, place)?;
     match only_input(alloc, table.inputs.as_slice())? {
         None => Ok(Sequence::new(alloc)),
         Some(input) => {
             let inverts = is_inverter(&table);
-            rewire(alloc, wires, &table.output, input, inverts)
+            rewire(alloc, aliased, &table.output, input, inverts)
         }
     }
 }
@@ -403,20 +431,20 @@ fn bypass_at(alloc: Global, wires: &mut Wires, place: usize) -> Result<Places, A
 fn apply<R: Row>(
     alloc: Global,
     rule: Rule,
-    wires: &mut Wires,
+    aliased: &mut AliasedTables,
     place: usize,
 ) -> Result<Places, AllocError>
-    requires sound { AreSound wires.old.tables }
-    requires within { place < length wires.old.tables }
-    requires tidy { rule ≡ Bypass → find (passes Tidy wires.old.tables) wires.old.tables ≡ None }
-    ensures applied { OnOk result ((table : TheTable) → slice_get wires.old.tables place ≡ Some table → wires.new ≡ rule_applied rule wires.old table) }
-    ensures others { IfOk result (λ places. AreAlikeBut places wires.old.tables wires.new.tables) }
+    requires sound { AreSound aliased.old.tables }
+    requires within { place < length aliased.old.tables }
+    requires tidy { rule ≡ CollapseSingleInput → find (passes TidyTable aliased.old.tables) aliased.old.tables ≡ None }
+    ensures applied { OnOk result ((table : TheTable) → slice_get aliased.old.tables place ≡ Some table → aliased.new ≡ rule_applied rule aliased.old table) }
+    ensures others { IfOk result (λ places. AreAlikeBut places aliased.old.tables aliased.new.tables) }
 {
     match rule {
-        Rule::Tidy => tidy_at(alloc, wires, place),
-        Rule::Constant => write_at::<R>(alloc, wires, place),
-        Rule::Put => put_at(alloc, wires, place),
-        Rule::Bypass => bypass_at(alloc, wires, place),
+        Rule::TidyTable => tidy_at(alloc, aliased, place),
+        Rule::WriteConstant => write_at::<R>(alloc, aliased, place),
+        Rule::PropagateConstant => propagate_at(alloc, aliased, place),
+        Rule::CollapseSingleInput => collapse_at(alloc, aliased, place),
     }
 }
 
@@ -425,18 +453,18 @@ pub(crate) fn apply_rule<R: Row>(
     alloc: Global,
     rule: Rule,
     place: usize,
-    wires: &mut Wires,
+    aliased: &mut AliasedTables,
     candidates: &mut Candidates,
 ) -> Result<Places, AllocError>
-    requires sound { AreSound wires.old.tables }
-    requires within { place < length wires.old.tables }
-    requires tidy { rule ≡ Bypass → find (passes Tidy wires.old.tables) wires.old.tables ≡ None }
-    requires candidates { AreCandidates (is_candidate candidates.old) wires.old.tables }
-    ensures applied { OnOk result ((table : TheTable) → slice_get wires.old.tables place ≡ Some table → wires.new ≡ rule_applied rule wires.old table) }
-    ensures others { IfOk result (λ places. AreAlikeBut places wires.old.tables wires.new.tables) }
-    ensures candidates { OnOk result (AreCandidates (is_candidate candidates.new) wires.new.tables) }
+    requires sound { AreSound aliased.old.tables }
+    requires within { place < length aliased.old.tables }
+    requires tidy { rule ≡ CollapseSingleInput → find (passes TidyTable aliased.old.tables) aliased.old.tables ≡ None }
+    requires candidates { AreCandidates (is_candidate candidates.old) aliased.old.tables }
+    ensures applied { OnOk result ((table : TheTable) → slice_get aliased.old.tables place ≡ Some table → aliased.new ≡ rule_applied rule aliased.old table) }
+    ensures others { IfOk result (λ places. AreAlikeBut places aliased.old.tables aliased.new.tables) }
+    ensures candidates { OnOk result (AreCandidates (is_candidate candidates.new) aliased.new.tables) }
 {
-    let places = apply::<R>(alloc, rule, wires, place)?;
+    let places = apply::<R>(alloc, rule, aliased, place)?;
     add_candidates(candidates, places.as_slice())?;
     Ok(places)
 }

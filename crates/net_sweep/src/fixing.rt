@@ -11,16 +11,16 @@ ghost use Rattle.circuit_laws.specs.Edits.{with_added, constant_table as table_o
 ghost use Rattle.circuit_model.specs.Soundness.{IsSound};
 ghost use Rattle.sweep_rules.specs.Points.{written_bit as bit_written};
 ghost use Rattle.net_sweep.specs.Settled.{listed, is_candidate, AreCandidates};
-ghost use Rattle.net_readers.specs.Readers.{is_in};
+ghost use Rattle.input_readers.specs.Readers.{is_in};
 ghost use Rattle.net_sweep.specs.Latches.{left_at, with_latches, IsReady};
 
-use crate::latches::Standing;
+use crate::latches::TrackedLatches;
 use crate::queues::{Candidates, add_candidate, put_place};
 use circuit_model::{Latch, Name};
 use indexmap::IndexMap;
+use input_readers::Places;
 use net_needed::note_place;
-use net_readers::Places;
-use net_wires::Wires;
+use net_wires::AliasedTables;
 use sis_base::Copied;
 use std::alloc::{AllocError, Global};
 use std::collections::BTreeSet;
@@ -50,53 +50,53 @@ fn put_places(set: &mut BTreeSet<usize>, places: &[usize]) -> Result<(), AllocEr
 }
 
 // The latches that read a signal wait.
-pub(crate) fn wake(
-    fed: &IndexMap<Name, Places>,
+pub(crate) fn enqueue(
+    fanout: &IndexMap<Name, Places>,
     waiting: &mut BTreeSet<usize>,
     name: &Name,
 ) -> Result<(), AllocError>
-    ensures put { OnOk result ((place : ℕ) → is_in (listed (get bytes_eq fed.now name.now)) place ≡ true → contains nat_cmp waiting.new place ≡ true) }
+    ensures put { OnOk result ((place : ℕ) → is_in (listed (get bytes_eq fanout.now name.now)) place ≡ true → contains nat_cmp waiting.new place ≡ true) }
     ensures kept { OnOk result ((place : ℕ) → contains nat_cmp waiting.old place ≡ true → contains nat_cmp waiting.new place ≡ true) }
 {
-    match fed.get(name) {
+    match fanout.get(name) {
         None => Ok(()),
         Some(places) => put_places(waiting, places.as_slice()),
     }
 }
 
 // The latches that read the table at a place, if there is one, wait where it is written as a constant.
-fn wake_at(
+fn enqueue_at(
     alloc: Global,
-    wires: &Wires,
+    aliased: &AliasedTables,
     place: usize,
-    fed: &IndexMap<Name, Places>,
+    fanout: &IndexMap<Name, Places>,
     waiting: &mut BTreeSet<usize>,
 ) -> Result<(), AllocError>
-    ensures put { OnOk result ((table : TheTable) (latch : ℕ) → slice_get wires.now.tables place ≡ Some table → is_some (bit_written table) ≡ true → is_in (listed (get bytes_eq fed.now table.output)) latch ≡ true → contains nat_cmp waiting.new latch ≡ true) }
+    ensures put { OnOk result ((table : TheTable) (latch : ℕ) → slice_get aliased.now.tables place ≡ Some table → is_some (bit_written table) ≡ true → is_in (listed (get bytes_eq fanout.now table.output)) latch ≡ true → contains nat_cmp waiting.new latch ≡ true) }
     ensures kept { OnOk result ((latch : ℕ) → contains nat_cmp waiting.old latch ≡ true → contains nat_cmp waiting.new latch ≡ true) }
 {
-    if wires.bit(place).is_none() {
+    if aliased.bit(place).is_none() {
         return Ok(());
     }
-    match wires.table(alloc, place)? {
+    match aliased.table(alloc, place)? {
         None => Ok(()),
-        Some(table) => wake(fed, waiting, &table.output),
+        Some(table) => enqueue(fanout, waiting, &table.output),
     }
 }
 
 // The latches that read the tables at some places wait where these are written as constants.
-pub(crate) fn wake_all(
+pub(crate) fn enqueue_all(
     alloc: Global,
-    wires: &Wires,
+    aliased: &AliasedTables,
     places: &[usize],
-    fed: &IndexMap<Name, Places>,
+    fanout: &IndexMap<Name, Places>,
     waiting: &mut BTreeSet<usize>,
 ) -> Result<(), AllocError>
-    ensures put { OnOk result ((place : ℕ) (table : TheTable) (latch : ℕ) → is_in places.now place ≡ true → slice_get wires.now.tables place ≡ Some table → is_some (bit_written table) ≡ true → is_in (listed (get bytes_eq fed.now table.output)) latch ≡ true → contains nat_cmp waiting.new latch ≡ true) }
+    ensures put { OnOk result ((place : ℕ) (table : TheTable) (latch : ℕ) → is_in places.now place ≡ true → slice_get aliased.now.tables place ≡ Some table → is_some (bit_written table) ≡ true → is_in (listed (get bytes_eq fanout.now table.output)) latch ≡ true → contains nat_cmp waiting.new latch ≡ true) }
     ensures kept { OnOk result ((latch : ℕ) → contains nat_cmp waiting.old latch ≡ true → contains nat_cmp waiting.new latch ≡ true) }
 {
     for place in places {
-        wake_at(alloc, wires, *place, fed, waiting)?;
+        enqueue_at(alloc, aliased, *place, fanout, waiting)?;
     }
     Ok(())
 }
@@ -106,23 +106,23 @@ pub(crate) fn fix(
     alloc: Global,
     place: usize,
     bit: bool,
-    wires: &mut Wires,
+    aliased: &mut AliasedTables,
     candidates: &mut Candidates,
-    standing: &mut Standing,
+    tracked: &mut TrackedLatches,
 ) -> Result<(), AllocError>
-    requires sound { IsSound (with_latches wires.old (left_at standing.old.slots.items)) }
-    requires there { (latch : TheLatch) × (slice_get standing.old.slots.items place ≡ Some (Some latch)) }
-    requires ready { IsReady standing.old wires.old }
-    requires candidates { AreCandidates (is_candidate candidates.old) wires.old.tables }
-    ensures fixed { OnOk result ((latch : TheLatch) → slice_get standing.old.slots.items place ≡ Some (Some latch) → wires.new ≡ with_added wires.old (table_of_bit latch.output bit)) }
-    ensures slots { OnOk result (standing.new.slots.items ≡ slice_set standing.old.slots.items place None) }
-    ensures ready { OnOk result (IsReady standing.new wires.new) }
-    ensures candidates { OnOk result (AreCandidates (is_candidate candidates.new) wires.new.tables) }
+    requires sound { IsSound (with_latches aliased.old (left_at tracked.old.slots.items)) }
+    requires there { (latch : TheLatch) × (slice_get tracked.old.slots.items place ≡ Some (Some latch)) }
+    requires ready { IsReady tracked.old aliased.old }
+    requires candidates { AreCandidates (is_candidate candidates.old) aliased.old.tables }
+    ensures fixed { OnOk result ((latch : TheLatch) → slice_get tracked.old.slots.items place ≡ Some (Some latch) → aliased.new ≡ with_added aliased.old (table_of_bit latch.output bit)) }
+    ensures slots { OnOk result (tracked.new.slots.items ≡ slice_set tracked.old.slots.items place None) }
+    ensures ready { OnOk result (IsReady tracked.new aliased.new) }
+    ensures candidates { OnOk result (AreCandidates (is_candidate candidates.new) aliased.new.tables) }
 {
-    let name = take_latch(&mut standing.slots, place).output;
-    let last = wires.len();
-    wires.add_constant(alloc, name.copy(alloc)?, bit)?;
+    let name = take_latch(&mut tracked.slots, place).output;
+    let last = aliased.len();
+    aliased.add_constant(alloc, name.copy(alloc)?, bit)?;
     add_candidate(candidates, last)?;
-    note_place(&mut standing.table_places, name.copy(alloc)?, last)?;
-    wake(&standing.fed, &mut standing.waiting, &name)
+    note_place(&mut tracked.table_places, name.copy(alloc)?, last)?;
+    enqueue(&tracked.fanout, &mut tracked.waiting, &name)
 }

@@ -12,49 +12,49 @@ ghost use Rattle.net_sweep.specs.declared.queues.Rule.{Rule as TheRule};
 ghost use Rattle.net_sweep.specs.Settled.{AreCandidates, HasLed};
 ghost use Rattle.net_sweep.specs.Latches.{left_at, with_latches, IsReady};
 
-use crate::latches::Standing;
+use crate::latches::TrackedLatches;
 use circuit_model::Name;
 use net_needed::{constant_table, is_among};
-use net_wires::Wires;
+use net_wires::AliasedTables;
 use std::alloc::{AllocError, Global};
 
 // Whether it is seen that nothing takes a signal: no table and not the don't-care part reads it, and it is no output and
 // was no latch's input at the start (a latch that has gone still counts).
-fn is_untaken(wires: &Wires, standing: &Standing, name: &Name) -> bool
-    ensures unread { result ≡ true → has (table_inputs wires.now.tables) name.now ≡ false }
-    ensures unfed { result ≡ true → get bytes_eq standing.now.fed name.now ≡ None }
-    ensures uncared { result ≡ true → has standing.now.leaves_read.keys name.now ≡ false }
+fn is_untaken(aliased: &AliasedTables, tracked: &TrackedLatches, name: &Name) -> bool
+    ensures unread { result ≡ true → has (table_inputs aliased.now.tables) name.now ≡ false }
+    ensures no_fanout { result ≡ true → get bytes_eq tracked.now.fanout name.now ≡ None }
+    ensures uncared { result ≡ true → has tracked.now.leaves_read.keys name.now ≡ false }
 {
-    if wires.is_read(name) {
+    if aliased.has_readers(name) {
         return false;
     }
-    if standing.fed.get(name).is_some() {
+    if tracked.fanout.get(name).is_some() {
         return false;
     }
-    !is_among(&standing.leaves_read, name)
+    !is_among(&tracked.leaves_read, name)
 }
 
 // The table at a place becomes the constant 0 where it is seen that nothing takes its signal.
 pub(crate) fn empty_untaken(
     alloc: Global,
     place: usize,
-    wires: &mut Wires,
-    standing: &Standing,
+    aliased: &mut AliasedTables,
+    tracked: &TrackedLatches,
 ) -> Result<(), AllocError>
-    requires sound { IsSound (with_latches wires.old (left_at standing.now.slots.items)) }
-    requires ready { IsReady standing.now wires.old }
-    ensures led { OnOk result (HasLed (with_latches wires.old (left_at standing.now.slots.items)) (with_latches wires.new (left_at standing.now.slots.items))) }
-    ensures candidates { OnOk result ((marks : TheRule → ℕ → Bool) → AreCandidates marks wires.old.tables → AreCandidates marks wires.new.tables) }
-    ensures ready { OnOk result (IsReady standing.now wires.new) }
+    requires sound { IsSound (with_latches aliased.old (left_at tracked.now.slots.items)) }
+    requires ready { IsReady tracked.now aliased.old }
+    ensures led { OnOk result (HasLed (with_latches aliased.old (left_at tracked.now.slots.items)) (with_latches aliased.new (left_at tracked.now.slots.items))) }
+    ensures candidates { OnOk result ((marks : TheRule → ℕ → Bool) → AreCandidates marks aliased.old.tables → AreCandidates marks aliased.new.tables) }
+    ensures ready { OnOk result (IsReady tracked.now aliased.new) }
 {
-    match wires.table(alloc, place)? {
+    match aliased.table(alloc, place)? {
         None => Ok(()),
         Some(table) => {
-            if !is_untaken(wires, standing, &table.output) {
+            if !is_untaken(aliased, tracked, &table.output) {
                 return Ok(());
             }
             let constant = constant_table(alloc, table.output, false)?;
-            wires.set(alloc, place, constant)
+            aliased.set(alloc, place, constant)
         }
     }
 }

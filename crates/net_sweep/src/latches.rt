@@ -18,21 +18,21 @@ ghost use Rattle.sweep_rules.specs.Rules.{starts_at as may_start_at, fixed_bit a
 ghost use Rattle.net_sweep.specs.Settled.{AreWaiting};
 ghost use Rattle.net_sweep.specs.Latches.{slot_bit as bit_of_slot, is_fixed, IsFirstFixed, IsReady};
 
-use crate::queues::{put_place, take_least};
+use crate::queues::{pop_least, put_place};
 use circuit_model::{Latch, Name};
 use indexmap::{IndexMap, IndexSet};
+use input_readers::Places;
 use net_needed::is_among;
-use net_readers::Places;
-use net_wires::Wires;
+use net_wires::AliasedTables;
 use std::alloc::AllocError;
 use std::collections::BTreeSet;
 
 /// Latches at the places where they began, and what tells soon which of them always has one bit.
-pub(crate) struct Standing {
+pub(crate) struct TrackedLatches {
     // the latches that are left, each at its place
     pub(crate) slots: Vec<Option<Latch>>,
     // the places of the latches that read each signal, those that have gone among them; an output has a list too, be it empty
-    pub(crate) fed: IndexMap<Name, Places>,
+    pub(crate) fanout: IndexMap<Name, Places>,
     // where the table of each signal stands
     pub(crate) table_places: IndexMap<Name, usize>,
     // the leaves that the don't-care part reads
@@ -41,12 +41,12 @@ pub(crate) struct Standing {
     pub(crate) waiting: BTreeSet<usize>,
 }
 
-// By hand, so that letting the latches go is one call in the function that owns them beside wires and candidates.
-impl Drop for Standing {
+// By hand, so that letting the latches go is one call in the function that owns them beside aliased tables and candidates.
+impl Drop for TrackedLatches {
     fn drop(self) {
-        let Standing {
+        let TrackedLatches {
             slots: _slots,
-            fed: _fed,
+            fanout: _fanout,
             table_places: _table_places,
             leaves_read: _leaves_read,
             waiting: _waiting,
@@ -55,13 +55,13 @@ impl Drop for Standing {
 }
 
 // The constant that the table of a signal is written as.
-fn driven_bit(wires: &Wires, places: &IndexMap<Name, usize>, name: &Name) -> Option<bool>
-    requires { LeadsToTables (get bytes_eq places.now) wires.now.tables }
-    ensures { result ≡ option_map_or bit_written (driver wires.now.tables name.now) None }
+fn driven_bit(aliased: &AliasedTables, places: &IndexMap<Name, usize>, name: &Name) -> Option<bool>
+    requires { LeadsToTables (get bytes_eq places.now) aliased.now.tables }
+    ensures { result ≡ option_map_or bit_written (driver aliased.now.tables name.now) None }
 {
     match places.get(name) {
         None => None,
-        Some(place) => wires.bit(*place),
+        Some(place) => aliased.bit(*place),
     }
 }
 
@@ -78,20 +78,20 @@ fn starts_at(init: u8, bit: bool) -> bool
 // The bit that a latch always has.
 #[tactic(auto, unfolding(sweep_rules::specs::Rules::fixed_bit))]
 fn fixed_bit(
-    wires: &Wires,
+    aliased: &AliasedTables,
     places: &IndexMap<Name, usize>,
     read: &IndexSet<Name>,
     latch: &Latch,
 ) -> Option<bool>
-    requires placed { LeadsToTables (get bytes_eq places.now) wires.now.tables }
-    requires read { (name : List ℕ) → has read.now.keys name ≡ dont_care_reads wires.now name }
-    ensures { result ≡ bit_fixed wires.now latch.now }
+    requires placed { LeadsToTables (get bytes_eq places.now) aliased.now.tables }
+    requires read { (name : List ℕ) → has read.now.keys name ≡ dont_care_reads aliased.now name }
+    ensures { result ≡ bit_fixed aliased.now latch.now }
 {
-    let is_read = is_among(read, &latch.output);
-    match driven_bit(wires, places, &latch.input) {
+    let is_read_by_dont_care = is_among(read, &latch.output);
+    match driven_bit(aliased, places, &latch.input) {
         None => None,
         Some(bit) => {
-            if starts_at(latch.init, bit) && !is_read {
+            if starts_at(latch.init, bit) && !is_read_by_dont_care {
                 Some(bit)
             } else {
                 None
@@ -102,55 +102,55 @@ fn fixed_bit(
 
 // The bit that the latch at a place always has, if one is left there.
 fn slot_bit(
-    wires: &Wires,
+    aliased: &AliasedTables,
     places: &IndexMap<Name, usize>,
     read: &IndexSet<Name>,
     slot: &Option<Latch>,
 ) -> Option<bool>
-    requires placed { LeadsToTables (get bytes_eq places.now) wires.now.tables }
-    requires read { (name : List ℕ) → has read.now.keys name ≡ dont_care_reads wires.now name }
-    ensures { result ≡ bit_of_slot wires.now slot.now }
+    requires placed { LeadsToTables (get bytes_eq places.now) aliased.now.tables }
+    requires read { (name : List ℕ) → has read.now.keys name ≡ dont_care_reads aliased.now name }
+    ensures { result ≡ bit_of_slot aliased.now slot.now }
 {
     match slot {
         None => None,
-        Some(latch) => fixed_bit(wires, places, read, latch),
+        Some(latch) => fixed_bit(aliased, places, read, latch),
     }
 }
 
 // The bit that the latch at a place always has, if the place is one and a latch is left there.
 fn bit_at(
-    wires: &Wires,
+    aliased: &AliasedTables,
     places: &IndexMap<Name, usize>,
     read: &IndexSet<Name>,
     slots: &[Option<Latch>],
     place: usize,
 ) -> Option<bool>
-    requires placed { LeadsToTables (get bytes_eq places.now) wires.now.tables }
-    requires read { (name : List ℕ) → has read.now.keys name ≡ dont_care_reads wires.now name }
-    ensures { result ≡ option_map_or (bit_of_slot wires.now) (slice_get slots.now place) None }
+    requires placed { LeadsToTables (get bytes_eq places.now) aliased.now.tables }
+    requires read { (name : List ℕ) → has read.now.keys name ≡ dont_care_reads aliased.now name }
+    ensures { result ≡ option_map_or (bit_of_slot aliased.now) (slice_get slots.now place) None }
 {
     match slots.get(place) {
         None => None,
-        Some(slot) => slot_bit(wires, places, read, slot),
+        Some(slot) => slot_bit(aliased, places, read, slot),
     }
 }
 
 // The place of the first latch that always has one bit, with the bit; the place stays among those that wait.
 fn first_fixed(
-    wires: &Wires,
+    aliased: &AliasedTables,
     places: &IndexMap<Name, usize>,
     read: &IndexSet<Name>,
     slots: &[Option<Latch>],
     waiting: &mut BTreeSet<usize>,
 ) -> Result<Option<(usize, bool)>, AllocError>
-    requires placed { LeadsToTables (get bytes_eq places.now) wires.now.tables }
-    requires read { (name : List ℕ) → has read.now.keys name ≡ dont_care_reads wires.now name }
-    requires waiting { AreWaiting (is_fixed wires.now) (contains nat_cmp waiting.old) slots.now }
-    ensures first { IfOk result (λ first. IsFirstFixed wires.now slots.now first) }
-    ensures waiting { OnOk result (AreWaiting (is_fixed wires.now) (contains nat_cmp waiting.new) slots.now) }
+    requires placed { LeadsToTables (get bytes_eq places.now) aliased.now.tables }
+    requires read { (name : List ℕ) → has read.now.keys name ≡ dont_care_reads aliased.now name }
+    requires waiting { AreWaiting (is_fixed aliased.now) (contains nat_cmp waiting.old) slots.now }
+    ensures first { IfOk result (λ first. IsFirstFixed aliased.now slots.now first) }
+    ensures waiting { OnOk result (AreWaiting (is_fixed aliased.now) (contains nat_cmp waiting.new) slots.now) }
 {
-    while let Some(place) = take_least(waiting) {
-        if let Some(bit) = bit_at(wires, places, read, slots, place) {
+    while let Some(place) = pop_least(waiting) {
+        if let Some(bit) = bit_at(aliased, places, read, slots, place) {
             put_place(waiting, place)?;
             return Ok(Some((place, bit)));
         }
@@ -160,20 +160,20 @@ fn first_fixed(
 
 // The place of the first latch that always has one bit, with the bit.
 pub(crate) fn next_fixed(
-    wires: &Wires,
-    standing: &mut Standing,
+    aliased: &AliasedTables,
+    tracked: &mut TrackedLatches,
 ) -> Result<Option<(usize, bool)>, AllocError>
-    requires differ { all_different (outputs_of wires.now.tables) ≡ true }
-    requires ready { IsReady standing.old wires.now }
-    ensures first { IfOk result (λ first. IsFirstFixed wires.now standing.old.slots.items first) }
-    ensures slots { OnOk result (standing.new.slots.items ≡ standing.old.slots.items) }
-    ensures ready { OnOk result (IsReady standing.new wires.now) }
+    requires differ { all_different (outputs_of aliased.now.tables) ≡ true }
+    requires ready { IsReady tracked.old aliased.now }
+    ensures first { IfOk result (λ first. IsFirstFixed aliased.now tracked.old.slots.items first) }
+    ensures slots { OnOk result (tracked.new.slots.items ≡ tracked.old.slots.items) }
+    ensures ready { OnOk result (IsReady tracked.new aliased.now) }
 {
     first_fixed(
-        wires,
-        &standing.table_places,
-        &standing.leaves_read,
-        standing.slots.as_slice(),
-        &mut standing.waiting,
+        aliased,
+        &tracked.table_places,
+        &tracked.leaves_read,
+        tracked.slots.as_slice(),
+        &mut tracked.waiting,
     )
 }

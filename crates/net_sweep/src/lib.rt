@@ -3,9 +3,9 @@
 //!
 //! Source: the SIS manual (UCB/ERL M92/41), `sweep`. What a step is stands in sweep_rules. Here steps are taken until none
 //! applies: of the first four rules at places of tables that wait in ordered sets (`queues`, `applying`), of the fifth at
-//! places of latches that wait likewise (`latches`, `fixing`; `standing` copies latches out and puts those that are left
-//! back), all of them on a circuit over wires (net_wires), in which two signals change places in all tables at once: a table
-//! of one input with as many readers as that input or more is passed by in this way; behind a step the table at which it was
+//! places of latches that wait likewise (`latches`, `fixing`; `tracking` copies latches out and puts those that are left
+//! back), all of them on a circuit over aliases (net_wires), in which two signals change places in all tables at once: a table
+//! of one input with as many readers as that input or more is collapsed in this way; behind a step the table at which it was
 //! taken is emptied where nothing takes it (`idle`). The last rule is one pass over the circuit, by net_needed, behind which
 //! the first five are asked again.
 //! Promised: the chain of steps, to its end (`sweep`, and `swept_copy` beside the network that stays); an error, only for
@@ -20,8 +20,8 @@ mod idle;
 mod latches;
 mod queues;
 mod rows;
-mod standing;
 mod steps;
 mod sweeping;
+mod tracking;
 
 pub use sweeping::{SweepFault, Swept, sweep, swept_copy};

@@ -8,11 +8,11 @@ ghost use Rattle.std.specs.BTreeSet.{contains, btree_set_len};
 ghost use Rattle.indexmap.specs.IndexMap.{get};
 ghost use Rattle.net_sweep.specs.declared.queues.Rule.{Rule as TheRule};
 ghost use Rattle.net_sweep.specs.Settled.{listed, is_candidate, may_apply_to_written};
-ghost use Rattle.net_readers.specs.Readers.{is_in};
+ghost use Rattle.input_readers.specs.Readers.{is_in};
 
 use circuit_model::Name;
 use indexmap::IndexMap;
-use net_readers::Places;
+use input_readers::Places;
 use sis_base::{Copied, Sequence};
 use std::alloc::{AllocError, Global};
 use std::collections::BTreeSet;
@@ -21,28 +21,28 @@ use std::collections::BTreeSet;
 #[derive(Clone, Copy)]
 pub(crate) enum Rule {
     // a table that is not tidy is tidied
-    Tidy,
+    TidyTable,
     // a table that is constant is written as the constant
-    Constant,
-    // a written constant is put into the tables that read it
-    Put,
-    // the tables that read a table of one input read that input in its place
-    Bypass,
+    WriteConstant,
+    // a written constant is propagated into the tables that read it
+    PropagateConstant,
+    // a table of one input is collapsed into the tables that read it: they read that input in its place
+    CollapseSingleInput,
 }
 
 /// For each rule the places of tables to which it may apply.
 pub(crate) struct Candidates {
-    // for `Tidy`
+    // for `TidyTable`
     pub(crate) untidy: BTreeSet<usize>,
-    // for `Constant`
+    // for `WriteConstant`
     pub(crate) unwritten: BTreeSet<usize>,
-    // for `Put`
+    // for `PropagateConstant`
     pub(crate) constants: BTreeSet<usize>,
-    // for `Bypass`
+    // for `CollapseSingleInput`
     pub(crate) singles: BTreeSet<usize>,
 }
 
-// By hand, so that letting the candidates go is one call in the function that owns them beside wires and latches.
+// By hand, so that letting the candidates go is one call in the function that owns them beside aliased tables and latches.
 impl Drop for Candidates {
     fn drop(self) {
         let Candidates {
@@ -55,7 +55,7 @@ impl Drop for Candidates {
 }
 
 // Takes the least place out.
-pub(crate) fn take_least(set: &mut BTreeSet<usize>) -> Option<usize>
+pub(crate) fn pop_least(set: &mut BTreeSet<usize>) -> Option<usize>
     ensures none { IfNone result ((place : ℕ) → contains nat_cmp set.old place ≡ false) }
     ensures within { IfSome result (λ least. contains nat_cmp set.old least ≡ true) }
     ensures least { IfSome result (λ least. (place : ℕ) → contains nat_cmp set.old place ≡ true → least ≤ place) }

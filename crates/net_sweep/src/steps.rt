@@ -5,17 +5,17 @@ ghost use Rattle.circuit_model.specs.Soundness.{IsSound};
 ghost use Rattle.circuit_model.specs.declared.circuit.Table.{Table as TheTable};
 ghost use Rattle.sweep_rules.specs.Rules.{sweep_step};
 ghost use Rattle.net_sweep.specs.declared.queues.Rule.{Rule as TheRule};
-ghost use Rattle.net_sweep.specs.declared.queues.Rule.TheVariants.{Tidy, Bypass};
+ghost use Rattle.net_sweep.specs.declared.queues.Rule.TheVariants.{TidyTable, CollapseSingleInput};
 ghost use Rattle.net_sweep.specs.Settled.{passes, rule_applied, is_candidate, AreCandidates, AreSound, HasLed};
 ghost use Rattle.net_sweep.specs.Latches.{left_at, with_latches, IsReady, IsNextStep};
 
 use crate::applying::{apply_rule, next_rule};
-use crate::fixing::{fix, wake_all};
+use crate::fixing::{enqueue_all, fix};
 use crate::idle::empty_untaken;
-use crate::latches::{Standing, next_fixed};
+use crate::latches::{TrackedLatches, next_fixed};
 use crate::queues::{Candidates, Rule};
 use cube_cover::Row;
-use net_wires::Wires;
+use net_wires::AliasedTables;
 use std::alloc::{AllocError, Global};
 
 /// A step: a rule is applied at the place of a table, or the latch at a place is fixed at a bit.
@@ -28,22 +28,22 @@ pub(crate) enum Step {
 // The next step, if there is one.
 pub(crate) fn next_step<R: Row>(
     alloc: Global,
-    wires: &Wires,
+    aliased: &AliasedTables,
     candidates: &mut Candidates,
-    standing: &mut Standing,
+    tracked: &mut TrackedLatches,
 ) -> Result<Option<Step>, AllocError>
-    requires sound { AreSound wires.now.tables }
-    requires candidates { AreCandidates (is_candidate candidates.old) wires.now.tables }
-    requires ready { IsReady standing.old wires.now }
-    ensures next { IfOk result (λ step. IsNextStep wires.now standing.old.slots.items step) }
-    ensures candidates { OnOk result (AreCandidates (is_candidate candidates.new) wires.now.tables) }
-    ensures slots { OnOk result (standing.new.slots.items ≡ standing.old.slots.items) }
-    ensures ready { OnOk result (IsReady standing.new wires.now) }
+    requires sound { AreSound aliased.now.tables }
+    requires candidates { AreCandidates (is_candidate candidates.old) aliased.now.tables }
+    requires ready { IsReady tracked.old aliased.now }
+    ensures next { IfOk result (λ step. IsNextStep aliased.now tracked.old.slots.items step) }
+    ensures candidates { OnOk result (AreCandidates (is_candidate candidates.new) aliased.now.tables) }
+    ensures slots { OnOk result (tracked.new.slots.items ≡ tracked.old.slots.items) }
+    ensures ready { OnOk result (IsReady tracked.new aliased.now) }
 {
-    if let Some((rule, place)) = next_rule::<R>(alloc, wires, candidates)? {
+    if let Some((rule, place)) = next_rule::<R>(alloc, aliased, candidates)? {
         return Ok(Some(Step::Apply(rule, place)));
     }
-    match next_fixed(wires, standing)? {
+    match next_fixed(aliased, tracked)? {
         None => Ok(None),
         Some((place, bit)) => Ok(Some(Step::Fix(place, bit))),
     }
@@ -54,27 +54,27 @@ fn apply_to_tables<R: Row>(
     alloc: Global,
     rule: Rule,
     place: usize,
-    wires: &mut Wires,
+    aliased: &mut AliasedTables,
     candidates: &mut Candidates,
-    standing: &mut Standing,
+    tracked: &mut TrackedLatches,
 ) -> Result<(), AllocError>
-    requires sound { AreSound wires.old.tables }
-    requires within { place < length wires.old.tables }
-    requires tidy { rule ≡ Bypass → find (passes Tidy wires.old.tables) wires.old.tables ≡ None }
-    requires candidates { AreCandidates (is_candidate candidates.old) wires.old.tables }
-    requires ready { IsReady standing.old wires.old }
-    ensures applied { OnOk result ((table : TheTable) → slice_get wires.old.tables place ≡ Some table → wires.new ≡ rule_applied rule wires.old table) }
-    ensures candidates { OnOk result (AreCandidates (is_candidate candidates.new) wires.new.tables) }
-    ensures slots { OnOk result (standing.new.slots.items ≡ standing.old.slots.items) }
-    ensures ready { OnOk result (IsReady standing.new wires.new) }
+    requires sound { AreSound aliased.old.tables }
+    requires within { place < length aliased.old.tables }
+    requires tidy { rule ≡ CollapseSingleInput → find (passes TidyTable aliased.old.tables) aliased.old.tables ≡ None }
+    requires candidates { AreCandidates (is_candidate candidates.old) aliased.old.tables }
+    requires ready { IsReady tracked.old aliased.old }
+    ensures applied { OnOk result ((table : TheTable) → slice_get aliased.old.tables place ≡ Some table → aliased.new ≡ rule_applied rule aliased.old table) }
+    ensures candidates { OnOk result (AreCandidates (is_candidate candidates.new) aliased.new.tables) }
+    ensures slots { OnOk result (tracked.new.slots.items ≡ tracked.old.slots.items) }
+    ensures ready { OnOk result (IsReady tracked.new aliased.new) }
 {
-    let places = apply_rule::<R>(alloc, rule, place, wires, candidates)?;
-    wake_all(
+    let places = apply_rule::<R>(alloc, rule, place, aliased, candidates)?;
+    enqueue_all(
         alloc,
-        wires,
+        aliased,
         places.as_slice(),
-        &standing.fed,
-        &mut standing.waiting,
+        &tracked.fanout,
+        &mut tracked.waiting,
     )
 }
 
@@ -82,23 +82,23 @@ fn apply_to_tables<R: Row>(
 pub(crate) fn take_step<R: Row>(
     alloc: Global,
     step: Step,
-    wires: &mut Wires,
+    aliased: &mut AliasedTables,
     candidates: &mut Candidates,
-    standing: &mut Standing,
+    tracked: &mut TrackedLatches,
 ) -> Result<(), AllocError>
-    requires sound { IsSound (with_latches wires.old (left_at standing.old.slots.items)) }
-    requires candidates { AreCandidates (is_candidate candidates.old) wires.old.tables }
-    requires ready { IsReady standing.old wires.old }
-    requires next { IsNextStep wires.old standing.old.slots.items (Some step) }
-    ensures stepped { OnOk result (sweep_step (with_latches wires.old (left_at standing.old.slots.items)) ≡ Some (with_latches wires.new (left_at standing.new.slots.items))) }
-    ensures candidates { OnOk result (AreCandidates (is_candidate candidates.new) wires.new.tables) }
-    ensures ready { OnOk result (IsReady standing.new wires.new) }
+    requires sound { IsSound (with_latches aliased.old (left_at tracked.old.slots.items)) }
+    requires candidates { AreCandidates (is_candidate candidates.old) aliased.old.tables }
+    requires ready { IsReady tracked.old aliased.old }
+    requires next { IsNextStep aliased.old tracked.old.slots.items (Some step) }
+    ensures stepped { OnOk result (sweep_step (with_latches aliased.old (left_at tracked.old.slots.items)) ≡ Some (with_latches aliased.new (left_at tracked.new.slots.items))) }
+    ensures candidates { OnOk result (AreCandidates (is_candidate candidates.new) aliased.new.tables) }
+    ensures ready { OnOk result (IsReady tracked.new aliased.new) }
 {
     match step {
         Step::Apply(rule, place) => {
-            apply_to_tables::<R>(alloc, rule, place, wires, candidates, standing)
+            apply_to_tables::<R>(alloc, rule, place, aliased, candidates, tracked)
         }
-        Step::Fix(place, bit) => fix(alloc, place, bit, wires, candidates, standing),
+        Step::Fix(place, bit) => fix(alloc, place, bit, aliased, candidates, tracked),
     }
 }
 
@@ -106,17 +106,17 @@ pub(crate) fn take_step<R: Row>(
 pub(crate) fn empty_at_step(
     alloc: Global,
     step: Step,
-    wires: &mut Wires,
-    standing: &Standing,
+    aliased: &mut AliasedTables,
+    tracked: &TrackedLatches,
 ) -> Result<(), AllocError>
-    requires sound { IsSound (with_latches wires.old (left_at standing.now.slots.items)) }
-    requires ready { IsReady standing.now wires.old }
-    ensures led { OnOk result (HasLed (with_latches wires.old (left_at standing.now.slots.items)) (with_latches wires.new (left_at standing.now.slots.items))) }
-    ensures candidates { OnOk result ((marks : TheRule → ℕ → Bool) → AreCandidates marks wires.old.tables → AreCandidates marks wires.new.tables) }
-    ensures ready { OnOk result (IsReady standing.now wires.new) }
+    requires sound { IsSound (with_latches aliased.old (left_at tracked.now.slots.items)) }
+    requires ready { IsReady tracked.now aliased.old }
+    ensures led { OnOk result (HasLed (with_latches aliased.old (left_at tracked.now.slots.items)) (with_latches aliased.new (left_at tracked.now.slots.items))) }
+    ensures candidates { OnOk result ((marks : TheRule → ℕ → Bool) → AreCandidates marks aliased.old.tables → AreCandidates marks aliased.new.tables) }
+    ensures ready { OnOk result (IsReady tracked.now aliased.new) }
 {
     match step {
-        Step::Apply(_, place) => empty_untaken(alloc, place, wires, standing),
+        Step::Apply(_, place) => empty_untaken(alloc, place, aliased, tracked),
         Step::Fix(_, _) => Ok(()),
     }
 }

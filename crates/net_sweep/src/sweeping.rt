@@ -5,22 +5,22 @@ ghost use Rattle.circuit_model.specs.Names.{has};
 ghost use Rattle.circuit_model.specs.Soundness.{IsSound, outputs_of};
 ghost use Rattle.circuit_laws.specs.Chains.{Chain};
 ghost use Rattle.sweep_rules.specs.Keeping.{IsKept};
-ghost use Rattle.sweep_rules.specs.Rules.{latch_rule, sweep_step};
+ghost use Rattle.sweep_rules.specs.Rules.{fix_constant_latch, sweep_step};
 ghost use Rattle.sweep_rules.specs.Sweeping.{IsSwept, tables_gone, latches_gone};
 ghost use Rattle.net_sweep.specs.Settled.{table_step, is_candidate, AreCandidates, HasLed};
 ghost use Rattle.net_sweep.specs.Latches.{left_at, with_latches, IsReady, IsNextStep};
 ghost use Rattle.net_sweep.specs.declared.sweeping.SweepFault.TheVariants.{Memory};
 
 use crate::counting::{count_undriven, outputs};
-use crate::latches::Standing;
+use crate::latches::TrackedLatches;
 use crate::queues::{Candidates, all_candidates};
-use crate::standing::{standing_of, with_standing};
 use crate::steps::{empty_at_step, next_step, take_step};
+use crate::tracking::{tracked_latches, with_tracked_latches};
 use circuit_model::{Circuit, Name};
 use cube_cover::Row;
 use net_core::Network;
-use net_needed::need_step;
-use net_wires::Wires;
+use net_needed::dangling_step;
+use net_wires::AliasedTables;
 use std::alloc::{AllocError, Global};
 
 /// How many tables and latches a sweep took away; a latch that became a table counts as a latch alone.
@@ -50,19 +50,19 @@ impl From<AllocError> for SweepFault {
 // Takes steps of the first five rules until none applies.
 fn take_steps<R: Row>(
     alloc: Global,
-    wires: &mut Wires,
+    aliased: &mut AliasedTables,
     candidates: &mut Candidates,
-    standing: &mut Standing,
+    tracked: &mut TrackedLatches,
 ) -> Result<(), AllocError>
-    requires sound { IsSound (with_latches wires.old (left_at standing.old.slots.items)) }
-    requires candidates { AreCandidates (is_candidate candidates.old) wires.old.tables }
-    requires ready { IsReady standing.old wires.old }
-    ensures led { OnOk result (HasLed (with_latches wires.old (left_at standing.old.slots.items)) (with_latches wires.new (left_at standing.new.slots.items))) }
-    ensures next { OnOk result (IsNextStep wires.new standing.new.slots.items None) }
+    requires sound { IsSound (with_latches aliased.old (left_at tracked.old.slots.items)) }
+    requires candidates { AreCandidates (is_candidate candidates.old) aliased.old.tables }
+    requires ready { IsReady tracked.old aliased.old }
+    ensures led { OnOk result (HasLed (with_latches aliased.old (left_at tracked.old.slots.items)) (with_latches aliased.new (left_at tracked.new.slots.items))) }
+    ensures next { OnOk result (IsNextStep aliased.new tracked.new.slots.items None) }
 {
-    while let Some(step) = next_step::<R>(alloc, wires, candidates, standing)? {
-        take_step::<R>(alloc, step, wires, candidates, standing)?;
-        empty_at_step(alloc, step, wires, standing)?;
+    while let Some(step) = next_step::<R>(alloc, aliased, candidates, tracked)? {
+        take_step::<R>(alloc, step, aliased, candidates, tracked)?;
+        empty_at_step(alloc, step, aliased, tracked)?;
     }
     Ok(())
 }
@@ -70,32 +70,32 @@ fn take_steps<R: Row>(
 // Takes steps of the first five rules until none applies, to begin with at any table.
 fn settle<R: Row>(
     alloc: Global,
-    wires: &mut Wires,
-    standing: &mut Standing,
+    aliased: &mut AliasedTables,
+    tracked: &mut TrackedLatches,
 ) -> Result<(), AllocError>
-    requires sound { IsSound (with_latches wires.old (left_at standing.old.slots.items)) }
-    requires ready { IsReady standing.old wires.old }
-    ensures led { OnOk result (HasLed (with_latches wires.old (left_at standing.old.slots.items)) (with_latches wires.new (left_at standing.new.slots.items))) }
-    ensures next { OnOk result (IsNextStep wires.new standing.new.slots.items None) }
+    requires sound { IsSound (with_latches aliased.old (left_at tracked.old.slots.items)) }
+    requires ready { IsReady tracked.old aliased.old }
+    ensures led { OnOk result (HasLed (with_latches aliased.old (left_at tracked.old.slots.items)) (with_latches aliased.new (left_at tracked.new.slots.items))) }
+    ensures next { OnOk result (IsNextStep aliased.new tracked.new.slots.items None) }
 {
-    let mut candidates = all_candidates(alloc, wires.len())?;
-    take_steps::<R>(alloc, wires, &mut candidates, standing)
+    let mut candidates = all_candidates(alloc, aliased.len())?;
+    take_steps::<R>(alloc, aliased, &mut candidates, tracked)
 }
 
 // The circuit where none of the first five rules applies any more, whose latches are told beside it.
 fn settled_beside<R: Row>(
     alloc: Global,
     circuit: Circuit,
-    standing: &mut Standing,
+    tracked: &mut TrackedLatches,
 ) -> Result<Circuit, AllocError>
-    requires sound { IsSound (with_latches circuit (left_at standing.old.slots.items)) }
-    requires ready { IsReady standing.old circuit }
-    ensures led { IfOk result (λ end. HasLed (with_latches circuit (left_at standing.old.slots.items)) (with_latches end (left_at standing.new.slots.items))) }
-    ensures next { IfOk result (λ end. IsNextStep end standing.new.slots.items None) }
+    requires sound { IsSound (with_latches circuit (left_at tracked.old.slots.items)) }
+    requires ready { IsReady tracked.old circuit }
+    ensures led { IfOk result (λ end. HasLed (with_latches circuit (left_at tracked.old.slots.items)) (with_latches end (left_at tracked.new.slots.items))) }
+    ensures next { IfOk result (λ end. IsNextStep end tracked.new.slots.items None) }
 {
-    let mut wires = Wires::from_circuit(alloc, circuit)?;
-    settle::<R>(alloc, &mut wires, standing)?;
-    wires.into_circuit(alloc)
+    let mut aliased = AliasedTables::from_circuit(alloc, circuit)?;
+    settle::<R>(alloc, &mut aliased, tracked)?;
+    aliased.into_circuit(alloc)
 }
 
 // The circuit where none of the first five rules applies any more.
@@ -103,11 +103,11 @@ fn settled<R: Row>(alloc: Global, circuit: Circuit) -> Result<Circuit, AllocErro
     requires { IsSound circuit }
     ensures led { IfOk result (λ end. HasLed circuit end) }
     ensures tables { IfOk result (λ end. table_step end ≡ None) }
-    ensures latches { IfOk result (λ end. latch_rule end ≡ None) }
+    ensures latches { IfOk result (λ end. fix_constant_latch end ≡ None) }
 {
-    let mut standing = standing_of(alloc, &circuit)?;
-    let end = settled_beside::<R>(alloc, circuit, &mut standing)?;
-    with_standing(alloc, end, &standing)
+    let mut tracked = tracked_latches(alloc, &circuit)?;
+    let end = settled_beside::<R>(alloc, circuit, &mut tracked)?;
+    with_tracked_latches(alloc, end, &tracked)
 }
 
 // The circuit where no step applies any more.
@@ -117,7 +117,7 @@ fn finished<R: Row>(alloc: Global, circuit: Circuit) -> Result<Circuit, AllocErr
     ensures sound { IfOk result (λ end. IsSound end) }
 {
     let mut end = settled::<R>(alloc, circuit)?;
-    while let Some(next) = need_step(alloc, &end)? {
+    while let Some(next) = dangling_step(alloc, &end)? {
         end = settled::<R>(alloc, next)?;
     }
     Ok(end)

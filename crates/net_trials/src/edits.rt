@@ -94,7 +94,7 @@ fn is_among(names: &Names, name: &Name) -> bool
 }
 
 /// Whether a table reads a name.
-fn is_read(tables: &[Written], name: &Name) -> bool
+fn is_table_input(tables: &[Written], name: &Name) -> bool
     ensures { result ≡ has (table_inputs tables.now) name.now }
 {
     for table in tables {
@@ -121,10 +121,10 @@ fn is_latched(latches: &[Latch], name: &Name) -> bool
 fn is_needed(circuit: &Circuit, name: &Name) -> bool
     ensures { result ≡ false → IsClosed circuit.now (is_other name.now) }
 {
-    if is_read(circuit.tables.as_slice(), name) {
+    if is_table_input(circuit.tables.as_slice(), name) {
         return true;
     }
-    if is_read(circuit.dont_care.as_slice(), name) {
+    if is_table_input(circuit.dont_care.as_slice(), name) {
         return true;
     }
     if is_latched(circuit.latches.as_slice(), name) {

@@ -17,7 +17,7 @@ use Rattle.table_tidy.proofs.Tidied.{tidied_same}
 use Rattle.sweep_rules.specs.Points.{every_point, constant_bit, bit_by, written_bit}
 use Rattle.sweep_rules.specs.Rules.{turned_over, renamed, row_turned, rewired, unwritten_bit, only_input}
 use Rattle.sweep_rules.proofs.Turned.{rewires, rewired_either, rewires_wide, turned_agrees}
-use Rattle.net_wires.specs.Wires.{name_exchanged, exchanged}
+use Rattle.net_wires.specs.Aliases.{name_exchanged, exchanged}
 
 -- names
 

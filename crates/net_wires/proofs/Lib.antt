@@ -1,3 +1,4 @@
+pub mod Reading
 pub mod Exchanging
 pub mod Turning
 pub mod Carried

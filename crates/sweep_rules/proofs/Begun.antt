@@ -9,7 +9,7 @@ use Rattle.circuit_model.specs.Runs.{latch_outputs}
 use Rattle.circuit_model.specs.declared.circuit.Latch.{Latch}
 use Rattle.circuit_model.specs.declared.circuit.Circuit.{Circuit}
 use Rattle.circuit_laws.specs.Edits.{latches_kept}
-use Rattle.circuit_laws.specs.Left.{Held}
+use Rattle.circuit_laws.specs.Left.{ConstantLatch}
 use Rattle.circuit_laws.proofs.Names.{name_itself, all_has, apart_different}
 use Rattle.sweep_rules.specs.Rules.{starts_at}
 use Rattle.sweep_rules.specs.Keeping.{may_begin}
@@ -42,28 +42,28 @@ found_begins circuit p latch bit found begins =
     (and_from (bytes_eq latch.output latch.output) (starts_at latch.init bit) (name_itself latch.output) begins)
 
 -- a latch that is left may have started where it may have before
-pub begins_before : (first second : Circuit) (held : Held) → second.latches ≡ latches_kept (has (latch_outputs second)) first.latches → may_begin second held ≡ true → may_begin first held ≡ true
+pub begins_before : (first second : Circuit) (held : ConstantLatch) → second.latches ≡ latches_kept (has (latch_outputs second)) first.latches → may_begin second held ≡ true → may_begin first held ≡ true
 unfolding latches_kept
 begins_before first second held latches begins =
     any_filter (λ (latch : Latch). has (latch_outputs second) latch.output) (λ (latch : Latch). bytes_eq held.0 latch.output && starts_at latch.init held.1) first.latches
     (subst (λ (some : List Latch). list_any (λ (latch : Latch). bytes_eq held.0 latch.output && starts_at latch.init held.1) some ≡ true) latches begins)
 
-abbrev names_held : List Held → List (List ℕ)
-names_held held = map (λ (latch : Held). latch.0) held
+abbrev names_held : List ConstantLatch → List (List ℕ)
+names_held held = map (λ (latch : ConstantLatch). latch.0) held
 
-held_has : (P : List ℕ → Type 0) (held : List Held) → AllByRecursion (λ (latch : Held). P latch.0) held → (name : List ℕ) → has (names_held held) name ≡ true → P name
+held_has : (P : List ℕ → Type 0) (held : List ConstantLatch) → AllByRecursion (λ (latch : ConstantLatch). P latch.0) held → (name : List ℕ) → has (names_held held) name ≡ true → P name
 held_has P held all = all_has P (names_held held) (names held all)
   where
-    names : (some : List Held) → AllByRecursion (λ (latch : Held). P latch.0) some → AllByRecursion P (names_held some)
+    names : (some : List ConstantLatch) → AllByRecursion (λ (latch : ConstantLatch). P latch.0) some → AllByRecursion P (names_held some)
     names [] h = tt
     names (latch ∷ some) h = (h.0, names some h.1)
 
 -- latches that are none any more differ from those that still are
-pub held_different : (before after : List Held) (circuit : Circuit) → all_different (names_held before) ≡ true → all_different (names_held after) ≡ true
-    → AllByRecursion (λ (latch : Held). has (latch_outputs circuit) latch.0 ≡ false) before → AllByRecursion (λ (latch : Held). has (latch_outputs circuit) latch.0 ≡ true) after
+pub held_different : (before after : List ConstantLatch) (circuit : Circuit) → all_different (names_held before) ≡ true → all_different (names_held after) ≡ true
+    → AllByRecursion (λ (latch : ConstantLatch). has (latch_outputs circuit) latch.0 ≡ false) before → AllByRecursion (λ (latch : ConstantLatch). has (latch_outputs circuit) latch.0 ≡ true) after
     → all_different (names_held (before ++ after)) ≡ true
 held_different before after circuit old new gone among =
-    ap all_different (map-append (λ (latch : Held). latch.0) before after)
+    ap all_different (map-append (λ (latch : ConstantLatch). latch.0) before after)
     ∙ apart_different (names_held before) (names_held after) (record {
       front = old;
       back = new;

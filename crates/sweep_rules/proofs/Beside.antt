@@ -16,13 +16,13 @@ use Rattle.table_tidy.specs.Tidy.{used_places, rows_differ, is_tidy, tidied}
 use Rattle.table_tidy.proofs.Tidied.{tidied_output}
 use Rattle.sweep_rules.specs.Points.{written_bit}
 use Rattle.sweep_rules.specs.Needed.{needed_within}
-use Rattle.sweep_rules.specs.Rules.{tidy_rule, unwritten_bit, with_constant, constant_rule, tables_read, at_bit, with_bit_put, put_rule, rewired, only_input, is_inverter, with_bypass, bypass_rule}
+use Rattle.sweep_rules.specs.Rules.{tidy_table, unwritten_bit, with_constant, write_constant, tables_read, at_bit, with_constant_propagated, propagate_constant, rewired, only_input, is_inverter, with_single_input_collapsed, collapse_single_input}
 use Rattle.sweep_rules.specs.Idle.{IsIdle}
 use Rattle.sweep_rules.proofs.Least.{within_least}
 use Rattle.sweep_rules.proofs.Turned.{at_output, at_either, rewired_output, rewired_either}
-use Rattle.sweep_rules.proofs.Mapped.{find_test}
+use Rattle.chain_laws.proofs.Found.{find_test}
 use Rattle.sweep_rules.proofs.Steps.{applied, some_is}
-use Rattle.sweep_rules.proofs.Swept.{all_tidy, all_written, all_put, all_bypassed}
+use Rattle.sweep_rules.proofs.Swept.{all_tidy, all_written, all_propagated, all_collapsed}
 use Rattle.sweep_rules.proofs.Emptied.{emptied, emptied_reads, emptied_unread, find_emptied, find_emptied_none, emptied_replaced_own, emptied_replaced_other, emptied_apart, emptied_turned}
 
 -- the circuit in which the table of a signal is emptied, table by table
@@ -68,18 +68,18 @@ constant_is_tidy : (name : List ℕ) → not (is_tidy (constant_table name false
 unfolding is_tidy all_different used_places rows_differ
 constant_is_tidy name = refl
 
-pub tidy_goes : (name : List ℕ) (circuit new : Circuit) → tidy_rule circuit ≡ Some new → Goes tidy_rule name circuit new
-unfolding tidy_rule
+pub tidy_goes : (name : List ℕ) (circuit new : Circuit) → tidy_table circuit ≡ Some new → Goes tidy_table name circuit new
+unfolding tidy_table
 tidy_goes name circuit new h =
     let (table, found, is) = applied (λ table. with_replaced circuit (tidied table)) (find (λ table. not (is_tidy table)) circuit.tables) new h in
-    subst (Goes tidy_rule name circuit) is
-    (replaced_goes tidy_rule name circuit (tidied table) (λ other.
+    subst (Goes tidy_table name circuit) is
+    (replaced_goes tidy_table name circuit (tidied table) (λ other.
     ap (option_map (λ t. with_replaced (beside circuit name) (tidied t)))
     (find_emptied (λ t. not (is_tidy t)) (λ t. not (is_tidy t)) name (constant_is_tidy name) (λ t k. k) circuit.tables table found
     (ap (bytes_eq name) (sym (tidied_output table)) ∙ other) (find_test (λ t. not (is_tidy t)) circuit.tables table found))))
 
-pub tidy_none : (name : List ℕ) (circuit : Circuit) → tidy_rule circuit ≡ None → tidy_rule (beside circuit name) ≡ None
-unfolding tidy_rule
+pub tidy_none : (name : List ℕ) (circuit : Circuit) → tidy_table circuit ≡ None → tidy_table (beside circuit name) ≡ None
+unfolding tidy_table
 tidy_none name circuit h =
     ap (option_map (λ t. with_replaced (beside circuit name) (tidied t)))
     (find_emptied_none (λ t. not (is_tidy t)) (λ t. not (is_tidy t)) name (constant_is_tidy name) (λ t k. k) circuit.tables (all_tidy circuit h))
@@ -88,22 +88,22 @@ constant_is_written : (name : List ℕ) → is_some (unwritten_bit (constant_tab
 unfolding unwritten_bit written_bit
 constant_is_written name = refl
 
-pub constant_goes : (name : List ℕ) (circuit new : Circuit) → constant_rule circuit ≡ Some new → Goes constant_rule name circuit new
-unfolding constant_rule
+pub constant_goes : (name : List ℕ) (circuit new : Circuit) → write_constant circuit ≡ Some new → Goes write_constant name circuit new
+unfolding write_constant
 constant_goes name circuit new h =
     let (table, found, is) = applied (with_constant circuit) (find (λ table. is_some (unwritten_bit table)) circuit.tables) new h in
     let passes = find_test (λ table. is_some (unwritten_bit table)) circuit.tables table found in
     let (bit, at) = some_is (unwritten_bit table) passes in
     let made : (some : Circuit) → with_constant some table ≡ with_replaced some (constant_table table.output bit) =
     λ some. ap (λ (o : Option Bool). option_map_or (λ (b : Bool). with_replaced some (constant_table table.output b)) o some) at in
-    subst (Goes constant_rule name circuit) (sym (made circuit) ∙ is)
-    (replaced_goes constant_rule name circuit (constant_table table.output bit) (λ other.
+    subst (Goes write_constant name circuit) (sym (made circuit) ∙ is)
+    (replaced_goes write_constant name circuit (constant_table table.output bit) (λ other.
     ap (option_map (with_constant (beside circuit name)))
     (find_emptied (λ t. is_some (unwritten_bit t)) (λ t. is_some (unwritten_bit t)) name (constant_is_written name) (λ t k. k) circuit.tables table found other passes)
     ∙ ap Some (made (beside circuit name))))
 
-pub constant_none : (name : List ℕ) (circuit : Circuit) → constant_rule circuit ≡ None → constant_rule (beside circuit name) ≡ None
-unfolding constant_rule
+pub constant_none : (name : List ℕ) (circuit : Circuit) → write_constant circuit ≡ None → write_constant (beside circuit name) ≡ None
+unfolding write_constant
 constant_none name circuit h =
     ap (option_map (with_constant (beside circuit name)))
     (find_emptied_none (λ t. is_some (unwritten_bit t)) (λ t. is_some (unwritten_bit t)) name (constant_is_written name) (λ t k. k) circuit.tables (all_written circuit h))
@@ -156,37 +156,37 @@ rewired_stays : (from to : List ℕ) (inverts : Bool) (table : Table) → has ta
 rewired_stays from to inverts table none =
     rewired_either (λ (made : Table). made ≡ table) from to inverts table (λ reads. absurd (false≢true (sym none ∙ reads))) (λ unread. refl)
 
-pub put_goes : (name : List ℕ) (circuit new : Circuit) → IsIdle circuit name → put_rule circuit ≡ Some new → Goes put_rule name circuit new
-unfolding put_rule
-put_goes name circuit new idle h =
-    let (table, found, is) = applied (with_bit_put circuit) (find (IsReadWith (λ t. is_some (written_bit t)) circuit) circuit.tables) new h in
+pub propagate_goes : (name : List ℕ) (circuit new : Circuit) → IsIdle circuit name → propagate_constant circuit ≡ Some new → Goes propagate_constant name circuit new
+unfolding propagate_constant
+propagate_goes name circuit new idle h =
+    let (table, found, is) = applied (with_constant_propagated circuit) (find (IsReadWith (λ t. is_some (written_bit t)) circuit) circuit.tables) new h in
     let test = and_parts (is_some (written_bit table)) (tables_read circuit table.output) (find_test (IsReadWith (λ t. is_some (written_bit t)) circuit) circuit.tables table found) in
     let (bit, at) = some_is (written_bit table) test.0 in
-    let made : (some : Circuit) → with_bit_put some table ≡ with_tables some (map (at_bit table.output bit) some.tables) =
+    let made : (some : Circuit) → with_constant_propagated some table ≡ with_tables some (map (at_bit table.output bit) some.tables) =
     λ some. ap (λ (o : Option Bool). option_map_or (λ (b : Bool). with_tables some (map (at_bit table.output b) some.tables)) o some) at in
-    subst (Goes put_rule name circuit) (sym (made circuit) ∙ is)
-    (mapped_goes put_rule name circuit (at_bit table.output bit) (at_output table.output bit) table.output (at_bit_stays table.output bit) (λ reads.
-    ap (option_map (with_bit_put (beside circuit name))) (found_beside (λ t. is_some (written_bit t)) circuit name idle table found reads) ∙ ap Some (made (beside circuit name))))
+    subst (Goes propagate_constant name circuit) (sym (made circuit) ∙ is)
+    (mapped_goes propagate_constant name circuit (at_bit table.output bit) (at_output table.output bit) table.output (at_bit_stays table.output bit) (λ reads.
+    ap (option_map (with_constant_propagated (beside circuit name))) (found_beside (λ t. is_some (written_bit t)) circuit name idle table found reads) ∙ ap Some (made (beside circuit name))))
 
-pub put_none : (name : List ℕ) (circuit : Circuit) → IsIdle circuit name → put_rule circuit ≡ None → put_rule (beside circuit name) ≡ None
-unfolding put_rule
-put_none name circuit idle h =
-    ap (option_map (with_bit_put (beside circuit name))) (none_beside (λ t. is_some (written_bit t)) circuit name idle (all_put circuit h))
+pub propagate_none : (name : List ℕ) (circuit : Circuit) → IsIdle circuit name → propagate_constant circuit ≡ None → propagate_constant (beside circuit name) ≡ None
+unfolding propagate_constant
+propagate_none name circuit idle h =
+    ap (option_map (with_constant_propagated (beside circuit name))) (none_beside (λ t. is_some (written_bit t)) circuit name idle (all_propagated circuit h))
 
-pub bypass_goes : (name : List ℕ) (circuit new : Circuit) → IsIdle circuit name → bypass_rule circuit ≡ Some new → Goes bypass_rule name circuit new
-unfolding bypass_rule
-bypass_goes name circuit new idle h =
-    let (table, found, is) = applied (with_bypass circuit) (find (IsReadWith (λ t. is_some (only_input t.inputs)) circuit) circuit.tables) new h in
+pub collapse_goes : (name : List ℕ) (circuit new : Circuit) → IsIdle circuit name → collapse_single_input circuit ≡ Some new → Goes collapse_single_input name circuit new
+unfolding collapse_single_input
+collapse_goes name circuit new idle h =
+    let (table, found, is) = applied (with_single_input_collapsed circuit) (find (IsReadWith (λ t. is_some (only_input t.inputs)) circuit) circuit.tables) new h in
     let test = and_parts (is_some (only_input table.inputs)) (tables_read circuit table.output) (find_test (IsReadWith (λ t. is_some (only_input t.inputs)) circuit) circuit.tables table found) in
     let (input, at) = some_is (only_input table.inputs) test.0 in
-    let made : (some : Circuit) → with_bypass some table ≡ with_tables some (map (rewired table.output input (is_inverter table)) some.tables) =
+    let made : (some : Circuit) → with_single_input_collapsed some table ≡ with_tables some (map (rewired table.output input (is_inverter table)) some.tables) =
     λ some. ap (λ (o : Option (List ℕ)). option_map_or (λ (x : List ℕ). with_tables some (map (rewired table.output x (is_inverter table)) some.tables)) o some) at in
-    subst (Goes bypass_rule name circuit) (sym (made circuit) ∙ is)
-    (mapped_goes bypass_rule name circuit (rewired table.output input (is_inverter table)) (rewired_output table.output input (is_inverter table)) table.output
+    subst (Goes collapse_single_input name circuit) (sym (made circuit) ∙ is)
+    (mapped_goes collapse_single_input name circuit (rewired table.output input (is_inverter table)) (rewired_output table.output input (is_inverter table)) table.output
     (rewired_stays table.output input (is_inverter table)) (λ reads.
-    ap (option_map (with_bypass (beside circuit name))) (found_beside (λ t. is_some (only_input t.inputs)) circuit name idle table found reads) ∙ ap Some (made (beside circuit name))))
+    ap (option_map (with_single_input_collapsed (beside circuit name))) (found_beside (λ t. is_some (only_input t.inputs)) circuit name idle table found reads) ∙ ap Some (made (beside circuit name))))
 
-pub bypass_none : (name : List ℕ) (circuit : Circuit) → IsIdle circuit name → bypass_rule circuit ≡ None → bypass_rule (beside circuit name) ≡ None
-unfolding bypass_rule
-bypass_none name circuit idle h =
-    ap (option_map (with_bypass (beside circuit name))) (none_beside (λ t. is_some (only_input t.inputs)) circuit name idle (all_bypassed circuit h))
+pub collapse_none : (name : List ℕ) (circuit : Circuit) → IsIdle circuit name → collapse_single_input circuit ≡ None → collapse_single_input (beside circuit name) ≡ None
+unfolding collapse_single_input
+collapse_none name circuit idle h =
+    ap (option_map (with_single_input_collapsed (beside circuit name))) (none_beside (λ t. is_some (only_input t.inputs)) circuit name idle (all_collapsed circuit h))

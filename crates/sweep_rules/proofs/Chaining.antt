@@ -12,24 +12,24 @@ use Rattle.circuit_model.specs.declared.circuit.Circuit.{Circuit}
 use Rattle.circuit_model.proofs.Refinement.{refines-itself, refines-through}
 use Rattle.circuit_laws.specs.Chains.{Leads, Chain}
 use Rattle.circuit_laws.specs.Edits.{latches_kept}
-use Rattle.circuit_laws.specs.Left.{Held}
+use Rattle.circuit_laws.specs.Left.{ConstantLatch}
 use Rattle.circuit_laws.proofs.Names.{different_none}
 use Rattle.circuit_laws.proofs.Kept.{all_weaker, has_latches_kept}
 use Rattle.circuit_laws.proofs.Sound.{all_append}
 use Rattle.circuit_laws.proofs.Left.{left_itself, left_through}
 use Rattle.sweep_rules.specs.Points.{constant_bit, written_bit}
-use Rattle.sweep_rules.specs.Rules.{unwritten_bit, constant_rule, tables_read, put_rule, tidy_rule, bypass_rule, latch_rule, need_rule, sweep_step}
+use Rattle.sweep_rules.specs.Rules.{unwritten_bit, write_constant, tables_read, propagate_constant, tidy_table, collapse_single_input, fix_constant_latch, remove_dangling, sweep_step}
 use Rattle.sweep_rules.specs.Sweeping.{IsSwept}
 use Rattle.sweep_rules.specs.Keeping.{IsKept, may_begin}
 use Rattle.sweep_rules.proofs.Begun.{begins_before, held_different}
 use Rattle.sweep_rules.proofs.Staying.{stays_through}
-use Rattle.sweep_rules.proofs.Steps.{tidy_kept, constant_kept, put_kept, bypass_kept, latch_kept, need_kept}
-use Rattle.sweep_rules.proofs.Swept.{written_same, fails_where, all_written, all_put, swept}
+use Rattle.sweep_rules.proofs.Steps.{tidy_kept, constant_kept, propagate_kept, collapse_kept, latch_kept, dangling_kept}
+use Rattle.sweep_rules.proofs.Swept.{written_same, fails_where, all_written, all_propagated, swept}
 
--- where no table is to be written as a constant, and none that is one is to be put, those that tables read vary
-pub vary : (circuit : Circuit) → constant_rule circuit ≡ None → put_rule circuit ≡ None
+-- where no table is to be written as a constant, and none that is one is to be propagated, those that tables read vary
+pub vary : (circuit : Circuit) → write_constant circuit ≡ None → propagate_constant circuit ≡ None
     → AllByRecursion (λ (table : Table). tables_read circuit table.output ≡ true → constant_bit table ≡ None) circuit.tables
-vary circuit constant put = both circuit.tables (all_written circuit constant) (all_put circuit put)
+vary circuit constant propagate = both circuit.tables (all_written circuit constant) (all_propagated circuit propagate)
   where
     both : (tables : List Table) → AllByRecursion (λ (table : Table). is_some (unwritten_bit table) ≡ false) tables
         → AllByRecursion (λ (table : Table). (is_some (written_bit table) && tables_read circuit table.output) ≡ false) tables
@@ -41,27 +41,27 @@ vary circuit constant put = both circuit.tables (all_written circuit constant) (
 pub step_kept : (circuit new : Circuit) → IsSound circuit → sweep_step circuit ≡ Some new → IsKept circuit new
 unfolding sweep_step
 step_kept circuit new sound h =
-    tidy (tidy_rule circuit) refl (constant_rule circuit) refl (put_rule circuit) refl (bypass_rule circuit) refl (latch_rule circuit) refl h
+    tidy (tidy_table circuit) refl (write_constant circuit) refl (propagate_constant circuit) refl (collapse_single_input circuit) refl (fix_constant_latch circuit) refl h
   where
-    tidy : (a : Option Circuit) → tidy_rule circuit ≡ a → (b : Option Circuit) → constant_rule circuit ≡ b → (c : Option Circuit) → put_rule circuit ≡ c
-        → (d : Option Circuit) → bypass_rule circuit ≡ d → (e : Option Circuit) → latch_rule circuit ≡ e
-        → option_or a (option_or b (option_or c (option_or d (option_or e (need_rule circuit))))) ≡ Some new → IsKept circuit new
+    tidy : (a : Option Circuit) → tidy_table circuit ≡ a → (b : Option Circuit) → write_constant circuit ≡ b → (c : Option Circuit) → propagate_constant circuit ≡ c
+        → (d : Option Circuit) → collapse_single_input circuit ≡ d → (e : Option Circuit) → fix_constant_latch circuit ≡ e
+        → option_or a (option_or b (option_or c (option_or d (option_or e (remove_dangling circuit))))) ≡ Some new → IsKept circuit new
     tidy (Some x) p b q c r d s e t k = tidy_kept circuit new sound (p ∙ k)
     tidy None p (Some x) q c r d s e t k = constant_kept circuit new sound (q ∙ k)
-    tidy None p None q (Some x) r d s e t k = put_kept circuit new sound (r ∙ k)
-    tidy None p None q None r (Some x) s e t k = bypass_kept circuit new sound (vary circuit q r) (s ∙ k)
+    tidy None p None q (Some x) r d s e t k = propagate_kept circuit new sound (r ∙ k)
+    tidy None p None q None r (Some x) s e t k = collapse_kept circuit new sound (vary circuit q r) (s ∙ k)
     tidy None p None q None r None s (Some x) t k = latch_kept circuit new sound (t ∙ k)
-    tidy None p None q None r None s None t k = need_kept circuit new sound k
+    tidy None p None q None r None s None t k = dangling_kept circuit new sound k
 
 -- what is kept is kept step after step
 
 pub kept_itself : (circuit : Circuit) → IsSound circuit → IsKept circuit circuit
 kept_itself circuit sound = record { sound = sound; refines = refines-itself circuit; held = []; different = different_none; begun = tt; stays = λ state row a has_bits. tt; gone = tt; left = left_itself circuit }
 
-gone_later : (held : List Held) (second third : Circuit) → third.latches ≡ latches_kept (has (latch_outputs third)) second.latches
-    → AllByRecursion (λ (latch : Held). has (latch_outputs second) latch.0 ≡ false) held → AllByRecursion (λ (latch : Held). has (latch_outputs third) latch.0 ≡ false) held
+gone_later : (held : List ConstantLatch) (second third : Circuit) → third.latches ≡ latches_kept (has (latch_outputs third)) second.latches
+    → AllByRecursion (λ (latch : ConstantLatch). has (latch_outputs second) latch.0 ≡ false) held → AllByRecursion (λ (latch : ConstantLatch). has (latch_outputs third) latch.0 ≡ false) held
 gone_later held second third latches gone =
-    all_weaker (λ (latch : Held). has (latch_outputs second) latch.0 ≡ false) (λ (latch : Held). has (latch_outputs third) latch.0 ≡ false) (λ latch none. later latch.0 none) held gone
+    all_weaker (λ (latch : ConstantLatch). has (latch_outputs second) latch.0 ≡ false) (λ (latch : ConstantLatch). has (latch_outputs third) latch.0 ≡ false) (λ latch none. later latch.0 none) held gone
   where
     later : (name : List ℕ) → has (latch_outputs second) name ≡ false → has (latch_outputs third) name ≡ false
     later name none = both (has (latch_outputs third) name) refl
@@ -79,11 +79,11 @@ kept_through first second third p q = record {
   refines = refines-through first second third p.refines q.refines;
   held = p.held ++ q.held;
   different = held_different p.held q.held second p.different q.different p.gone q.left.among;
-  begun = all_append (λ (latch : Held). may_begin first latch ≡ true) p.held q.held p.begun
-      (all_weaker (λ (latch : Held). may_begin second latch ≡ true) (λ (latch : Held). may_begin first latch ≡ true)
+  begun = all_append (λ (latch : ConstantLatch). may_begin first latch ≡ true) p.held q.held p.begun
+      (all_weaker (λ (latch : ConstantLatch). may_begin second latch ≡ true) (λ (latch : ConstantLatch). may_begin first latch ≡ true)
       (λ latch begins. begins_before first second latch p.left.latches begins) q.held q.begun);
   stays = stays_through p.held q.held first second p.sound p.left q.left.among p.stays q.stays;
-  gone = all_append (λ (latch : Held). has (latch_outputs third) latch.0 ≡ false) p.held q.held (gone_later p.held second third q.left.latches p.gone) q.gone;
+  gone = all_append (λ (latch : ConstantLatch). has (latch_outputs third) latch.0 ≡ false) p.held q.held (gone_later p.held second third q.left.latches p.gone) q.gone;
   left = left_through p.held q.held first second third p.left q.left;
 }
 

@@ -14,7 +14,7 @@ use Rattle.circuit_laws.specs.Chains.{Leads, Chain}
 use Rattle.table_tidy.specs.Tidy.{is_tidy, tidied}
 use Rattle.sweep_rules.specs.Points.{written_bit}
 use Rattle.sweep_rules.specs.Needed.{all_needed, only_needed}
-use Rattle.sweep_rules.specs.Rules.{tidy_rule, unwritten_bit, with_constant, constant_rule, tables_read, at_bit, with_bit_put, put_rule, rewired, only_input, is_inverter, with_bypass, bypass_rule, fixed_bit, with_latch_fixed, latch_rule, need_rule, sweep_step}
+use Rattle.sweep_rules.specs.Rules.{tidy_table, unwritten_bit, with_constant, write_constant, tables_read, at_bit, with_constant_propagated, propagate_constant, rewired, only_input, is_inverter, with_single_input_collapsed, collapse_single_input, fixed_bit, with_latch_fixed, fix_constant_latch, remove_dangling, sweep_step}
 use Rattle.sweep_rules.specs.Keeping.{IsKept, KeepsFrame}
 use Rattle.sweep_rules.proofs.Steps.{applied}
 use Rattle.sweep_rules.proofs.Chaining.{step_kept, leads_kept}
@@ -58,43 +58,43 @@ asked_framed : {X : Type 0} (circuit : Circuit) → IsSound circuit → (turn : 
 asked_framed circuit sound turn each None = itself_framed circuit sound
 asked_framed circuit sound turn each (Some x) = each x
 
-tidy_framed : (circuit new : Circuit) → IsSound circuit → tidy_rule circuit ≡ Some new → KeepsFrame circuit new
-unfolding tidy_rule
+tidy_framed : (circuit new : Circuit) → IsSound circuit → tidy_table circuit ≡ Some new → KeepsFrame circuit new
+unfolding tidy_table
 tidy_framed circuit new sound h =
     turn_framed circuit new (λ table. with_replaced circuit (tidied table)) (λ table. replaced_framed circuit (tidied table) sound) (find (λ table. not (is_tidy table)) circuit.tables) h
 
-constant_framed : (circuit new : Circuit) → IsSound circuit → constant_rule circuit ≡ Some new → KeepsFrame circuit new
-unfolding constant_rule
+constant_framed : (circuit new : Circuit) → IsSound circuit → write_constant circuit ≡ Some new → KeepsFrame circuit new
+unfolding write_constant
 constant_framed circuit new sound h =
     turn_framed circuit new (with_constant circuit)
     (λ table. asked_framed circuit sound (λ bit. with_replaced circuit (constant_table table.output bit)) (λ bit. replaced_framed circuit (constant_table table.output bit) sound) (unwritten_bit table))
     (find (λ table. is_some (unwritten_bit table)) circuit.tables) h
 
-put_framed : (circuit new : Circuit) → IsSound circuit → put_rule circuit ≡ Some new → KeepsFrame circuit new
-unfolding put_rule
-put_framed circuit new sound h =
-    turn_framed circuit new (with_bit_put circuit)
+propagate_framed : (circuit new : Circuit) → IsSound circuit → propagate_constant circuit ≡ Some new → KeepsFrame circuit new
+unfolding propagate_constant
+propagate_framed circuit new sound h =
+    turn_framed circuit new (with_constant_propagated circuit)
     (λ table. asked_framed circuit sound (λ bit. with_tables circuit (map (at_bit table.output bit) circuit.tables)) (λ bit. tables_framed circuit (map (at_bit table.output bit) circuit.tables) sound) (written_bit table))
     (find (λ (table : Table). is_some (written_bit table) && tables_read circuit table.output) circuit.tables) h
 
-bypass_framed : (circuit new : Circuit) → IsSound circuit → bypass_rule circuit ≡ Some new → KeepsFrame circuit new
-unfolding bypass_rule
-bypass_framed circuit new sound h =
-    turn_framed circuit new (with_bypass circuit)
+collapse_framed : (circuit new : Circuit) → IsSound circuit → collapse_single_input circuit ≡ Some new → KeepsFrame circuit new
+unfolding collapse_single_input
+collapse_framed circuit new sound h =
+    turn_framed circuit new (with_single_input_collapsed circuit)
     (λ table. asked_framed circuit sound (λ input. with_tables circuit (map (rewired table.output input (is_inverter table)) circuit.tables))
     (λ input. tables_framed circuit (map (rewired table.output input (is_inverter table)) circuit.tables) sound) (only_input table.inputs))
     (find (λ (table : Table). is_some (only_input table.inputs) && tables_read circuit table.output) circuit.tables) h
 
-latch_framed : (circuit new : Circuit) → IsSound circuit → latch_rule circuit ≡ Some new → KeepsFrame circuit new
-unfolding latch_rule
+latch_framed : (circuit new : Circuit) → IsSound circuit → fix_constant_latch circuit ≡ Some new → KeepsFrame circuit new
+unfolding fix_constant_latch
 latch_framed circuit new sound h =
     turn_framed circuit new (with_latch_fixed circuit)
     (λ latch. asked_framed circuit sound (λ bit. with_fixed circuit latch.output bit) (λ bit. fixed_framed circuit latch.output bit) (fixed_bit circuit latch))
     (find (λ (latch : Latch). is_some (fixed_bit circuit latch)) circuit.latches) h
 
-need_framed : (circuit new : Circuit) → need_rule circuit ≡ Some new → KeepsFrame circuit new
-unfolding need_rule
-need_framed circuit new h = cases (all_needed circuit) h
+dangling_framed : (circuit new : Circuit) → remove_dangling circuit ≡ Some new → KeepsFrame circuit new
+unfolding remove_dangling
+dangling_framed circuit new h = cases (all_needed circuit) h
   where
     cases : (t : Bool) → (if t then None else Some (only_needed circuit)) ≡ Some new → KeepsFrame circuit new
     cases true e = absurd (none-some new e)
@@ -102,17 +102,17 @@ need_framed circuit new h = cases (all_needed circuit) h
 
 pub step_framed : (circuit new : Circuit) → IsSound circuit → sweep_step circuit ≡ Some new → KeepsFrame circuit new
 unfolding sweep_step
-step_framed circuit new sound h = first (tidy_rule circuit) refl (constant_rule circuit) refl (put_rule circuit) refl (bypass_rule circuit) refl (latch_rule circuit) refl h
+step_framed circuit new sound h = first (tidy_table circuit) refl (write_constant circuit) refl (propagate_constant circuit) refl (collapse_single_input circuit) refl (fix_constant_latch circuit) refl h
   where
-    first : (a : Option Circuit) → tidy_rule circuit ≡ a → (b : Option Circuit) → constant_rule circuit ≡ b → (c : Option Circuit) → put_rule circuit ≡ c
-        → (d : Option Circuit) → bypass_rule circuit ≡ d → (e : Option Circuit) → latch_rule circuit ≡ e
-        → option_or a (option_or b (option_or c (option_or d (option_or e (need_rule circuit))))) ≡ Some new → KeepsFrame circuit new
+    first : (a : Option Circuit) → tidy_table circuit ≡ a → (b : Option Circuit) → write_constant circuit ≡ b → (c : Option Circuit) → propagate_constant circuit ≡ c
+        → (d : Option Circuit) → collapse_single_input circuit ≡ d → (e : Option Circuit) → fix_constant_latch circuit ≡ e
+        → option_or a (option_or b (option_or c (option_or d (option_or e (remove_dangling circuit))))) ≡ Some new → KeepsFrame circuit new
     first (Some x) p b q c r d s e t k = tidy_framed circuit new sound (p ∙ k)
     first None p (Some x) q c r d s e t k = constant_framed circuit new sound (q ∙ k)
-    first None p None q (Some x) r d s e t k = put_framed circuit new sound (r ∙ k)
-    first None p None q None r (Some x) s e t k = bypass_framed circuit new sound (s ∙ k)
+    first None p None q (Some x) r d s e t k = propagate_framed circuit new sound (r ∙ k)
+    first None p None q None r (Some x) s e t k = collapse_framed circuit new sound (s ∙ k)
     first None p None q None r None s (Some x) t k = latch_framed circuit new sound (t ∙ k)
-    first None p None q None r None s None t k = need_framed circuit new k
+    first None p None q None r None s None t k = dangling_framed circuit new k
 
 -- step after step: no latch comes back
 

@@ -11,12 +11,13 @@ use Rattle.circuit_laws.proofs.Paths.{narrowed_acyclic}
 use Rattle.circuit_laws.proofs.Sound.{sound_replaced}
 use Rattle.sweep_rules.specs.Rules.{sweep_step}
 use Rattle.sweep_rules.specs.Idle.{IsIdle, with_emptied}
-use Rattle.sweep_rules.proofs.Mapped.{outputs_different}
+use Rattle.chain_laws.proofs.Mapped.{outputs_different}
 use Rattle.sweep_rules.proofs.Chaining.{step_kept}
 use Rattle.sweep_rules.proofs.Emptied.{emptied_is_replaced}
 use Rattle.sweep_rules.proofs.Beside.{beside}
 use Rattle.sweep_rules.proofs.Remaining.{Follows, step_follows, idle_unfinished}
-use Rattle.sweep_rules.proofs.Ended.{chain_same, sound_end}
+use Rattle.chain_laws.proofs.Chains.{chain_same}
+use Rattle.sweep_rules.proofs.Ended.{sound_end}
 
 -- the circuit with the emptied table is sound
 pub emptied_sound : (circuit : Circuit) (name : List ℕ) → IsSound circuit → IsIdle circuit name → IsSound (with_emptied circuit name)

@@ -17,10 +17,10 @@ use Rattle.circuit_laws.proofs.Names.{name_not, different_apart}
 use Rattle.circuit_laws.proofs.Kept.{all_weaker}
 use Rattle.sweep_rules.specs.Points.{written_bit}
 use Rattle.sweep_rules.specs.Needed.{dont_care_reads, needed_within, is_needed, all_needed, only_needed}
-use Rattle.sweep_rules.specs.Rules.{bit_from_start, fixed_bit, with_latch_fixed, latch_rule, need_rule}
+use Rattle.sweep_rules.specs.Rules.{bit_from_start, fixed_bit, with_latch_fixed, fix_constant_latch, remove_dangling}
 use Rattle.sweep_rules.specs.Idle.{IsIdle}
 use Rattle.sweep_rules.proofs.Closing.{tables_reach, latches_reach, within_more}
-use Rattle.sweep_rules.proofs.Mapped.{find_test, find_all}
+use Rattle.chain_laws.proofs.Found.{find_test, find_all}
 use Rattle.sweep_rules.proofs.Steps.{applied, some_is, found_latch}
 use Rattle.sweep_rules.proofs.Emptied.{emptied, emptied_driver, emptied_kept, emptied_dropped, emptied_added, emptied_reach, emptied_all}
 use Rattle.sweep_rules.proofs.Beside.{beside, idle_unasked, idle_unneeded}
@@ -65,8 +65,8 @@ fixed_beside circuit name other bit apart =
     (ap (λ (tables : List Table). tables ++ constant_table other bit ∷ []) (emptied_kept name (is_other other) circuit.tables)
     ∙ sym (emptied_added name (tables_kept (is_other other) circuit.tables) (constant_table other bit) apart))
 
-pub latch_goes : (name : List ℕ) (circuit new : Circuit) → IsSound circuit → IsIdle circuit name → latch_rule circuit ≡ Some new → latch_rule (beside circuit name) ≡ Some (beside new name)
-unfolding latch_rule
+pub latch_goes : (name : List ℕ) (circuit new : Circuit) → IsSound circuit → IsIdle circuit name → fix_constant_latch circuit ≡ Some new → fix_constant_latch (beside circuit name) ≡ Some (beside new name)
+unfolding fix_constant_latch
 latch_goes name circuit new sound idle h =
     let (latch, found, is) = applied (with_latch_fixed circuit) (find (λ (l : Latch). is_some (fixed_bit circuit l)) circuit.latches) new h in
     let (bit, at) = some_is (fixed_bit circuit latch) (find_test (λ (l : Latch). is_some (fixed_bit circuit l)) circuit.latches latch found) in
@@ -80,8 +80,8 @@ latch_goes name circuit new sound idle h =
     ap (option_map (with_latch_fixed (beside circuit name))) (latch_found_same circuit name idle ∙ found)
     ∙ ap Some (beside_made ∙ fixed_beside circuit name latch.output bit apart ∙ ap (λ (some : Circuit). beside some name) (sym made ∙ is))
 
-pub latch_none : (name : List ℕ) (circuit : Circuit) → IsIdle circuit name → latch_rule circuit ≡ None → latch_rule (beside circuit name) ≡ None
-unfolding latch_rule
+pub latch_none : (name : List ℕ) (circuit : Circuit) → IsIdle circuit name → fix_constant_latch circuit ≡ None → fix_constant_latch (beside circuit name) ≡ None
+unfolding fix_constant_latch
 latch_none name circuit idle h =
     ap (option_map (with_latch_fixed (beside circuit name))) (latch_found_same circuit name idle ∙ nothing (find (λ (l : Latch). is_some (fixed_bit circuit l)) circuit.latches) h)
   where
@@ -125,6 +125,6 @@ only_needed_beside circuit name idle =
     ∙ ap (λ (tables : List Table). with_tables (with_kept circuit (is_needed circuit)) tables) (emptied_dropped name (is_needed circuit) (idle_goes circuit name idle) circuit.tables)
 
 -- what is needed is the same beside the idle table, which goes
-pub need_same : (name : List ℕ) (circuit : Circuit) → IsIdle circuit name → need_rule (beside circuit name) ≡ need_rule circuit
-unfolding need_rule
-need_same name circuit idle = ap₂ (λ (all : Bool) (some : Circuit). if all then None else Some some) (all_needed_beside circuit name idle) (only_needed_beside circuit name idle)
+pub dangling_same : (name : List ℕ) (circuit : Circuit) → IsIdle circuit name → remove_dangling (beside circuit name) ≡ remove_dangling circuit
+unfolding remove_dangling
+dangling_same name circuit idle = ap₂ (λ (all : Bool) (some : Circuit). if all then None else Some some) (all_needed_beside circuit name idle) (only_needed_beside circuit name idle)

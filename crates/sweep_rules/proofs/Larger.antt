@@ -20,11 +20,12 @@ use Rattle.circuit_laws.specs.Chains.{Leads, Chain}
 use Rattle.table_tidy.specs.Tidy.{used_places, some_row_or_phase_one, is_tidy, rows_once, chosen, narrowed, with_phase_one, with_rows_once, tidied}
 use Rattle.sweep_rules.specs.Points.{written_bit}
 use Rattle.sweep_rules.specs.Needed.{is_needed, all_needed, only_needed}
-use Rattle.sweep_rules.specs.Rules.{tidy_rule, unwritten_bit, with_constant, constant_rule, tables_read, row_at_bit, at_bit, with_bit_put, put_rule, renamed, row_turned, rewired, only_input, is_inverter, with_bypass, bypass_rule, fixed_bit, with_latch_fixed, latch_rule, need_rule, sweep_step}
+use Rattle.sweep_rules.specs.Rules.{tidy_table, unwritten_bit, with_constant, write_constant, tables_read, row_at_bit, at_bit, with_constant_propagated, propagate_constant, renamed, row_turned, rewired, only_input, is_inverter, with_single_input_collapsed, collapse_single_input, fixed_bit, with_latch_fixed, fix_constant_latch, remove_dangling, sweep_step}
 use Rattle.sweep_rules.specs.Keeping.{IsNoLarger}
 use Rattle.table_tidy.proofs.Tidied.{chosen_small, once_small}
 use Rattle.sweep_rules.proofs.Turned.{with_rows_at, at_either, rewires, rewired_either}
-use Rattle.sweep_rules.proofs.Mapped.{find_test, find_all, all_turned}
+use Rattle.chain_laws.proofs.Found.{find_test, find_all}
+use Rattle.chain_laws.proofs.Mapped.{all_turned}
 use Rattle.sweep_rules.proofs.Steps.{applied, some_is, found_latch}
 use Rattle.sweep_rules.proofs.Sizes.{filtered_few}
 use Rattle.sweep_rules.proofs.Weight.{latches_fewer, tables_few, latches_few}
@@ -207,14 +208,14 @@ needed_within_old P circuit =
 
 -- rules
 
-tidy_within : (P : Table → Type 0) → IsLeft P → (circuit new : Circuit) → tidy_rule circuit ≡ Some new → IsWithin P circuit new
-unfolding tidy_rule
+tidy_within : (P : Table → Type 0) → IsLeft P → (circuit new : Circuit) → tidy_table circuit ≡ Some new → IsWithin P circuit new
+unfolding tidy_table
 tidy_within P left circuit new h =
     let (table, found, is) = applied (λ table. with_replaced circuit (tidied table)) (find (λ table. not (is_tidy table)) circuit.tables) new h in
     subst (IsWithin P circuit) is (replaced_within P circuit (tidied table) (λ all. left.tidied table (find_all (λ table. not (is_tidy table)) P circuit.tables table all found)))
 
-constant_within : (P : Table → Type 0) → IsLeft P → (circuit new : Circuit) → constant_rule circuit ≡ Some new → IsWithin P circuit new
-unfolding constant_rule
+constant_within : (P : Table → Type 0) → IsLeft P → (circuit new : Circuit) → write_constant circuit ≡ Some new → IsWithin P circuit new
+unfolding write_constant
 constant_within P left circuit new h =
     let (table, found, is) = applied (with_constant circuit) (find (λ table. is_some (unwritten_bit table)) circuit.tables) new h in
     let (bit, at) = some_is (unwritten_bit table) (find_test (λ table. is_some (unwritten_bit table)) circuit.tables table found) in
@@ -225,20 +226,20 @@ constant_within P left circuit new h =
 itself_within : (P : Table → Type 0) (circuit : Circuit) → IsWithin P circuit circuit
 itself_within P circuit = record { nodes = omega arith; each = λ all. all }
 
-put_within : (P : Table → Type 0) → IsLeft P → (circuit new : Circuit) → put_rule circuit ≡ Some new → IsWithin P circuit new
-unfolding put_rule
-put_within P left circuit new h =
-    let (table, found, is) = applied (with_bit_put circuit) (find (λ (t : Table). is_some (written_bit t) && tables_read circuit t.output) circuit.tables) new h in
+propagate_within : (P : Table → Type 0) → IsLeft P → (circuit new : Circuit) → propagate_constant circuit ≡ Some new → IsWithin P circuit new
+unfolding propagate_constant
+propagate_within P left circuit new h =
+    let (table, found, is) = applied (with_constant_propagated circuit) (find (λ (t : Table). is_some (written_bit t) && tables_read circuit t.output) circuit.tables) new h in
     subst (IsWithin P circuit) is (by table (written_bit table))
   where
     by : (table : Table) (bit : Option Bool) → IsWithin P circuit (option_map_or (λ (b : Bool). with_tables circuit (map (at_bit table.output b) circuit.tables)) bit circuit)
     by table None = itself_within P circuit
     by table (Some b) = mapped_within P circuit (at_bit table.output b) (left.at table.output b)
 
-bypass_within : (P : Table → Type 0) → IsLeft P → (circuit new : Circuit) → bypass_rule circuit ≡ Some new → IsWithin P circuit new
-unfolding bypass_rule
-bypass_within P left circuit new h =
-    let (table, found, is) = applied (with_bypass circuit) (find (λ (t : Table). is_some (only_input t.inputs) && tables_read circuit t.output) circuit.tables) new h in
+collapse_within : (P : Table → Type 0) → IsLeft P → (circuit new : Circuit) → collapse_single_input circuit ≡ Some new → IsWithin P circuit new
+unfolding collapse_single_input
+collapse_within P left circuit new h =
+    let (table, found, is) = applied (with_single_input_collapsed circuit) (find (λ (t : Table). is_some (only_input t.inputs) && tables_read circuit t.output) circuit.tables) new h in
     subst (IsWithin P circuit) is (by table (only_input table.inputs))
   where
     by : (table : Table) (input : Option (List ℕ))
@@ -246,8 +247,8 @@ bypass_within P left circuit new h =
     by table None = itself_within P circuit
     by table (Some name) = mapped_within P circuit (rewired table.output name (is_inverter table)) (left.rewired table.output name (is_inverter table))
 
-latch_within : (P : Table → Type 0) → IsLeft P → (circuit new : Circuit) → latch_rule circuit ≡ Some new → IsWithin P circuit new
-unfolding latch_rule
+latch_within : (P : Table → Type 0) → IsLeft P → (circuit new : Circuit) → fix_constant_latch circuit ≡ Some new → IsWithin P circuit new
+unfolding fix_constant_latch
 latch_within P left circuit new h =
     let (latch, found, is) = applied (with_latch_fixed circuit) (find (λ (l : Latch). is_some (fixed_bit circuit l)) circuit.latches) new h in
     subst (IsWithin P circuit) is (by latch (found_latch (λ (l : Latch). is_some (fixed_bit circuit l)) circuit.latches latch found) (fixed_bit circuit latch))
@@ -256,9 +257,9 @@ latch_within P left circuit new h =
     by latch there None = itself_within P circuit
     by latch there (Some b) = fixed_within P circuit latch.output b there (left.constant latch.output b)
 
-need_within : (P : Table → Type 0) (circuit new : Circuit) → need_rule circuit ≡ Some new → IsWithin P circuit new
-unfolding need_rule
-need_within P circuit new h = cases (all_needed circuit) h
+dangling_within : (P : Table → Type 0) (circuit new : Circuit) → remove_dangling circuit ≡ Some new → IsWithin P circuit new
+unfolding remove_dangling
+dangling_within P circuit new h = cases (all_needed circuit) h
   where
     cases : (t : Bool) → (if t then None else Some (only_needed circuit)) ≡ Some new → IsWithin P circuit new
     cases true e = absurd (none-some new e)
@@ -266,17 +267,17 @@ need_within P circuit new h = cases (all_needed circuit) h
 
 step_within : (P : Table → Type 0) → IsLeft P → (circuit new : Circuit) → sweep_step circuit ≡ Some new → IsWithin P circuit new
 unfolding sweep_step
-step_within P left circuit new h = first (tidy_rule circuit) refl (constant_rule circuit) refl (put_rule circuit) refl (bypass_rule circuit) refl (latch_rule circuit) refl h
+step_within P left circuit new h = first (tidy_table circuit) refl (write_constant circuit) refl (propagate_constant circuit) refl (collapse_single_input circuit) refl (fix_constant_latch circuit) refl h
   where
-    first : (a : Option Circuit) → tidy_rule circuit ≡ a → (b : Option Circuit) → constant_rule circuit ≡ b → (c : Option Circuit) → put_rule circuit ≡ c
-        → (d : Option Circuit) → bypass_rule circuit ≡ d → (e : Option Circuit) → latch_rule circuit ≡ e
-        → option_or a (option_or b (option_or c (option_or d (option_or e (need_rule circuit))))) ≡ Some new → IsWithin P circuit new
+    first : (a : Option Circuit) → tidy_table circuit ≡ a → (b : Option Circuit) → write_constant circuit ≡ b → (c : Option Circuit) → propagate_constant circuit ≡ c
+        → (d : Option Circuit) → collapse_single_input circuit ≡ d → (e : Option Circuit) → fix_constant_latch circuit ≡ e
+        → option_or a (option_or b (option_or c (option_or d (option_or e (remove_dangling circuit))))) ≡ Some new → IsWithin P circuit new
     first (Some x) p b q c r d s e t k = tidy_within P left circuit new (p ∙ k)
     first None p (Some x) q c r d s e t k = constant_within P left circuit new (q ∙ k)
-    first None p None q (Some x) r d s e t k = put_within P left circuit new (r ∙ k)
-    first None p None q None r (Some x) s e t k = bypass_within P left circuit new (s ∙ k)
+    first None p None q (Some x) r d s e t k = propagate_within P left circuit new (r ∙ k)
+    first None p None q None r (Some x) s e t k = collapse_within P left circuit new (s ∙ k)
     first None p None q None r None s (Some x) t k = latch_within P left circuit new (t ∙ k)
-    first None p None q None r None s None t k = need_within P circuit new k
+    first None p None q None r None s None t k = dangling_within P circuit new k
 
 -- a step makes no circuit larger, and nor does a chain of them
 pub step_no_larger : (circuit new : Circuit) → sweep_step circuit ≡ Some new → IsNoLarger circuit new

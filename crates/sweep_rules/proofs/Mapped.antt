@@ -1,85 +1,22 @@
--- Tables that are replaced or mapped in a sound circuit.
-use Rattle.std.proofs.Common.{◌≡◌, ℕ, suc, Bool, true, false, Some, None, List, [], ◌∷◌, ◌++◌, map, flat_map, find, bytes_eq, cond, refl, sym, ap, ◌∙◌, subst, inl, inr, ◌⊎◌}
-use Rattle.std.specs.List.{AllByRecursion}
-use Rattle.std.proofs.lemmas.Bool.{false≢true}
-use Rattle.std.proofs.lemmas.Option.{none-some, same_Some}
+-- What is kept where a table of a sound circuit is replaced, or each is mapped.
+use Rattle.std.proofs.Common.{◌≡◌, ℕ, suc, Bool, true, Some, List, [], map, sym, ap, ◌∙◌}
 use Rattle.circuit_model.specs.Names.{has, all_different}
 use Rattle.circuit_model.specs.Values.{driver, driven_value}
-use Rattle.circuit_model.specs.Runs.{latch_outputs}
-use Rattle.circuit_model.specs.Soundness.{outputs_of, latch_inputs, control_of, table_inputs, given, taken, Leads, IsAcyclic, IsShaped, IsSound}
+use Rattle.circuit_model.specs.Soundness.{given, Leads, IsAcyclic, IsShaped, IsSound}
 use Rattle.circuit_model.specs.declared.circuit.Table.{Table}
 use Rattle.circuit_model.specs.declared.circuit.Circuit.{Circuit}
 use Rattle.circuit_laws.specs.Edits.{replaced, with_tables, with_replaced}
 use Rattle.circuit_laws.specs.Same.{KeepsEach}
 use Rattle.circuit_laws.specs.Valuations.{Obeys}
-use Rattle.sweep_rules.specs.Keeping.{IsKept}
-use Rattle.circuit_laws.proofs.Names.{name_itself, name_not, all_has, all_from_has, different_none, different_apart, different_head, different_tail}
-use Rattle.circuit_laws.proofs.Drivers.{driver_output, driver_reads, outputs-replaced}
+use Rattle.circuit_laws.proofs.Names.{all_from_has, different_none}
+use Rattle.circuit_laws.proofs.Drivers.{driver_output, driver_reads}
 use Rattle.circuit_laws.proofs.Paths.{narrowed_acyclic, mapped_acyclic}
 use Rattle.circuit_laws.proofs.Same.{same_refines}
 use Rattle.circuit_laws.proofs.Tables.{obeying_turned, obeying_mapped}
-use Rattle.circuit_laws.proofs.Sound.{IsWord, HasWords, words_parts, parts_words, given_words, sound_settled, sound_replaced, all_append, all_parts}
+use Rattle.circuit_laws.proofs.Sound.{sound_settled, sound_replaced}
 use Rattle.circuit_laws.proofs.Left.{each_left}
-
--- what is found passes the test, and has what all have
-pub find_test : {X : Type 0} (p : X → Bool) (xs : List X) (x : X) → find p xs ≡ Some x → p x ≡ true
-find_test p [] x e = absurd (none-some x e)
-find_test p (first ∷ xs) x e = cases (p first) refl e (find_test p xs x)
-  where
-    cases : (t : Bool) → p first ≡ t → cond t (Some first) (find p xs) ≡ Some x → (find p xs ≡ Some x → p x ≡ true) → p x ≡ true
-    cases true h k rest = ap p (sym (same_Some first x k)) ∙ h
-    cases false h k rest = rest k
-
-pub find_all : {X : Type 0} (p : X → Bool) (P : X → Type 0) (xs : List X) (x : X) → AllByRecursion P xs → find p xs ≡ Some x → P x
-find_all p P [] x all e = absurd (none-some x e)
-find_all p P (first ∷ xs) x all e = cases (p first) e (find_all p P xs x all.1)
-  where
-    cases : (t : Bool) → cond t (Some first) (find p xs) ≡ Some x → (find p xs ≡ Some x → P x) → P x
-    cases true k rest = subst P (same_Some first x k) all.0
-    cases false k rest = rest k
-
-pub find_none : {X : Type 0} (p : X → Bool) (xs : List X) → find p xs ≡ None → AllByRecursion (λ x. p x ≡ false) xs
-find_none p [] e = tt
-find_none p (first ∷ xs) e = cases (p first) refl e (find_none p xs)
-  where
-    cases : (t : Bool) → p first ≡ t → cond t (Some first) (find p xs) ≡ None → (find p xs ≡ None → AllByRecursion (λ x. p x ≡ false) xs) → AllByRecursion (λ x. p x ≡ false) (first ∷ xs)
-    cases true h k rest = absurd (none-some first (sym k))
-    cases false h k rest = (h, rest k)
-
--- a table that is found drives its signal
-pub found_driver : (p : Table → Bool) (tables : List Table) (table : Table) → all_different (outputs_of tables) ≡ true → find p tables ≡ Some table → driver tables table.output ≡ Some table
-unfolding driver
-found_driver p [] table different e = absurd (none-some table e)
-found_driver p (first ∷ tables) table different e = cases (p first) e (found_driver p tables table (different_tail first.output (outputs_of tables) different))
-  where
-    cases : (t : Bool) → cond t (Some first) (find p tables) ≡ Some table → (find p tables ≡ Some table → driver tables table.output ≡ Some table) → driver (first ∷ tables) table.output ≡ Some table
-    cases true k rest =
-        ap (λ (b : Bool). cond b (Some first) (driver tables table.output)) (ap (λ (made : Table). bytes_eq made.output first.output) (sym (same_Some first table k)) ∙ name_itself first.output) ∙ k
-    cases false k rest =
-        ap (λ (b : Bool). cond b (Some first) (driver tables table.output))
-        (name_not table.output first.output (λ same. false≢true (sym (different_head first.output (outputs_of tables) different)
-        ∙ subst (λ (name : List ℕ). has (outputs_of tables) name ≡ true) same (driver_output tables table.output table (rest k))))) ∙ rest k
-
-pub outputs_different : (circuit : Circuit) → IsSound circuit → all_different (outputs_of circuit.tables) ≡ true
-unfolding given
-outputs_different circuit sound =
-    (different_apart (latch_outputs circuit) (outputs_of circuit.tables) (different_apart circuit.inputs (latch_outputs circuit ++ outputs_of circuit.tables) sound.one_driver).back).back
-
-pub latches_different : (circuit : Circuit) → IsSound circuit → all_different (latch_outputs circuit) ≡ true
-unfolding given
-latches_different circuit sound =
-    (different_apart (latch_outputs circuit) (outputs_of circuit.tables) (different_apart circuit.inputs (latch_outputs circuit ++ outputs_of circuit.tables) sound.one_driver).back).front
-
--- what a table reads is driven
-pub live_reads : (circuit : Circuit) → IsSound circuit → (name : List ℕ) → has (table_inputs circuit.tables) name ≡ true → has (given circuit) name ≡ true
-unfolding taken
-live_reads circuit sound name reads =
-    all_has (λ x. has (given circuit) x ≡ true) (table_inputs circuit.tables)
-    (all_parts (λ x. has (given circuit) x ≡ true) (table_inputs circuit.tables) (latch_inputs circuit ++ circuit.outputs) sound.driven).0 name reads
-
-given-turned : (circuit : Circuit) (new : Table) → given (with_replaced circuit new) ≡ given circuit
-unfolding given with_replaced
-given-turned circuit new = ap (λ (names : List (List ℕ)). circuit.inputs ++ (latch_outputs circuit ++ names)) (outputs-replaced circuit.tables new)
+use Rattle.chain_laws.proofs.Mapped.{live_reads, given-turned, given-mapped, IsTurn, sound_mapped}
+use Rattle.sweep_rules.specs.Keeping.{IsKept}
 
 -- a table gives place to one of the same value that reads no more
 pub replaced_kept : (circuit : Circuit) (old new : Table) → IsSound circuit → driver circuit.tables old.output ≡ Some old → new.output ≡ old.output
@@ -104,91 +41,6 @@ replaced_kept circuit old new sound at same within once shaped turns =
     }
 
 -- each table becomes another one of its signal
-
-each_name : (P : List ℕ → Type 0) (list : Table → List (List ℕ)) (tables : List Table) → AllByRecursion P (flat_map list tables) → AllByRecursion (λ (table : Table). AllByRecursion P (list table)) tables
-each_name P list [] h = tt
-each_name P list (table ∷ tables) h = let parts = all_parts P (list table) (flat_map list tables) h in (parts.0, each_name P list tables parts.1)
-
-names_each : (P : List ℕ → Type 0) (list : Table → List (List ℕ)) (tables : List Table) → AllByRecursion (λ (table : Table). AllByRecursion P (list table)) tables → AllByRecursion P (flat_map list tables)
-names_each P list [] h = tt
-names_each P list (table ∷ tables) h = all_append P (list table) (flat_map list tables) h.0 (names_each P list tables h.1)
-
-pub all_turned : (P Q : Table → Type 0) (turn : Table → Table) → ((table : Table) → P table → Q (turn table)) → (tables : List Table) → AllByRecursion P tables → AllByRecursion Q (map turn tables)
-all_turned P Q turn h [] all = tt
-all_turned P Q turn h (table ∷ tables) all = (h table all.0, all_turned P Q turn h tables all.1)
-
-pub outputs-mapped : (turn : Table → Table) → ((table : Table) → (turn table).output ≡ table.output) → (tables : List Table) → outputs_of (map turn tables) ≡ outputs_of tables
-outputs-mapped turn keeps [] = refl
-outputs-mapped turn keeps (table ∷ tables) = rw (keeps table, outputs-mapped turn keeps tables) refl
-
-given-mapped : (circuit : Circuit) (turn : Table → Table) → ((table : Table) → (turn table).output ≡ table.output) → given (with_tables circuit (map turn circuit.tables)) ≡ given circuit
-unfolding given
-given-mapped circuit turn keeps = ap (λ (names : List (List ℕ)). circuit.inputs ++ (latch_outputs circuit ++ names)) (outputs-mapped turn keeps circuit.tables)
-
--- a turn of tables keeps the output, each input once, the shape, and reads what the table reads or what is driven
-pub record IsTurn (circuit : Circuit) (turn : Table → Table) : Type 0 where
-  pub keeps : (table : Table) → (turn table).output ≡ table.output
-  pub once : (table : Table) → all_different table.inputs ≡ true → all_different (turn table).inputs ≡ true
-  pub shaped : (table : Table) → IsShaped table → IsShaped (turn table)
-  pub reads : (table : Table) (name : List ℕ) → has (turn table).inputs name ≡ true → (has table.inputs name ≡ true) ⊎ (has (given circuit) name ≡ true)
-
-mapped_words : (circuit : Circuit) (turn : Table → Table) → HasWords circuit → IsTurn circuit turn → HasWords (with_tables circuit (map turn circuit.tables))
-mapped_words circuit turn w turns = record {
-  name = w.name;
-  inputs = w.inputs;
-  outputs = w.outputs;
-  clocks = w.clocks;
-  control = w.control;
-  latch_outputs = w.latch_outputs;
-  latch_inputs = w.latch_inputs;
-  tables = names_each IsWord (λ (t : Table). t.output ∷ t.inputs) (map turn circuit.tables)
-      (all_turned (λ (t : Table). AllByRecursion IsWord (t.output ∷ t.inputs)) (λ (t : Table). AllByRecursion IsWord (t.output ∷ t.inputs)) turn
-      (λ t words. (
-        subst IsWord (sym (turns.keeps t)) words.0,
-        all_from_has IsWord (turn t).inputs (λ name there.
-            elim (turns.reads t name there) as (λ _. IsWord name) [
-              | inl old ↦ all_has IsWord t.inputs words.1 name old
-              | inr live ↦ all_has IsWord (given circuit) (given_words circuit w) name live
-            ]),
-      ))
-      circuit.tables (each_name IsWord (λ (t : Table). t.output ∷ t.inputs) circuit.tables w.tables));
-  dont_care = w.dont_care;
-}
-
-pub sound_mapped : (circuit : Circuit) (turn : Table → Table) → IsSound circuit → IsTurn circuit turn → IsAcyclic (map turn circuit.tables) → IsSound (with_tables circuit (map turn circuit.tables))
-unfolding taken
-sound_mapped circuit turn sound turns acyclic = record {
-  words = parts_words (with_tables circuit (map turn circuit.tables)) (mapped_words circuit turn (words_parts circuit sound.words) turns);
-  inputs_once = sound.inputs_once;
-  outputs_once = sound.outputs_once;
-  one_driver = ap all_different (given-mapped circuit turn turns.keeps) ∙ sound.one_driver;
-  driven =
-      subst (λ (names : List (List ℕ)). AllByRecursion (λ name. has names name ≡ true) (table_inputs (map turn circuit.tables) ++ (latch_inputs circuit ++ circuit.outputs))) (sym (given-mapped circuit turn turns.keeps))
-      (let parts = all_parts (λ name. has (given circuit) name ≡ true) (table_inputs circuit.tables) (latch_inputs circuit ++ circuit.outputs) sound.driven in
-      all_append (λ name. has (given circuit) name ≡ true) (table_inputs (map turn circuit.tables)) (latch_inputs circuit ++ circuit.outputs)
-      (names_each (λ name. has (given circuit) name ≡ true) (λ (t : Table). t.inputs) (map turn circuit.tables)
-      (all_turned (λ (t : Table). AllByRecursion (λ name. has (given circuit) name ≡ true) t.inputs) (λ (t : Table). AllByRecursion (λ name. has (given circuit) name ≡ true) t.inputs) turn
-      (λ t live. all_from_has (λ name. has (given circuit) name ≡ true) (turn t).inputs (λ name there.
-      elim (turns.reads t name there) as (λ _. has (given circuit) name ≡ true) [
-        | inl old ↦ all_has (λ x. has (given circuit) x ≡ true) t.inputs live name old
-        | inr driven ↦ driven
-      ]))
-      circuit.tables (each_name (λ name. has (given circuit) name ≡ true) (λ (t : Table). t.inputs) circuit.tables parts.0)))
-      parts.1);
-  inits = sound.inits;
-  untimed_without_latches = sound.untimed_without_latches;
-  shaped = all_turned IsShaped IsShaped turn turns.shaped circuit.tables sound.shaped;
-  table_inputs_once = all_turned (λ (t : Table). all_different t.inputs ≡ true) (λ (t : Table). all_different t.inputs ≡ true) turn turns.once circuit.tables sound.table_inputs_once;
-  acyclic = acyclic;
-  control_undriven =
-      subst (λ (names : List (List ℕ)). AllByRecursion (λ name. has (latch_outputs circuit ++ names) name ≡ false) (control_of circuit.timing)) (sym (outputs-mapped turn turns.keeps circuit.tables)) sound.control_undriven;
-  control_not_nil = sound.control_not_nil;
-  dont_care_once = sound.dont_care_once;
-  dont_care_known = sound.dont_care_known;
-  dont_care_acyclic = sound.dont_care_acyclic;
-  dont_care_shaped = sound.dont_care_shaped;
-}
-
 pub mapped_kept : (circuit : Circuit) (turn : Table → Table) → IsSound circuit → IsTurn circuit turn
     → ((signal : List ℕ) (table : Table) (input : List ℕ) → driver circuit.tables signal ≡ Some table → has (turn table).inputs input ≡ true → (steps : ℕ) × Leads circuit.tables (suc steps) signal input)
     → ((value : List ℕ → Bool) → Obeys circuit.tables value → (table : Table) → driven_value (Some (turn table)) value ≡ driven_value (Some table) value)

@@ -18,19 +18,20 @@ use Rattle.table_tidy.specs.Tidy.{is_tidy, tidied}
 use Rattle.table_tidy.proofs.Tidied.{tidied_output, tidied_reads}
 use Rattle.sweep_rules.specs.Points.{written_bit}
 use Rattle.sweep_rules.specs.Needed.{is_needed}
-use Rattle.sweep_rules.specs.Rules.{tidy_rule, unwritten_bit, with_constant, constant_rule, tables_read, at_bit, with_bit_put, put_rule, rewired, only_input, is_inverter, with_bypass, bypass_rule, fixed_bit, with_latch_fixed, latch_rule, need_rule, sweep_step}
+use Rattle.sweep_rules.specs.Rules.{tidy_table, unwritten_bit, with_constant, write_constant, tables_read, at_bit, with_constant_propagated, propagate_constant, rewired, only_input, is_inverter, with_single_input_collapsed, collapse_single_input, fixed_bit, with_latch_fixed, fix_constant_latch, remove_dangling, sweep_step}
 use Rattle.sweep_rules.specs.Sweeping.{IsSweptTable}
 use Rattle.sweep_rules.specs.Keeping.{KeepsFrame}
 use Rattle.sweep_rules.specs.Idle.{IsIdle}
 use Rattle.sweep_rules.proofs.Points.{only_is}
 use Rattle.sweep_rules.proofs.Turned.{at_output, at_reads, rewired_output, rewired_reads}
-use Rattle.sweep_rules.proofs.Mapped.{find_test, found_driver, outputs_different, outputs-mapped}
+use Rattle.chain_laws.proofs.Found.{find_test, found_driver}
+use Rattle.chain_laws.proofs.Mapped.{outputs_different, outputs-mapped}
 use Rattle.sweep_rules.proofs.Weight.{replaced_reads, mapped_reads, constant_reads, kept_reads}
 use Rattle.sweep_rules.proofs.Steps.{applied, some_is, found_latch}
 use Rattle.sweep_rules.proofs.Swept.{swept}
 use Rattle.sweep_rules.proofs.Framed.{step_framed}
-use Rattle.sweep_rules.proofs.Beside.{beside, Goes, idle_unread, idle_unasked, tidy_goes, tidy_none, constant_goes, constant_none, put_goes, put_none, bypass_goes, bypass_none}
-use Rattle.sweep_rules.proofs.Idling.{latch_apart, latch_goes, latch_none, idle_goes, need_same}
+use Rattle.sweep_rules.proofs.Beside.{beside, Goes, idle_unread, idle_unasked, tidy_goes, tidy_none, constant_goes, constant_none, propagate_goes, propagate_none, collapse_goes, collapse_none}
+use Rattle.sweep_rules.proofs.Idling.{latch_apart, latch_goes, latch_none, idle_goes, dangling_same}
 
 -- a table of the signal stands, and no table and no latch takes it
 pub record IsUntaken (circuit : Circuit) (name : List ℕ) : Type 0 where
@@ -59,16 +60,16 @@ replaced_untaken circuit name idle old new at within = record {
   unasked = idle_unasked circuit name idle;
 }
 
-tidy_untaken : (circuit new : Circuit) (name : List ℕ) → IsSound circuit → IsIdle circuit name → tidy_rule circuit ≡ Some new → IsUntaken new name
-unfolding tidy_rule
+tidy_untaken : (circuit new : Circuit) (name : List ℕ) → IsSound circuit → IsIdle circuit name → tidy_table circuit ≡ Some new → IsUntaken new name
+unfolding tidy_table
 tidy_untaken circuit new name sound idle h =
     let (table, found, is) = applied (λ table. with_replaced circuit (tidied table)) (find (λ table. not (is_tidy table)) circuit.tables) new h in
     subst (λ (some : Circuit). IsUntaken some name) is
     (replaced_untaken circuit name idle table (tidied table)
     (ap (driver circuit.tables) (tidied_output table) ∙ found_driver (λ table. not (is_tidy table)) circuit.tables table (outputs_different circuit sound) found) (tidied_reads table))
 
-constant_untaken : (circuit new : Circuit) (name : List ℕ) → IsSound circuit → IsIdle circuit name → constant_rule circuit ≡ Some new → IsUntaken new name
-unfolding constant_rule
+constant_untaken : (circuit new : Circuit) (name : List ℕ) → IsSound circuit → IsIdle circuit name → write_constant circuit ≡ Some new → IsUntaken new name
+unfolding write_constant
 constant_untaken circuit new name sound idle h =
     let (table, found, is) = applied (with_constant circuit) (find (λ table. is_some (unwritten_bit table)) circuit.tables) new h in
     let (bit, at) = some_is (unwritten_bit table) (find_test (λ table. is_some (unwritten_bit table)) circuit.tables table found) in
@@ -92,26 +93,26 @@ mapped_untaken circuit name idle turn keeps reads = record {
     never (inl read) = false≢true (sym (idle_unread circuit name idle) ∙ read)
     never (inr read) = false≢true (sym (idle_unread circuit name idle) ∙ read)
 
-put_untaken : (circuit new : Circuit) (name : List ℕ) → IsIdle circuit name → put_rule circuit ≡ Some new → IsUntaken new name
-unfolding put_rule
-put_untaken circuit new name idle h =
-    let (table, found, is) = applied (with_bit_put circuit) (find (λ (t : Table). is_some (written_bit t) && tables_read circuit t.output) circuit.tables) new h in
+propagate_untaken : (circuit new : Circuit) (name : List ℕ) → IsIdle circuit name → propagate_constant circuit ≡ Some new → IsUntaken new name
+unfolding propagate_constant
+propagate_untaken circuit new name idle h =
+    let (table, found, is) = applied (with_constant_propagated circuit) (find (λ (t : Table). is_some (written_bit t) && tables_read circuit t.output) circuit.tables) new h in
     let test = and_parts (is_some (written_bit table)) (tables_read circuit table.output) (find_test (λ (t : Table). is_some (written_bit t) && tables_read circuit t.output) circuit.tables table found) in
     let (bit, at) = some_is (written_bit table) test.0 in
-    let made : with_tables circuit (map (at_bit table.output bit) circuit.tables) ≡ with_bit_put circuit table =
+    let made : with_tables circuit (map (at_bit table.output bit) circuit.tables) ≡ with_constant_propagated circuit table =
     ap (λ (o : Option Bool). option_map_or (λ (b : Bool). with_tables circuit (map (at_bit table.output b) circuit.tables)) o circuit) (sym at) in
     subst (λ (some : Circuit). IsUntaken some name) (made ∙ is)
     (mapped_untaken circuit name idle (at_bit table.output bit) (at_output table.output bit) (λ t reads. inl (at_reads table.output bit t name reads)))
 
-bypass_untaken : (circuit new : Circuit) (name : List ℕ) → IsSound circuit → IsIdle circuit name → bypass_rule circuit ≡ Some new → IsUntaken new name
-unfolding bypass_rule
-bypass_untaken circuit new name sound idle h =
-    let (table, found, is) = applied (with_bypass circuit) (find (λ (t : Table). is_some (only_input t.inputs) && tables_read circuit t.output) circuit.tables) new h in
+collapse_untaken : (circuit new : Circuit) (name : List ℕ) → IsSound circuit → IsIdle circuit name → collapse_single_input circuit ≡ Some new → IsUntaken new name
+unfolding collapse_single_input
+collapse_untaken circuit new name sound idle h =
+    let (table, found, is) = applied (with_single_input_collapsed circuit) (find (λ (t : Table). is_some (only_input t.inputs) && tables_read circuit t.output) circuit.tables) new h in
     let test = and_parts (is_some (only_input table.inputs)) (tables_read circuit table.output) (find_test (λ (t : Table). is_some (only_input t.inputs) && tables_read circuit t.output) circuit.tables table found) in
     let (input, at) = some_is (only_input table.inputs) test.0 in
     let within : has table.inputs input ≡ true = subst (λ (names : List (List ℕ)). has names input ≡ true) (sym (only_is table.inputs input at)) (has_head input []) in
     let drives : driver circuit.tables table.output ≡ Some table = found_driver (λ (t : Table). is_some (only_input t.inputs) && tables_read circuit t.output) circuit.tables table (outputs_different circuit sound) found in
-    let made : with_tables circuit (map (rewired table.output input (is_inverter table)) circuit.tables) ≡ with_bypass circuit table =
+    let made : with_tables circuit (map (rewired table.output input (is_inverter table)) circuit.tables) ≡ with_single_input_collapsed circuit table =
     ap (λ (o : Option (List ℕ)). option_map_or (λ (x : List ℕ). with_tables circuit (map (rewired table.output x (is_inverter table)) circuit.tables)) o circuit) (sym at) in
     subst (λ (some : Circuit). IsUntaken some name) (made ∙ is)
     (mapped_untaken circuit name idle (rewired table.output input (is_inverter table)) (rewired_output table.output input (is_inverter table)) (λ t reads.
@@ -145,8 +146,8 @@ fixed_untaken circuit name idle other bit apart = record {
   unasked = inputs_kept (is_other other) name circuit.latches (idle_unasked circuit name idle);
 }
 
-latch_untaken : (circuit new : Circuit) (name : List ℕ) → IsSound circuit → IsIdle circuit name → latch_rule circuit ≡ Some new → IsUntaken new name
-unfolding latch_rule
+latch_untaken : (circuit new : Circuit) (name : List ℕ) → IsSound circuit → IsIdle circuit name → fix_constant_latch circuit ≡ Some new → IsUntaken new name
+unfolding fix_constant_latch
 latch_untaken circuit new name sound idle h =
     let (latch, found, is) = applied (with_latch_fixed circuit) (find (λ (l : Latch). is_some (fixed_bit circuit l)) circuit.latches) new h in
     let (bit, at) = some_is (fixed_bit circuit latch) (find_test (λ (l : Latch). is_some (fixed_bit circuit l)) circuit.latches latch found) in
@@ -175,67 +176,67 @@ goes_later rule others name circuit new none (inl same) = inl same
 goes_later rule others name circuit new none (inr takes) = inr (ap (λ (o : Option Circuit). option_or o (others (beside circuit name))) none ∙ takes)
 
 abbrev from_latch : Rule
-from_latch = either_rule latch_rule need_rule
+from_latch = either_rule fix_constant_latch remove_dangling
 
-abbrev from_bypass : Rule
-from_bypass = either_rule bypass_rule from_latch
+abbrev from_collapse : Rule
+from_collapse = either_rule collapse_single_input from_latch
 
-abbrev from_put : Rule
-from_put = either_rule put_rule from_bypass
+abbrev from_propagate : Rule
+from_propagate = either_rule propagate_constant from_collapse
 
 abbrev from_constant : Rule
-from_constant = either_rule constant_rule from_put
+from_constant = either_rule write_constant from_propagate
 
 pub step_follows : (circuit new : Circuit) (name : List ℕ) → IsSound circuit → IsIdle circuit name → sweep_step circuit ≡ Some new → Follows name circuit new
 unfolding sweep_step
 step_follows circuit new name sound idle h =
-    first (tidy_rule circuit) refl (constant_rule circuit) refl (put_rule circuit) refl (bypass_rule circuit) refl (latch_rule circuit) refl h
+    first (tidy_table circuit) refl (write_constant circuit) refl (propagate_constant circuit) refl (collapse_single_input circuit) refl (fix_constant_latch circuit) refl h
   where
     stays : IsUntaken new name → IsIdle new name
     stays untaken = untaken_idle circuit new name idle (step_framed circuit new sound h) untaken
 
-    first : (a : Option Circuit) → tidy_rule circuit ≡ a → (b : Option Circuit) → constant_rule circuit ≡ b → (c : Option Circuit) → put_rule circuit ≡ c
-        → (d : Option Circuit) → bypass_rule circuit ≡ d → (e : Option Circuit) → latch_rule circuit ≡ e
-        → option_or a (option_or b (option_or c (option_or d (option_or e (need_rule circuit))))) ≡ Some new → Follows name circuit new
+    first : (a : Option Circuit) → tidy_table circuit ≡ a → (b : Option Circuit) → write_constant circuit ≡ b → (c : Option Circuit) → propagate_constant circuit ≡ c
+        → (d : Option Circuit) → collapse_single_input circuit ≡ d → (e : Option Circuit) → fix_constant_latch circuit ≡ e
+        → option_or a (option_or b (option_or c (option_or d (option_or e (remove_dangling circuit))))) ≡ Some new → Follows name circuit new
     first (Some x) p b q c r d s e t k =
-        inl (stays (tidy_untaken circuit new name sound idle (p ∙ k)), goes_first tidy_rule from_constant name circuit new (tidy_goes name circuit new (p ∙ k)))
+        inl (stays (tidy_untaken circuit new name sound idle (p ∙ k)), goes_first tidy_table from_constant name circuit new (tidy_goes name circuit new (p ∙ k)))
     first None p (Some x) q c r d s e t k =
         inl (
           stays (constant_untaken circuit new name sound idle (q ∙ k)),
-          goes_later tidy_rule from_constant name circuit new (tidy_none name circuit p)
-              (goes_first constant_rule from_put name circuit new (constant_goes name circuit new (q ∙ k))),
+          goes_later tidy_table from_constant name circuit new (tidy_none name circuit p)
+              (goes_first write_constant from_propagate name circuit new (constant_goes name circuit new (q ∙ k))),
         )
     first None p None q (Some x) r d s e t k =
         inl (
-          stays (put_untaken circuit new name idle (r ∙ k)),
-          goes_later tidy_rule from_constant name circuit new (tidy_none name circuit p)
-              (goes_later constant_rule from_put name circuit new (constant_none name circuit q)
-              (goes_first put_rule from_bypass name circuit new (put_goes name circuit new idle (r ∙ k)))),
+          stays (propagate_untaken circuit new name idle (r ∙ k)),
+          goes_later tidy_table from_constant name circuit new (tidy_none name circuit p)
+              (goes_later write_constant from_propagate name circuit new (constant_none name circuit q)
+              (goes_first propagate_constant from_collapse name circuit new (propagate_goes name circuit new idle (r ∙ k)))),
         )
     first None p None q None r (Some x) s e t k =
         inl (
-          stays (bypass_untaken circuit new name sound idle (s ∙ k)),
-          goes_later tidy_rule from_constant name circuit new (tidy_none name circuit p)
-              (goes_later constant_rule from_put name circuit new (constant_none name circuit q)
-              (goes_later put_rule from_bypass name circuit new (put_none name circuit idle r)
-              (goes_first bypass_rule from_latch name circuit new (bypass_goes name circuit new idle (s ∙ k))))),
+          stays (collapse_untaken circuit new name sound idle (s ∙ k)),
+          goes_later tidy_table from_constant name circuit new (tidy_none name circuit p)
+              (goes_later write_constant from_propagate name circuit new (constant_none name circuit q)
+              (goes_later propagate_constant from_collapse name circuit new (propagate_none name circuit idle r)
+              (goes_first collapse_single_input from_latch name circuit new (collapse_goes name circuit new idle (s ∙ k))))),
         )
     first None p None q None r None s (Some x) t k =
         inl (
           stays (latch_untaken circuit new name sound idle (t ∙ k)),
-          goes_later tidy_rule from_constant name circuit new (tidy_none name circuit p)
-              (goes_later constant_rule from_put name circuit new (constant_none name circuit q)
-              (goes_later put_rule from_bypass name circuit new (put_none name circuit idle r)
-              (goes_later bypass_rule from_latch name circuit new (bypass_none name circuit idle s)
-              (goes_first latch_rule need_rule name circuit new (inr (latch_goes name circuit new sound idle (t ∙ k))))))),
+          goes_later tidy_table from_constant name circuit new (tidy_none name circuit p)
+              (goes_later write_constant from_propagate name circuit new (constant_none name circuit q)
+              (goes_later propagate_constant from_collapse name circuit new (propagate_none name circuit idle r)
+              (goes_later collapse_single_input from_latch name circuit new (collapse_none name circuit idle s)
+              (goes_first fix_constant_latch remove_dangling name circuit new (inr (latch_goes name circuit new sound idle (t ∙ k))))))),
         )
     first None p None q None r None s None t k =
         inr (ap (λ (o : Option Circuit). option_or o (from_constant (beside circuit name))) (tidy_none name circuit p)
-        ∙ ap (λ (o : Option Circuit). option_or o (from_put (beside circuit name))) (constant_none name circuit q)
-        ∙ ap (λ (o : Option Circuit). option_or o (from_bypass (beside circuit name))) (put_none name circuit idle r)
-        ∙ ap (λ (o : Option Circuit). option_or o (from_latch (beside circuit name))) (bypass_none name circuit idle s)
-        ∙ ap (λ (o : Option Circuit). option_or o (need_rule (beside circuit name))) (latch_none name circuit idle t)
-        ∙ need_same name circuit idle ∙ k)
+        ∙ ap (λ (o : Option Circuit). option_or o (from_propagate (beside circuit name))) (constant_none name circuit q)
+        ∙ ap (λ (o : Option Circuit). option_or o (from_collapse (beside circuit name))) (propagate_none name circuit idle r)
+        ∙ ap (λ (o : Option Circuit). option_or o (from_latch (beside circuit name))) (collapse_none name circuit idle s)
+        ∙ ap (λ (o : Option Circuit). option_or o (remove_dangling (beside circuit name))) (latch_none name circuit idle t)
+        ∙ dangling_same name circuit idle ∙ k)
 
 -- while a table is idle, some rule applies
 pub idle_unfinished : (circuit : Circuit) (name : List ℕ) → IsIdle circuit name → sweep_step circuit ≡ None → ⊥

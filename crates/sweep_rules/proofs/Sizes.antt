@@ -27,10 +27,10 @@ IsFreeAt name [] row = Unit {0}
 IsFreeAt name (input ∷ inputs) [] = Unit {0}
 IsFreeAt name (input ∷ inputs) (place ∷ row) = (bytes_eq name input ≡ true → is_literal place ≡ false) × IsFreeAt name inputs row
 
-put_free : (name input : List ℕ) (inputs : List (List ℕ)) (place : Tri) (rest : Option (List Tri)) → (bytes_eq name input ≡ true → is_literal place ≡ false)
+propagate_free : (name input : List ℕ) (inputs : List (List ℕ)) (place : Tri) (rest : Option (List Tri)) → (bytes_eq name input ≡ true → is_literal place ≡ false)
     → ((made : List Tri) → rest ≡ Some made → IsFreeAt name inputs made) → (made : List Tri) → option_map (λ (r : List Tri). place ∷ r) rest ≡ Some made → IsFreeAt name (input ∷ inputs) made
-put_free name input inputs place None here h made e = absurd (none-some made e)
-put_free name input inputs place (Some r) here h made e = subst (IsFreeAt name (input ∷ inputs)) (same_Some (place ∷ r) made e) (here, h r refl)
+propagate_free name input inputs place None here h made e = absurd (none-some made e)
+propagate_free name input inputs place (Some r) here h made e = subst (IsFreeAt name (input ∷ inputs)) (same_Some (place ∷ r) made e) (here, h r refl)
 
 row_at_free : (name : List ℕ) (bit : Bool) (inputs : List (List ℕ)) (row made : List Tri) → row_at_bit name bit inputs row ≡ Some made → IsFreeAt name inputs made
 unfolding row_at_bit
@@ -42,8 +42,8 @@ row_at_free name bit (input ∷ inputs) (place ∷ row) made e = cases (bytes_eq
         → (if t then (if u then None else option_map (λ (rest : List Tri). Free ∷ rest) (row_at_bit name bit inputs row))
         else option_map (λ (rest : List Tri). place ∷ rest) (row_at_bit name bit inputs row)) ≡ Some made → IsFreeAt name (input ∷ inputs) made
     cases true d true h k = absurd (none-some made k)
-    cases true d false h k = put_free name input inputs Free (row_at_bit name bit inputs row) (λ same. refl) h made k
-    cases false d u h k = put_free name input inputs place (row_at_bit name bit inputs row) (λ same. absurd (false≢true (sym d ∙ same))) h made k
+    cases true d false h k = propagate_free name input inputs Free (row_at_bit name bit inputs row) (λ same. refl) h made k
+    cases false d u h k = propagate_free name input inputs place (row_at_bit name bit inputs row) (λ same. absurd (false≢true (sym d ∙ same))) h made k
 
 rows_free : (P : List Tri → Type 0) (h : List Tri → Option (List Tri)) → ((row made : List Tri) → h row ≡ Some made → P made) → (rows : List (List Tri)) → AllByRecursion P (filter_map h rows)
 rows_free P h each [] = tt

@@ -8,7 +8,7 @@ use Rattle.circuit_model.specs.Soundness.{latch_inputs, table_inputs, given, tak
 use Rattle.circuit_model.specs.declared.circuit.Latch.{Latch}
 use Rattle.circuit_model.specs.declared.circuit.Circuit.{Circuit}
 use Rattle.circuit_laws.specs.Edits.{latches_kept}
-use Rattle.circuit_laws.specs.Left.{Held, state_left, KeepsLeft}
+use Rattle.circuit_laws.specs.Left.{ConstantLatch, state_left, KeepsLeft}
 use Rattle.circuit_laws.specs.Same.{IsAssignment}
 use Rattle.circuit_laws.proofs.Kept.{all_weaker, bit_kept, kept_next}
 use Rattle.circuit_laws.proofs.Left.{bits_long}
@@ -45,18 +45,18 @@ left_bit : (first second : Circuit) → second.latches ≡ latches_kept (has (la
 left_bit first second latches state name there =
     ap (λ (all : List Latch). bit_of (map (λ (l : Latch). l.output) all) (state_left first second state) name) latches ∙ bit_kept (has (latch_outputs second)) first.latches state name there
 
-left_bits : (held : List Held) (first second : Circuit) → second.latches ≡ latches_kept (has (latch_outputs second)) first.latches → (state : List Bool)
-    → AllByRecursion (λ (latch : Held). has (latch_outputs second) latch.0 ≡ true) held → HaveBits first held state → HaveBits second held (state_left first second state)
+left_bits : (held : List ConstantLatch) (first second : Circuit) → second.latches ≡ latches_kept (has (latch_outputs second)) first.latches → (state : List Bool)
+    → AllByRecursion (λ (latch : ConstantLatch). has (latch_outputs second) latch.0 ≡ true) held → HaveBits first held state → HaveBits second held (state_left first second state)
 left_bits [] first second latches state among bits = tt
 left_bits (latch ∷ held) first second latches state among bits = (left_bit first second latches state latch.0 among.0 ∙ bits.0, left_bits held first second latches state among.1 bits.1)
 
-bits_before : (held : List Held) (first second : Circuit) → second.latches ≡ latches_kept (has (latch_outputs second)) first.latches → (state : List Bool)
-    → AllByRecursion (λ (latch : Held). has (latch_outputs second) latch.0 ≡ true) held → HaveBits second held (state_left first second state) → HaveBits first held state
+bits_before : (held : List ConstantLatch) (first second : Circuit) → second.latches ≡ latches_kept (has (latch_outputs second)) first.latches → (state : List Bool)
+    → AllByRecursion (λ (latch : ConstantLatch). has (latch_outputs second) latch.0 ≡ true) held → HaveBits second held (state_left first second state) → HaveBits first held state
 bits_before [] first second latches state among bits = tt
 bits_before (latch ∷ held) first second latches state among bits = (sym (left_bit first second latches state latch.0 among.0) ∙ bits.0, bits_before held first second latches state among.1 bits.1)
 
 -- what is left of the next state is the next state of what is left
-next_left : (held : List Held) (first second : Circuit) → IsSound second → KeepsLeft held first second → (state row : List Bool) → IsAssignment first state row → HaveBits first held state
+next_left : (held : List ConstantLatch) (first second : Circuit) → IsSound second → KeepsLeft held first second → (state row : List Bool) → IsAssignment first state row → HaveBits first held state
     → state_left first second (next_state first state row) ≡ next_state second (state_left first second state) row
 unfolding next_state latches_kept
 next_left held first second sound left state row a bits =
@@ -68,15 +68,15 @@ next_left held first second sound left state row a bits =
     (subst (AllByRecursion (λ (latch : Latch). IsDriven second latch.input)) left.latches (inputs_driven second sound))))
     ∙ ap (map (λ (latch : Latch). value_in second (state_left first second state) row latch.input)) (sym left.latches)
 
-abbrev Stay : List Held → Circuit → Type 0
+abbrev Stay : List ConstantLatch → Circuit → Type 0
 Stay held circuit = (state row : List Bool) → IsAssignment circuit state row → HaveBits circuit held state → HaveBits circuit held (next_state circuit state row)
 
 -- edit after edit
-pub stays_through : (before after : List Held) (first second : Circuit) → IsSound second → KeepsLeft before first second
-    → AllByRecursion (λ (latch : Held). has (latch_outputs second) latch.0 ≡ true) after → Stay before first → Stay after second → Stay (before ++ after) first
+pub stays_through : (before after : List ConstantLatch) (first second : Circuit) → IsSound second → KeepsLeft before first second
+    → AllByRecursion (λ (latch : ConstantLatch). has (latch_outputs second) latch.0 ≡ true) after → Stay before first → Stay after second → Stay (before ++ after) first
 stays_through before after first second sound left among old new state row a bits =
-    let parts = all_parts (λ (latch : Held). bit_of (latch_outputs first) state latch.0 ≡ Some latch.1) before after bits in
-    all_append (λ (latch : Held). bit_of (latch_outputs first) (next_state first state row) latch.0 ≡ Some latch.1) before after (old state row a parts.0)
+    let parts = all_parts (λ (latch : ConstantLatch). bit_of (latch_outputs first) state latch.0 ≡ Some latch.1) before after bits in
+    all_append (λ (latch : ConstantLatch). bit_of (latch_outputs first) (next_state first state row) latch.0 ≡ Some latch.1) before after (old state row a parts.0)
     (bits_before after first second left.latches (next_state first state row) among
     (subst (HaveBits second after) (sym (next_left before first second sound left state row a parts.0))
     (new (state_left first second state) row

@@ -26,11 +26,13 @@ use Rattle.table_tidy.specs.Tidy.{is_tidy, tidied}
 use Rattle.table_tidy.proofs.Tidied.{tidied_value, tidied_output, tidied_reads, tidied_once, tidied_shaped}
 use Rattle.sweep_rules.specs.Points.{constant_bit, written_bit}
 use Rattle.sweep_rules.specs.Needed.{dont_care_reads, is_needed, all_needed, only_needed}
-use Rattle.sweep_rules.specs.Rules.{tidy_rule, unwritten_bit, with_constant, constant_rule, tables_read, at_bit, with_bit_put, put_rule, rewired, only_input, is_inverter, with_bypass, bypass_rule, starts_at, fixed_bit, with_latch_fixed, latch_rule, need_rule, bit_from_start}
+use Rattle.sweep_rules.specs.Rules.{tidy_table, unwritten_bit, with_constant, write_constant, tables_read, at_bit, with_constant_propagated, propagate_constant, rewired, only_input, is_inverter, with_single_input_collapsed, collapse_single_input, starts_at, fixed_bit, with_latch_fixed, fix_constant_latch, remove_dangling, bit_from_start}
 use Rattle.sweep_rules.specs.Keeping.{IsKept}
 use Rattle.sweep_rules.proofs.Points.{constant_turned, written_constant, only_is, single_value}
 use Rattle.sweep_rules.proofs.Turned.{at_value, at_output, at_reads, at_once, at_shaped, rewired_value, rewired_output, rewired_reads, rewired_once, rewired_shaped}
-use Rattle.sweep_rules.proofs.Mapped.{find_test, find_all, find_none, found_driver, outputs_different, latches_different, live_reads, replaced_kept, mapped_kept}
+use Rattle.chain_laws.proofs.Found.{find_test, find_all, find_none, found_driver}
+use Rattle.chain_laws.proofs.Mapped.{outputs_different, latches_different, live_reads}
+use Rattle.sweep_rules.proofs.Mapped.{replaced_kept, mapped_kept}
 use Rattle.sweep_rules.proofs.Closing.{needed_closed}
 use Rattle.sweep_rules.proofs.Begun.{found_begins}
 
@@ -50,8 +52,8 @@ pub some_is : {X : Type 0} (o : Option X) → is_some o ≡ true → (x : X) × 
 some_is None h = absurd (false≢true h)
 some_is (Some x) h = (x, refl)
 
-pub tidy_kept : (circuit new : Circuit) → IsSound circuit → tidy_rule circuit ≡ Some new → IsKept circuit new
-unfolding tidy_rule
+pub tidy_kept : (circuit new : Circuit) → IsSound circuit → tidy_table circuit ≡ Some new → IsKept circuit new
+unfolding tidy_table
 tidy_kept circuit new sound h =
     let (table, found, is) = applied (λ table. with_replaced circuit (tidied table)) (find (λ table. not (is_tidy table)) circuit.tables) new h in
     subst (IsKept circuit) is
@@ -75,8 +77,8 @@ unwritten_is table bit h = cases (is_some (written_bit table)) h
     cases true e = absurd (none-some bit e)
     cases false e = e
 
-pub constant_kept : (circuit new : Circuit) → IsSound circuit → constant_rule circuit ≡ Some new → IsKept circuit new
-unfolding constant_rule
+pub constant_kept : (circuit new : Circuit) → IsSound circuit → write_constant circuit ≡ Some new → IsKept circuit new
+unfolding write_constant
 constant_kept circuit new sound h =
     let (table, found, is) = applied (with_constant circuit) (find (λ table. is_some (unwritten_bit table)) circuit.tables) new h in
     let (bit, at) = some_is (unwritten_bit table) (find_test (λ table. is_some (unwritten_bit table)) circuit.tables table found) in
@@ -90,14 +92,14 @@ constant_kept circuit new sound h =
 obeyed_value : (circuit : Circuit) (value : List ℕ → Bool) → Obeys circuit.tables value → (table : Table) → driver circuit.tables table.output ≡ Some table → value table.output ≡ driven_value (Some table) value
 obeyed_value circuit value obeys table at = obeys table.output table at
 
-pub put_kept : (circuit new : Circuit) → IsSound circuit → put_rule circuit ≡ Some new → IsKept circuit new
-unfolding put_rule
-put_kept circuit new sound h =
-    let (table, found, is) = applied (with_bit_put circuit) (find (λ (t : Table). is_some (written_bit t) && tables_read circuit t.output) circuit.tables) new h in
+pub propagate_kept : (circuit new : Circuit) → IsSound circuit → propagate_constant circuit ≡ Some new → IsKept circuit new
+unfolding propagate_constant
+propagate_kept circuit new sound h =
+    let (table, found, is) = applied (with_constant_propagated circuit) (find (λ (t : Table). is_some (written_bit t) && tables_read circuit t.output) circuit.tables) new h in
     let test = and_parts (is_some (written_bit table)) (tables_read circuit table.output) (find_test (λ (t : Table). is_some (written_bit t) && tables_read circuit t.output) circuit.tables table found) in
     let (bit, at) = some_is (written_bit table) test.0 in
     let drives : driver circuit.tables table.output ≡ Some table = found_driver (λ (t : Table). is_some (written_bit t) && tables_read circuit t.output) circuit.tables table (outputs_different circuit sound) found in
-    let made : with_tables circuit (map (at_bit table.output bit) circuit.tables) ≡ with_bit_put circuit table =
+    let made : with_tables circuit (map (at_bit table.output bit) circuit.tables) ≡ with_constant_propagated circuit table =
     ap (λ (o : Option Bool). option_map_or (λ (b : Bool). with_tables circuit (map (at_bit table.output b) circuit.tables)) o circuit) (sym at) in
     subst (IsKept circuit) (made ∙ is)
     (mapped_kept circuit (at_bit table.output bit) sound
@@ -116,12 +118,12 @@ unfolding Leads
 leads_two circuit signal from to reader table at reads drives within = (reader, at, from, reads, (table, drives, to, within, refl))
 
 -- a table of one input that is no constant, and that tables read
-pub bypass_kept : (circuit new : Circuit) → IsSound circuit
+pub collapse_kept : (circuit new : Circuit) → IsSound circuit
     → AllByRecursion (λ (table : Table). tables_read circuit table.output ≡ true → constant_bit table ≡ None) circuit.tables
-    → bypass_rule circuit ≡ Some new → IsKept circuit new
-unfolding bypass_rule
-bypass_kept circuit new sound vary h =
-    let (table, found, is) = applied (with_bypass circuit) (find (λ (t : Table). is_some (only_input t.inputs) && tables_read circuit t.output) circuit.tables) new h in
+    → collapse_single_input circuit ≡ Some new → IsKept circuit new
+unfolding collapse_single_input
+collapse_kept circuit new sound vary h =
+    let (table, found, is) = applied (with_single_input_collapsed circuit) (find (λ (t : Table). is_some (only_input t.inputs) && tables_read circuit t.output) circuit.tables) new h in
     let test = and_parts (is_some (only_input table.inputs)) (tables_read circuit table.output) (find_test (λ (t : Table). is_some (only_input t.inputs) && tables_read circuit t.output) circuit.tables table found) in
     let (input, at) = some_is (only_input table.inputs) test.0 in
     let one : table.inputs ≡ input ∷ [] = only_is table.inputs input at in
@@ -129,7 +131,7 @@ bypass_kept circuit new sound vary h =
     let drives : driver circuit.tables table.output ≡ Some table = found_driver (λ (t : Table). is_some (only_input t.inputs) && tables_read circuit t.output) circuit.tables table (outputs_different circuit sound) found in
     let none : constant_bit table ≡ None =
     find_all (λ (t : Table). is_some (only_input t.inputs) && tables_read circuit t.output) (λ (t : Table). tables_read circuit t.output ≡ true → constant_bit t ≡ None) circuit.tables table vary found test.1 in
-    let made : with_tables circuit (map (rewired table.output input (is_inverter table)) circuit.tables) ≡ with_bypass circuit table =
+    let made : with_tables circuit (map (rewired table.output input (is_inverter table)) circuit.tables) ≡ with_single_input_collapsed circuit table =
     ap (λ (o : Option (List ℕ)). option_map_or (λ (name : List ℕ). with_tables circuit (map (rewired table.output name (is_inverter table)) circuit.tables)) o circuit) (sym at) in
     subst (IsKept circuit) (made ∙ is)
     (mapped_kept circuit (rewired table.output input (is_inverter table)) sound
@@ -244,8 +246,8 @@ fixed_gone : (circuit : Circuit) (name : List ℕ) (bit : Bool) → has (latch_o
 unfolding with_fixed with_added with_kept
 fixed_gone circuit name bit = has_latches_kept (is_other name) circuit.latches name ∙ ap (λ (b : Bool). b && has (latch_outputs circuit) name) (own_fails name)
 
-pub latch_kept : (circuit new : Circuit) → IsSound circuit → latch_rule circuit ≡ Some new → IsKept circuit new
-unfolding latch_rule
+pub latch_kept : (circuit new : Circuit) → IsSound circuit → fix_constant_latch circuit ≡ Some new → IsKept circuit new
+unfolding fix_constant_latch
 latch_kept circuit new sound h =
     let (latch, found, is) = applied (with_latch_fixed circuit) (find (λ (l : Latch). is_some (fixed_bit circuit l)) circuit.latches) new h in
     let (bit, at) = some_is (fixed_bit circuit latch) (find_test (λ (l : Latch). is_some (fixed_bit circuit l)) circuit.latches latch found) in
@@ -264,9 +266,9 @@ latch_kept circuit new sound h =
       left = fixed_left circuit latch.output bit sound fixed;
     })
 
-pub need_kept : (circuit new : Circuit) → IsSound circuit → need_rule circuit ≡ Some new → IsKept circuit new
-unfolding need_rule only_needed
-need_kept circuit new sound h = cases (all_needed circuit) h
+pub dangling_kept : (circuit new : Circuit) → IsSound circuit → remove_dangling circuit ≡ Some new → IsKept circuit new
+unfolding remove_dangling only_needed
+dangling_kept circuit new sound h = cases (all_needed circuit) h
   where
     cases : (t : Bool) → (if t then None else Some (with_kept circuit (is_needed circuit))) ≡ Some new → IsKept circuit new
     cases true e = absurd (none-some new e)

@@ -13,7 +13,7 @@ use Rattle.circuit_laws.proofs.Drivers.{driver_all}
 use Rattle.table_tidy.specs.Tidy.{is_tidy, tidied}
 use Rattle.sweep_rules.specs.Points.{constant_bit, written_bit}
 use Rattle.sweep_rules.specs.Needed.{dont_care_reads, is_needed, all_needed, only_needed}
-use Rattle.sweep_rules.specs.Rules.{tidy_rule, unwritten_bit, with_constant, constant_rule, tables_read, with_bit_put, put_rule, only_input, with_bypass, bypass_rule, starts_at, bit_from_start, fixed_bit, with_latch_fixed, latch_rule, need_rule, sweep_step}
+use Rattle.sweep_rules.specs.Rules.{tidy_table, unwritten_bit, with_constant, write_constant, tables_read, with_constant_propagated, propagate_constant, only_input, with_single_input_collapsed, collapse_single_input, starts_at, bit_from_start, fixed_bit, with_latch_fixed, fix_constant_latch, remove_dangling, sweep_step}
 use Rattle.sweep_rules.specs.Sweeping.{IsSweptTable, IsSweptLatch, IsSwept}
 use Rattle.sweep_rules.proofs.Points.{written_bit_constant}
 use Rattle.sweep_rules.proofs.Steps.{nothing_found}
@@ -24,49 +24,49 @@ none_some_of (Some x) h = absurd (false≢true (sym h))
 
 -- no rule applies, in the order of the rules
 pub record AppliesNone (circuit : Circuit) : Type 0 where
-  pub tidy : tidy_rule circuit ≡ None
-  pub constant : constant_rule circuit ≡ None
-  pub put : put_rule circuit ≡ None
-  pub bypass : bypass_rule circuit ≡ None
-  pub latch : latch_rule circuit ≡ None
-  pub need : need_rule circuit ≡ None
+  pub tidy : tidy_table circuit ≡ None
+  pub constant : write_constant circuit ≡ None
+  pub propagate : propagate_constant circuit ≡ None
+  pub collapse : collapse_single_input circuit ≡ None
+  pub latch : fix_constant_latch circuit ≡ None
+  pub dangling : remove_dangling circuit ≡ None
 
 pub none_applies : (circuit : Circuit) → sweep_step circuit ≡ None → AppliesNone circuit
 unfolding sweep_step
 none_applies circuit h =
-    let a = parts (tidy_rule circuit) (option_or (constant_rule circuit) (option_or (put_rule circuit) (option_or (bypass_rule circuit) (option_or (latch_rule circuit) (need_rule circuit))))) h in
-    let b = parts (constant_rule circuit) (option_or (put_rule circuit) (option_or (bypass_rule circuit) (option_or (latch_rule circuit) (need_rule circuit)))) a.1 in
-    let c = parts (put_rule circuit) (option_or (bypass_rule circuit) (option_or (latch_rule circuit) (need_rule circuit))) b.1 in
-    let d = parts (bypass_rule circuit) (option_or (latch_rule circuit) (need_rule circuit)) c.1 in
-    let e = parts (latch_rule circuit) (need_rule circuit) d.1 in
-    record { tidy = a.0; constant = b.0; put = c.0; bypass = d.0; latch = e.0; need = e.1 }
+    let a = parts (tidy_table circuit) (option_or (write_constant circuit) (option_or (propagate_constant circuit) (option_or (collapse_single_input circuit) (option_or (fix_constant_latch circuit) (remove_dangling circuit))))) h in
+    let b = parts (write_constant circuit) (option_or (propagate_constant circuit) (option_or (collapse_single_input circuit) (option_or (fix_constant_latch circuit) (remove_dangling circuit)))) a.1 in
+    let c = parts (propagate_constant circuit) (option_or (collapse_single_input circuit) (option_or (fix_constant_latch circuit) (remove_dangling circuit))) b.1 in
+    let d = parts (collapse_single_input circuit) (option_or (fix_constant_latch circuit) (remove_dangling circuit)) c.1 in
+    let e = parts (fix_constant_latch circuit) (remove_dangling circuit) d.1 in
+    record { tidy = a.0; constant = b.0; propagate = c.0; collapse = d.0; latch = e.0; dangling = e.1 }
   where
     parts : (first others : Option Circuit) → option_or first others ≡ None → (first ≡ None) × (others ≡ None)
     parts None others e = (refl, e)
     parts (Some new) others e = absurd (none-some new (sym e))
 
-pub all_tidy : (circuit : Circuit) → tidy_rule circuit ≡ None → AllByRecursion (λ (table : Table). not (is_tidy table) ≡ false) circuit.tables
-unfolding tidy_rule
+pub all_tidy : (circuit : Circuit) → tidy_table circuit ≡ None → AllByRecursion (λ (table : Table). not (is_tidy table) ≡ false) circuit.tables
+unfolding tidy_table
 all_tidy circuit h = nothing_found (λ table. with_replaced circuit (tidied table)) (λ table. not (is_tidy table)) circuit.tables h
 
-pub all_written : (circuit : Circuit) → constant_rule circuit ≡ None → AllByRecursion (λ (table : Table). is_some (unwritten_bit table) ≡ false) circuit.tables
-unfolding constant_rule
+pub all_written : (circuit : Circuit) → write_constant circuit ≡ None → AllByRecursion (λ (table : Table). is_some (unwritten_bit table) ≡ false) circuit.tables
+unfolding write_constant
 all_written circuit h = nothing_found (with_constant circuit) (λ table. is_some (unwritten_bit table)) circuit.tables h
 
-pub all_put : (circuit : Circuit) → put_rule circuit ≡ None → AllByRecursion (λ (table : Table). (is_some (written_bit table) && tables_read circuit table.output) ≡ false) circuit.tables
-unfolding put_rule
-all_put circuit h = nothing_found (with_bit_put circuit) (λ (table : Table). is_some (written_bit table) && tables_read circuit table.output) circuit.tables h
+pub all_propagated : (circuit : Circuit) → propagate_constant circuit ≡ None → AllByRecursion (λ (table : Table). (is_some (written_bit table) && tables_read circuit table.output) ≡ false) circuit.tables
+unfolding propagate_constant
+all_propagated circuit h = nothing_found (with_constant_propagated circuit) (λ (table : Table). is_some (written_bit table) && tables_read circuit table.output) circuit.tables h
 
-pub all_bypassed : (circuit : Circuit) → bypass_rule circuit ≡ None → AllByRecursion (λ (table : Table). (is_some (only_input table.inputs) && tables_read circuit table.output) ≡ false) circuit.tables
-unfolding bypass_rule
-all_bypassed circuit h = nothing_found (with_bypass circuit) (λ (table : Table). is_some (only_input table.inputs) && tables_read circuit table.output) circuit.tables h
+pub all_collapsed : (circuit : Circuit) → collapse_single_input circuit ≡ None → AllByRecursion (λ (table : Table). (is_some (only_input table.inputs) && tables_read circuit table.output) ≡ false) circuit.tables
+unfolding collapse_single_input
+all_collapsed circuit h = nothing_found (with_single_input_collapsed circuit) (λ (table : Table). is_some (only_input table.inputs) && tables_read circuit table.output) circuit.tables h
 
-all_unfixed : (circuit : Circuit) → latch_rule circuit ≡ None → AllByRecursion (λ (latch : Latch). is_some (fixed_bit circuit latch) ≡ false) circuit.latches
-unfolding latch_rule
+all_unfixed : (circuit : Circuit) → fix_constant_latch circuit ≡ None → AllByRecursion (λ (latch : Latch). is_some (fixed_bit circuit latch) ≡ false) circuit.latches
+unfolding fix_constant_latch
 all_unfixed circuit h = nothing_found (with_latch_fixed circuit) (λ (latch : Latch). is_some (fixed_bit circuit latch)) circuit.latches h
 
-each_needed : (circuit : Circuit) → need_rule circuit ≡ None → all_needed circuit ≡ true
-unfolding need_rule
+each_needed : (circuit : Circuit) → remove_dangling circuit ≡ None → all_needed circuit ≡ true
+unfolding remove_dangling
 each_needed circuit h = cases (all_needed circuit) h
   where
     cases : (t : Bool) → (if t then None else Some (only_needed circuit)) ≡ None → t ≡ true
@@ -148,8 +148,8 @@ each_written (table ∷ tables) all = (written_same table all.0, each_written ta
 pub swept : (circuit : Circuit) → sweep_step circuit ≡ None → IsSwept circuit
 swept circuit h =
     let none = none_applies circuit h in
-    let needed = and_parts (list_all (λ (table : Table). is_needed circuit table.output) circuit.tables) (list_all (λ (latch : Latch). is_needed circuit latch.output) circuit.latches) (each_needed circuit none.need) in record {
-      tables = swept_tables circuit circuit.tables (all_tidy circuit none.tidy) (all_written circuit none.constant) (all_put circuit none.put) (all_bypassed circuit none.bypass)
+    let needed = and_parts (list_all (λ (table : Table). is_needed circuit table.output) circuit.tables) (list_all (λ (latch : Latch). is_needed circuit latch.output) circuit.latches) (each_needed circuit none.dangling) in record {
+      tables = swept_tables circuit circuit.tables (all_tidy circuit none.tidy) (all_written circuit none.constant) (all_propagated circuit none.propagate) (all_collapsed circuit none.collapse)
           (all_true (λ (table : Table). is_needed circuit table.output) circuit.tables needed.0);
       latches = swept_latches circuit circuit.latches (each_written circuit.tables (all_written circuit none.constant)) (all_unfixed circuit none.latch) (all_true (λ (latch : Latch). is_needed circuit latch.output) circuit.latches needed.1);
     }

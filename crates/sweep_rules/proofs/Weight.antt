@@ -25,7 +25,7 @@ use Rattle.sweep_rules.specs.Rules.{tables_read, at_bit, rewired}
 use Rattle.sweep_rules.proofs.Closing.{counted, counted_most, agree_or_more}
 use Rattle.sweep_rules.proofs.Turned.{at_output, at_reads, ReadsOr, rewired_output, rewired_reads}
 use Rattle.sweep_rules.proofs.Sizes.{at_small, at_smaller, rewired_small, rewired_without, constant_size}
-use Rattle.sweep_rules.proofs.Mapped.{outputs-mapped}
+use Rattle.chain_laws.proofs.Mapped.{outputs-mapped}
 
 unfoldable pub sizes_of : List Table → ℕ
 sizes_of [] = 0
@@ -160,10 +160,10 @@ mapped_unread turn name none (table ∷ tables) = has_none (turn table).inputs (
 mapped_long : (turn : Table → Table) (tables : List Table) → length (map turn tables) ≡ length tables
 mapped_long turn tables = length-map tables turn
 
--- a constant is put into the tables that read it
-pub put_falls : (circuit : Circuit) (name : List ℕ) (bit : Bool) → IsSound circuit → tables_read circuit name ≡ true → weight (with_tables circuit (map (at_bit name bit) circuit.tables)) < weight circuit
+-- a constant is propagated into the tables that read it
+pub propagate_falls : (circuit : Circuit) (name : List ℕ) (bit : Bool) → IsSound circuit → tables_read circuit name ≡ true → weight (with_tables circuit (map (at_bit name bit) circuit.tables)) < weight circuit
 unfolding weight read_count
-put_falls circuit name bit sound reads =
+propagate_falls circuit name bit sound reads =
     let plain : AllByRecursion IsPlain circuit.tables = all_plain circuit.tables sound.shaped sound.table_inputs_once in
     let sizes : sizes_of (map (at_bit name bit) circuit.tables) < sizes_of circuit.tables =
     mapped_fewer (at_bit name bit) name (λ t p. at_small name bit t p.0 p.1) (λ t p h. at_smaller name bit t p.0 p.1 h) circuit.tables plain reads in
@@ -179,10 +179,10 @@ put_falls circuit name bit sound reads =
     known x (inr never) = absurd never
 
 -- readers of a table of one input read that input in its place
-pub bypass_falls : (circuit : Circuit) (table : Table) (input : List ℕ) (inverts : Bool) → IsSound circuit → driver circuit.tables table.output ≡ Some table → has table.inputs input ≡ true
+pub collapse_falls : (circuit : Circuit) (table : Table) (input : List ℕ) (inverts : Bool) → IsSound circuit → driver circuit.tables table.output ≡ Some table → has table.inputs input ≡ true
     → tables_read circuit table.output ≡ true → weight (with_tables circuit (map (rewired table.output input inverts) circuit.tables)) < weight circuit
 unfolding weight read_count
-bypass_falls circuit table input inverts sound at within reads =
+collapse_falls circuit table input inverts sound at within reads =
     let plain : AllByRecursion IsPlain circuit.tables = all_plain circuit.tables sound.shaped sound.table_inputs_once in
     let sizes : sizes_of (map (rewired table.output input inverts) circuit.tables) ≤ sizes_of circuit.tables =
     mapped_sizes (rewired table.output input inverts) (λ t p. rewired_small table.output input inverts t p.0) circuit.tables plain in
@@ -368,9 +368,9 @@ some_fewer test tables latches h =
       | inr e ↦ let less : length (filter (λ (latch : Latch). test latch.output) latches) < length latches = kept_fewer (λ (latch : Latch). test latch.output) latches e in omega arith
     ]
 
-pub need_falls : (circuit : Circuit) → all_needed circuit ≡ false → weight (only_needed circuit) < weight circuit
+pub dangling_falls : (circuit : Circuit) → all_needed circuit ≡ false → weight (only_needed circuit) < weight circuit
 unfolding weight read_count only_needed with_kept
-need_falls circuit h =
+dangling_falls circuit h =
     let sizes : sizes_of (tables_kept (is_needed circuit) circuit.tables) ≤ sizes_of circuit.tables = kept_sizes (is_needed circuit) circuit.tables in
     let fewer : counted (has (table_inputs (tables_kept (is_needed circuit) circuit.tables))) (outputs_of (tables_kept (is_needed circuit) circuit.tables))
     ≤ counted (has (table_inputs circuit.tables)) (outputs_of (tables_kept (is_needed circuit) circuit.tables)) =

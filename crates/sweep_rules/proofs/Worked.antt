@@ -7,7 +7,7 @@ use Rattle.circuit_model.specs.declared.circuit.Tri.TheVariants.{Zero, One}
 use Rattle.circuit_model.specs.declared.circuit.Table.{Table}
 use Rattle.circuit_model.specs.declared.circuit.Latch.{Latch}
 use Rattle.circuit_model.specs.declared.circuit.Circuit.{Circuit}
-use Rattle.sweep_rules.specs.Rules.{sweep_step, tidy_rule, constant_rule, put_rule, bypass_rule, latch_rule, need_rule, unwritten_bit, row_at_bit, at_bit, row_turned, rewired, fixed_bit}
+use Rattle.sweep_rules.specs.Rules.{sweep_step, tidy_table, write_constant, propagate_constant, collapse_single_input, fix_constant_latch, remove_dangling, unwritten_bit, row_at_bit, at_bit, row_turned, rewired, fixed_bit}
 use Rattle.table_fold.specs.Folding.{each_once, under, asked_of, folded_rows, with_rows, folded}
 use Rattle.sweep_rules.specs.Points.{every_point, constant_bit, written_bit}
 use Rattle.sweep_rules.specs.Needed.{dont_care_reads, needed_within, is_needed, only_needed}
@@ -67,13 +67,13 @@ inverter : steps 6 (circuit (a ∷ b ∷ c ∷ []) (y ∷ []) []
     (table (a ∷ b ∷ []) x ((One ∷ One ∷ []) ∷ []) ∷ table (x ∷ []) n ((Zero ∷ []) ∷ []) ∷ table (n ∷ c ∷ []) y ((One ∷ One ∷ []) ∷ []) ∷ []))
     ≡ circuit (a ∷ b ∷ c ∷ []) (y ∷ []) []
     (table (a ∷ b ∷ []) x ((One ∷ One ∷ []) ∷ []) ∷ table (x ∷ c ∷ []) y ((Zero ∷ One ∷ []) ∷ []) ∷ [])
-unfolding sweep_step tidy_rule constant_rule put_rule bypass_rule latch_rule need_rule unwritten_bit row_at_bit at_bit row_turned rewired fixed_bit tidied with_phase_one is_tidy same_row rows_differ used_places rows_once chosen narrowed each_once under asked_of folded_rows with_rows folded every_point constant_bit written_bit dont_care_reads needed_within is_needed only_needed circuit table steps latch a b c x n y k q table_value driver value_by_phase some_matches matches all_different with_replaced replaced with_fixed with_added with_kept tables_kept latches_kept
+unfolding sweep_step tidy_table write_constant propagate_constant collapse_single_input fix_constant_latch remove_dangling unwritten_bit row_at_bit at_bit row_turned rewired fixed_bit tidied with_phase_one is_tidy same_row rows_differ used_places rows_once chosen narrowed each_once under asked_of folded_rows with_rows folded every_point constant_bit written_bit dont_care_reads needed_within is_needed only_needed circuit table steps latch a b c x n y k q table_value driver value_by_phase some_matches matches all_different with_replaced replaced with_fixed with_added with_kept tables_kept latches_kept
 inverter = refl
 
 fixed : steps 6 (circuit [] (q ∷ []) (latch 2 ∷ []) (table [] k ([] ∷ []) ∷ [])) ≡ circuit [] (q ∷ []) [] (table [] q ([] ∷ []) ∷ [])
-unfolding sweep_step tidy_rule constant_rule put_rule bypass_rule latch_rule need_rule unwritten_bit row_at_bit at_bit row_turned rewired fixed_bit tidied with_phase_one is_tidy same_row rows_differ used_places rows_once chosen narrowed each_once under asked_of folded_rows with_rows folded every_point constant_bit written_bit dont_care_reads needed_within is_needed only_needed circuit table steps latch a b c x n y k q table_value driver value_by_phase some_matches matches all_different with_replaced replaced with_fixed with_added with_kept tables_kept latches_kept
+unfolding sweep_step tidy_table write_constant propagate_constant collapse_single_input fix_constant_latch remove_dangling unwritten_bit row_at_bit at_bit row_turned rewired fixed_bit tidied with_phase_one is_tidy same_row rows_differ used_places rows_once chosen narrowed each_once under asked_of folded_rows with_rows folded every_point constant_bit written_bit dont_care_reads needed_within is_needed only_needed circuit table steps latch a b c x n y k q table_value driver value_by_phase some_matches matches all_different with_replaced replaced with_fixed with_added with_kept tables_kept latches_kept
 fixed = refl
 
 unknown : steps 6 (circuit [] (q ∷ []) (latch 3 ∷ []) (table [] k ([] ∷ []) ∷ [])) ≡ circuit [] (q ∷ []) (latch 3 ∷ []) (table [] k ([] ∷ []) ∷ [])
-unfolding sweep_step tidy_rule constant_rule put_rule bypass_rule latch_rule need_rule unwritten_bit row_at_bit at_bit row_turned rewired fixed_bit tidied with_phase_one is_tidy same_row rows_differ used_places rows_once chosen narrowed each_once under asked_of folded_rows with_rows folded every_point constant_bit written_bit dont_care_reads needed_within is_needed only_needed circuit table steps latch a b c x n y k q table_value driver value_by_phase some_matches matches all_different with_replaced replaced with_fixed with_added with_kept tables_kept latches_kept
+unfolding sweep_step tidy_table write_constant propagate_constant collapse_single_input fix_constant_latch remove_dangling unwritten_bit row_at_bit at_bit row_turned rewired fixed_bit tidied with_phase_one is_tidy same_row rows_differ used_places rows_once chosen narrowed each_once under asked_of folded_rows with_rows folded every_point constant_bit written_bit dont_care_reads needed_within is_needed only_needed circuit table steps latch a b c x n y k q table_value driver value_by_phase some_matches matches all_different with_replaced replaced with_fixed with_added with_kept tables_kept latches_kept
 unknown = refl

@@ -10,17 +10,17 @@ use Rattle.circuit_model.specs.declared.circuit.Table.{Table}
 use Rattle.circuit_model.specs.declared.circuit.Latch.{Latch}
 use Rattle.circuit_model.specs.declared.circuit.Circuit.{Circuit}
 use Rattle.circuit_laws.specs.Edits.{timing_with}
-use Rattle.circuit_laws.specs.Left.{Held, KeepsLeft}
+use Rattle.circuit_laws.specs.Left.{ConstantLatch, KeepsLeft}
 use Rattle.circuit_laws.specs.Same.{IsAssignment}
 use Rattle.sweep_rules.specs.Rules.{starts_at}
 
 -- whether a latch of that name may start at that bit and need not start at the other one
-abbrev pub may_begin : Circuit → Held → Bool
+abbrev pub may_begin : Circuit → ConstantLatch → Bool
 may_begin circuit held = list_any (λ (latch : Latch). bytes_eq held.0 latch.output && starts_at latch.init held.1) circuit.latches
 
 -- these latches have their bits in a state
-abbrev pub HaveBits : Circuit → List Held → List Bool → Type 0
-HaveBits circuit held state = AllByRecursion (λ (latch : Held). bit_of (latch_outputs circuit) state latch.0 ≡ Some latch.1) held
+abbrev pub HaveBits : Circuit → List ConstantLatch → List Bool → Type 0
+HaveBits circuit held state = AllByRecursion (λ (latch : ConstantLatch). bit_of (latch_outputs circuit) state latch.0 ≡ Some latch.1) held
 
 -- the new circuit is sound and refines the old one; what is left keeps its value at each leaf assignment in which some
 -- latches have given bits; these are different ones, each may start at its bit and need not start at the other one, once
@@ -28,11 +28,11 @@ HaveBits circuit held state = AllByRecursion (λ (latch : Held). bit_of (latch_o
 pub record IsKept (old new : Circuit) : Type 0 where
   pub sound : IsSound new
   pub refines : Refines old new
-  pub held : List Held
-  pub different : all_different (map (λ (latch : Held). latch.0) held) ≡ true
-  pub begun : AllByRecursion (λ (latch : Held). may_begin old latch ≡ true) held
+  pub held : List ConstantLatch
+  pub different : all_different (map (λ (latch : ConstantLatch). latch.0) held) ≡ true
+  pub begun : AllByRecursion (λ (latch : ConstantLatch). may_begin old latch ≡ true) held
   pub stays : (state row : List Bool) → IsAssignment old state row → HaveBits old held state → HaveBits old held (next_state old state row)
-  pub gone : AllByRecursion (λ (latch : Held). has (latch_outputs new) latch.0 ≡ false) held
+  pub gone : AllByRecursion (λ (latch : ConstantLatch). has (latch_outputs new) latch.0 ≡ false) held
   pub left : KeepsLeft held old new
 
 -- the name, the ports, the clocks and the don't-care part stay, and so does the timing while a latch stands

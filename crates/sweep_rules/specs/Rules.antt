@@ -18,8 +18,8 @@ use Rattle.sweep_rules.specs.Points.{constant_bit, written_bit}
 use Rattle.sweep_rules.specs.Needed.{dont_care_reads, all_needed, only_needed}
 
 -- a table that is not tidy is tidied
-unfoldable pub tidy_rule : Circuit → Option Circuit
-tidy_rule circuit = option_map (λ table. with_replaced circuit (tidied table)) (find (λ table. not (is_tidy table)) circuit.tables)
+unfoldable pub tidy_table : Circuit → Option Circuit
+tidy_table circuit = option_map (λ table. with_replaced circuit (tidied table)) (find (λ table. not (is_tidy table)) circuit.tables)
 
 -- the constant that a table ought to be written as, where it is constant and written otherwise
 unfoldable pub unwritten_bit : Table → Option Bool
@@ -30,8 +30,8 @@ abbrev pub with_constant : Circuit → Table → Circuit
 with_constant circuit table = option_map_or (λ bit. with_replaced circuit (constant_table table.output bit)) (unwritten_bit table) circuit
 
 -- the first table that is constant and written otherwise is written as the constant
-unfoldable pub constant_rule : Circuit → Option Circuit
-constant_rule circuit = option_map (with_constant circuit) (find (λ table. is_some (unwritten_bit table)) circuit.tables)
+unfoldable pub write_constant : Circuit → Option Circuit
+write_constant circuit = option_map (with_constant circuit) (find (λ table. is_some (unwritten_bit table)) circuit.tables)
 
 -- whether some table reads a signal
 abbrev pub tables_read : Circuit → List ℕ → Bool
@@ -58,14 +58,14 @@ at_bit name bit table =
     if has table.inputs name then tidied (record table { rows = filter_map (row_at_bit name bit table.inputs) table.rows }) else table
 
 -- every reader of a written constant takes its bit in
-abbrev pub with_bit_put : Circuit → Table → Circuit
-with_bit_put circuit constant =
+abbrev pub with_constant_propagated : Circuit → Table → Circuit
+with_constant_propagated circuit constant =
     option_map_or (λ bit. with_tables circuit (map (at_bit constant.output bit) circuit.tables)) (written_bit constant) circuit
 
--- the first constant that tables read is put into them
-unfoldable pub put_rule : Circuit → Option Circuit
-put_rule circuit =
-    option_map (with_bit_put circuit)
+-- the first constant that tables read is propagated into them
+unfoldable pub propagate_constant : Circuit → Option Circuit
+propagate_constant circuit =
+    option_map (with_constant_propagated circuit)
     (find (λ (table : Table). is_some (written_bit table) && tables_read circuit table.output) circuit.tables)
 
 -- a name in place of another one
@@ -104,14 +104,14 @@ abbrev pub is_inverter : Table → Bool
 is_inverter table = not (table_value table (true ∷ []))
 
 -- the readers of a table of one input read that input in its place
-abbrev pub with_bypass : Circuit → Table → Circuit
-with_bypass circuit table =
+abbrev pub with_single_input_collapsed : Circuit → Table → Circuit
+with_single_input_collapsed circuit table =
     option_map_or (λ input. with_tables circuit (map (rewired table.output input (is_inverter table)) circuit.tables)) (only_input table.inputs) circuit
 
--- the first table of one input that tables read is passed by
-unfoldable pub bypass_rule : Circuit → Option Circuit
-bypass_rule circuit =
-    option_map (with_bypass circuit)
+-- the first table of one input that tables read is collapsed into them
+unfoldable pub collapse_single_input : Circuit → Option Circuit
+collapse_single_input circuit =
+    option_map (with_single_input_collapsed circuit)
     (find (λ (table : Table). is_some (only_input table.inputs) && tables_read circuit table.output) circuit.tables)
 
 -- whether a latch may start at a bit and need not start at the other one: its init is that bit, or 2
@@ -138,15 +138,15 @@ abbrev pub with_latch_fixed : Circuit → Latch → Circuit
 with_latch_fixed circuit latch = option_map_or (λ bit. with_fixed circuit latch.output bit) (fixed_bit circuit latch) circuit
 
 -- the first latch that always has one bit becomes a constant
-unfoldable pub latch_rule : Circuit → Option Circuit
-latch_rule circuit = option_map (with_latch_fixed circuit) (find (λ (latch : Latch). is_some (fixed_bit circuit latch)) circuit.latches)
+unfoldable pub fix_constant_latch : Circuit → Option Circuit
+fix_constant_latch circuit = option_map (with_latch_fixed circuit) (find (λ (latch : Latch). is_some (fixed_bit circuit latch)) circuit.latches)
 
 -- what is not needed goes
-unfoldable pub need_rule : Circuit → Option Circuit
-need_rule circuit = if all_needed circuit then None else Some (only_needed circuit)
+unfoldable pub remove_dangling : Circuit → Option Circuit
+remove_dangling circuit = if all_needed circuit then None else Some (only_needed circuit)
 
 -- what sweep does next: rules are asked in this order, and each looks for the first table or latch that it fits
 unfoldable pub sweep_step : Circuit → Option Circuit
 sweep_step circuit =
-    option_or (tidy_rule circuit) (option_or (constant_rule circuit) (option_or (put_rule circuit)
-    (option_or (bypass_rule circuit) (option_or (latch_rule circuit) (need_rule circuit)))))
+    option_or (tidy_table circuit) (option_or (write_constant circuit) (option_or (propagate_constant circuit)
+    (option_or (collapse_single_input circuit) (option_or (fix_constant_latch circuit) (remove_dangling circuit)))))

@@ -4,4 +4,4 @@ use Rattle.net_sweep.proofs.Changing.{IsPartly}
 use Rattle.net_sweep.proofs.applying.change_all.Given as goal
 
 abbrev pub invariant-loop-place : goal.invariant-loop-place
-invariant-loop-place l = IsPartly (changed_by l.name l.change) (take l.place-index l.places) l.fn.wires l.wires
+invariant-loop-place l = IsPartly (changed_by l.name l.change) (take l.place-index l.places) l.fn.aliased l.aliased

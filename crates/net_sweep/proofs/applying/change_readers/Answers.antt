@@ -1,5 +1,5 @@
 use Rattle.std.proofs.Common.{ap, ◌∙◌, List, ℕ}
-use Rattle.net_readers.specs.Readers.{is_in}
+use Rattle.input_readers.specs.Readers.{is_in}
 use Rattle.net_sweep.proofs.Changing.{mapped_others, reads_listed}
 use Rattle.net_sweep.proofs.applying.change_readers.Goals as goal
 
@@ -8,5 +8,5 @@ change_all-requires-clause-all c place h = ap (λ (ps : List ℕ). is_in ps plac
 
 pub returns-clause-others : goal.returns-clause-others
 returns-clause-others c =
-    mapped_others c.args.wires.now c.change_all.new.wires c.args.name.now c.args.change.now c.in_ok-places.places
-    (reads_listed c.args.wires.now.tables c.args.name.now c.in_ok-places.places (λ place h. c.in_ok-places.ensures place ∙ h)) c.in_ok-change_all.ensures
+    mapped_others c.args.aliased.now c.change_all.new.aliased c.args.name.now c.args.change.now c.in_ok-places.places
+    (reads_listed c.args.aliased.now.tables c.args.name.now c.in_ok-places.places (λ place h. c.in_ok-places.ensures place ∙ h)) c.in_ok-change_all.ensures

@@ -6,4 +6,4 @@ pub table_at-requires : goal.table_at-requires
 table_at-requires c = c.requires.within _ (next_in c.args.places.now c.loop-place.place-index _ 0 c.loop-place-test.true refl)
 
 pub rewired-requires : goal.rewired-requires
-rewired-requires c = wide_at c.args.wires.now.tables _ c.in_ok-table.table c.requires.wide c.in_ok-table.ensures
+rewired-requires c = wide_at c.args.aliased.now.tables _ c.in_ok-table.table c.requires.wide c.in_ok-table.ensures

@@ -4,4 +4,4 @@ use Rattle.sweep_rules.specs.Rules.{rewired}
 use Rattle.net_sweep.proofs.applying.rewired_tables.Given as goal
 
 abbrev pub invariant-loop-place : goal.invariant-loop-place
-invariant-loop-place l = map Some l.made.items ≡ map (λ place. option_map (rewired l.from l.to l.inverts) (slice_get l.wires.tables place)) (take l.place-index l.places)
+invariant-loop-place l = map Some l.made.items ≡ map (λ place. option_map (rewired l.from l.to l.inverts) (slice_get l.aliased.tables place)) (take l.place-index l.places)

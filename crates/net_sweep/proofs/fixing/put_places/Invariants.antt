@@ -1,7 +1,7 @@
 use Rattle.std.proofs.Common.{take}
 use Rattle.std.specs.Ordering.{nat_cmp}
 use Rattle.std.specs.BTreeSet.{contains}
-use Rattle.net_sweep.proofs.Waking.{HasPut}
+use Rattle.net_sweep.proofs.Enqueuing.{HasPut}
 use Rattle.net_sweep.proofs.fixing.put_places.Given as goal
 
 abbrev pub invariant-loop-place : goal.invariant-loop-place

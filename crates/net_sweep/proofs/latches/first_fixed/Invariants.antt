@@ -5,7 +5,7 @@ use Rattle.net_sweep.specs.Latches.{is_fixed}
 use Rattle.net_sweep.proofs.latches.first_fixed.Given as goal
 
 abbrev pub invariant-loop-place : goal.invariant-loop-place
-invariant-loop-place l = AreWaiting (is_fixed l.wires) (contains nat_cmp l.waiting) l.slots
+invariant-loop-place l = AreWaiting (is_fixed l.aliased) (contains nat_cmp l.waiting) l.slots
 
 abbrev pub decreases-loop-place : goal.decreases-loop-place
 decreases-loop-place l = btree_set_len l.waiting

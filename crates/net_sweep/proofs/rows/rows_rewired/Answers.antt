@@ -1,5 +1,5 @@
 use Rattle.std.proofs.Common.{◌∙◌, refl, ap, bytes_eq, map}
-use Rattle.net_wires.specs.Wires.{row_over}
+use Rattle.net_wires.specs.Aliases.{row_over}
 use Rattle.net_sweep.proofs.RowSteps.{all_turned_marked}
 use Rattle.net_wires.proofs.Carried.{on_value}
 use Rattle.net_sweep.proofs.rows.rows_rewired.Goals as goal

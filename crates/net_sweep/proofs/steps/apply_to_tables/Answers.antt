@@ -8,8 +8,8 @@ use Rattle.net_sweep.proofs.steps.apply_to_tables.Goals as goal
 
 pub returns-clause-ready : goal.returns-clause-ready
 returns-clause-ready g c =
-    on_ok_both c.wake_all.result
-    (applied_beside c.args.rule c.args.wires.now c.apply_rule.new.wires c.args.place c.args.standing.now.slots.items (get bytes_eq c.args.standing.now.fed) (get bytes_eq c.args.standing.now.table_places) c.args.standing.now.leaves_read.keys
-    (contains nat_cmp c.args.standing.now.waiting) (contains nat_cmp c.wake_all.new.waiting) c.in_ok-places.places c.as_slice.result.now c.requires.sound c.requires.within c.requires.ready
+    on_ok_both c.enqueue_all.result
+    (applied_beside c.args.rule c.args.aliased.now c.apply_rule.new.aliased c.args.place c.args.tracked.now.slots.items (get bytes_eq c.args.tracked.now.fanout) (get bytes_eq c.args.tracked.now.table_places) c.args.tracked.now.leaves_read.keys
+    (contains nat_cmp c.args.tracked.now.waiting) (contains nat_cmp c.enqueue_all.new.waiting) c.in_ok-places.places c.as_slice.result.now c.requires.sound c.requires.within c.requires.ready
     c.in_ok-places.ensures.applied c.in_ok-places.ensures.others c.as_slice.ensures)
-    c.wake_all.ensures.put c.wake_all.ensures.kept
+    c.enqueue_all.ensures.put c.enqueue_all.ensures.kept

@@ -5,11 +5,11 @@ use Rattle.net_sweep.proofs.sweeping.finished.Goals as goal
 pub loop-end-init : goal.loop-end-init
 loop-end-init g c = (c.in_ok-end.ensures.led, c.in_ok-end.ensures.tables, c.in_ok-end.ensures.latches)
 
-pub need_step-requires-clause-tables_differ : goal.need_step-requires-clause-tables_differ
-need_step-requires-clause-tables_differ g c = tables_differ c.loop-end.end c.loop-end.invariant.0.sound
+pub dangling_step-requires-clause-tables_differ : goal.dangling_step-requires-clause-tables_differ
+dangling_step-requires-clause-tables_differ g c = tables_differ c.loop-end.end c.loop-end.invariant.0.sound
 
-pub need_step-requires-clause-latches_differ : goal.need_step-requires-clause-latches_differ
-need_step-requires-clause-latches_differ g c = latches_differ c.loop-end.end c.loop-end.invariant.0.sound
+pub dangling_step-requires-clause-latches_differ : goal.dangling_step-requires-clause-latches_differ
+dangling_step-requires-clause-latches_differ g c = latches_differ c.loop-end.end c.loop-end.invariant.0.sound
 
 pub settled-requires-in-Some : goal.settled-requires-in-Some
 settled-requires-in-Some g c =

@@ -1,11 +1,11 @@
 use Rattle.std.proofs.Common.{◌≡◌, None}
-use Rattle.sweep_rules.specs.Rules.{latch_rule}
+use Rattle.sweep_rules.specs.Rules.{fix_constant_latch}
 use Rattle.sweep_rules.proofs.Weight.{weight}
 use Rattle.net_sweep.specs.Settled.{table_step, HasLed}
 use Rattle.net_sweep.proofs.sweeping.finished.Given as goal
 
 abbrev pub invariant-loop-end : goal.invariant-loop-end
-invariant-loop-end g l = HasLed l.fn.circuit l.end × (table_step l.end ≡ None) × (latch_rule l.end ≡ None)
+invariant-loop-end g l = HasLed l.fn.circuit l.end × (table_step l.end ≡ None) × (fix_constant_latch l.end ≡ None)
 
 abbrev pub decreases-loop-end : goal.decreases-loop-end
 decreases-loop-end g l = weight l.end

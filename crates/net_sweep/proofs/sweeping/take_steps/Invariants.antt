@@ -5,7 +5,7 @@ use Rattle.net_sweep.proofs.Stepping.{IsSettling}
 use Rattle.net_sweep.proofs.sweeping.take_steps.Given as goal
 
 abbrev pub invariant-loop-step : goal.invariant-loop-step
-invariant-loop-step g l = IsSettling (with_latches l.fn.wires (left_at l.fn.standing.slots.items)) l.wires l.standing (is_candidate l.candidates)
+invariant-loop-step g l = IsSettling (with_latches l.fn.aliased (left_at l.fn.tracked.slots.items)) l.aliased l.tracked (is_candidate l.candidates)
 
 abbrev pub decreases-loop-step : goal.decreases-loop-step
-decreases-loop-step g l = weight (with_latches l.wires (left_at l.standing.slots.items))
+decreases-loop-step g l = weight (with_latches l.aliased (left_at l.tracked.slots.items))

@@ -1,0 +1,7 @@
+use Rattle.std.proofs.Common.{take}
+use Rattle.input_readers.specs.Readers.{told, AreReaders}
+use Rattle.net_wires.specs.Aliases.{inputs_at}
+use Rattle.net_wires.proofs.aliased_tables.readers_of.Given as goal
+
+abbrev pub invariant-loop-place : goal.invariant-loop-place
+invariant-loop-place l = AreReaders (told l.readers) (inputs_at (take l.place l.tables))
