@@ -2,3 +2,5 @@ pub mod Places
 pub mod Readers
 pub mod Leasts
 pub mod Steps
+pub mod Uses
+pub mod Touched

@@ -24,7 +24,7 @@ use Rattle.net_core.specs.declared.places.Entry.{Entry}
 use Rattle.net_core.proofs.Lookups.{get_set_same, get_set_other, get_push_left, get_push_at}
 use Rattle.net_core.proofs.Removals.{removed_table, tables_differ}
 use Rattle.net_work.specs.Placed.{Placed, standing, circuit_of, joined, table_at, with_slot}
-use Rattle.sweep_rules.proofs.Mapped.{outputs-mapped}
+use Rattle.chain_laws.proofs.Mapped.{outputs-mapped}
 use Rattle.table_algebra.specs.Taking.{taken_in}
 use Rattle.table_algebra.proofs.Taken.{taken_output}
 use Rattle.net_elim.specs.Putting.{slots_taken, with_put}
@@ -43,7 +43,7 @@ without_none (table ∷ tables) name h = cases (bytes_eq name table.output) h (�
     cases true k rest = absurd (false≢true (sym k))
     cases false k rest = ap (λ (ts : List Table). table ∷ ts) (rest k)
 
-there_named : (slots : List (Option Table)) (place : ℕ) (t : Table) → table_at slots place ≡ Some t → has (outputs_of (standing slots)) t.output ≡ true
+pub there_named : (slots : List (Option Table)) (place : ℕ) (t : Table) → table_at slots place ≡ Some t → has (outputs_of (standing slots)) t.output ≡ true
 unfolding standing
 there_named [] place t e = absurd (let z : None ≡ Some t = e in cc)
 there_named (None ∷ slots) zero t e = absurd (let z : None ≡ Some t = e in cc)
@@ -75,7 +75,7 @@ standing_fewer (None ∷ slots) (suc place) t e = standing_fewer slots place t e
 standing_fewer (Some s ∷ slots) zero t e = refl
 standing_fewer (Some s ∷ slots) (suc place) t e = ap suc (standing_fewer slots place t e)
 
-taken_at_place : (slots : List (Option Table)) (place : ℕ) (inner : Table) → table_at slots place ≡ Some inner → table_at (slots_taken inner slots) place ≡ Some (taken_in inner inner)
+pub taken_at_place : (slots : List (Option Table)) (place : ℕ) (inner : Table) → table_at slots place ≡ Some inner → table_at (slots_taken inner slots) place ≡ Some (taken_in inner inner)
 taken_at_place slots place inner e = ap joined (taken_there inner slots place inner e)
 
 pub eliminated_circuit : (placed next : Placed) (place : ℕ) (inner : Table) → IsSound (circuit_of placed) → table_at placed.slots place ≡ Some inner → next ≡ with_slot (with_put inner placed) place None
@@ -157,7 +157,7 @@ when_some : (b : Bool) (v w : ℤ) → when b v ≡ Some w → (b ≡ true) × (
 when_some true v w e = (refl, same_Some v w e)
 when_some false v w e = absurd (let z : None ≡ Some w = e in cc)
 
-worth_of_table : (threshold : ℤ) (placed : Placed) (place : ℕ) (t : Table) → table_at placed.slots place ≡ Some t → worth_at threshold placed place ≡ worth_within threshold placed t
+pub worth_of_table : (threshold : ℤ) (placed : Placed) (place : ℕ) (t : Table) → table_at placed.slots place ≡ Some t → worth_at threshold placed place ≡ worth_within threshold placed t
 worth_of_table threshold placed place t e = ap (λ (o : Option Table). option_map_or (worth_within threshold placed) o None) e
 
 rootless : (placed : Placed) (name : List ℕ) → is_root (circuit_of placed) name ≡ is_root placed.frame name

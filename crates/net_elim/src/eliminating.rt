@@ -1,16 +1,18 @@
 //! Elimination, step by step.
 
-ghost use Rattle.std.specs.Prelude.{◌≡◌, ℕ, ℤ, ◌<◌, Ok, Bool, true, false, not, ◌&&◌, if◌then◌else◌, Option, Some, None, List, length, is_some, slice_get, int_lt, IfOk, OnOk};
+ghost use Rattle.std.specs.Prelude.{◌≡◌, ℕ, ℤ, ◌<◌, Ok, Bool, true, false, not, ◌&&◌, if◌then◌else◌, Option, Some, None, List, [], length, is_some, slice_get, slice_set, int_lt, IfOk, OnOk};
 ghost use Rattle.circuit_model.specs.Soundness.{IsSound};
 ghost use Rattle.circuit_model.specs.declared.circuit.Table.{Table as TheWritten};
 ghost use Rattle.circuit_laws.specs.Chains.{Chain};
 ghost use Rattle.elim_rules.specs.Eliminating.{all_take, with_eliminated, eliminate_step};
 ghost use Rattle.net_work.specs.Placed.{standing, circuit_of, table_at, with_slot};
 ghost use Rattle.net_elim.specs.Putting.{with_put};
+ghost use Rattle.net_elim.specs.Touching.{AreWorthsBut};
 ghost use Rattle.net_elim.specs.Waiting.{when, worth_at};
 
 use crate::least::least_place;
 use crate::putting::{PutFault, put_at};
+use crate::touching::touched_by;
 use cube_cover::Row;
 use net_core::Network;
 use net_work::Work;
@@ -81,8 +83,7 @@ fn all_worths<R: Row>(
     work: &Work<R>,
     threshold: i32,
 ) -> Result<Vec<Option<i128>>, AllocError>
-    ensures long { IfOk result (λ values. length values.items ≡ length work.now.slots) }
-    ensures each { IfOk result (λ values. (place : ℕ) → place < length work.now.slots → slice_get values.items place ≡ Some (worth_at threshold work.now place)) }
+    ensures { IfOk result (λ values. AreWorthsBut threshold work.now [] values.items) }
 {
     let mut values = Vec::with_capacity(alloc, work.len())?;
     for place in 0..work.len() {
@@ -91,21 +92,81 @@ fn all_worths<R: Row>(
     Ok(values)
 }
 
+// Makes what the table at a place is worth anew.
+fn renew<R: Row>(
+    work: &Work<R>,
+    place: usize,
+    threshold: i32,
+    worths: &mut Vec<Option<i128>>,
+) -> Result<(), AllocError>
+    requires { place < length worths.old.items }
+    ensures { OnOk result (worths.new.items ≡ slice_set worths.old.items place (worth_at threshold work.now place)) }
+{
+    worths[place] = worth_of(work, place, threshold)?;
+    Ok(())
+}
+
+// Makes what the tables at some places are worth anew.
+fn renew_all<R: Row>(
+    work: &Work<R>,
+    places: &[usize],
+    threshold: i32,
+    worths: &mut Vec<Option<i128>>,
+) -> Result<(), AllocError>
+    requires { AreWorthsBut threshold work.now places.now worths.old.items }
+    ensures { OnOk result (AreWorthsBut threshold work.now [] worths.new.items) }
+{
+    for place in places {
+        renew(work, *place, threshold, worths)?;
+    }
+    Ok(())
+}
+
+// The table at a place is eliminated, if its readers can take it in; what tables are worth then is told anew.
+fn try_at<R: Row>(
+    alloc: Global,
+    work: &mut Work<R>,
+    worths: &mut Vec<Option<i128>>,
+    place: usize,
+    threshold: i32,
+    rows: usize,
+) -> Result<bool, AllocError>
+    requires sound { IsSound (circuit_of work.old) }
+    requires there { is_some (table_at work.old.slots place) ≡ true }
+    requires worths { AreWorthsBut threshold work.old [] worths.old.items }
+    ensures answer { IfOk result (λ done. (inner : TheWritten) → table_at work.old.slots place ≡ Some inner → done ≡ all_take rows (circuit_of work.old) inner) }
+    ensures done { IfOk result (λ done. done ≡ true → (inner : TheWritten) → table_at work.old.slots place ≡ Some inner → work.new ≡ with_slot (with_put inner work.old) place None) }
+    ensures circuit { IfOk result (λ done. done ≡ true → (inner : TheWritten) → table_at work.old.slots place ≡ Some inner → circuit_of work.new ≡ with_eliminated (circuit_of work.old) inner) }
+    ensures same { IfOk result (λ done. done ≡ false → work.new ≡ work.old) }
+    ensures worths { OnOk result (AreWorthsBut threshold work.new [] worths.new.items) }
+{
+    let touched = touched_by(alloc, work, place)?;
+    if eliminate_at(alloc, work, place, rows)? {
+        renew_all(work, touched.as_slice(), threshold, worths)?;
+        Ok(true)
+    } else {
+        Ok(false)
+    }
+}
+
 // Takes the next step, if there is one: of the tables that are worth least the first that its readers can take in goes.
 fn take_step<R: Row>(
     alloc: Global,
     work: &mut Work<R>,
+    worths: &mut Vec<Option<i128>>,
     threshold: i32,
     rows: usize,
 ) -> Result<bool, AllocError>
-    requires { IsSound (circuit_of work.old) }
+    requires sound { IsSound (circuit_of work.old) }
+    requires worths { AreWorthsBut threshold work.old [] worths.old.items }
     ensures step { IfOk result (λ taken. eliminate_step threshold rows (circuit_of work.old) ≡ (if taken then Some (circuit_of work.new) else None)) }
     ensures same { IfOk result (λ taken. taken ≡ false → work.new ≡ work.old) }
     ensures fewer { IfOk result (λ taken. taken ≡ true → length (standing work.new.slots) < length (standing work.old.slots)) }
+    ensures worths { OnOk result (AreWorthsBut threshold work.new [] worths.new.items) }
 {
-    let mut values = all_worths(alloc, work, threshold)?;
+    let mut values = Vec::from_slice(alloc, worths.as_slice())?;
     while let Some(place) = least_place(values.as_slice()) {
-        if eliminate_at(alloc, work, place, rows)? {
+        if try_at(alloc, work, worths, place, threshold, rows)? {
             return Ok(true);
         }
         values[place] = None;
@@ -124,7 +185,8 @@ fn take_steps<R: Row>(
     ensures sound { OnOk result (IsSound (circuit_of work.new)) }
     ensures chain { OnOk result (Chain (eliminate_step threshold rows) (circuit_of work.old) (circuit_of work.new)) }
 {
-    while take_step(alloc, work, threshold, rows)? {}
+    let mut worths = all_worths(alloc, work, threshold)?;
+    while take_step(alloc, work, &mut worths, threshold, rows)? {}
     Ok(())
 }
 

@@ -1,0 +1,89 @@
+//! Where an elimination changes what tables are worth: at its own place, at those of its readers, and at those of the tables that
+//! drive what these read.
+
+ghost use Rattle.std.specs.Prelude.{◌≡◌, ℕ, true, Some, [], ◌∷◌, is_some, IfOk, OnOk};
+ghost use Rattle.circuit_model.specs.Soundness.{IsSound};
+ghost use Rattle.circuit_model.specs.declared.circuit.Table.{Table as TheWritten};
+ghost use Rattle.net_work.specs.Placed.{circuit_of, table_at};
+ghost use Rattle.net_elim.specs.Touching.{IsGrown, IsJoined, AreTouched};
+
+use circuit_model::Name;
+use cube_cover::Row;
+use net_work::Work;
+use std::alloc::{AllocError, Global};
+
+// Puts the place of the table that drives a signal, if one does, behind others.
+fn push_driver<R: Row>(
+    work: &Work<R>,
+    name: &Name,
+    places: &mut Vec<usize>,
+) -> Result<(), AllocError>
+    requires { IsSound (circuit_of work.now) }
+    ensures { OnOk result (IsGrown work.now.slots (name.now ∷ []) places.old.items places.new.items) }
+{
+    match work.place_of(name) {
+        None => Ok(()),
+        Some(place) => {
+            places.push(place)?;
+            Ok(())
+        }
+    }
+}
+
+// Puts the places of the tables that drive some signals behind others.
+fn push_drivers<R: Row>(
+    work: &Work<R>,
+    names: &[Name],
+    places: &mut Vec<usize>,
+) -> Result<(), AllocError>
+    requires { IsSound (circuit_of work.now) }
+    ensures { OnOk result (IsGrown work.now.slots names.now places.old.items places.new.items) }
+{
+    for name in names {
+        push_driver(work, name, places)?;
+    }
+    Ok(())
+}
+
+// Puts the place of a table, and those of the tables that drive its inputs, behind others.
+fn push_reader<R: Row>(
+    work: &Work<R>,
+    place: usize,
+    places: &mut Vec<usize>,
+) -> Result<(), AllocError>
+    requires sound { IsSound (circuit_of work.now) }
+    requires there { is_some (table_at work.now.slots place) ≡ true }
+    ensures { OnOk result (IsJoined work.now.slots place places.old.items places.new.items) }
+{
+    match work.entry(place) {
+        None => unreachable!(),
+        Some(entry) => {
+            places.push(place)?;
+            push_drivers(work, entry.table.inputs.as_slice(), places)
+        }
+    }
+}
+
+/// The places where an elimination of the table at a place may change what tables are worth; some may stand there more than once.
+pub(crate) fn touched_by<R: Row>(
+    alloc: Global,
+    work: &Work<R>,
+    place: usize,
+) -> Result<Vec<usize>, AllocError>
+    requires sound { IsSound (circuit_of work.now) }
+    requires there { is_some (table_at work.now.slots place) ≡ true }
+    ensures { IfOk result (λ places. (inner : TheWritten) → table_at work.now.slots place ≡ Some inner → AreTouched work.now.slots inner.output place places.items) }
+{
+    match work.entry(place) {
+        None => unreachable!(),
+        Some(inner) => {
+            let readers = work.readers(alloc, &inner.output)?;
+            let mut places = Vec::new(alloc);
+            push_reader(work, place, &mut places)?;
+            for reader in readers.as_slice() {
+                push_reader(work, *reader, &mut places)?;
+            }
+            Ok(places)
+        }
+    }
+}
