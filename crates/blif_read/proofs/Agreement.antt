@@ -1,23 +1,25 @@
 -- The reader's steps, taken one after the other, come to what the form of a file says.
-use Rattle.std.specs.Prelude.{◌≡◌, ℕ, ◌+◌, ◌-◌, ◌==◌, nat_eq, nat_lt, length, Bool, true, false, not, ◌||◌, cond, Option, Some, None, Result, Err, List, [], ◌∷◌, ◌++◌, map, reverse, take_while, codes}
-use Rattle.std.specs.Option.{option_or}
+use Rattle.std.specs.Prelude.{◌≡◌, ℕ, ◌+◌, ◌-◌, ◌==◌, nat_eq, length, drop, Bool, true, false, not, ◌||◌, cond, find, Option, Some, None, Result, Err, List, [], ◌∷◌, ◌++◌, map, reverse, take_while, codes, if◌then◌else◌}
+use Rattle.std.specs.Option.{option_or, option_map}
 use Rattle.std.proofs.Common.{refl, sym, ◌∙◌, ap, arith, eq-eqb, append_assoc, zero-add}
 use Rattle.std.proofs.lemmas.List.{length-take-le, length-map, map-append, append-nil, reverse-append}
 use Rattle.std.proofs.lemmas.List.Sums.{take_while-cons, sum_by-cons}
+use Rattle.circuit_model.specs.declared.circuit.Timing.{Timing}
 use Rattle.circuit_model.specs.declared.circuit.Table.{Table}
 use Rattle.circuit_model.specs.declared.circuit.Latch.{Latch as TheLatch}
 use Rattle.circuit_model.specs.declared.circuit.Circuit.{Circuit}
 use Rattle.sis_text.specs.Entries.{Entry}
 use Rattle.blif_read.specs.Keyword.{other_words, kind_of, is_row, is_row_kind}
-use Rattle.blif_read.specs.Lines.{when, first_of, input_words, is_none, long_name, is_end_kind, is_ended, is_node_kind, nodes_in, joined, output_character, has_phase_of, table_row_fault, heading, rows_behind, row_fault_under, row_fault, model_fault, ports_fault, fault_as, line_fault}
-use Rattle.blif_read.specs.Reader.{first_line_fault, of_lines, listed_inputs, listed_outputs, listed_ports, inputs_in, outputs_in, ports_in, driven_by, read_by, drives_in, reads_in, latches_by, latches_in, row_of, phase_by, table_of, is_table_kind, tables_in, named_by, model_name, circuit_of, whole_fault, unless, read_lines}
-use Rattle.blif_read.specs.Steps.{mark_for, width_of, reading_fault, fault_behind, next_fault, with_row, row_behind, tables_with, closed, draft_fault, with_line, from_fault, take_as, take_entry, take_entries, no_lines, lists_fault, circuit_with, finished, finish}
+use Rattle.blif_read.specs.Lines.{when, first_of, input_words, last_word, is_none, is_end_kind, is_ended, begins_part, has_part, part_behind, is_behind, is_latch, is_node_kind, nodes_in, joined, output_character, has_phase_of, table_row_fault, heading, rows_behind, row_fault_under, row_fault, model_fault, ports_fault, clock_fault, names_fault, latch_fault, gate_fault, place_fault, fault_as, line_fault}
+use Rattle.blif_read.specs.Reader.{first_line_fault, of_lines, model_lines, part_lines, listed_inputs, listed_outputs, listed_ports, listed_clocks, is_inputs_kind, is_outputs_kind, lists_inputs, lists_outputs, names_beside, inputs_in, outputs_in, ports_in, clocks_in, latch_input, driven_by, read_within, read_by, drives_in, reads_within, reads_in, latch_of, latches_by, latches_in, timing_of, is_latch_line, latch_lines, timing_at, first_timing, timing_in, same_timing, mixed_clock, gated_clock, row_of, phase_by, table_of, is_table_kind, tables_in, named_by, model_name, circuit_of, model_names_fault, whole_fault, unless, read_lines}
+use Rattle.blif_read.specs.Steps.{mark_for, width_of, reading_fault, fault_behind, next_fault, with_row, row_behind, tables_with, closed, place_at, place_of, draft_fault, with_more, timing_with, mixed_with, with_line, from_fault, take_as, take_entry, take_entries, no_lines, model_of, part_of, listed_or, Kept, kept_of, timing_fault, drivers_fault, tables_fault, listed_fault, kept_fault, read_kept, finished, finish}
 use Rattle.blif_read.specs.declared.keyword.Keyword.{Keyword}
-use Rattle.blif_read.specs.declared.keyword.Keyword.TheVariants.{Model, Inputs, Outputs, Names, Latch, End, Row, Other}
+use Rattle.blif_read.specs.declared.keyword.Keyword.TheVariants.{Model, Inputs, Outputs, Clock, Names, Latch, Gate, DontCare, End, Skipped, Row, Other}
 use Rattle.blif_read.specs.declared.fault.BlifFault.{BlifFault}
-use Rattle.blif_read.specs.declared.fault.BlifFault.TheVariants.{BadArity, SecondModel}
+use Rattle.blif_read.specs.declared.fault.BlifFault.TheVariants.{UnknownWord}
 use Rattle.blif_read.specs.declared.draft.Reading.{Reading}
 use Rattle.blif_read.specs.declared.draft.Draft.{Draft}
+use Rattle.blif_read.proofs.Faults.{gate_wrong, begins, own_clock, own_latch, own_place, unbegun, right_latch}
 
 -- tests
 
@@ -97,9 +99,13 @@ row_fault_is (Some line) rows number bytes = by (kind_of line)
     by Model = refl
     by Inputs = refl
     by Outputs = refl
+    by Clock = refl
     by Names = fault_read (length (other_words line.words) - 1) (other_words line.words) rows number bytes refl
     by Latch = refl
+    by Gate = refl
+    by DontCare = refl
     by End = refl
+    by Skipped = refl
     by Row = refl
     by Other = refl
 
@@ -108,19 +114,33 @@ pub record Tells (back : List Entry) (draft : Draft) : Type 0 where
   pub begun : draft.begun ≡ not (is_none back)
   pub unnamed : draft.begun ≡ false → draft.name ≡ codes "top"
   pub ended : draft.ended ≡ is_ended back
+  pub part : draft.has_part ≡ has_part back
   pub nodes : draft.nodes ≡ nodes_in back
   pub reading : draft.reading ≡ reading_of back
 
+pub place_is : (back : List Entry) (draft : Draft) → Tells back draft → place_of draft ≡ part_behind back
+unfolding place_at part_behind
+place_is back draft t = rw (t.ended, t.part) refl
+
 pub fault_agrees : (kind : Keyword) (back : List Entry) (draft : Draft) (number : ℕ) (words whole : List (List ℕ)) → Tells back draft → draft_fault kind draft number words whole ≡ fault_as kind back number words whole
 unfolding next_fault
-fault_agrees Model back draft number words whole t = ap (λ b. model_fault b number words) t.begun
-fault_agrees Inputs back draft number words whole t = ap (λ b. ports_fault b number words) t.ended
-fault_agrees Outputs back draft number words whole t = ap (λ b. ports_fault b number words) t.ended
-fault_agrees Names back draft number words whole t = rw (t.ended, t.nodes) refl
-fault_agrees Latch back draft number words whole t = rw (t.ended, t.nodes) refl
+fault_agrees Model back draft number words whole t =
+    ap (λ b. model_fault (place_of draft) b number words) t.begun ∙ ap (λ place. model_fault place (not (is_none back)) number words) (place_is back draft t)
+fault_agrees Inputs back draft number words whole t = ap (λ place. ports_fault place number words) (place_is back draft t)
+fault_agrees Outputs back draft number words whole t = ap (λ place. ports_fault place number words) (place_is back draft t)
+fault_agrees Clock back draft number words whole t = ap (λ place. clock_fault place number words) (place_is back draft t)
+fault_agrees Names back draft number words whole t =
+    ap (λ nodes. names_fault (place_of draft) nodes number words) t.nodes ∙ ap (λ place. names_fault place (nodes_in back) number words) (place_is back draft t)
+fault_agrees Latch back draft number words whole t =
+    ap (λ nodes. latch_fault (place_of draft) nodes number words) t.nodes ∙ ap (λ place. latch_fault place (nodes_in back) number words) (place_is back draft t)
+fault_agrees Gate back draft number words whole t = ap (λ place. gate_fault place number words) (place_is back draft t)
+fault_agrees DontCare back draft number words whole t = ap (λ place. place_fault place number) (place_is back draft t)
 fault_agrees End back draft number words whole t = refl
+fault_agrees Skipped back draft number words whole t = ap (λ place. place_fault place number) (place_is back draft t)
 fault_agrees Row back draft number words whole t =
-    rw (t.ended, t.reading, row_fault_is (heading back) (rows_behind back) number (joined whole)) refl
+    ap (λ reading. next_fault (place_of draft) reading number (joined whole)) t.reading
+    ∙ ap (λ place. next_fault place (reading_of back) number (joined whole)) (place_is back draft t)
+    ∙ ap (λ fault. first_of (when (is_behind (part_behind back)) (UnknownWord number) ∷ fault ∷ [])) (row_fault_is (heading back) (rows_behind back) number (joined whole))
 fault_agrees Other back draft number words whole t = refl
 
 -- what is told of one line more
@@ -158,6 +178,10 @@ pub ended_more : (line : Entry) (back : List Entry) (kind : Keyword) → kind_of
 unfolding is_ended
 ended_more line back kind e = ap (λ k. is_end_kind k || is_ended back) e
 
+pub part_more : (line : Entry) (back : List Entry) (kind : Keyword) → kind_of line ≡ kind → has_part (line ∷ back) ≡ (begins_part kind || has_part back)
+unfolding has_part
+part_more line back kind e = ap (λ k. begins_part k || has_part back) e
+
 pub nodes_more : (line : Entry) (back : List Entry) (kind : Keyword) → kind_of line ≡ kind → nodes_in (line ∷ back) ≡ cond (is_node_kind kind) 1 0 + nodes_in back
 unfolding nodes_in
 nodes_more line back kind e = sum_by-cons (λ (l : Entry). cond (is_node_kind (kind_of l)) 1 0) line back ∙ ap (λ k. cond (is_node_kind k) 1 0 + nodes_in back) e
@@ -174,12 +198,13 @@ pub one_node_more : (kind : Keyword) (line : Entry) (back : List Entry) → kind
 one_node_more kind line back e is =
     let more : nodes_in (line ∷ back) ≡ 1 + nodes_in back = nodes_more line back kind e ∙ ap (λ (b : Bool). cond {A = ℕ} b 1 0 + nodes_in back) is in omega (arith, more)
 
-pub tells_kept : (kind : Keyword) (line : Entry) (back : List Entry) (draft : Draft) → kind_of line ≡ kind → Tells back draft → draft_fault kind draft line.number (other_words line.words) line.words ≡ None → Tells (line ∷ back) (with_line kind draft (other_words line.words) line.words)
+pub tells_kept : (kind : Keyword) (line : Entry) (back : List Entry) (draft : Draft) → kind_of line ≡ kind → Tells back draft → draft_fault kind draft line.number (other_words line.words) line.words ≡ None → Tells (line ∷ back) (with_line kind draft line.number (other_words line.words) line.words)
 unfolding closed
 tells_kept Model line back draft e t f = record {
   begun = refl;
   unnamed = λ h. absurd (cc);
   ended = t.ended ∙ sym (ended_more line back Model e);
+  part = t.part ∙ sym (part_more line back Model e);
   nodes = t.nodes ∙ same_nodes Model line back e refl;
   reading = sym (reading_after Model line back e refl);
 }
@@ -187,6 +212,7 @@ tells_kept Inputs line back draft e t f = record {
   begun = refl;
   unnamed = λ h. absurd (cc);
   ended = t.ended ∙ sym (ended_more line back Inputs e);
+  part = t.part ∙ sym (part_more line back Inputs e);
   nodes = t.nodes ∙ same_nodes Inputs line back e refl;
   reading = sym (reading_after Inputs line back e refl);
 }
@@ -194,13 +220,23 @@ tells_kept Outputs line back draft e t f = record {
   begun = refl;
   unnamed = λ h. absurd (cc);
   ended = t.ended ∙ sym (ended_more line back Outputs e);
+  part = t.part ∙ sym (part_more line back Outputs e);
   nodes = t.nodes ∙ same_nodes Outputs line back e refl;
   reading = sym (reading_after Outputs line back e refl);
+}
+tells_kept Clock line back draft e t f = record {
+  begun = refl;
+  unnamed = λ h. absurd (cc);
+  ended = t.ended ∙ sym (ended_more line back Clock e);
+  part = t.part ∙ sym (part_more line back Clock e);
+  nodes = t.nodes ∙ same_nodes Clock line back e refl;
+  reading = sym (reading_after Clock line back e refl);
 }
 tells_kept Names line back draft e t f = record {
   begun = refl;
   unnamed = λ h. absurd (cc);
   ended = t.ended ∙ sym (ended_more line back Names e);
+  part = t.part ∙ sym (part_more line back Names e);
   nodes = ap (λ n. n + 1) t.nodes ∙ one_node_more Names line back e refl;
   reading = sym (reading_after Names line back e refl);
 }
@@ -208,20 +244,40 @@ tells_kept Latch line back draft e t f = record {
   begun = refl;
   unnamed = λ h. absurd (cc);
   ended = t.ended ∙ sym (ended_more line back Latch e);
+  part = t.part ∙ sym (part_more line back Latch e);
   nodes = ap (λ n. n + 1) t.nodes ∙ one_node_more Latch line back e refl;
   reading = sym (reading_after Latch line back e refl);
+}
+tells_kept Gate line back draft e t f = absurd (gate_wrong (place_of draft) line.number (other_words line.words) f)
+tells_kept DontCare line back draft e t f = record {
+  begun = refl;
+  unnamed = λ h. absurd (cc);
+  ended = t.ended ∙ sym (ended_more line back DontCare e);
+  part = sym (part_more line back DontCare e);
+  nodes = t.nodes ∙ same_nodes DontCare line back e refl;
+  reading = sym (reading_after DontCare line back e refl);
 }
 tells_kept End line back draft e t f = record {
   begun = refl;
   unnamed = λ h. absurd (cc);
   ended = sym (ended_more line back End e);
+  part = t.part ∙ sym (part_more line back End e);
   nodes = t.nodes ∙ same_nodes End line back e refl;
   reading = sym (reading_after End line back e refl);
+}
+tells_kept Skipped line back draft e t f = record {
+  begun = refl;
+  unnamed = λ h. absurd (cc);
+  ended = t.ended ∙ sym (ended_more line back Skipped e);
+  part = t.part ∙ sym (part_more line back Skipped e);
+  nodes = t.nodes ∙ same_nodes Skipped line back e refl;
+  reading = sym (reading_after Skipped line back e refl);
 }
 tells_kept Row line back draft e t f = record {
   begun = refl;
   unnamed = λ h. absurd (cc);
   ended = t.ended ∙ sym (ended_more line back Row e);
+  part = t.part ∙ sym (part_more line back Row e);
   nodes = t.nodes ∙ same_nodes Row line back e refl;
   reading = ap (λ reading. row_behind reading (joined line.words)) t.reading ∙ sym (reading_row line back (row_is line Row e));
 }
@@ -252,19 +308,103 @@ abbrev pub name_after : Bool → List ℕ → List Entry → List ℕ
 name_after true name lines = name
 name_after false name lines = model_name lines
 
-abbrev pub made : List ℕ → List (List ℕ) → List (List ℕ) → List (List ℕ) → List (List ℕ) → List (List ℕ) → List TheLatch → List Table → Result Circuit BlifFault
-made name inputs outputs ports drives reads latches tables =
-    unless (lists_fault inputs outputs ports drives reads tables) (circuit_with name inputs outputs latches tables)
+-- the names that tables and latches read before a line of inputs
+abbrev pub inner_by : Keyword → List (List ℕ) → List (List ℕ) → List (List ℕ)
+inner_by Inputs words rest = []
+inner_by kind words rest = read_within kind words ++ rest
+
+unfoldable pub inner_in : List Entry → List (List ℕ)
+inner_in [] = []
+inner_in (line ∷ lines) = inner_by (kind_of line) (other_words line.words) (inner_in lines)
+
+abbrev pub inner_after : Bool → List (List ℕ) → List Entry → List (List ℕ)
+inner_after true inner lines = inner
+inner_after false inner lines = inner ++ inner_in lines
+
+-- the timing of the first latch, and the line of the first that is timed otherwise, where these lines of latches follow
+abbrev pub timing_after : List TheLatch → Option Timing → List Entry → Option Timing
+timing_after [] timing [] = timing
+timing_after [] timing (line ∷ lines) = timing_at line
+timing_after (latch ∷ latches) timing lines = timing
+
+abbrev pub mixed_after : Option ℕ → Option Timing → List Entry → Option ℕ
+mixed_after None timing lines = option_map (λ (line : Entry). line.number) (find (λ line. not (same_timing timing (timing_at line))) lines)
+mixed_after (Some number) timing lines = Some number
+
+-- what is kept in the end of a draft in the model, where these lines of the model and these tables of the part follow
+abbrev pub kept_from : Draft → List Entry → List Entry → List Table → Kept
+kept_from draft lines own part = record {
+  name = name_after draft.begun draft.name lines;
+  lists_inputs = draft.lists_inputs || lists_inputs own;
+  inputs = draft.inputs ++ of_lines listed_inputs own;
+  lists_outputs = draft.lists_outputs || lists_outputs own;
+  outputs = draft.outputs ++ of_lines listed_outputs own;
+  ports = draft.ports ++ of_lines listed_ports own;
+  clocks = draft.clocks ++ of_lines listed_clocks own;
+  drives = draft.drives ++ of_lines driven_by own;
+  reads = draft.reads ++ of_lines read_by own;
+  inner = inner_after draft.lists_inputs draft.inner own;
+  timing = timing_after draft.latches draft.timing (latch_lines own);
+  mixed = mixed_after draft.mixed (timing_after draft.latches draft.timing (latch_lines own)) (latch_lines own);
+  latches = draft.latches ++ of_lines latches_by own;
+  tables = draft.tables ++ tables_after draft.reading own;
+  dont_care = part;
+}
+
+-- what is kept in the end of a draft in the don't-care part, where these lines follow
+abbrev pub kept_part : Draft → List Entry → Kept
+kept_part draft lines = record {
+  name = name_after draft.begun draft.name lines;
+  lists_inputs = draft.lists_inputs;
+  inputs = draft.inputs;
+  lists_outputs = draft.lists_outputs;
+  outputs = draft.outputs;
+  ports = draft.ports;
+  clocks = draft.clocks;
+  drives = draft.drives;
+  reads = draft.reads;
+  inner = draft.inner;
+  timing = draft.timing;
+  mixed = draft.mixed;
+  latches = draft.latches;
+  tables = draft.model_tables;
+  dont_care = draft.tables ++ tables_after draft.reading lines;
+}
+
+abbrev pub kept_by : Bool → Draft → List Entry → Kept
+kept_by true draft lines = kept_part draft lines
+kept_by false draft lines = kept_from draft lines (model_lines lines) (tables_in (part_lines lines))
 
 abbrev pub finished_by : Draft → List Entry → Result Circuit BlifFault
-finished_by draft lines =
-    made (name_after draft.begun draft.name lines) (draft.inputs ++ inputs_in lines) (draft.outputs ++ outputs_in lines)
-    (draft.ports ++ ports_in lines) (draft.drives ++ drives_in lines) (draft.reads ++ reads_in lines)
-    (draft.latches ++ latches_in lines) (draft.tables ++ tables_after draft.reading lines)
+finished_by draft lines = read_kept (kept_by draft.has_part draft lines)
 
-pub made_eq : (name name2 : List ℕ) (inputs inputs2 outputs outputs2 ports ports2 drives drives2 reads reads2 : List (List ℕ)) (latches latches2 : List TheLatch) (tables tables2 : List Table) → name ≡ name2 → inputs ≡ inputs2 → outputs ≡ outputs2 → ports ≡ ports2 → drives ≡ drives2 → reads ≡ reads2 → latches ≡ latches2 → tables ≡ tables2 → made name inputs outputs ports drives reads latches tables ≡ made name2 inputs2 outputs2 ports2 drives2 reads2 latches2 tables2
-made_eq name name2 inputs inputs2 outputs outputs2 ports ports2 drives drives2 reads reads2 latches latches2 tables tables2 a b c d e f g h =
-    rw (a, b, c, d, e, f, g, h) refl
+abbrev kept_with : List ℕ → Bool → List (List ℕ) → Bool → List (List ℕ) → List (List ℕ) → List (List ℕ) → List (List ℕ) → List (List ℕ) → List (List ℕ) → Option Timing → Option ℕ → List TheLatch → List Table → List Table → Kept
+kept_with name li inputs lo outputs ports clocks drives reads inner timing mixed latches tables dont_care = record {
+  name = name;
+  lists_inputs = li;
+  inputs = inputs;
+  lists_outputs = lo;
+  outputs = outputs;
+  ports = ports;
+  clocks = clocks;
+  drives = drives;
+  reads = reads;
+  inner = inner;
+  timing = timing;
+  mixed = mixed;
+  latches = latches;
+  tables = tables;
+  dont_care = dont_care;
+}
+
+pub kept_same : (k l : Kept) → k.name ≡ l.name → k.lists_inputs ≡ l.lists_inputs → k.inputs ≡ l.inputs → k.lists_outputs ≡ l.lists_outputs → k.outputs ≡ l.outputs → k.ports ≡ l.ports → k.clocks ≡ l.clocks
+    → k.drives ≡ l.drives → k.reads ≡ l.reads → k.inner ≡ l.inner → k.timing ≡ l.timing → k.mixed ≡ l.mixed → k.latches ≡ l.latches → k.tables ≡ l.tables → k.dont_care ≡ l.dont_care → k ≡ l
+kept_same k l a b c d e f g h i j m n o p q = same k.name k.lists_inputs k.inputs k.lists_outputs k.outputs k.ports k.clocks k.drives k.reads k.inner k.timing k.mixed k.latches k.tables k.dont_care a b c d e f g h i j m n o p q
+  where
+    same : (name : List ℕ) (li : Bool) (inputs : List (List ℕ)) (lo : Bool) (outputs ports clocks drives reads inner : List (List ℕ)) (timing : Option Timing) (mixed : Option ℕ) (latches : List TheLatch) (tables dont_care : List Table)
+        → name ≡ l.name → li ≡ l.lists_inputs → inputs ≡ l.inputs → lo ≡ l.lists_outputs → outputs ≡ l.outputs → ports ≡ l.ports → clocks ≡ l.clocks → drives ≡ l.drives → reads ≡ l.reads → inner ≡ l.inner → timing ≡ l.timing → mixed ≡ l.mixed → latches ≡ l.latches → tables ≡ l.tables → dont_care ≡ l.dont_care
+        → kept_with name li inputs lo outputs ports clocks drives reads inner timing mixed latches tables dont_care ≡ l
+    same name li inputs lo outputs ports clocks drives reads inner timing mixed latches tables dont_care a b c d e f g h i j m n o p q = rw (a, b, c, d, e, f, g, h, i, j, m, n, o, p, q) refl
 
 -- a field of the draft with what a line puts behind it, and the lines that follow
 pub put_more : {A : Type 0} (words_of : Keyword → List (List ℕ) → List A) (before : List A) (kind : Keyword) (line : Entry) (lines : List Entry) → kind_of line ≡ kind → (before ++ words_of kind (other_words line.words)) ++ of_lines words_of lines ≡ before ++ of_lines words_of (line ∷ lines)
@@ -274,6 +414,83 @@ put_more words_of before kind line lines e =
 pub put_none : {A : Type 0} (words_of : Keyword → List (List ℕ) → List A) (before : List A) (kind : Keyword) (line : Entry) (lines : List Entry) → kind_of line ≡ kind → words_of kind (other_words line.words) ≡ [] → before ++ of_lines words_of lines ≡ before ++ of_lines words_of (line ∷ lines)
 put_none words_of before kind line lines e none =
     ap (λ rest. before ++ rest) (sym (more_of words_of line lines kind e ∙ ap (λ more. more ++ of_lines words_of lines) none))
+
+-- the same where a list grows in the model alone
+pub put_grown : (words_of : Keyword → List (List ℕ) → List (List ℕ)) (had : Bool) (before : List (List ℕ)) (kind : Keyword) (line : Entry) (lines : List Entry) → kind_of line ≡ kind → had ≡ false → with_more had before (words_of kind (other_words line.words)) ++ of_lines words_of lines ≡ before ++ of_lines words_of (line ∷ lines)
+put_grown words_of true before kind line lines e h = absurd (cc)
+put_grown words_of false before kind line lines e h = put_more words_of before kind line lines e
+
+pub not_grown : (had : Bool) (before more : List (List ℕ)) → had ≡ true → with_more had before more ≡ before
+not_grown true before more h = refl
+not_grown false before more h = absurd (cc)
+
+pub inputs_listed_more : (line : Entry) (lines : List Entry) (kind : Keyword) → kind_of line ≡ kind → lists_inputs (line ∷ lines) ≡ (is_inputs_kind kind || lists_inputs lines)
+unfolding lists_inputs
+inputs_listed_more line lines kind e = ap (λ k. is_inputs_kind k || lists_inputs lines) e
+
+pub outputs_listed_more : (line : Entry) (lines : List Entry) (kind : Keyword) → kind_of line ≡ kind → lists_outputs (line ∷ lines) ≡ (is_outputs_kind kind || lists_outputs lines)
+unfolding lists_outputs
+outputs_listed_more line lines kind e = ap (λ k. is_outputs_kind k || lists_outputs lines) e
+
+pub no_inputs_listed : (before : Bool) (kind : Keyword) (line : Entry) (lines : List Entry) → kind_of line ≡ kind → is_inputs_kind kind ≡ false → (before || lists_inputs lines) ≡ (before || lists_inputs (line ∷ lines))
+no_inputs_listed before kind line lines e unlike = ap (λ b. before || b) (sym (inputs_listed_more line lines kind e ∙ ap (λ b. b || lists_inputs lines) unlike))
+
+pub no_outputs_listed : (before : Bool) (kind : Keyword) (line : Entry) (lines : List Entry) → kind_of line ≡ kind → is_outputs_kind kind ≡ false → (before || lists_outputs lines) ≡ (before || lists_outputs (line ∷ lines))
+no_outputs_listed before kind line lines e unlike = ap (λ b. before || b) (sym (outputs_listed_more line lines kind e ∙ ap (λ b. b || lists_outputs lines) unlike))
+
+pub now_listed : (had before rest : Bool) → had ≡ false → ((not had || before) || rest) ≡ (before || (true || rest))
+now_listed true before rest h = absurd (cc)
+now_listed false true rest h = refl
+now_listed false false rest h = refl
+
+pub still_listed : (had before : Bool) → had ≡ true → (not had || before) ≡ before
+still_listed true before h = refl
+still_listed false before h = absurd (cc)
+
+pub inner_line : (line : Entry) (lines : List Entry) (kind : Keyword) → kind_of line ≡ kind → inner_in (line ∷ lines) ≡ inner_by kind (other_words line.words) (inner_in lines)
+unfolding inner_in
+inner_line line lines kind e = ap (λ k. inner_by k (other_words line.words) (inner_in lines)) e
+
+pub inner_other : (lists : Bool) (inner : List (List ℕ)) (kind : Keyword) (line : Entry) (lines : List Entry) → kind_of line ≡ kind → inner_by kind (other_words line.words) (inner_in lines) ≡ inner_in lines → inner_after lists inner lines ≡ inner_after lists inner (line ∷ lines)
+inner_other true inner kind line lines e unlike = refl
+inner_other false inner kind line lines e unlike = ap (λ rest. inner ++ rest) (sym (inner_line line lines kind e ∙ unlike))
+
+pub inner_more : (had lists : Bool) (inner more : List (List ℕ)) (kind : Keyword) (line : Entry) (lines : List Entry) → kind_of line ≡ kind → had ≡ false → inner_by kind (other_words line.words) (inner_in lines) ≡ more ++ inner_in lines → inner_after lists (with_more (had || lists) inner more) lines ≡ inner_after lists inner (line ∷ lines)
+inner_more true lists inner more kind line lines e h by = absurd (cc)
+inner_more false true inner more kind line lines e h by = refl
+inner_more false false inner more kind line lines e h by = append_assoc inner more (inner_in lines) ∙ ap (λ rest. inner ++ rest) (sym (inner_line line lines kind e ∙ by))
+
+pub inner_ended : (had lists : Bool) (inner : List (List ℕ)) (line : Entry) (lines : List Entry) → kind_of line ≡ Inputs → had ≡ false → inner_after (not had || lists) inner lines ≡ inner_after lists inner (line ∷ lines)
+inner_ended true lists inner line lines e h = absurd (cc)
+inner_ended false true inner line lines e h = refl
+inner_ended false false inner line lines e h = sym (ap (λ rest. inner ++ rest) (inner_line line lines Inputs e) ∙ append-nil inner)
+
+pub latches_other : (kind : Keyword) (line : Entry) (lines : List Entry) → kind_of line ≡ kind → is_latch_line kind ≡ false → latch_lines lines ≡ latch_lines (line ∷ lines)
+latches_other kind line lines e unlike = let is : is_latch_line (kind_of line) ≡ false = ap is_latch_line e ∙ unlike in rw is refl
+
+pub latches_one : (line : Entry) (lines : List Entry) → kind_of line ≡ Latch → line ∷ latch_lines lines ≡ latch_lines (line ∷ lines)
+latches_one line lines e = let is : is_latch_line (kind_of line) ≡ true = ap is_latch_line e in rw is refl
+
+pub timing_latch : (latches : List TheLatch) (timing : Option Timing) (words : List (List ℕ)) (line : Entry) (lines : List Entry) → other_words line.words ≡ words → is_latch words ≡ true → timing_after (latches ++ latch_of words) (timing_with latches timing (timing_of words)) lines ≡ timing_after latches timing (line ∷ lines)
+unfolding timing_with
+timing_latch (latch ∷ latches) timing words line lines e is = refl
+timing_latch [] timing [] line lines e is = absurd (cc)
+timing_latch [] timing (input ∷ []) line lines e is = absurd (cc)
+timing_latch [] timing (input ∷ output ∷ words) line lines e is = sym (ap timing_of e)
+
+pub shared_timing : (latches : List TheLatch) (timing : Option Timing) (line : Entry) (lines : List Entry) → timing_with latches timing (timing_at line) ≡ timing_after latches timing (line ∷ lines)
+unfolding timing_with
+shared_timing [] timing line lines = refl
+shared_timing (latch ∷ latches) timing line lines = refl
+
+pub mixed_latch : (mixed : Option ℕ) (timing : Option Timing) (line : Entry) (lines : List Entry) → mixed_after (mixed_with mixed timing line.number (timing_at line)) timing lines ≡ mixed_after mixed timing (line ∷ lines)
+unfolding mixed_with
+mixed_latch (Some number) timing line lines = refl
+mixed_latch None timing line lines = by (same_timing timing (timing_at line))
+  where
+    by : (b : Bool) → mixed_after (if b then None else Some line.number) timing lines ≡ option_map (λ (one : Entry). one.number) (cond (not b) (Some line) (find (λ one. not (same_timing timing (timing_at one))) lines))
+    by true = refl
+    by false = refl
 
 pub name_other : (line : Entry) (lines : List Entry) → named_by (kind_of line) (other_words line.words) ≡ codes "top" → (begun : Bool) (name : List ℕ) → (begun ≡ false → name ≡ codes "top") → name ≡ name_after begun name (line ∷ lines)
 unfolding model_name
@@ -321,88 +538,254 @@ row_tables None line lines e other = sym (tables_other line lines other)
 row_tables (Some reading) line lines e other =
     rw (one_row_in line lines e, tables_other line lines other) refl
 
-pub begins : (begun : Bool) (number : ℕ) (words : List (List ℕ)) → model_fault begun number words ≡ None → begun ≡ false
-unfolding model_fault first_of
-begins true number words f = by (nat_lt 1 (length words)) f
-  where
-    by : (b : Bool) → first_of (when b (BadArity number) ∷ when true (SecondModel number) ∷ long_name words ∷ []) ≡ None → true ≡ false
-    by true e = absurd (cc)
-    by false e = absurd (cc)
-begins false number words f = refl
+-- one line more in the model
+pub own_step : (kind : Keyword) (line : Entry) (lines own : List Entry) (part : List Table) (back : List Entry) (draft : Draft) → kind_of line ≡ kind → Tells back draft → draft_fault kind draft line.number (other_words line.words) line.words ≡ None → draft.has_part ≡ false → begins_part kind ≡ false
+    → kept_from (with_line kind draft line.number (other_words line.words) line.words) lines own part ≡ kept_from draft (line ∷ lines) (line ∷ own) part
+unfolding closed
+own_step Model line lines own part back draft e t f h unlike =
+    kept_same _ _
+    (model_named line lines draft.begun draft.name e (begins (place_of draft) draft.begun line.number (other_words line.words) f))
+    (no_inputs_listed draft.lists_inputs Model line own e refl)
+    (put_none listed_inputs draft.inputs Model line own e refl)
+    (no_outputs_listed draft.lists_outputs Model line own e refl)
+    (put_none listed_outputs draft.outputs Model line own e refl)
+    (put_none listed_ports draft.ports Model line own e refl)
+    (put_none listed_clocks draft.clocks Model line own e refl)
+    (put_none driven_by draft.drives Model line own e refl)
+    (put_none read_by draft.reads Model line own e refl)
+    (inner_other draft.lists_inputs draft.inner Model line own e refl)
+    (ap (timing_after draft.latches draft.timing) (latches_other Model line own e refl))
+    (ap (λ ls. mixed_after draft.mixed (timing_after draft.latches draft.timing ls) ls) (latches_other Model line own e refl))
+    (put_none latches_by draft.latches Model line own e refl)
+    (closed_other draft.tables draft.reading line own (row_is line Model e) (table_is line Model e))
+    refl
+own_step Inputs line lines own part back draft e t f h unlike =
+    kept_same _ _
+    (name_other line lines (ap (λ k. named_by k (other_words line.words)) e) draft.begun draft.name t.unnamed)
+    (now_listed draft.has_part draft.lists_inputs (lists_inputs own) h ∙ ap (λ b. draft.lists_inputs || b) (sym (inputs_listed_more line own Inputs e)))
+    (put_grown listed_inputs draft.has_part draft.inputs Inputs line own e h)
+    (no_outputs_listed draft.lists_outputs Inputs line own e refl)
+    (put_none listed_outputs draft.outputs Inputs line own e refl)
+    (put_grown listed_ports draft.has_part draft.ports Inputs line own e h)
+    (put_none listed_clocks draft.clocks Inputs line own e refl)
+    (put_none driven_by draft.drives Inputs line own e refl)
+    (put_none read_by draft.reads Inputs line own e refl)
+    (inner_ended draft.has_part draft.lists_inputs draft.inner line own e h)
+    (ap (timing_after draft.latches draft.timing) (latches_other Inputs line own e refl))
+    (ap (λ ls. mixed_after draft.mixed (timing_after draft.latches draft.timing ls) ls) (latches_other Inputs line own e refl))
+    (put_none latches_by draft.latches Inputs line own e refl)
+    (closed_other draft.tables draft.reading line own (row_is line Inputs e) (table_is line Inputs e))
+    refl
+own_step Outputs line lines own part back draft e t f h unlike =
+    kept_same _ _
+    (name_other line lines (ap (λ k. named_by k (other_words line.words)) e) draft.begun draft.name t.unnamed)
+    (no_inputs_listed draft.lists_inputs Outputs line own e refl)
+    (put_none listed_inputs draft.inputs Outputs line own e refl)
+    (now_listed draft.has_part draft.lists_outputs (lists_outputs own) h ∙ ap (λ b. draft.lists_outputs || b) (sym (outputs_listed_more line own Outputs e)))
+    (put_grown listed_outputs draft.has_part draft.outputs Outputs line own e h)
+    (put_grown listed_ports draft.has_part draft.ports Outputs line own e h)
+    (put_none listed_clocks draft.clocks Outputs line own e refl)
+    (put_none driven_by draft.drives Outputs line own e refl)
+    (put_grown read_by draft.has_part draft.reads Outputs line own e h)
+    (inner_other draft.lists_inputs draft.inner Outputs line own e refl)
+    (ap (timing_after draft.latches draft.timing) (latches_other Outputs line own e refl))
+    (ap (λ ls. mixed_after draft.mixed (timing_after draft.latches draft.timing ls) ls) (latches_other Outputs line own e refl))
+    (put_none latches_by draft.latches Outputs line own e refl)
+    (closed_other draft.tables draft.reading line own (row_is line Outputs e) (table_is line Outputs e))
+    refl
+own_step Clock line lines own part back draft e t f h unlike =
+    kept_same _ _
+    (name_other line lines (ap (λ k. named_by k (other_words line.words)) e) draft.begun draft.name t.unnamed)
+    (no_inputs_listed draft.lists_inputs Clock line own e refl)
+    (put_none listed_inputs draft.inputs Clock line own e refl)
+    (no_outputs_listed draft.lists_outputs Clock line own e refl)
+    (put_none listed_outputs draft.outputs Clock line own e refl)
+    (put_none listed_ports draft.ports Clock line own e refl)
+    (put_more listed_clocks draft.clocks Clock line own e)
+    (put_none driven_by draft.drives Clock line own e refl)
+    (put_none read_by draft.reads Clock line own e refl)
+    (inner_other draft.lists_inputs draft.inner Clock line own e refl)
+    (ap (timing_after draft.latches draft.timing) (latches_other Clock line own e refl))
+    (ap (λ ls. mixed_after draft.mixed (timing_after draft.latches draft.timing ls) ls) (latches_other Clock line own e refl))
+    (put_none latches_by draft.latches Clock line own e refl)
+    (closed_other draft.tables draft.reading line own (row_is line Clock e) (table_is line Clock e))
+    refl
+own_step Names line lines own part back draft e t f h unlike =
+    kept_same _ _
+    (name_other line lines (ap (λ k. named_by k (other_words line.words)) e) draft.begun draft.name t.unnamed)
+    (no_inputs_listed draft.lists_inputs Names line own e refl)
+    (put_none listed_inputs draft.inputs Names line own e refl)
+    (no_outputs_listed draft.lists_outputs Names line own e refl)
+    (put_none listed_outputs draft.outputs Names line own e refl)
+    (put_none listed_ports draft.ports Names line own e refl)
+    (put_none listed_clocks draft.clocks Names line own e refl)
+    (put_grown driven_by draft.has_part draft.drives Names line own e h)
+    (put_grown read_by draft.has_part draft.reads Names line own e h)
+    (inner_more draft.has_part draft.lists_inputs draft.inner (input_words (other_words line.words)) Names line own e h refl)
+    (ap (timing_after draft.latches draft.timing) (latches_other Names line own e refl))
+    (ap (λ ls. mixed_after draft.mixed (timing_after draft.latches draft.timing ls) ls) (latches_other Names line own e refl))
+    (put_none latches_by draft.latches Names line own e refl)
+    (closed_table draft.tables draft.reading line own (row_is line Names e) (table_is line Names e))
+    refl
+own_step Latch line lines own part back draft e t f h unlike =
+    kept_same _ _
+    (name_other line lines (ap (λ k. named_by k (other_words line.words)) e) draft.begun draft.name t.unnamed)
+    (no_inputs_listed draft.lists_inputs Latch line own e refl)
+    (put_none listed_inputs draft.inputs Latch line own e refl)
+    (no_outputs_listed draft.lists_outputs Latch line own e refl)
+    (put_none listed_outputs draft.outputs Latch line own e refl)
+    (put_none listed_ports draft.ports Latch line own e refl)
+    (put_none listed_clocks draft.clocks Latch line own e refl)
+    (put_more driven_by draft.drives Latch line own e)
+    (put_more read_by draft.reads Latch line own e)
+    (inner_more false draft.lists_inputs draft.inner (latch_input (other_words line.words)) Latch line own e refl refl)
+    (timing_latch draft.latches draft.timing (other_words line.words) line (latch_lines own) refl (right_latch (place_of draft) draft.nodes line.number (other_words line.words) f) ∙ ap (timing_after draft.latches draft.timing) (latches_one line own e))
+    (ap (λ timing. mixed_after (mixed_with draft.mixed (timing_with draft.latches draft.timing (timing_at line)) line.number (timing_at line)) timing (latch_lines own)) (timing_latch draft.latches draft.timing (other_words line.words) line (latch_lines own) refl (right_latch (place_of draft) draft.nodes line.number (other_words line.words) f))
+    ∙ ap (λ timing. mixed_after (mixed_with draft.mixed timing line.number (timing_at line)) (timing_after draft.latches draft.timing (line ∷ latch_lines own)) (latch_lines own)) (shared_timing draft.latches draft.timing line (latch_lines own))
+    ∙ mixed_latch draft.mixed (timing_after draft.latches draft.timing (line ∷ latch_lines own)) line (latch_lines own)
+    ∙ ap (λ ls. mixed_after draft.mixed (timing_after draft.latches draft.timing ls) ls) (latches_one line own e))
+    (put_more latches_by draft.latches Latch line own e)
+    (closed_other draft.tables draft.reading line own (row_is line Latch e) (table_is line Latch e))
+    refl
+own_step Gate line lines own part back draft e t f h unlike = absurd (gate_wrong (place_of draft) line.number (other_words line.words) f)
+own_step DontCare line lines own part back draft e t f h unlike = absurd (cc)
+own_step End line lines own part back draft e t f h unlike =
+    kept_same _ _
+    (name_other line lines (ap (λ k. named_by k (other_words line.words)) e) draft.begun draft.name t.unnamed)
+    (no_inputs_listed draft.lists_inputs End line own e refl)
+    (put_none listed_inputs draft.inputs End line own e refl)
+    (no_outputs_listed draft.lists_outputs End line own e refl)
+    (put_none listed_outputs draft.outputs End line own e refl)
+    (put_none listed_ports draft.ports End line own e refl)
+    (put_none listed_clocks draft.clocks End line own e refl)
+    (put_none driven_by draft.drives End line own e refl)
+    (put_none read_by draft.reads End line own e refl)
+    (inner_other draft.lists_inputs draft.inner End line own e refl)
+    (ap (timing_after draft.latches draft.timing) (latches_other End line own e refl))
+    (ap (λ ls. mixed_after draft.mixed (timing_after draft.latches draft.timing ls) ls) (latches_other End line own e refl))
+    (put_none latches_by draft.latches End line own e refl)
+    (closed_other draft.tables draft.reading line own (row_is line End e) (table_is line End e))
+    refl
+own_step Skipped line lines own part back draft e t f h unlike =
+    kept_same _ _
+    (name_other line lines (ap (λ k. named_by k (other_words line.words)) e) draft.begun draft.name t.unnamed)
+    (no_inputs_listed draft.lists_inputs Skipped line own e refl)
+    (put_none listed_inputs draft.inputs Skipped line own e refl)
+    (no_outputs_listed draft.lists_outputs Skipped line own e refl)
+    (put_none listed_outputs draft.outputs Skipped line own e refl)
+    (put_none listed_ports draft.ports Skipped line own e refl)
+    (put_none listed_clocks draft.clocks Skipped line own e refl)
+    (put_none driven_by draft.drives Skipped line own e refl)
+    (put_none read_by draft.reads Skipped line own e refl)
+    (inner_other draft.lists_inputs draft.inner Skipped line own e refl)
+    (ap (timing_after draft.latches draft.timing) (latches_other Skipped line own e refl))
+    (ap (λ ls. mixed_after draft.mixed (timing_after draft.latches draft.timing ls) ls) (latches_other Skipped line own e refl))
+    (put_none latches_by draft.latches Skipped line own e refl)
+    (closed_other draft.tables draft.reading line own (row_is line Skipped e) (table_is line Skipped e))
+    refl
+own_step Row line lines own part back draft e t f h unlike =
+    kept_same _ _
+    (name_other line lines (ap (λ k. named_by k (other_words line.words)) e) draft.begun draft.name t.unnamed)
+    (no_inputs_listed draft.lists_inputs Row line own e refl)
+    (put_none listed_inputs draft.inputs Row line own e refl)
+    (no_outputs_listed draft.lists_outputs Row line own e refl)
+    (put_none listed_outputs draft.outputs Row line own e refl)
+    (put_none listed_ports draft.ports Row line own e refl)
+    (put_none listed_clocks draft.clocks Row line own e refl)
+    (put_none driven_by draft.drives Row line own e refl)
+    (put_none read_by draft.reads Row line own e refl)
+    (inner_other draft.lists_inputs draft.inner Row line own e refl)
+    (ap (timing_after draft.latches draft.timing) (latches_other Row line own e refl))
+    (ap (λ ls. mixed_after draft.mixed (timing_after draft.latches draft.timing ls) ls) (latches_other Row line own e refl))
+    (put_none latches_by draft.latches Row line own e refl)
+    (ap (λ rest. draft.tables ++ rest) (row_tables draft.reading line own (row_is line Row e) (table_is line Row e)))
+    refl
+own_step Other line lines own part back draft e t f h unlike = absurd (cc)
 
-pub finish_kept : (kind : Keyword) (line : Entry) (lines back : List Entry) (draft : Draft) → kind_of line ≡ kind → Tells back draft → draft_fault kind draft line.number (other_words line.words) line.words ≡ None → finished_by (with_line kind draft (other_words line.words) line.words) lines ≡ finished_by draft (line ∷ lines)
-unfolding closed inputs_in outputs_in ports_in drives_in reads_in latches_in
-finish_kept Model line lines back draft e t f =
-    made_eq _ _ _ _ _ _ _ _ _ _ _ _ _ _ _ _
-    (model_named line lines draft.begun draft.name e (begins draft.begun line.number (other_words line.words) f))
-    (put_none listed_inputs draft.inputs Model line lines e refl)
-    (put_none listed_outputs draft.outputs Model line lines e refl)
-    (put_none listed_ports draft.ports Model line lines e refl)
-    (put_none driven_by draft.drives Model line lines e refl)
-    (put_none read_by draft.reads Model line lines e refl)
-    (put_none latches_by draft.latches Model line lines e refl)
-    (closed_other draft.tables draft.reading line lines (row_is line Model e) (table_is line Model e))
-finish_kept Inputs line lines back draft e t f =
-    made_eq _ _ _ _ _ _ _ _ _ _ _ _ _ _ _ _
+-- one line more in the don't-care part
+pub part_step : (kind : Keyword) (line : Entry) (lines back : List Entry) (draft : Draft) → kind_of line ≡ kind → Tells back draft → draft_fault kind draft line.number (other_words line.words) line.words ≡ None → draft.has_part ≡ true
+    → kept_part (with_line kind draft line.number (other_words line.words) line.words) lines ≡ kept_part draft (line ∷ lines)
+unfolding closed
+part_step Model line lines back draft e t f h = absurd (unbegun back draft.has_part h t.part (begins (place_of draft) draft.begun line.number (other_words line.words) f) t.begun)
+part_step Inputs line lines back draft e t f h =
+    kept_same _ _
     (name_other line lines (ap (λ k. named_by k (other_words line.words)) e) draft.begun draft.name t.unnamed)
-    (put_more listed_inputs draft.inputs Inputs line lines e)
-    (put_none listed_outputs draft.outputs Inputs line lines e refl)
-    (put_more listed_ports draft.ports Inputs line lines e)
-    (put_none driven_by draft.drives Inputs line lines e refl)
-    (put_none read_by draft.reads Inputs line lines e refl)
-    (put_none latches_by draft.latches Inputs line lines e refl)
+    (still_listed draft.has_part draft.lists_inputs h)
+    (not_grown draft.has_part draft.inputs (other_words line.words) h)
+    refl refl
+    (not_grown draft.has_part draft.ports (other_words line.words) h)
+    refl refl refl refl refl refl refl refl
     (closed_other draft.tables draft.reading line lines (row_is line Inputs e) (table_is line Inputs e))
-finish_kept Outputs line lines back draft e t f =
-    made_eq _ _ _ _ _ _ _ _ _ _ _ _ _ _ _ _
+part_step Outputs line lines back draft e t f h =
+    kept_same _ _
     (name_other line lines (ap (λ k. named_by k (other_words line.words)) e) draft.begun draft.name t.unnamed)
-    (put_none listed_inputs draft.inputs Outputs line lines e refl)
-    (put_more listed_outputs draft.outputs Outputs line lines e)
-    (put_more listed_ports draft.ports Outputs line lines e)
-    (put_none driven_by draft.drives Outputs line lines e refl)
-    (put_more read_by draft.reads Outputs line lines e)
-    (put_none latches_by draft.latches Outputs line lines e refl)
+    refl refl
+    (still_listed draft.has_part draft.lists_outputs h)
+    (not_grown draft.has_part draft.outputs (other_words line.words) h)
+    (not_grown draft.has_part draft.ports (other_words line.words) h)
+    refl refl
+    (not_grown draft.has_part draft.reads (other_words line.words) h)
+    refl refl refl refl refl
     (closed_other draft.tables draft.reading line lines (row_is line Outputs e) (table_is line Outputs e))
-finish_kept Names line lines back draft e t f =
-    made_eq _ _ _ _ _ _ _ _ _ _ _ _ _ _ _ _
+part_step Clock line lines back draft e t f h = absurd (own_clock draft.ended draft.has_part line.number (other_words line.words) h f)
+part_step Names line lines back draft e t f h =
+    kept_same _ _
     (name_other line lines (ap (λ k. named_by k (other_words line.words)) e) draft.begun draft.name t.unnamed)
-    (put_none listed_inputs draft.inputs Names line lines e refl)
-    (put_none listed_outputs draft.outputs Names line lines e refl)
-    (put_none listed_ports draft.ports Names line lines e refl)
-    (put_more driven_by draft.drives Names line lines e)
-    (put_more read_by draft.reads Names line lines e)
-    (put_none latches_by draft.latches Names line lines e refl)
+    refl refl refl refl refl refl
+    (not_grown draft.has_part draft.drives (last_word (other_words line.words) ∷ []) h)
+    (not_grown draft.has_part draft.reads (input_words (other_words line.words)) h)
+    (not_grown (draft.has_part || draft.lists_inputs) draft.inner (input_words (other_words line.words)) (ap (λ b. b || draft.lists_inputs) h))
+    refl refl refl refl
     (closed_table draft.tables draft.reading line lines (row_is line Names e) (table_is line Names e))
-finish_kept Latch line lines back draft e t f =
-    made_eq _ _ _ _ _ _ _ _ _ _ _ _ _ _ _ _
+part_step Latch line lines back draft e t f h = absurd (own_latch draft.ended draft.has_part draft.nodes line.number (other_words line.words) h f)
+part_step Gate line lines back draft e t f h = absurd (gate_wrong (place_of draft) line.number (other_words line.words) f)
+part_step DontCare line lines back draft e t f h = absurd (own_place draft.ended draft.has_part line.number h f)
+part_step End line lines back draft e t f h =
+    kept_same _ _
     (name_other line lines (ap (λ k. named_by k (other_words line.words)) e) draft.begun draft.name t.unnamed)
-    (put_none listed_inputs draft.inputs Latch line lines e refl)
-    (put_none listed_outputs draft.outputs Latch line lines e refl)
-    (put_none listed_ports draft.ports Latch line lines e refl)
-    (put_more driven_by draft.drives Latch line lines e)
-    (put_more read_by draft.reads Latch line lines e)
-    (put_more latches_by draft.latches Latch line lines e)
-    (closed_other draft.tables draft.reading line lines (row_is line Latch e) (table_is line Latch e))
-finish_kept End line lines back draft e t f =
-    made_eq _ _ _ _ _ _ _ _ _ _ _ _ _ _ _ _
-    (name_other line lines (ap (λ k. named_by k (other_words line.words)) e) draft.begun draft.name t.unnamed)
-    (put_none listed_inputs draft.inputs End line lines e refl)
-    (put_none listed_outputs draft.outputs End line lines e refl)
-    (put_none listed_ports draft.ports End line lines e refl)
-    (put_none driven_by draft.drives End line lines e refl)
-    (put_none read_by draft.reads End line lines e refl)
-    (put_none latches_by draft.latches End line lines e refl)
+    refl refl refl refl refl refl refl refl refl refl refl refl refl
     (closed_other draft.tables draft.reading line lines (row_is line End e) (table_is line End e))
-finish_kept Row line lines back draft e t f =
-    made_eq _ _ _ _ _ _ _ _ _ _ _ _ _ _ _ _
+part_step Skipped line lines back draft e t f h = absurd (own_place draft.ended draft.has_part line.number h f)
+part_step Row line lines back draft e t f h =
+    kept_same _ _
     (name_other line lines (ap (λ k. named_by k (other_words line.words)) e) draft.begun draft.name t.unnamed)
-    (put_none listed_inputs draft.inputs Row line lines e refl)
-    (put_none listed_outputs draft.outputs Row line lines e refl)
-    (put_none listed_ports draft.ports Row line lines e refl)
-    (put_none driven_by draft.drives Row line lines e refl)
-    (put_none read_by draft.reads Row line lines e refl)
-    (put_none latches_by draft.latches Row line lines e refl)
+    refl refl refl refl refl refl refl refl refl refl refl refl refl
     (ap (λ rest. draft.tables ++ rest) (row_tables draft.reading line lines (row_is line Row e) (table_is line Row e)))
-finish_kept Other line lines back draft e t f = absurd (cc)
+part_step Other line lines back draft e t f h = absurd (cc)
+
+-- the lines of the model and of the part, with one more
+pub own_more : (line : Entry) (lines : List Entry) → begins_part (kind_of line) ≡ false → model_lines (line ∷ lines) ≡ line ∷ model_lines lines
+unfolding model_lines
+own_more line lines unlike = rw (take_while-cons (λ line. not (begins_part (kind_of line))) line lines, unlike) refl
+
+pub own_ends : (line : Entry) (lines : List Entry) → begins_part (kind_of line) ≡ true → model_lines (line ∷ lines) ≡ []
+unfolding model_lines
+own_ends line lines is = rw (take_while-cons (λ line. not (begins_part (kind_of line))) line lines, is) refl
+
+pub part_later : (line : Entry) (lines : List Entry) → begins_part (kind_of line) ≡ false → part_lines (line ∷ lines) ≡ part_lines lines
+unfolding part_lines
+part_later line lines unlike = ap (λ (own : List Entry). drop (length own) (line ∷ lines)) (own_more line lines unlike)
+
+pub part_here : (line : Entry) (lines : List Entry) → begins_part (kind_of line) ≡ true → part_lines (line ∷ lines) ≡ line ∷ lines
+unfolding part_lines
+part_here line lines is = ap (λ (own : List Entry). drop (length own) (line ∷ lines)) (own_ends line lines is)
+
+pub or_nothing : (b : Bool) → b ≡ (b || false)
+or_nothing true = refl
+or_nothing false = refl
+
+pub inner_ends : (lists : Bool) (inner : List (List ℕ)) → inner ≡ inner_after lists inner []
+unfolding inner_in
+inner_ends true inner = refl
+inner_ends false inner = sym (append-nil inner)
+
+pub timing_ends : (latches : List TheLatch) (timing : Option Timing) → timing ≡ timing_after latches timing []
+timing_ends [] timing = refl
+timing_ends (latch ∷ latches) timing = refl
+
+pub mixed_ends : (mixed : Option ℕ) (timing : Option Timing) → mixed ≡ mixed_after mixed timing []
+mixed_ends None timing = refl
+mixed_ends (Some number) timing = refl
 
 -- behind the last line
 
@@ -416,25 +799,127 @@ unfolding tables_with tables_in with_rows
 tables_end tables None = sym (append-nil tables)
 tables_end tables (Some reading) = refl
 
-pub finish_end : (back : List Entry) (draft : Draft) → Tells back draft → finished draft ≡ finished_by draft []
-unfolding finished inputs_in outputs_in ports_in drives_in reads_in latches_in
-finish_end back draft t =
-    made_eq _ _ _ _ _ _ _ _ _ _ _ _ _ _ _ _
-    (named_end draft.begun draft.name t.unnamed)
+-- the model ends
+pub own_end : (line : Entry) (lines back : List Entry) (draft : Draft) → kind_of line ≡ DontCare → Tells back draft → kept_part (with_line DontCare draft line.number (other_words line.words) line.words) lines ≡ kept_from draft (line ∷ lines) [] (tables_in (line ∷ lines))
+unfolding closed lists_inputs lists_outputs
+own_end line lines back draft e t =
+    kept_same _ _
+    (name_other line lines (ap (λ k. named_by k (other_words line.words)) e) draft.begun draft.name t.unnamed)
+    (or_nothing draft.lists_inputs)
     (sym (append-nil draft.inputs))
+    (or_nothing draft.lists_outputs)
     (sym (append-nil draft.outputs))
     (sym (append-nil draft.ports))
+    (sym (append-nil draft.clocks))
     (sym (append-nil draft.drives))
     (sym (append-nil draft.reads))
+    (inner_ends draft.lists_inputs draft.inner)
+    (timing_ends draft.latches draft.timing)
+    (mixed_ends draft.mixed (timing_after draft.latches draft.timing []))
     (sym (append-nil draft.latches))
     (tables_end draft.tables draft.reading)
+    (sym (tables_other line lines (table_is line DontCare e)))
+
+pub part_begun : (line : Entry) (lines back : List Entry) (draft : Draft) → kind_of line ≡ DontCare → Tells back draft → kept_part (with_line DontCare draft line.number (other_words line.words) line.words) lines ≡ kept_by false draft (line ∷ lines)
+part_begun line lines back draft e t =
+    own_end line lines back draft e t
+    ∙ sym (ap (λ own. kept_from draft (line ∷ lines) own (tables_in (part_lines (line ∷ lines)))) (own_ends line lines (ap begins_part e))
+    ∙ ap (λ rest. kept_from draft (line ∷ lines) [] (tables_in rest)) (part_here line lines (ap begins_part e)))
+
+pub own_kept : (kind : Keyword) (line : Entry) (lines back : List Entry) (draft : Draft) → kind_of line ≡ kind → Tells back draft → draft_fault kind draft line.number (other_words line.words) line.words ≡ None → draft.has_part ≡ false → begins_part kind ≡ false
+    → kept_by false (with_line kind draft line.number (other_words line.words) line.words) lines ≡ kept_by false draft (line ∷ lines)
+own_kept kind line lines back draft e t f h unlike =
+    own_step kind line lines (model_lines lines) (tables_in (part_lines lines)) back draft e t f h unlike
+    ∙ sym (ap (λ own. kept_from draft (line ∷ lines) own (tables_in (part_lines (line ∷ lines)))) (own_more line lines (ap begins_part e ∙ unlike))
+    ∙ ap (λ rest. kept_from draft (line ∷ lines) (line ∷ model_lines lines) (tables_in rest)) (part_later line lines (ap begins_part e ∙ unlike)))
+
+-- the part goes on, and begins with its line alone
+pub same_part : (kind : Keyword) (draft : Draft) (number : ℕ) (words whole : List (List ℕ)) → (with_line kind draft number words whole).has_part ≡ (begins_part kind || draft.has_part)
+unfolding closed
+same_part Model draft number words whole = refl
+same_part Inputs draft number words whole = refl
+same_part Outputs draft number words whole = refl
+same_part Clock draft number words whole = refl
+same_part Names draft number words whole = refl
+same_part Latch draft number words whole = refl
+same_part Gate draft number words whole = refl
+same_part DontCare draft number words whole = refl
+same_part End draft number words whole = refl
+same_part Skipped draft number words whole = refl
+same_part Row draft number words whole = refl
+same_part Other draft number words whole = refl
+
+pub either : (a b : Bool) → b ≡ true → (a || b) ≡ true
+either true b e = refl
+either false b e = e
+
+pub finish_kept : (kind : Keyword) (line : Entry) (lines back : List Entry) (draft : Draft) → kind_of line ≡ kind → Tells back draft → draft_fault kind draft line.number (other_words line.words) line.words ≡ None → finished_by (with_line kind draft line.number (other_words line.words) line.words) lines ≡ finished_by draft (line ∷ lines)
+finish_kept kind line lines back draft e t f = ap read_kept (by draft.has_part (begins_part kind) refl refl)
+  where
+    next : Draft
+    next = with_line kind draft line.number (other_words line.words) line.words
+
+    by : (had begin : Bool) → draft.has_part ≡ had → begins_part kind ≡ begin → kept_by next.has_part next lines ≡ kept_by draft.has_part draft (line ∷ lines)
+    by true begin h unlike =
+        ap (λ b. kept_by b next lines) (same_part kind draft line.number (other_words line.words) line.words ∙ either (begins_part kind) draft.has_part h)
+        ∙ part_step kind line lines back draft e t f h
+        ∙ sym (ap (λ b. kept_by b draft (line ∷ lines)) h)
+    by false true h is =
+        ap (λ b. kept_by b next lines) (same_part kind draft line.number (other_words line.words) line.words ∙ ap (λ b. b || draft.has_part) is)
+        ∙ begun kind e is
+        ∙ sym (ap (λ b. kept_by b draft (line ∷ lines)) h)
+      where
+        begun : (k : Keyword) → kind_of line ≡ k → begins_part k ≡ true → kept_part (with_line k draft line.number (other_words line.words) line.words) lines ≡ kept_by false draft (line ∷ lines)
+        begun DontCare e is = part_begun line lines back draft e t
+        begun Model e is = absurd (cc)
+        begun Inputs e is = absurd (cc)
+        begun Outputs e is = absurd (cc)
+        begun Clock e is = absurd (cc)
+        begun Names e is = absurd (cc)
+        begun Latch e is = absurd (cc)
+        begun Gate e is = absurd (cc)
+        begun End e is = absurd (cc)
+        begun Skipped e is = absurd (cc)
+        begun Row e is = absurd (cc)
+        begun Other e is = absurd (cc)
+    by false false h unlike =
+        ap (λ b. kept_by b next lines) (same_part kind draft line.number (other_words line.words) line.words ∙ ap (λ b. b || draft.has_part) unlike ∙ h)
+        ∙ own_kept kind line lines back draft e t f h unlike
+        ∙ sym (ap (λ b. kept_by b draft (line ∷ lines)) h)
+
+pub kept_end : (back : List Entry) (draft : Draft) → Tells back draft → (had : Bool) → draft.has_part ≡ had → kept_of draft ≡ kept_by had draft []
+unfolding lists_inputs lists_outputs model_lines part_lines tables_in
+kept_end back draft t true h =
+    kept_same _ _ (named_end draft.begun draft.name t.unnamed) refl refl refl refl refl refl refl refl refl refl refl refl
+    (ap (λ b. model_of b draft.model_tables (tables_with draft.tables draft.reading)) h)
+    (ap (λ b. part_of b (tables_with draft.tables draft.reading)) h ∙ tables_end draft.tables draft.reading)
+kept_end back draft t false h =
+    kept_same _ _
+    (named_end draft.begun draft.name t.unnamed)
+    (or_nothing draft.lists_inputs)
+    (sym (append-nil draft.inputs))
+    (or_nothing draft.lists_outputs)
+    (sym (append-nil draft.outputs))
+    (sym (append-nil draft.ports))
+    (sym (append-nil draft.clocks))
+    (sym (append-nil draft.drives))
+    (sym (append-nil draft.reads))
+    (inner_ends draft.lists_inputs draft.inner)
+    (timing_ends draft.latches draft.timing)
+    (mixed_ends draft.mixed (timing_after draft.latches draft.timing []))
+    (sym (append-nil draft.latches))
+    (ap (λ b. model_of b draft.model_tables (tables_with draft.tables draft.reading)) h ∙ tables_end draft.tables draft.reading)
+    (ap (λ b. part_of b (tables_with draft.tables draft.reading)) h)
+
+pub finish_end : (back : List Entry) (draft : Draft) → Tells back draft → finished draft ≡ finished_by draft []
+finish_end back draft t = ap read_kept (kept_end back draft t draft.has_part refl)
 
 -- the kind and the fault of a line, beside those of the draft
 abbrev pub fault_at : Draft → Entry → Option BlifFault
 fault_at draft line = draft_fault (kind_of line) draft line.number (other_words line.words) line.words
 
 abbrev pub next_at : Draft → Entry → Draft
-next_at draft line = with_line (kind_of line) draft (other_words line.words) line.words
+next_at draft line = with_line (kind_of line) draft line.number (other_words line.words) line.words
 
 pub taken_entry : (draft : Draft) (line : Entry) (fault : Option BlifFault) → fault_at draft line ≡ fault → take_entry draft line ≡ from_fault fault (next_at draft line)
 unfolding take_entry take_as kind_of
@@ -469,11 +954,12 @@ agree (line ∷ lines) back draft t =
         rw (taken_entry draft line (Some fault) f, fault_of_line line back draft (Some fault) f t) refl
 
 pub nothing_told : Tells [] no_lines
-unfolding is_ended nodes_in
+unfolding is_ended has_part nodes_in
 nothing_told = record {
   begun = refl;
   unnamed = λ h. refl;
   ended = refl;
+  part = refl;
   nodes = refl;
   reading = refl;
 }
@@ -482,7 +968,97 @@ pub first_fault_first : (line whole : Option BlifFault) (circuit : Circuit) → 
 first_fault_first None whole circuit = refl
 first_fault_first (Some fault) whole circuit = refl
 
+-- what is kept of all lines is what the form says of them
+
+pub or_left : (a b : Bool) → (a || b) ≡ false → a ≡ false
+or_left true b e = e
+or_left false b e = refl
+
+pub or_right : (a b : Bool) → (a || b) ≡ false → b ≡ false
+or_right true b e = absurd (cc)
+or_right false b e = e
+
+pub inner_all : (lines : List Entry) → lists_inputs lines ≡ false → inner_in lines ≡ reads_within lines
+unfolding inner_in lists_inputs reads_within
+inner_all [] e = refl
+inner_all (line ∷ lines) e =
+    by (kind_of line) (or_left (is_inputs_kind (kind_of line)) (lists_inputs lines) e) (inner_all lines (or_right (is_inputs_kind (kind_of line)) (lists_inputs lines) e))
+  where
+    by : (k : Keyword) → is_inputs_kind k ≡ false → inner_in lines ≡ reads_within lines → inner_by k (other_words line.words) (inner_in lines) ≡ read_within k (other_words line.words) ++ reads_within lines
+    by Inputs unlike rest = absurd (cc)
+    by Model unlike rest = ap (λ names. read_within Model (other_words line.words) ++ names) rest
+    by Outputs unlike rest = ap (λ names. read_within Outputs (other_words line.words) ++ names) rest
+    by Clock unlike rest = ap (λ names. read_within Clock (other_words line.words) ++ names) rest
+    by Names unlike rest = ap (λ names. read_within Names (other_words line.words) ++ names) rest
+    by Latch unlike rest = ap (λ names. read_within Latch (other_words line.words) ++ names) rest
+    by Gate unlike rest = ap (λ names. read_within Gate (other_words line.words) ++ names) rest
+    by DontCare unlike rest = ap (λ names. read_within DontCare (other_words line.words) ++ names) rest
+    by End unlike rest = ap (λ names. read_within End (other_words line.words) ++ names) rest
+    by Skipped unlike rest = ap (λ names. read_within Skipped (other_words line.words) ++ names) rest
+    by Row unlike rest = ap (λ names. read_within Row (other_words line.words) ++ names) rest
+    by Other unlike rest = ap (λ names. read_within Other (other_words line.words) ++ names) rest
+
+pub reads_all : (lines : List Entry) → lists_outputs lines ≡ false → reads_in lines ≡ reads_within lines
+unfolding lists_outputs reads_in reads_within
+reads_all [] e = refl
+reads_all (line ∷ lines) e =
+    by (kind_of line) (or_left (is_outputs_kind (kind_of line)) (lists_outputs lines) e) (reads_all lines (or_right (is_outputs_kind (kind_of line)) (lists_outputs lines) e))
+  where
+    by : (k : Keyword) → is_outputs_kind k ≡ false → reads_in lines ≡ reads_within lines → read_by k (other_words line.words) ++ reads_in lines ≡ read_within k (other_words line.words) ++ reads_within lines
+    by Outputs unlike rest = absurd (cc)
+    by Model unlike rest = ap (λ names. read_within Model (other_words line.words) ++ names) rest
+    by Inputs unlike rest = ap (λ names. read_within Inputs (other_words line.words) ++ names) rest
+    by Clock unlike rest = ap (λ names. read_within Clock (other_words line.words) ++ names) rest
+    by Names unlike rest = ap (λ names. read_within Names (other_words line.words) ++ names) rest
+    by Latch unlike rest = ap (λ names. read_within Latch (other_words line.words) ++ names) rest
+    by Gate unlike rest = ap (λ names. read_within Gate (other_words line.words) ++ names) rest
+    by DontCare unlike rest = ap (λ names. read_within DontCare (other_words line.words) ++ names) rest
+    by End unlike rest = ap (λ names. read_within End (other_words line.words) ++ names) rest
+    by Skipped unlike rest = ap (λ names. read_within Skipped (other_words line.words) ++ names) rest
+    by Row unlike rest = ap (λ names. read_within Row (other_words line.words) ++ names) rest
+    by Other unlike rest = ap (λ names. read_within Other (other_words line.words) ++ names) rest
+
+pub inputs_all : (lines : List Entry) → listed_or (lists_inputs lines) (of_lines listed_inputs lines) (names_beside (drives_in lines) (inner_in lines)) ≡ inputs_in lines
+unfolding inputs_in
+inputs_all lines = by (lists_inputs lines) refl
+  where
+    by : (b : Bool) → lists_inputs lines ≡ b → listed_or b (of_lines listed_inputs lines) (names_beside (drives_in lines) (inner_in lines)) ≡ (if b then of_lines listed_inputs lines else names_beside (drives_in lines) (reads_within lines))
+    by true e = refl
+    by false e = ap (names_beside (drives_in lines)) (inner_all lines e)
+
+pub outputs_all : (lines : List Entry) → listed_or (lists_outputs lines) (of_lines listed_outputs lines) (names_beside (reads_in lines) (drives_in lines)) ≡ outputs_in lines
+unfolding outputs_in
+outputs_all lines = by (lists_outputs lines) refl
+  where
+    by : (b : Bool) → lists_outputs lines ≡ b → listed_or b (of_lines listed_outputs lines) (names_beside (reads_in lines) (drives_in lines)) ≡ (if b then of_lines listed_outputs lines else names_beside (reads_within lines) (drives_in lines))
+    by true e = refl
+    by false e = ap (λ names. names_beside names (drives_in lines)) (reads_all lines e)
+
+pub timing_all : (lines : List Entry) → timing_after [] None lines ≡ first_timing lines
+timing_all [] = refl
+timing_all (line ∷ lines) = refl
+
+-- the first cause is the same, however the causes are grouped
+pub grouped : (a b c d e f g : Option BlifFault) → first_of (first_of (a ∷ first_of (b ∷ c ∷ []) ∷ []) ∷ first_of (d ∷ e ∷ []) ∷ first_of (f ∷ g ∷ []) ∷ []) ≡ first_of (first_of (a ∷ b ∷ c ∷ d ∷ e ∷ []) ∷ f ∷ g ∷ [])
+unfolding first_of
+grouped (Some x) b c d e f g = refl
+grouped None (Some x) c d e f g = refl
+grouped None None (Some x) d e f g = refl
+grouped None None None (Some x) e f g = refl
+grouped None None None None (Some x) f g = refl
+grouped None None None None None (Some x) g = refl
+grouped None None None None None None (Some x) = refl
+grouped None None None None None None None = refl
+
+pub whole_kept : (lines : List Entry) → finished_by no_lines lines ≡ unless (whole_fault lines) (circuit_of lines)
+unfolding read_kept kept_fault listed_fault timing_fault drivers_fault tables_fault whole_fault model_names_fault circuit_of ports_in clocks_in drives_in reads_in latches_in timing_in mixed_clock gated_clock
+whole_kept lines = rw (inputs_all (model_lines lines), outputs_all (model_lines lines), timing_all (latch_lines (model_lines lines))) (
+    ap (λ (fault : Option BlifFault). unless fault (circuit_of lines)) (grouped _ _ _ _ _ _ _)
+    )
+
 -- the steps over all lines come to what the form says of them
 pub all_agree : (lines : List Entry) → finish (take_entries no_lines lines) ≡ read_lines lines
-unfolding read_lines circuit_of whole_fault lists_fault
-all_agree lines = agree lines [] no_lines nothing_told ∙ first_fault_first (first_line_fault [] lines) (whole_fault lines) (circuit_of lines)
+unfolding read_lines
+all_agree lines =
+    agree lines [] no_lines nothing_told ∙ ap (or_fault (first_line_fault [] lines)) (whole_kept lines)
+    ∙ first_fault_first (first_line_fault [] lines) (whole_fault lines) (circuit_of lines)

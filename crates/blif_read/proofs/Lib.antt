@@ -1,4 +1,6 @@
 pub mod Words
+pub mod Beside
+pub mod Faults
 pub mod Agreement
 pub mod Walk
 pub mod NameLists

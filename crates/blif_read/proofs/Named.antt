@@ -1,46 +1,58 @@
 -- A fact of every name that the lines mention is one of every name of the circuit.
-use Rattle.std.specs.Prelude.{◌≡◌, ℕ, ◌-◌, ◌≤◌, Bool, true, false, not, Option, Some, None, List, [], ◌∷◌, ◌++◌, length, take, map, codes, nat_lt, flat_map}
-use Rattle.std.specs.List.{AllByRecursion}
+use Rattle.std.specs.Prelude.{◌≡◌, ℕ, ◌-◌, ◌≤◌, Bool, true, false, not, ◌||◌, Option, Some, None, List, [], ◌∷◌, ◌++◌, length, map, codes, bytes_eq, nat_lt, flat_map, option_to_list, if◌then◌else◌}
+use Rattle.std.specs.List.{AllByRecursion, filter}
 use Rattle.std.proofs.Common.{refl, sym, ◌∙◌, ap, subst}
 use Rattle.std.proofs.lemmas.Bool.{ltb-false}
 use Rattle.std.proofs.lemmas.Grind.{flat_map-append}
 use Rattle.std.proofs.lemmas.List.{append-nil}
-use Rattle.circuit_model.specs.Soundness.{names_of, all_names}
+use Rattle.circuit_model.specs.Names.{has}
+use Rattle.circuit_model.specs.Soundness.{control_of, names_of, all_names}
+use Rattle.circuit_model.specs.declared.circuit.Timing.{Timing}
 use Rattle.circuit_model.specs.declared.circuit.Table.{Table}
 use Rattle.circuit_model.specs.declared.circuit.Latch.{Latch as TheLatch}
-use Rattle.table_fold.specs.Folding.{folded}
+use Rattle.table_fold.specs.Folding.{each_once, folded}
+use Rattle.table_fold.proofs.Once.{has-each_once}
+use Rattle.table_fold.proofs.Folded.{folded_output, folded_reads}
 use Rattle.blif_read.specs.Keyword.{other_words}
-use Rattle.blif_read.specs.Lines.{when, input_words, last_word, long_name, one_too_many, many_inputs, is_latch, is_none, model_fault, ports_fault, names_fault, latch_fault, joined}
-use Rattle.blif_read.specs.Reader.{named_by, table_of, latch_of}
-use Rattle.blif_read.specs.Steps.{with_row, row_behind, tables_with, closed, draft_fault, with_line, no_lines, drafted}
+use Rattle.blif_read.specs.Lines.{when, input_words, last_word, long_name, one_too_many, many_inputs, is_in_model, is_in_dont_care, is_behind, is_latch, latch_names, is_none, model_fault, ports_fault, clock_fault, names_fault, latch_fault, joined}
+use Rattle.blif_read.specs.Reader.{named_by, table_of, latch_of, latch_input, latch_output, timing_of, names_beside}
+use Rattle.blif_read.specs.Steps.{with_row, row_behind, tables_with, closed, place_at, place_of, draft_fault, with_more, timing_with, with_line, no_lines, model_of, part_of, listed_or, Kept, kept_of, kept_inputs, kept_outputs, kept_circuit}
 use Rattle.blif_read.specs.declared.keyword.Keyword.{Keyword}
-use Rattle.blif_read.specs.declared.keyword.Keyword.TheVariants.{Model, Inputs, Outputs, Names, Latch, End, Row, Other}
+use Rattle.blif_read.specs.declared.keyword.Keyword.TheVariants.{Model, Inputs, Outputs, Clock, Names, Latch, Gate, DontCare, End, Skipped, Row, Other}
+use Rattle.blif_read.specs.declared.part.Part.{Part}
 use Rattle.blif_read.specs.declared.fault.BlifFault.TheVariants.{UnknownWord, BadArity, BadLatch, SecondModel}
 use Rattle.blif_read.specs.declared.draft.Reading.{Reading}
 use Rattle.blif_read.specs.declared.draft.Draft.{Draft}
 use Rattle.blif_read.proofs.NameLists.{all_append, all_front, all_back, all_taken, all_among, all_of_has}
-use Rattle.blif_read.proofs.Passing.{none_first, none_later}
-use Rattle.table_fold.proofs.Folded.{folded_output, folded_reads}
+use Rattle.blif_read.proofs.Faults.{none_first, none_later, not_when}
 
-abbrev pub latch_names : List TheLatch → List (List ℕ)
-latch_names latches = flat_map (λ (latch : TheLatch). latch.input ∷ latch.output ∷ []) latches
+abbrev pub signal_names : List TheLatch → List (List ℕ)
+signal_names latches = flat_map (λ (latch : TheLatch). latch.input ∷ latch.output ∷ []) latches
 
 -- the names of a draft, each with a fact
 pub record Named (P : List ℕ → Type 0) (draft : Draft) : Type 0 where
   pub name : P draft.name
   pub inputs : AllByRecursion P draft.inputs
   pub outputs : AllByRecursion P draft.outputs
-  pub latches : AllByRecursion P (latch_names draft.latches)
+  pub clocks : AllByRecursion P draft.clocks
+  pub drives : AllByRecursion P draft.drives
+  pub inner : AllByRecursion P draft.inner
+  pub timing : AllByRecursion P (control_of draft.timing)
+  pub latches : AllByRecursion P (signal_names draft.latches)
+  pub model : AllByRecursion P (names_of draft.model_tables)
   pub tables : AllByRecursion P (names_of (tables_with draft.tables draft.reading))
 
--- the names that a line mentions
-abbrev pub mentioned : Keyword → List (List ℕ) → List (List ℕ)
-mentioned Model words = words
-mentioned Inputs words = words
-mentioned Outputs words = words
-mentioned Names words = words
-mentioned Latch words = take 2 words
-mentioned kind words = []
+-- the names that a line mentions; in the don't-care part those of ports are not read
+abbrev pub mentioned : Bool → Keyword → List (List ℕ) → List (List ℕ)
+mentioned had Model words = words
+mentioned true Inputs words = []
+mentioned false Inputs words = words
+mentioned true Outputs words = []
+mentioned false Outputs words = words
+mentioned had Clock words = words
+mentioned had Names words = words
+mentioned had Latch words = latch_names words
+mentioned had kind words = []
 
 pub names_more : (tables : List Table) (table : Table) → names_of (tables ++ table ∷ []) ≡ names_of tables ++ table.output ∷ table.inputs
 names_more tables table =
@@ -56,10 +68,54 @@ pub name_has : (P : List ℕ → Type 0) (words : List (List ℕ)) → P (codes 
 name_has P [] top a = top
 name_has P (word ∷ words) top a = a.0
 
-pub latch_has : (P : List ℕ → Type 0) (words : List (List ℕ)) → AllByRecursion P (take 2 words) → AllByRecursion P (latch_names (latch_of words))
+pub latch_has : (P : List ℕ → Type 0) (words : List (List ℕ)) → AllByRecursion P (latch_names words) → AllByRecursion P (signal_names (latch_of words))
 latch_has P [] a = tt
 latch_has P (input ∷ []) a = tt
-latch_has P (input ∷ output ∷ rest) a = (a.0, (a.1.0, tt))
+latch_has P (input ∷ output ∷ []) a = (a.0, (a.1.0, tt))
+latch_has P (input ∷ output ∷ kind ∷ []) a = (a.0, (a.1.0, tt))
+latch_has P (input ∷ output ∷ kind ∷ control ∷ rest) a = (a.0, (a.1.0, tt))
+
+pub latch_output_has : (P : List ℕ → Type 0) (words : List (List ℕ)) → AllByRecursion P (latch_names words) → AllByRecursion P (latch_output words)
+latch_output_has P [] a = tt
+latch_output_has P (input ∷ []) a = tt
+latch_output_has P (input ∷ output ∷ []) a = (a.1.0, tt)
+latch_output_has P (input ∷ output ∷ kind ∷ []) a = (a.1.0, tt)
+latch_output_has P (input ∷ output ∷ kind ∷ control ∷ rest) a = (a.1.0, tt)
+
+pub latch_input_has : (P : List ℕ → Type 0) (words : List (List ℕ)) → AllByRecursion P (latch_names words) → AllByRecursion P (latch_input words)
+latch_input_has P [] a = tt
+latch_input_has P (input ∷ []) a = (a.0, tt)
+latch_input_has P (input ∷ output ∷ []) a = (a.0, tt)
+latch_input_has P (input ∷ output ∷ kind ∷ []) a = (a.0, tt)
+latch_input_has P (input ∷ output ∷ kind ∷ control ∷ rest) a = (a.0, tt)
+
+pub control_has : (P : List ℕ → Type 0) (words : List (List ℕ)) → AllByRecursion P (latch_names words) → AllByRecursion P (control_of (timing_of words))
+control_has P [] a = tt
+control_has P (input ∷ []) a = tt
+control_has P (input ∷ output ∷ []) a = tt
+control_has P (input ∷ output ∷ kind ∷ []) a = tt
+control_has P (input ∷ output ∷ kind ∷ control ∷ rest) a = by (bytes_eq control (codes "NIL"))
+  where
+    by : (b : Bool) → AllByRecursion P (option_to_list (if b then None else Some control))
+    by true = tt
+    by false = (a.1.1.0, tt)
+
+pub timing_has : (P : List ℕ → Type 0) (latches : List TheLatch) (timing own : Option Timing) → AllByRecursion P (control_of timing) → AllByRecursion P (control_of own) → AllByRecursion P (control_of (timing_with latches timing own))
+unfolding timing_with
+timing_has P [] timing own a b = b
+timing_has P (latch ∷ latches) timing own a b = a
+
+pub more_has : (P : List ℕ → Type 0) (had : Bool) (names more : List (List ℕ)) → AllByRecursion P names → AllByRecursion P more → AllByRecursion P (with_more had names more)
+more_has P true names more a b = a
+more_has P false names more a b = all_append P names more a b
+
+pub ports_have : (P : List ℕ → Type 0) (had : Bool) (names words : List (List ℕ)) → AllByRecursion P names → AllByRecursion P (mentioned had Inputs words) → AllByRecursion P (with_more had names words)
+ports_have P true names words a b = a
+ports_have P false names words a b = all_append P names words a b
+
+pub outs_have : (P : List ℕ → Type 0) (had : Bool) (names words : List (List ℕ)) → AllByRecursion P names → AllByRecursion P (mentioned had Outputs words) → AllByRecursion P (with_more had names words)
+outs_have P true names words a b = a
+outs_have P false names words a b = all_append P names words a b
 
 pub table_has : (P : List ℕ → Type 0) (tables : List Table) (words : List (List ℕ)) → AllByRecursion P words → is_none words ≡ false → AllByRecursion P (names_of tables) → AllByRecursion P (names_of (tables ++ table_of words [] ∷ []))
 unfolding table_of
@@ -74,49 +130,141 @@ row_has P tables (Some reading) bytes a =
     subst (AllByRecursion P) (names_more tables reading.table ∙ sym (names_more tables (with_row reading bytes).table)) a
 
 -- a `.names` line without a fault has a word
-pub some_words : (ended : Bool) (nodes number : ℕ) (words : List (List ℕ)) → names_fault ended nodes number words ≡ None → is_none words ≡ false
+pub some_words : (place : Part) (nodes number : ℕ) (words : List (List ℕ)) → names_fault place nodes number words ≡ None → is_none words ≡ false
 unfolding names_fault
-some_words ended nodes number words f =
-    by (is_none words) refl (none_first (when (is_none words) (BadArity number)) (long_name words ∷ one_too_many nodes ∷ many_inputs (input_words words) ∷ [])
-    (none_later (when ended (UnknownWord number)) (when (is_none words) (BadArity number) ∷ long_name words ∷ one_too_many nodes ∷ many_inputs (input_words words) ∷ []) f))
-  where
-    by : (b : Bool) → is_none words ≡ b → when b (BadArity number) ≡ None → b ≡ false
-    by true e g = absurd (cc)
-    by false e g = refl
+some_words place nodes number words f =
+    not_when (is_none words) (BadArity number) (none_first (when (is_none words) (BadArity number)) (long_name words ∷ one_too_many nodes ∷ many_inputs (input_words words) ∷ [])
+    (none_later (when (is_behind place) (UnknownWord number)) (when (is_none words) (BadArity number) ∷ long_name words ∷ one_too_many nodes ∷ many_inputs (input_words words) ∷ []) f))
 
-pub named_kept : (P : List ℕ → Type 0) (kind : Keyword) (draft : Draft) (number : ℕ) (words whole : List (List ℕ)) → P (codes "top") → AllByRecursion P (mentioned kind words) → draft_fault kind draft number words whole ≡ None → Named P draft → Named P (with_line kind draft words whole)
+pub named_kept : (P : List ℕ → Type 0) (kind : Keyword) (draft : Draft) (number : ℕ) (words whole : List (List ℕ)) → P (codes "top") → AllByRecursion P (mentioned draft.has_part kind words) → draft_fault kind draft number words whole ≡ None → Named P draft → Named P (with_line kind draft number words whole)
 unfolding closed tables_with
-named_kept P Model draft number words whole top a f n = record { name = name_has P words top a; inputs = n.inputs; outputs = n.outputs; latches = n.latches; tables = n.tables }
-named_kept P Inputs draft number words whole top a f n = record { name = n.name; inputs = all_append P draft.inputs words n.inputs a; outputs = n.outputs; latches = n.latches; tables = n.tables }
-named_kept P Outputs draft number words whole top a f n = record { name = n.name; inputs = n.inputs; outputs = all_append P draft.outputs words n.outputs a; latches = n.latches; tables = n.tables }
+named_kept P Model draft number words whole top a f n = record {
+  name = name_has P words top a;
+  inputs = n.inputs;
+  outputs = n.outputs;
+  clocks = n.clocks;
+  drives = n.drives;
+  inner = n.inner;
+  timing = n.timing;
+  latches = n.latches;
+  model = n.model;
+  tables = n.tables;
+}
+named_kept P Inputs draft number words whole top a f n = record {
+  name = n.name;
+  inputs = ports_have P draft.has_part draft.inputs words n.inputs a;
+  outputs = n.outputs;
+  clocks = n.clocks;
+  drives = n.drives;
+  inner = n.inner;
+  timing = n.timing;
+  latches = n.latches;
+  model = n.model;
+  tables = n.tables;
+}
+named_kept P Outputs draft number words whole top a f n = record {
+  name = n.name;
+  inputs = n.inputs;
+  outputs = outs_have P draft.has_part draft.outputs words n.outputs a;
+  clocks = n.clocks;
+  drives = n.drives;
+  inner = n.inner;
+  timing = n.timing;
+  latches = n.latches;
+  model = n.model;
+  tables = n.tables;
+}
+named_kept P Clock draft number words whole top a f n = record {
+  name = n.name;
+  inputs = n.inputs;
+  outputs = n.outputs;
+  clocks = all_append P draft.clocks words n.clocks a;
+  drives = n.drives;
+  inner = n.inner;
+  timing = n.timing;
+  latches = n.latches;
+  model = n.model;
+  tables = n.tables;
+}
 named_kept P Names draft number words whole top a f n = record {
   name = n.name;
   inputs = n.inputs;
   outputs = n.outputs;
+  clocks = n.clocks;
+  drives = more_has P draft.has_part draft.drives (last_word words ∷ []) n.drives (last_has P words a (some_words (place_of draft) draft.nodes number words f), tt);
+  inner = more_has P (draft.has_part || draft.lists_inputs) draft.inner (input_words words) n.inner (all_taken P (length words - 1) words a);
+  timing = n.timing;
   latches = n.latches;
-  tables = table_has P (tables_with draft.tables draft.reading) words a (some_words draft.ended draft.nodes number words f) n.tables;
+  model = n.model;
+  tables = table_has P (tables_with draft.tables draft.reading) words a (some_words (place_of draft) draft.nodes number words f) n.tables;
 }
 named_kept P Latch draft number words whole top a f n = record {
   name = n.name;
   inputs = n.inputs;
   outputs = n.outputs;
+  clocks = n.clocks;
+  drives = all_append P draft.drives (latch_output words) n.drives (latch_output_has P words a);
+  inner = more_has P draft.lists_inputs draft.inner (latch_input words) n.inner (latch_input_has P words a);
+  timing = timing_has P draft.latches draft.timing (timing_of words) n.timing (control_has P words a);
   latches = subst (AllByRecursion P) (sym (flat_map-append (λ (latch : TheLatch). latch.input ∷ latch.output ∷ []) draft.latches (latch_of words)))
-      (all_append P (latch_names draft.latches) (latch_names (latch_of words)) n.latches (latch_has P words a));
+      (all_append P (signal_names draft.latches) (signal_names (latch_of words)) n.latches (latch_has P words a));
+  model = n.model;
   tables = n.tables;
 }
-named_kept P End draft number words whole top a f n = record { name = n.name; inputs = n.inputs; outputs = n.outputs; latches = n.latches; tables = n.tables }
+named_kept P Gate draft number words whole top a f n = n
+named_kept P DontCare draft number words whole top a f n = record {
+  name = n.name;
+  inputs = n.inputs;
+  outputs = n.outputs;
+  clocks = n.clocks;
+  drives = n.drives;
+  inner = n.inner;
+  timing = n.timing;
+  latches = n.latches;
+  model = n.tables;
+  tables = tt;
+}
+named_kept P End draft number words whole top a f n = record {
+  name = n.name;
+  inputs = n.inputs;
+  outputs = n.outputs;
+  clocks = n.clocks;
+  drives = n.drives;
+  inner = n.inner;
+  timing = n.timing;
+  latches = n.latches;
+  model = n.model;
+  tables = n.tables;
+}
+named_kept P Skipped draft number words whole top a f n = record {
+  name = n.name;
+  inputs = n.inputs;
+  outputs = n.outputs;
+  clocks = n.clocks;
+  drives = n.drives;
+  inner = n.inner;
+  timing = n.timing;
+  latches = n.latches;
+  model = n.model;
+  tables = n.tables;
+}
 named_kept P Row draft number words whole top a f n = record {
   name = n.name;
   inputs = n.inputs;
   outputs = n.outputs;
+  clocks = n.clocks;
+  drives = n.drives;
+  inner = n.inner;
+  timing = n.timing;
   latches = n.latches;
+  model = n.model;
   tables = row_has P draft.tables draft.reading (joined whole) n.tables;
 }
 named_kept P Other draft number words whole top a f n = n
 
 pub named_nothing : (P : List ℕ → Type 0) → P (codes "top") → Named P no_lines
 unfolding tables_with
-named_nothing P top = record { name = top; inputs = tt; outputs = tt; latches = tt; tables = tt }
+named_nothing P top = record { name = top; inputs = tt; outputs = tt; clocks = tt; drives = tt; inner = tt; timing = tt; latches = tt; model = tt; tables = tt }
 
 -- the names of the circuit
 
@@ -129,26 +277,60 @@ folded_names P (table ∷ tables) a = (
       (folded_names P tables (all_back P table.inputs (names_of tables) a.1)),
 )
 
-pub latch_outputs_have : (P : List ℕ → Type 0) (latches : List TheLatch) → AllByRecursion P (latch_names latches) → AllByRecursion P (map (λ (latch : TheLatch). latch.output) latches)
+pub latch_outputs_have : (P : List ℕ → Type 0) (latches : List TheLatch) → AllByRecursion P (signal_names latches) → AllByRecursion P (map (λ (latch : TheLatch). latch.output) latches)
 latch_outputs_have P [] a = tt
 latch_outputs_have P (latch ∷ latches) a = (a.1.0, latch_outputs_have P latches a.1.1)
 
-pub latch_inputs_have : (P : List ℕ → Type 0) (latches : List TheLatch) → AllByRecursion P (latch_names latches) → AllByRecursion P (map (λ (latch : TheLatch). latch.input) latches)
+pub latch_inputs_have : (P : List ℕ → Type 0) (latches : List TheLatch) → AllByRecursion P (signal_names latches) → AllByRecursion P (map (λ (latch : TheLatch). latch.input) latches)
 latch_inputs_have P [] a = tt
 latch_inputs_have P (latch ∷ latches) a = (a.0, latch_inputs_have P latches a.1.1)
 
-pub all_named : (P : List ℕ → Type 0) (draft : Draft) → Named P draft → AllByRecursion P (all_names (drafted draft))
+-- names that are beside others are some of the names
+pub filtered_have : (P : List ℕ → Type 0) (p : List ℕ → Bool) (names : List (List ℕ)) → AllByRecursion P names → AllByRecursion P (filter p names)
+filtered_have P p [] a = tt
+filtered_have P p (name ∷ names) a = by (p name) (filtered_have P p names a.1)
+  where
+    by : (b : Bool) → AllByRecursion P (filter p names) → AllByRecursion P (if b then name ∷ filter p names else filter p names)
+    by true rest = (a.0, rest)
+    by false rest = rest
+
+pub beside_have : (P : List ℕ → Type 0) (others names : List (List ℕ)) → AllByRecursion P names → AllByRecursion P (names_beside others names)
+unfolding names_beside
+beside_have P others names a =
+    let found : List (List ℕ) = filter (λ name. not (has others name)) names in
+    let have : AllByRecursion P found = filtered_have P (λ name. not (has others name)) names a in
+    all_of_has P (each_once found) (λ name h. all_among P found name have (sym (has-each_once found name) ∙ h))
+
+pub port_names : (P : List ℕ → Type 0) (listed : Bool) (ports others names : List (List ℕ)) → AllByRecursion P ports → AllByRecursion P names → AllByRecursion P (listed_or listed ports (names_beside others names))
+port_names P true ports others names a b = a
+port_names P false ports others names a b = beside_have P others names b
+
+pub model_names : (P : List ℕ → Type 0) (had : Bool) (model tables : List Table) → AllByRecursion P (names_of model) → AllByRecursion P (names_of tables) → AllByRecursion P (names_of (model_of had model tables))
+model_names P true model tables a b = a
+model_names P false model tables a b = b
+
+pub part_names : (P : List ℕ → Type 0) (had : Bool) (tables : List Table) → AllByRecursion P (names_of tables) → AllByRecursion P (names_of (part_of had tables))
+part_names P true tables a = a
+part_names P false tables a = tt
+
+pub all_named : (P : List ℕ → Type 0) (draft : Draft) → Named P draft → AllByRecursion P (all_names (kept_circuit (kept_of draft)))
 unfolding all_names
 all_named P draft n =
-    let ts : List Table = tables_with draft.tables draft.reading in
+    let k : Kept = kept_of draft in
     let outs : List (List ℕ) = map (λ (latch : TheLatch). latch.output) draft.latches in
-    let ins : List (List ℕ) = map (λ (latch : TheLatch). latch.input) draft.latches in (
+    let ins : List (List ℕ) = map (λ (latch : TheLatch). latch.input) draft.latches in
+    let control : List (List ℕ) = control_of draft.timing in
+    let own : List (List ℕ) = names_of (map folded k.tables) in
+    let part : List (List ℕ) = names_of k.dont_care in
+    let ts : List Table = tables_with draft.tables draft.reading in (
       n.name,
-      all_append P draft.inputs (draft.outputs ++ (outs ++ (ins ++ (names_of (map folded ts) ++ [])))) n.inputs
-          (all_append P draft.outputs (outs ++ (ins ++ (names_of (map folded ts) ++ []))) n.outputs
-          (all_append P outs (ins ++ (names_of (map folded ts) ++ [])) (latch_outputs_have P draft.latches n.latches)
-          (all_append P ins (names_of (map folded ts) ++ []) (latch_inputs_have P draft.latches n.latches)
-          (all_append P (names_of (map folded ts)) [] (folded_names P ts n.tables) tt)))),
+      all_append P (kept_inputs k) (kept_outputs k ++ (draft.clocks ++ (control ++ (outs ++ (ins ++ (own ++ part)))))) (port_names P draft.lists_inputs draft.inputs draft.drives draft.inner n.inputs n.inner)
+          (all_append P (kept_outputs k) (draft.clocks ++ (control ++ (outs ++ (ins ++ (own ++ part))))) (port_names P draft.lists_outputs draft.outputs draft.reads draft.drives n.outputs n.drives)
+          (all_append P draft.clocks (control ++ (outs ++ (ins ++ (own ++ part)))) n.clocks
+          (all_append P control (outs ++ (ins ++ (own ++ part))) n.timing
+          (all_append P outs (ins ++ (own ++ part)) (latch_outputs_have P draft.latches n.latches)
+          (all_append P ins (own ++ part) (latch_inputs_have P draft.latches n.latches)
+          (all_append P own part (folded_names P k.tables (model_names P draft.has_part draft.model_tables ts n.model n.tables)) (part_names P draft.has_part ts n.tables))))))),
     )
 
 -- names that are not too long
@@ -165,38 +347,61 @@ none_long (name ∷ names) e = by (nat_lt 1023 (length name)) refl (λ f. none_l
     by true t rec f = absurd (let g = rw t at f in cc)
     by false t rec f = (ltb-false 1023 (length name) t, rec (rw t at f))
 
-pub short_mentioned : (kind : Keyword) (draft : Draft) (number : ℕ) (words whole : List (List ℕ)) → draft_fault kind draft number words whole ≡ None → AllByRecursion IsShort (mentioned kind words)
-unfolding model_fault ports_fault names_fault latch_fault
+pub short_ports : (ended had : Bool) (number : ℕ) (words : List (List ℕ)) → ports_fault (place_at ended had) number words ≡ None → AllByRecursion IsShort (mentioned had Inputs words) × AllByRecursion IsShort (mentioned had Outputs words)
+unfolding ports_fault place_at
+short_ports true had number words f = absurd (cc)
+short_ports false true number words f = (tt, tt)
+short_ports false false number words f = (none_long words f, none_long words f)
+
+pub short_mentioned : (kind : Keyword) (draft : Draft) (number : ℕ) (words whole : List (List ℕ)) → draft_fault kind draft number words whole ≡ None → AllByRecursion IsShort (mentioned draft.has_part kind words)
+unfolding model_fault clock_fault names_fault latch_fault
 short_mentioned Model draft number words whole f =
     none_long words (none_first (long_name words) []
     (none_later (when draft.begun (SecondModel number)) (long_name words ∷ [])
-    (none_later (when (nat_lt 1 (length words)) (BadArity number)) (when draft.begun (SecondModel number) ∷ long_name words ∷ []) f)))
-short_mentioned Inputs draft number words whole f =
-    none_long words (none_first (long_name words) [] (none_later (when draft.ended (UnknownWord number)) (long_name words ∷ []) f))
-short_mentioned Outputs draft number words whole f =
-    none_long words (none_first (long_name words) [] (none_later (when draft.ended (UnknownWord number)) (long_name words ∷ []) f))
+    (none_later (when (nat_lt 1 (length words)) (BadArity number)) (when draft.begun (SecondModel number) ∷ long_name words ∷ [])
+    (none_later (when (is_in_dont_care (place_of draft)) (UnknownWord number)) (when (nat_lt 1 (length words)) (BadArity number) ∷ when draft.begun (SecondModel number) ∷ long_name words ∷ []) f))))
+short_mentioned Inputs draft number words whole f = (short_ports draft.ended draft.has_part number words f).0
+short_mentioned Outputs draft number words whole f = (short_ports draft.ended draft.has_part number words f).1
+short_mentioned Clock draft number words whole f =
+    none_long words (none_first (long_name words) [] (none_later (when (not (is_in_model (place_of draft))) (UnknownWord number)) (long_name words ∷ []) f))
 short_mentioned Names draft number words whole f =
     none_long words (none_first (long_name words) (one_too_many draft.nodes ∷ many_inputs (input_words words) ∷ [])
     (none_later (when (is_none words) (BadArity number)) (long_name words ∷ one_too_many draft.nodes ∷ many_inputs (input_words words) ∷ [])
-    (none_later (when draft.ended (UnknownWord number)) (when (is_none words) (BadArity number) ∷ long_name words ∷ one_too_many draft.nodes ∷ many_inputs (input_words words) ∷ []) f)))
+    (none_later (when (is_behind (place_of draft)) (UnknownWord number)) (when (is_none words) (BadArity number) ∷ long_name words ∷ one_too_many draft.nodes ∷ many_inputs (input_words words) ∷ []) f)))
 short_mentioned Latch draft number words whole f =
-    none_long (take 2 words) (none_first (long_name (take 2 words)) (one_too_many draft.nodes ∷ [])
-    (none_later (when (not (is_latch words)) (BadLatch number)) (long_name (take 2 words) ∷ one_too_many draft.nodes ∷ [])
-    (none_later (when draft.ended (UnknownWord number)) (when (not (is_latch words)) (BadLatch number) ∷ long_name (take 2 words) ∷ one_too_many draft.nodes ∷ []) f)))
+    none_long (latch_names words) (none_first (long_name (latch_names words)) (one_too_many draft.nodes ∷ [])
+    (none_later (when (not (is_latch words)) (BadLatch number)) (long_name (latch_names words) ∷ one_too_many draft.nodes ∷ [])
+    (none_later (when (not (is_in_model (place_of draft))) (UnknownWord number)) (when (not (is_latch words)) (BadLatch number) ∷ long_name (latch_names words) ∷ one_too_many draft.nodes ∷ []) f)))
+short_mentioned Gate draft number words whole f = tt
+short_mentioned DontCare draft number words whole f = tt
 short_mentioned End draft number words whole f = tt
+short_mentioned Skipped draft number words whole f = tt
 short_mentioned Row draft number words whole f = tt
 short_mentioned Other draft number words whole f = tt
 
 -- the words of a line that it mentions as names are words of it
-pub words_mentioned : (P : List ℕ → Type 0) (kind : Keyword) (words : List (List ℕ)) → AllByRecursion P words → AllByRecursion P (mentioned kind words)
-words_mentioned P Model words a = a
-words_mentioned P Inputs words a = a
-words_mentioned P Outputs words a = a
-words_mentioned P Names words a = a
-words_mentioned P Latch words a = all_taken P 2 words a
-words_mentioned P End words a = tt
-words_mentioned P Row words a = tt
-words_mentioned P Other words a = tt
+pub latch_words_have : (P : List ℕ → Type 0) (words : List (List ℕ)) → AllByRecursion P words → AllByRecursion P (latch_names words)
+latch_words_have P [] a = tt
+latch_words_have P (input ∷ []) a = (a.0, tt)
+latch_words_have P (input ∷ output ∷ []) a = (a.0, (a.1.0, tt))
+latch_words_have P (input ∷ output ∷ kind ∷ []) a = (a.0, (a.1.0, tt))
+latch_words_have P (input ∷ output ∷ kind ∷ control ∷ words) a = (a.0, (a.1.0, (a.1.1.1.0, tt)))
+
+pub words_mentioned : (P : List ℕ → Type 0) (had : Bool) (kind : Keyword) (words : List (List ℕ)) → AllByRecursion P words → AllByRecursion P (mentioned had kind words)
+words_mentioned P had Model words a = a
+words_mentioned P true Inputs words a = tt
+words_mentioned P false Inputs words a = a
+words_mentioned P true Outputs words a = tt
+words_mentioned P false Outputs words a = a
+words_mentioned P had Clock words a = a
+words_mentioned P had Names words a = a
+words_mentioned P had Latch words a = latch_words_have P words a
+words_mentioned P had Gate words a = tt
+words_mentioned P had DontCare words a = tt
+words_mentioned P had End words a = tt
+words_mentioned P had Skipped words a = tt
+words_mentioned P had Row words a = tt
+words_mentioned P had Other words a = tt
 
 pub others_have : (P : List ℕ → Type 0) (words : List (List ℕ)) → AllByRecursion P words → AllByRecursion P (other_words words)
 others_have P [] a = tt

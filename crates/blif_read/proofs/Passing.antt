@@ -4,24 +4,12 @@ use Rattle.std.specs.List.{AllByRecursion}
 use Rattle.std.proofs.Common.{refl, subst}
 use Rattle.circuit_model.specs.declared.circuit.Circuit.{Circuit}
 use Rattle.sis_text.specs.Entries.{Entry}
-use Rattle.blif_read.specs.Lines.{first_of}
 use Rattle.blif_read.specs.Reader.{unless, Reads}
-use Rattle.blif_read.specs.Steps.{take_entries, no_lines, draft_lists_fault, drafted, finished, finish}
+use Rattle.blif_read.specs.Steps.{take_entries, no_lines, kept_of, kept_fault, kept_circuit, read_kept, finish}
 use Rattle.blif_read.specs.declared.fault.BlifFault.{BlifFault}
 use Rattle.blif_read.specs.declared.fault.ReadFault.{ReadFault}
 use Rattle.blif_read.specs.declared.draft.Draft.{Draft}
 use Rattle.blif_read.proofs.Agreement.{fault_at, next_at, taken_entry}
-
--- no cause holds where the first of some is none
-pub none_first : (cause : Option BlifFault) (causes : List (Option BlifFault)) → first_of (cause ∷ causes) ≡ None → cause ≡ None
-unfolding first_of
-none_first None causes e = refl
-none_first (Some fault) causes e = e
-
-pub none_later : (cause : Option BlifFault) (causes : List (Option BlifFault)) → first_of (cause ∷ causes) ≡ None → first_of causes ≡ None
-unfolding first_of
-none_later None causes e = e
-none_later (Some fault) causes e = absurd (cc)
 
 -- an invariant of the steps over lines of some kind
 pub kept_through : (Inv : Draft → Type 0) (Fits : Entry → Type 0) (lines : List Entry) (draft last : Draft)
@@ -41,19 +29,19 @@ kept_through Inv Fits (line ∷ lines) draft last keep fits i e =
 pub record LastDraft (lines : List Entry) (circuit : Circuit) : Type 0 where
   pub draft : Draft
   pub taken : take_entries no_lines lines ≡ Ok draft
-  pub whole : draft_lists_fault draft ≡ None
-  pub circuit_is : drafted draft ≡ circuit
+  pub whole : kept_fault (kept_of draft) ≡ None
+  pub circuit_is : kept_circuit (kept_of draft) ≡ circuit
 
 pub last_draft : (lines : List Entry) (circuit : Circuit) → finish (take_entries no_lines lines) ≡ Ok circuit → LastDraft lines circuit
-unfolding finished
+unfolding read_kept
 last_draft lines circuit e = by (take_entries no_lines lines) refl e
   where
-    end : (draft : Draft) → take_entries no_lines lines ≡ Ok draft → (fault : Option BlifFault) → draft_lists_fault draft ≡ fault → unless fault (drafted draft) ≡ Ok circuit → LastDraft lines circuit
+    end : (draft : Draft) → take_entries no_lines lines ≡ Ok draft → (fault : Option BlifFault) → kept_fault (kept_of draft) ≡ fault → unless fault (kept_circuit (kept_of draft)) ≡ Ok circuit → LastDraft lines circuit
     end draft t None f u = record { draft = draft; taken = t; whole = f; circuit_is = cc }
     end draft t (Some fault) f u = absurd (cc)
 
     by : (steps : Result Draft BlifFault) → take_entries no_lines lines ≡ steps → finish steps ≡ Ok circuit → LastDraft lines circuit
-    by (Ok draft) t f = end draft t (draft_lists_fault draft) refl f
+    by (Ok draft) t f = end draft t (kept_fault (kept_of draft)) refl f
     by (Err fault) t f = absurd (cc)
 
 -- what holds of each circuit that should be answered holds of the one that is

@@ -10,28 +10,20 @@ use Rattle.circuit_model.specs.declared.circuit.Latch.{Latch as TheLatch}
 use Rattle.circuit_model.specs.Counts.{IsSmallTable, IsWithinLimits}
 use Rattle.circuit_model.specs.Soundness.{IsShaped}
 use Rattle.table_fold.specs.Folding.{folded}
-use Rattle.blif_read.specs.Lines.{when, input_words, long_name, one_too_many, many_inputs, is_init, is_latch, is_none, is_row_of, output_character, names_fault, latch_fault, joined}
+use Rattle.blif_read.specs.Lines.{when, input_words, long_name, one_too_many, many_inputs, is_in_model, is_behind, is_init, is_latch_kind, is_latch, latch_names, is_none, is_row_of, output_character, names_fault, latch_fault, joined}
 use Rattle.blif_read.specs.Reader.{row_of, table_of, latch_of, init_of}
-use Rattle.blif_read.specs.Steps.{width_of, mark_with, reading_fault, fault_behind, next_fault, with_row, row_behind, tables_with, closed, draft_fault, with_line, no_lines, drafted}
+use Rattle.blif_read.specs.Steps.{width_of, mark_with, reading_fault, fault_behind, next_fault, with_row, row_behind, tables_with, closed, place_of, draft_fault, with_line, no_lines, model_of, part_of, kept_of, kept_circuit}
 use Rattle.blif_read.specs.declared.keyword.Keyword.{Keyword}
-use Rattle.blif_read.specs.declared.keyword.Keyword.TheVariants.{Model, Inputs, Outputs, Names, Latch, End, Row, Other}
+use Rattle.blif_read.specs.declared.keyword.Keyword.TheVariants.{Model, Inputs, Outputs, Clock, Names, Latch, Gate, DontCare, End, Skipped, Row, Other}
+use Rattle.blif_read.specs.declared.part.Part.{Part}
 use Rattle.blif_read.specs.declared.fault.LimitKind.TheVariants as limit
 use Rattle.blif_read.specs.declared.fault.BlifFault.{BlifFault}
 use Rattle.blif_read.specs.declared.fault.BlifFault.TheVariants.{UnknownWord, BadArity, BadRow, MixedPhase, BadLatch, Limit}
 use Rattle.blif_read.specs.declared.draft.Reading.{Reading}
 use Rattle.blif_read.specs.declared.draft.Draft.{Draft}
-use Rattle.blif_read.proofs.NameLists.{same_name, all_append, all_front, all_back, all_map, and_left}
-use Rattle.blif_read.proofs.Passing.{none_first, none_later}
+use Rattle.blif_read.proofs.NameLists.{same_name, all_append, all_front, all_back, all_kept, all_map, and_left, and_right}
+use Rattle.blif_read.proofs.Faults.{none_first, none_later, not_when, not_not_when, right_latch, part_begins}
 use Rattle.table_fold.proofs.Folded.{folded_shaped, folded_input_count, folded_row_count}
-
--- a cause that does not hold
-pub not_when : (b : Bool) (fault : BlifFault) → when b fault ≡ None → b ≡ false
-not_when true fault e = absurd (cc)
-not_when false fault e = refl
-
-pub not_not_when : (b : Bool) (fault : BlifFault) → when (not b) fault ≡ None → b ≡ true
-not_not_when true fault e = refl
-not_not_when false fault e = absurd (cc)
 
 -- a table as it is written: few rows, few inputs, each row with a character for each input
 pub record IsGoodTable (table : Table) : Type 0 where
@@ -41,7 +33,9 @@ pub record IsGoodTable (table : Table) : Type 0 where
 
 pub record IsSmallDraft (draft : Draft) : Type 0 where
   pub tables : AllByRecursion IsGoodTable (tables_with draft.tables draft.reading)
-  pub count : length (tables_with draft.tables draft.reading) + length draft.latches ≡ draft.nodes
+  pub model : AllByRecursion IsGoodTable draft.model_tables
+  pub none : draft.has_part ≡ false → draft.model_tables ≡ []
+  pub count : length (tables_with draft.tables draft.reading) + (length draft.model_tables + length draft.latches) ≡ draft.nodes
   pub few : draft.nodes ≤ 65535
   pub inits : AllByRecursion (λ (latch : TheLatch). latch.init ≤ 3) draft.latches
 
@@ -50,43 +44,39 @@ unfolding tables_with
 length_with tables reading = length-append tables (reading.table ∷ [])
 
 -- a `.names` line without a fault has few inputs, and few tables and latches stand before it
-pub few_inputs : (ended : Bool) (nodes number : ℕ) (words : List (List ℕ)) → names_fault ended nodes number words ≡ None → length (input_words words) ≤ 1000
+abbrev pub names_causes : ℕ → ℕ → List (List ℕ) → List (Option BlifFault)
+names_causes nodes number words = when (is_none words) (BadArity number) ∷ long_name words ∷ one_too_many nodes ∷ many_inputs (input_words words) ∷ []
+
+pub few_inputs : (place : Part) (nodes number : ℕ) (words : List (List ℕ)) → names_fault place nodes number words ≡ None → length (input_words words) ≤ 1000
 unfolding names_fault
-few_inputs ended nodes number words f =
+few_inputs place nodes number words f =
     ltb-false 1000 (length (input_words words)) (not_when (nat_lt 1000 (length (input_words words))) (Limit limit.Inputs (length (input_words words)))
     (none_first (many_inputs (input_words words)) []
     (none_later (one_too_many nodes) (many_inputs (input_words words) ∷ [])
     (none_later (long_name words) (one_too_many nodes ∷ many_inputs (input_words words) ∷ [])
     (none_later (when (is_none words) (BadArity number)) (long_name words ∷ one_too_many nodes ∷ many_inputs (input_words words) ∷ [])
-    (none_later (when ended (UnknownWord number)) (when (is_none words) (BadArity number) ∷ long_name words ∷ one_too_many nodes ∷ many_inputs (input_words words) ∷ []) f))))))
+    (none_later (when (is_behind place) (UnknownWord number)) (names_causes nodes number words) f))))))
 
-pub few_before : (nodes : ℕ) (causes : List (Option BlifFault)) → one_too_many nodes ≡ None → nodes < 65535
-few_before nodes causes f = leb-false 65535 nodes (not_when (nat_le 65535 nodes) (Limit limit.Tables 65536) f)
+pub few_before : (nodes : ℕ) → one_too_many nodes ≡ None → nodes < 65535
+few_before nodes f = leb-false 65535 nodes (not_when (nat_le 65535 nodes) (Limit limit.Tables 65536) f)
 
-pub few_tables : (ended : Bool) (nodes number : ℕ) (words : List (List ℕ)) → names_fault ended nodes number words ≡ None → nodes < 65535
+pub few_tables : (place : Part) (nodes number : ℕ) (words : List (List ℕ)) → names_fault place nodes number words ≡ None → nodes < 65535
 unfolding names_fault
-few_tables ended nodes number words f =
-    few_before nodes []
+few_tables place nodes number words f =
+    few_before nodes
     (none_first (one_too_many nodes) (many_inputs (input_words words) ∷ [])
     (none_later (long_name words) (one_too_many nodes ∷ many_inputs (input_words words) ∷ [])
     (none_later (when (is_none words) (BadArity number)) (long_name words ∷ one_too_many nodes ∷ many_inputs (input_words words) ∷ [])
-    (none_later (when ended (UnknownWord number)) (when (is_none words) (BadArity number) ∷ long_name words ∷ one_too_many nodes ∷ many_inputs (input_words words) ∷ []) f))))
+    (none_later (when (is_behind place) (UnknownWord number)) (names_causes nodes number words) f))))
 
-pub few_latches : (ended : Bool) (nodes number : ℕ) (words : List (List ℕ)) → latch_fault ended nodes number words ≡ None → nodes < 65535
+pub few_latches : (place : Part) (nodes number : ℕ) (words : List (List ℕ)) → latch_fault place nodes number words ≡ None → nodes < 65535
 unfolding latch_fault
-few_latches ended nodes number words f =
-    few_before nodes []
+few_latches place nodes number words f =
+    few_before nodes
     (none_first (one_too_many nodes) []
-    (none_later (long_name (take 2 words)) (one_too_many nodes ∷ [])
-    (none_later (when (not (is_latch words)) (BadLatch number)) (long_name (take 2 words) ∷ one_too_many nodes ∷ [])
-    (none_later (when ended (UnknownWord number)) (when (not (is_latch words)) (BadLatch number) ∷ long_name (take 2 words) ∷ one_too_many nodes ∷ []) f))))
-
-pub right_latch : (ended : Bool) (nodes number : ℕ) (words : List (List ℕ)) → latch_fault ended nodes number words ≡ None → is_latch words ≡ true
-unfolding latch_fault
-right_latch ended nodes number words f =
-    not_not_when (is_latch words) (BadLatch number)
-    (none_first (when (not (is_latch words)) (BadLatch number)) (long_name (take 2 words) ∷ one_too_many nodes ∷ [])
-    (none_later (when ended (UnknownWord number)) (when (not (is_latch words)) (BadLatch number) ∷ long_name (take 2 words) ∷ one_too_many nodes ∷ []) f))
+    (none_later (long_name (latch_names words)) (one_too_many nodes ∷ [])
+    (none_later (when (not (is_latch words)) (BadLatch number)) (long_name (latch_names words) ∷ one_too_many nodes ∷ [])
+    (none_later (when (not (is_in_model place)) (UnknownWord number)) (when (not (is_latch words)) (BadLatch number) ∷ long_name (latch_names words) ∷ one_too_many nodes ∷ []) f))))
 
 -- a latch's start value is at most 3
 pub digit_small : (word : List ℕ) → is_init word ≡ true → slice_index word 0 - 48 ≤ 3
@@ -104,8 +94,10 @@ digit_small word e = by (bytes_eq word (codes "0")) (bytes_eq word (codes "1")) 
 
 pub init_small : (input output : List ℕ) (rest : List (List ℕ)) → is_latch (input ∷ output ∷ rest) ≡ true → init_of rest ≤ 3
 init_small input output [] e = omega arith
-init_small input output (word ∷ []) e = digit_small word e
-init_small input output (word ∷ next ∷ words) e = absurd (cc)
+init_small input output (init ∷ []) e = digit_small init e
+init_small input output (kind ∷ control ∷ []) e = omega arith
+init_small input output (kind ∷ control ∷ init ∷ []) e = digit_small init (and_right (is_latch_kind kind) (is_init init) e)
+init_small input output (kind ∷ control ∷ init ∷ word ∷ words) e = absurd (cc)
 
 pub latch_small : (words : List (List ℕ)) → is_latch words ≡ true → AllByRecursion (λ (latch : TheLatch). latch.init ≤ 3) (latch_of words)
 latch_small [] e = tt
@@ -167,36 +159,51 @@ pub length_behind : (tables : List Table) (reading : Option Reading) (bytes : Li
 length_behind tables None bytes = refl
 length_behind tables (Some reading) bytes = length_with tables (with_row reading bytes) ∙ sym (length_with tables reading)
 
-pub small_kept : (kind : Keyword) (draft : Draft) (number : ℕ) (words whole : List (List ℕ)) → draft_fault kind draft number words whole ≡ None → IsSmallDraft draft → IsSmallDraft (with_line kind draft words whole)
+pub small_kept : (kind : Keyword) (draft : Draft) (number : ℕ) (words whole : List (List ℕ)) → draft_fault kind draft number words whole ≡ None → IsSmallDraft draft → IsSmallDraft (with_line kind draft number words whole)
 unfolding closed tables_with next_fault
-small_kept Model draft number words whole f s = record { tables = s.tables; count = s.count; few = s.few; inits = s.inits }
-small_kept Inputs draft number words whole f s = record { tables = s.tables; count = s.count; few = s.few; inits = s.inits }
-small_kept Outputs draft number words whole f s = record { tables = s.tables; count = s.count; few = s.few; inits = s.inits }
+small_kept Model draft number words whole f s = record { tables = s.tables; model = s.model; none = s.none; count = s.count; few = s.few; inits = s.inits }
+small_kept Inputs draft number words whole f s = record { tables = s.tables; model = s.model; none = s.none; count = s.count; few = s.few; inits = s.inits }
+small_kept Outputs draft number words whole f s = record { tables = s.tables; model = s.model; none = s.none; count = s.count; few = s.few; inits = s.inits }
+small_kept Clock draft number words whole f s = record { tables = s.tables; model = s.model; none = s.none; count = s.count; few = s.few; inits = s.inits }
 small_kept Names draft number words whole f s =
-    let before : draft.nodes < 65535 = few_tables draft.ended draft.nodes number words f in
+    let before : draft.nodes < 65535 = few_tables (place_of draft) draft.nodes number words f in
     let one : length (tables_with draft.tables draft.reading ++ table_of words [] ∷ []) ≡ length (tables_with draft.tables draft.reading) + 1 = length-append (tables_with draft.tables draft.reading) (table_of words [] ∷ []) in
+    let all : length (tables_with draft.tables draft.reading) + (length draft.model_tables + length draft.latches) ≡ draft.nodes = s.count in
     record {
-      tables = all_append IsGoodTable (tables_with draft.tables draft.reading) (table_of words [] ∷ []) s.tables (good_new words (few_inputs draft.ended draft.nodes number words f), tt);
-      count = omega (arith, s.count);
+      tables = all_append IsGoodTable (tables_with draft.tables draft.reading) (table_of words [] ∷ []) s.tables (good_new words (few_inputs (place_of draft) draft.nodes number words f), tt);
+      model = s.model;
+      none = s.none;
+      count = omega arith;
       few = omega arith;
       inits = s.inits;
     }
 small_kept Latch draft number words whole f s =
-    let before : draft.nodes < 65535 = few_latches draft.ended draft.nodes number words f in
-    let is : is_latch words ≡ true = right_latch draft.ended draft.nodes number words f in
+    let before : draft.nodes < 65535 = few_latches (place_of draft) draft.nodes number words f in
+    let is : is_latch words ≡ true = right_latch (place_of draft) draft.nodes number words f in
     let one : length (draft.latches ++ latch_of words) ≡ length draft.latches + 1 = length-append draft.latches (latch_of words) ∙ ap (λ n. length draft.latches + n) (one_latch words is) in
+    let all : length (tables_with draft.tables draft.reading) + (length draft.model_tables + length draft.latches) ≡ draft.nodes = s.count in
     record {
       tables = s.tables;
-      count = omega (arith, s.count);
+      model = s.model;
+      none = s.none;
+      count = omega arith;
       few = omega arith;
       inits = all_append (λ (latch : TheLatch). latch.init ≤ 3) draft.latches (latch_of words) s.inits (latch_small words is);
     }
-small_kept End draft number words whole f s = record { tables = s.tables; count = s.count; few = s.few; inits = s.inits }
+small_kept Gate draft number words whole f s = s
+small_kept DontCare draft number words whole f s =
+    let all : length (tables_with draft.tables draft.reading) + (length draft.model_tables + length draft.latches) ≡ draft.nodes = s.count in
+    let before : length draft.model_tables ≡ 0 = ap (λ (ts : List Table). length ts) (s.none (part_begins draft.ended draft.has_part number f)) in
+    record { tables = tt; model = s.tables; none = λ h. absurd (cc); count = omega arith; few = s.few; inits = s.inits }
+small_kept End draft number words whole f s = record { tables = s.tables; model = s.model; none = s.none; count = s.count; few = s.few; inits = s.inits }
+small_kept Skipped draft number words whole f s = record { tables = s.tables; model = s.model; none = s.none; count = s.count; few = s.few; inits = s.inits }
 small_kept Row draft number words whole f s = record {
   tables = good_behind draft.tables draft.reading number (joined whole)
       (none_first (fault_behind draft.reading number (joined whole)) []
-      (none_later (when draft.ended (UnknownWord number)) (fault_behind draft.reading number (joined whole) ∷ []) f)) s.tables;
-  count = ap (λ n. n + length draft.latches) (length_behind draft.tables draft.reading (joined whole)) ∙ s.count;
+      (none_later (when (is_behind (place_of draft)) (UnknownWord number)) (fault_behind draft.reading number (joined whole) ∷ []) f)) s.tables;
+  model = s.model;
+  none = s.none;
+  count = ap (λ n. n + (length draft.model_tables + length draft.latches)) (length_behind draft.tables draft.reading (joined whole)) ∙ s.count;
   few = s.few;
   inits = s.inits;
 }
@@ -204,7 +211,7 @@ small_kept Other draft number words whole f s = s
 
 pub small_nothing : IsSmallDraft no_lines
 unfolding tables_with
-small_nothing = record { tables = tt; count = refl; few = omega arith; inits = tt }
+small_nothing = record { tables = tt; model = tt; none = λ h. refl; count = refl; few = omega arith; inits = tt }
 
 -- a good table is a small one when it is folded
 pub rows_short : (width : ℕ) (rows : List (List Tri)) → width ≤ 1000 → AllByRecursion (λ (row : List Tri). length row ≡ width) rows → AllByRecursion (λ (row : List Tri). length row ≤ 1000) rows
@@ -223,10 +230,36 @@ small_folded table g =
       widths = rows_short (length (folded table).inputs) (folded table).rows (omega arith) (folded_shaped table g.shaped).0;
     }
 
-pub small_drafted : (draft : Draft) → IsSmallDraft draft → IsWithinLimits (drafted draft)
-small_drafted draft s = record {
-  nodes = let e : length (tables_with draft.tables draft.reading) + length draft.latches ≡ draft.nodes = s.count in
-      let few : draft.nodes ≤ 65535 = s.few in
-      let same : length (map folded (tables_with draft.tables draft.reading)) ≡ length (tables_with draft.tables draft.reading) = length-map (tables_with draft.tables draft.reading) folded in omega arith;
-  tables = all_map IsGoodTable IsSmallTable folded (tables_with draft.tables draft.reading) small_folded s.tables;
+-- a good table is a small one as it is written
+pub small_written : (table : Table) → IsGoodTable table → IsSmallTable table
+small_written table g = record { rows = g.rows; inputs = g.inputs; widths = rows_short (length table.inputs) table.rows g.inputs g.shaped.0 }
+
+-- the tables of the model and of the part are good
+pub good_model : (draft : Draft) → IsSmallDraft draft → AllByRecursion IsGoodTable (kept_of draft).tables
+good_model draft s = by draft.has_part
+  where
+    by : (had : Bool) → AllByRecursion IsGoodTable (model_of had draft.model_tables (tables_with draft.tables draft.reading))
+    by true = s.model
+    by false = s.tables
+
+pub good_part : (draft : Draft) → IsSmallDraft draft → AllByRecursion IsGoodTable (kept_of draft).dont_care
+good_part draft s = by draft.has_part
+  where
+    by : (had : Bool) → AllByRecursion IsGoodTable (part_of had (tables_with draft.tables draft.reading))
+    by true = s.tables
+    by false = tt
+
+pub small_kept_all : (draft : Draft) → IsSmallDraft draft → IsWithinLimits (kept_circuit (kept_of draft))
+small_kept_all draft s = record {
+  nodes = let few : draft.nodes ≤ 65535 = s.few in
+      let same : length (map folded (kept_of draft).tables) ≡ length (kept_of draft).tables = length-map (kept_of draft).tables folded in
+      let all : length (kept_of draft).tables + length draft.latches + length (kept_of draft).dont_care ≡ draft.nodes = by draft.has_part refl in omega arith;
+  tables = all_map IsGoodTable IsSmallTable folded (kept_of draft).tables small_folded (good_model draft s);
+  dont_care = all_kept IsGoodTable IsSmallTable (kept_of draft).dont_care small_written (good_part draft s);
 }
+  where
+    by : (had : Bool) → draft.has_part ≡ had → length (model_of had draft.model_tables (tables_with draft.tables draft.reading)) + length draft.latches + length (part_of had (tables_with draft.tables draft.reading)) ≡ draft.nodes
+    by true h = let all : length (tables_with draft.tables draft.reading) + (length draft.model_tables + length draft.latches) ≡ draft.nodes = s.count in omega arith
+    by false h =
+        let all : length (tables_with draft.tables draft.reading) + (length draft.model_tables + length draft.latches) ≡ draft.nodes = s.count in
+        let before : length draft.model_tables ≡ 0 = ap (λ (ts : List Table). length ts) (s.none h) in omega arith

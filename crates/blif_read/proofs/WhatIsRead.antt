@@ -9,12 +9,12 @@ use Rattle.circuit_model.specs.declared.circuit.Circuit.{Circuit}
 use Rattle.sis_text.specs.Entries.{Entry}
 use Rattle.blif_read.specs.Keyword.{kind_of, other_words}
 use Rattle.blif_read.specs.Limits.{HasShortNames}
-use Rattle.blif_read.specs.Steps.{take_entries, no_lines, finish, HasApartTables}
+use Rattle.blif_read.specs.Steps.{take_entries, no_lines, kept_of, finish, HasApartTables}
 use Rattle.blif_read.specs.declared.draft.Draft.{Draft}
 use Rattle.blif_read.proofs.Passing.{kept_through, last_draft}
 use Rattle.blif_read.proofs.Named.{Named, named_kept, named_nothing, all_named, IsShort, short_mentioned, words_mentioned, others_have}
-use Rattle.blif_read.proofs.Small.{IsSmallDraft, small_kept, small_nothing, small_drafted}
-use Rattle.blif_read.proofs.Told.{IsToldDraft, told_kept, told_nothing, tables_apart, sound_drafted}
+use Rattle.blif_read.proofs.Small.{IsSmallDraft, small_kept, small_nothing, small_kept_all}
+use Rattle.blif_read.proofs.Told.{IsToldDraft, told_kept, told_nothing, tables_apart, sound_kept}
 
 pub any_line : (lines : List Entry) → AllByRecursion (λ (line : Entry). Unit {0}) lines
 any_line [] = tt
@@ -43,14 +43,14 @@ unfolding is_word
 words_last lines last a e =
     kept_through (Named (λ name. is_word name ≡ true)) (λ (line : Entry). AllByRecursion (λ word. is_word word ≡ true) line.words) lines no_lines last
     (λ line one words f s. named_kept (λ name. is_word name ≡ true) (kind_of line) one line.number (other_words line.words) line.words refl
-    (words_mentioned (λ name. is_word name ≡ true) (kind_of line) (other_words line.words) (others_have (λ name. is_word name ≡ true) line.words words)) f s) a (named_nothing (λ name. is_word name ≡ true) refl) e
+    (words_mentioned (λ name. is_word name ≡ true) one.has_part (kind_of line) (other_words line.words) (others_have (λ name. is_word name ≡ true) line.words words)) f s) a (named_nothing (λ name. is_word name ≡ true) refl) e
 
-pub apart_last : (lines : List Entry) (last : Draft) → take_entries no_lines lines ≡ Ok last → HasApartTables last
+pub apart_last : (lines : List Entry) (last : Draft) → take_entries no_lines lines ≡ Ok last → HasApartTables (kept_of last)
 apart_last lines last e = tables_apart last (told_last lines last e)
 
 pub small_read : (lines : List Entry) (circuit : Circuit) → finish (take_entries no_lines lines) ≡ Ok circuit → IsWithinLimits circuit
 small_read lines circuit e =
-    let last = last_draft lines circuit e in subst IsWithinLimits last.circuit_is (small_drafted last.draft (small_last lines last.draft last.taken))
+    let last = last_draft lines circuit e in subst IsWithinLimits last.circuit_is (small_kept_all last.draft (small_last lines last.draft last.taken))
 
 pub short_read : (lines : List Entry) (circuit : Circuit) → finish (take_entries no_lines lines) ≡ Ok circuit → HasShortNames circuit
 short_read lines circuit e =
@@ -60,4 +60,4 @@ pub sound_read : (lines : List Entry) (circuit : Circuit) → AreWordLines lines
 sound_read lines circuit a e =
     let last = last_draft lines circuit e in
     subst IsSound last.circuit_is
-    (sound_drafted last.draft (words_last lines last.draft a last.taken) (small_last lines last.draft last.taken) (told_last lines last.draft last.taken) last.whole)
+    (sound_kept last.draft (words_last lines last.draft a last.taken) (small_last lines last.draft last.taken) (told_last lines last.draft last.taken) last.whole)

@@ -1,6 +1,7 @@
 -- What is wrong with one logical line of a model, given the lines before it.
--- Source: BLIF appendix of the SIS report (UCB/ERL M92/41): `.model`, `.inputs`, `.outputs`, `.names` with its rows,
--- `.latch` and `.end`. The order of the causes and the limits are the project's own.
+-- Source: BLIF appendix of the SIS report (UCB/ERL M92/41): `.model`, `.inputs`, `.outputs`, `.clock`, `.names` with its
+-- rows, `.latch`, `.gate`, `.exdc` with the don't-care part behind it, and `.end`. The order of the causes and the limits
+-- are the project's own.
 -- The lines before a line are given newest first.
 use Rattle.std.specs.Prelude.{ℕ, ◌+◌, ◌-◌, Bool, true, false, not, ◌&&◌, ◌||◌, ◌==◌, nat_le, nat_lt, Option, Some, None, List, [], ◌∷◌, map, reverse, length, take, drop, find, flat_map, take_while, count_by, codes, bytes_eq, slice_index, if◌then◌else◌}
 use Rattle.std.specs.List.{list_all, list_any}
@@ -8,10 +9,12 @@ use Rattle.std.specs.Option.{option_map}
 use Rattle.sis_text.specs.Entries.{Entry}
 use Rattle.blif_read.specs.Keyword.{other_words, kind_of, is_row}
 use Rattle.blif_read.specs.declared.keyword.Keyword.{Keyword}
-use Rattle.blif_read.specs.declared.keyword.Keyword.TheVariants.{Model, Inputs, Outputs, Names, Latch, End, Row, Other}
+use Rattle.blif_read.specs.declared.keyword.Keyword.TheVariants.{Model, Inputs, Outputs, Clock, Names, Latch, Gate, DontCare, End, Skipped, Row, Other}
+use Rattle.blif_read.specs.declared.part.Part.{Part}
+use Rattle.blif_read.specs.declared.part.Part.TheVariants as part
 use Rattle.blif_read.specs.declared.fault.LimitKind.TheVariants as limit
 use Rattle.blif_read.specs.declared.fault.BlifFault.{BlifFault}
-use Rattle.blif_read.specs.declared.fault.BlifFault.TheVariants.{UnknownWord, BadArity, BadRow, MixedPhase, BadLatch, SecondModel, Limit}
+use Rattle.blif_read.specs.declared.fault.BlifFault.TheVariants.{UnknownWord, BadArity, BadRow, MixedPhase, BadLatch, SecondModel, NoLibrary, Limit}
 
 -- a fault where a test holds
 abbrev pub when : Bool → BlifFault → Option BlifFault
@@ -47,7 +50,35 @@ is_end_kind kind = false
 unfoldable pub is_ended : List Entry → Bool
 is_ended back = list_any (λ line. is_end_kind (kind_of line)) back
 
--- the lines that count towards the limit of tables and latches
+-- whether a kind is that of the line that begins the don't-care part
+abbrev pub begins_part : Keyword → Bool
+begins_part DontCare = true
+begins_part kind = false
+
+-- whether the don't-care part begins among the lines before
+unfoldable pub has_part : List Entry → Bool
+has_part back = list_any (λ line. begins_part (kind_of line)) back
+
+-- where a line stands behind the lines before it: in the model itself, in its don't-care part, or behind the end
+unfoldable pub part_behind : List Entry → Part
+part_behind back = if is_ended back then part.Behind else (if has_part back then part.DontCare else part.Model)
+
+-- whether a place is in the model itself
+abbrev pub is_in_model : Part → Bool
+is_in_model part.Model = true
+is_in_model place = false
+
+-- whether a place is in the don't-care part
+abbrev pub is_in_dont_care : Part → Bool
+is_in_dont_care part.DontCare = true
+is_in_dont_care place = false
+
+-- whether a place is behind the end
+abbrev pub is_behind : Part → Bool
+is_behind part.Behind = true
+is_behind place = false
+
+-- the lines that count towards the limit of tables and latches, those of the don't-care part among them
 abbrev pub is_node_kind : Keyword → Bool
 is_node_kind Names = true
 is_node_kind Latch = true
@@ -73,13 +104,28 @@ many_inputs inputs = when (nat_lt 1000 (length inputs)) (Limit limit.Inputs (len
 abbrev pub is_init : List ℕ → Bool
 is_init word = bytes_eq word (codes "0") || bytes_eq word (codes "1") || bytes_eq word (codes "2") || bytes_eq word (codes "3")
 
--- whether words are those of a latch: its input, its output, and its start value where that is written
+-- whether a word is the kind of a latch
+abbrev pub is_latch_kind : List ℕ → Bool
+is_latch_kind word = bytes_eq word (codes "fe") || bytes_eq word (codes "re") || bytes_eq word (codes "ah") || bytes_eq word (codes "al")
+
+-- whether words may stand behind a latch's signals: its kind with a control, its start value, both or none
+abbrev pub is_latch_end : List (List ℕ) → Bool
+is_latch_end [] = true
+is_latch_end (init ∷ []) = is_init init
+is_latch_end (kind ∷ control ∷ []) = is_latch_kind kind
+is_latch_end (kind ∷ control ∷ init ∷ []) = is_latch_kind kind && is_init init
+is_latch_end (kind ∷ control ∷ init ∷ word ∷ words) = false
+
+-- whether words are those of a latch: its input, its output, and what may stand behind them
 abbrev pub is_latch : List (List ℕ) → Bool
 is_latch [] = false
 is_latch (input ∷ []) = false
-is_latch (input ∷ output ∷ []) = true
-is_latch (input ∷ output ∷ init ∷ []) = is_init init
-is_latch (input ∷ output ∷ init ∷ word ∷ words) = false
+is_latch (input ∷ output ∷ words) = is_latch_end words
+
+-- the words of a latch that are names: its input, its output, and its control where it has one
+abbrev pub latch_names : List (List ℕ) → List (List ℕ)
+latch_names (input ∷ output ∷ kind ∷ control ∷ words) = input ∷ output ∷ control ∷ []
+latch_names words = take 2 words
 
 -- whether a byte is a character of a row
 abbrev pub is_character : ℕ → Bool
@@ -134,35 +180,56 @@ row_fault None rows number bytes = Some (BadRow number)
 row_fault (Some line) rows number bytes = row_fault_under (kind_of line) (other_words line.words) rows number bytes
 
 -- what is wrong with the words behind the first of a `.model` line, where begun tells whether a line stands before it
-unfoldable pub model_fault : Bool → ℕ → List (List ℕ) → Option BlifFault
-model_fault begun number words = first_of
-    (when (nat_lt 1 (length words)) (BadArity number) ∷ when begun (SecondModel number) ∷ long_name words ∷ [])
+unfoldable pub model_fault : Part → Bool → ℕ → List (List ℕ) → Option BlifFault
+model_fault place begun number words = first_of
+    (when (is_in_dont_care place) (UnknownWord number) ∷ when (nat_lt 1 (length words)) (BadArity number)
+    ∷ when begun (SecondModel number) ∷ long_name words ∷ [])
 
--- what is wrong with a line of ports, where ended tells whether an end stands before it
-unfoldable pub ports_fault : Bool → ℕ → List (List ℕ) → Option BlifFault
-ports_fault ended number words = first_of (when ended (UnknownWord number) ∷ long_name words ∷ [])
+-- what is wrong with a line of ports; in the don't-care part it is read past
+unfoldable pub ports_fault : Part → ℕ → List (List ℕ) → Option BlifFault
+ports_fault part.Model number words = long_name words
+ports_fault part.DontCare number words = None
+ports_fault part.Behind number words = Some (UnknownWord number)
+
+-- what is wrong with a line of clocks
+unfoldable pub clock_fault : Part → ℕ → List (List ℕ) → Option BlifFault
+clock_fault place number words = first_of (when (not (is_in_model place)) (UnknownWord number) ∷ long_name words ∷ [])
 
 -- what is wrong with a `.names` line, where nodes are the tables and latches before it
-unfoldable pub names_fault : Bool → ℕ → ℕ → List (List ℕ) → Option BlifFault
-names_fault ended nodes number words = first_of
-    (when ended (UnknownWord number) ∷ when (is_none words) (BadArity number) ∷ long_name words ∷ one_too_many nodes
+unfoldable pub names_fault : Part → ℕ → ℕ → List (List ℕ) → Option BlifFault
+names_fault place nodes number words = first_of
+    (when (is_behind place) (UnknownWord number) ∷ when (is_none words) (BadArity number) ∷ long_name words ∷ one_too_many nodes
     ∷ many_inputs (input_words words) ∷ [])
 
 -- what is wrong with a `.latch` line, where nodes are the tables and latches before it
-unfoldable pub latch_fault : Bool → ℕ → ℕ → List (List ℕ) → Option BlifFault
-latch_fault ended nodes number words = first_of
-    (when ended (UnknownWord number) ∷ when (not (is_latch words)) (BadLatch number) ∷ long_name (take 2 words) ∷ one_too_many nodes ∷ [])
+unfoldable pub latch_fault : Part → ℕ → ℕ → List (List ℕ) → Option BlifFault
+latch_fault place nodes number words = first_of
+    (when (not (is_in_model place)) (UnknownWord number) ∷ when (not (is_latch words)) (BadLatch number)
+    ∷ long_name (latch_names words) ∷ one_too_many nodes ∷ [])
+
+-- what is wrong with a `.gate` line: there is no library of gates
+unfoldable pub gate_fault : Part → ℕ → List (List ℕ) → Option BlifFault
+gate_fault place number words = first_of
+    (when (not (is_in_model place)) (UnknownWord number) ∷ when (is_none words) (BadArity number) ∷ Some (NoLibrary number) ∷ [])
+
+-- what is wrong with the line that begins the don't-care part, or with one that is read past
+abbrev pub place_fault : Part → ℕ → Option BlifFault
+place_fault place number = when (not (is_in_model place)) (UnknownWord number)
 
 -- what is wrong with a line behind the lines before it, by its kind: its number, its words behind the first, all words
 abbrev pub fault_as : Keyword → List Entry → ℕ → List (List ℕ) → List (List ℕ) → Option BlifFault
-fault_as Model back number words whole = model_fault (not (is_none back)) number words
-fault_as Inputs back number words whole = ports_fault (is_ended back) number words
-fault_as Outputs back number words whole = ports_fault (is_ended back) number words
-fault_as Names back number words whole = names_fault (is_ended back) (nodes_in back) number words
-fault_as Latch back number words whole = latch_fault (is_ended back) (nodes_in back) number words
+fault_as Model back number words whole = model_fault (part_behind back) (not (is_none back)) number words
+fault_as Inputs back number words whole = ports_fault (part_behind back) number words
+fault_as Outputs back number words whole = ports_fault (part_behind back) number words
+fault_as Clock back number words whole = clock_fault (part_behind back) number words
+fault_as Names back number words whole = names_fault (part_behind back) (nodes_in back) number words
+fault_as Latch back number words whole = latch_fault (part_behind back) (nodes_in back) number words
+fault_as Gate back number words whole = gate_fault (part_behind back) number words
+fault_as DontCare back number words whole = place_fault (part_behind back) number
 fault_as End back number words whole = None
+fault_as Skipped back number words whole = place_fault (part_behind back) number
 fault_as Row back number words whole = first_of
-    (when (is_ended back) (UnknownWord number) ∷ row_fault (heading back) (rows_behind back) number (joined whole) ∷ [])
+    (when (is_behind (part_behind back)) (UnknownWord number) ∷ row_fault (heading back) (rows_behind back) number (joined whole) ∷ [])
 fault_as Other back number words whole = Some (UnknownWord number)
 
 -- what is wrong with a line, given the lines before it

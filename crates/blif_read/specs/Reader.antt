@@ -1,8 +1,15 @@
 -- What a file's logical lines are read as: the first fault, or the circuit that they say.
--- Source: BLIF appendix of the SIS report (UCB/ERL M92/41): a model is its ports, latches and tables; several port
--- lines add up; tables may stand in any order; each signal has one driver, and tables form no cycle.
-use Rattle.std.specs.Prelude.{◌≡◌, ℕ, ◌-◌, Bool, true, false, ◌==◌, Option, Some, None, Result, Ok, Err, List, [], ◌∷◌, ◌++◌, map, length, take, flat_map, take_while, codes, slice_index, if◌then◌else◌}
+-- Source: BLIF appendix of the SIS report (UCB/ERL M92/41): a model is its ports, clocks, latches and tables; several port
+-- lines add up, and ports without a line are found; tables may stand in any order; each signal has one driver, tables form
+-- no cycle, and all latches share one clock; tables behind `.exdc` are the don't-care part.
+use Rattle.std.specs.Prelude.{◌≡◌, ℕ, ◌-◌, Bool, true, false, not, ◌&&◌, ◌==◌, Option, Some, None, Result, Ok, Err, List, [], ◌∷◌, ◌++◌, map, length, take, drop, find, flat_map, take_while, bytes_eq, codes, slice_index, if◌then◌else◌}
+use Rattle.std.specs.List.{filter, list_any}
 use Rattle.std.specs.Option.{option_map, option_or}
+use Rattle.circuit_model.specs.Names.{has}
+use Rattle.circuit_model.specs.Soundness.{control_of}
+use Rattle.circuit_model.specs.declared.circuit.Kind.{Kind}
+use Rattle.circuit_model.specs.declared.circuit.Kind.TheVariants.{Fe, Re, Ah, Al}
+use Rattle.circuit_model.specs.declared.circuit.Timing.{Timing}
 use Rattle.circuit_model.specs.declared.circuit.Tri.{Tri}
 use Rattle.circuit_model.specs.declared.circuit.Tri.TheVariants.{Zero, One, Free}
 use Rattle.circuit_model.specs.declared.circuit.Table.{Table}
@@ -10,16 +17,17 @@ use Rattle.circuit_model.specs.declared.circuit.Latch.{Latch as TheLatch}
 use Rattle.circuit_model.specs.declared.circuit.Circuit.{Circuit}
 use Rattle.circuit_checks.specs.NameChecks.{first_again, first_missing, first_listed_twice}
 use Rattle.circuit_checks.specs.Cycles.{first_on_cycle}
-use Rattle.table_fold.specs.Folding.{folded}
+use Rattle.circuit_checks.specs.PartChecks.{first_bad_part_name}
+use Rattle.table_fold.specs.Folding.{each_once, folded}
 use Rattle.sis_text.specs.Entries.{Entry}
 use Rattle.blif_read.specs.Keyword.{other_words, kind_of, is_row}
-use Rattle.blif_read.specs.Lines.{input_words, last_word, joined, output_character, first_of, line_fault}
+use Rattle.blif_read.specs.Lines.{input_words, last_word, joined, output_character, first_of, begins_part, line_fault}
 use Rattle.blif_read.specs.declared.keyword.Keyword.{Keyword}
-use Rattle.blif_read.specs.declared.keyword.Keyword.TheVariants.{Model, Inputs, Outputs, Names, Latch}
+use Rattle.blif_read.specs.declared.keyword.Keyword.TheVariants.{Model, Inputs, Outputs, Clock, Names, Latch}
 use Rattle.blif_read.specs.declared.fault.BlifFault.{BlifFault}
 use Rattle.blif_read.specs.declared.fault.ReadFault.{ReadFault}
 use Rattle.blif_read.specs.declared.fault.ReadFault.TheVariants as read_fault
-use Rattle.blif_read.specs.declared.fault.BlifFault.TheVariants.{NameTwice, TwoDrivers, Undriven, Cycle}
+use Rattle.blif_read.specs.declared.fault.BlifFault.TheVariants.{NameTwice, MixedClock, GatedClock, TwoDrivers, Undriven, BadExdc, Cycle}
 
 -- the first fault of a line, in file order
 unfoldable pub first_line_fault : List Entry → List Entry → Option BlifFault
@@ -29,6 +37,14 @@ first_line_fault back (line ∷ lines) = option_or (line_fault back line) (first
 -- the words of all lines, each line by its kind and its words behind the first
 abbrev pub of_lines : {A : Type 0} → (Keyword → List (List ℕ) → List A) → List Entry → List A
 of_lines words_of lines = flat_map (λ line. words_of (kind_of line) (other_words line.words)) lines
+
+-- the lines of the model itself: those before the don't-care part
+unfoldable pub model_lines : List Entry → List Entry
+model_lines lines = take_while (λ line. not (begins_part (kind_of line))) lines
+
+-- the lines of the don't-care part: the one that begins it, and those behind it
+unfoldable pub part_lines : List Entry → List Entry
+part_lines lines = drop (length (model_lines lines)) lines
 
 -- the inputs that a line lists
 abbrev pub listed_inputs : Keyword → List (List ℕ) → List (List ℕ)
@@ -46,17 +62,10 @@ listed_ports Inputs words = words
 listed_ports Outputs words = words
 listed_ports kind words = []
 
--- the inputs that lines list, in file order
-unfoldable pub inputs_in : List Entry → List (List ℕ)
-inputs_in lines = of_lines listed_inputs lines
-
--- the outputs that lines list, in file order
-unfoldable pub outputs_in : List Entry → List (List ℕ)
-outputs_in lines = of_lines listed_outputs lines
-
--- the ports that lines list, in file order
-unfoldable pub ports_in : List Entry → List (List ℕ)
-ports_in lines = of_lines listed_ports lines
+-- the clocks that a line lists
+abbrev pub listed_clocks : Keyword → List (List ℕ) → List (List ℕ)
+listed_clocks Clock words = words
+listed_clocks kind words = []
 
 -- the input of a `.latch` line
 abbrev pub latch_input : List (List ℕ) → List (List ℕ)
@@ -73,25 +82,73 @@ driven_by Names words = last_word words ∷ []
 driven_by Latch words = latch_output words
 driven_by kind words = []
 
--- the signals that a line reads
+-- the signals that a table or a latch reads
+abbrev pub read_within : Keyword → List (List ℕ) → List (List ℕ)
+read_within Names words = input_words words
+read_within Latch words = latch_input words
+read_within kind words = []
+
+-- the signals that a line reads: that of a table, a latch or of outputs
 abbrev pub read_by : Keyword → List (List ℕ) → List (List ℕ)
 read_by Outputs words = words
-read_by Names words = input_words words
-read_by Latch words = latch_input words
-read_by kind words = []
+read_by kind words = read_within kind words
 
 -- the signals that lines drive, in file order
 unfoldable pub drives_in : List Entry → List (List ℕ)
 drives_in lines = of_lines driven_by lines
 
+-- the signals that tables and latches read, in file order
+unfoldable pub reads_within : List Entry → List (List ℕ)
+reads_within lines = of_lines read_within lines
+
 -- the signals that lines read, in file order
 unfoldable pub reads_in : List Entry → List (List ℕ)
 reads_in lines = of_lines read_by lines
 
--- the start value of a latch; without a word it is 3, which is not known
+-- whether a kind is that of lines of inputs
+abbrev pub is_inputs_kind : Keyword → Bool
+is_inputs_kind Inputs = true
+is_inputs_kind kind = false
+
+-- whether a kind is that of lines of outputs
+abbrev pub is_outputs_kind : Keyword → Bool
+is_outputs_kind Outputs = true
+is_outputs_kind kind = false
+
+-- whether a line of inputs is among lines
+unfoldable pub lists_inputs : List Entry → Bool
+lists_inputs lines = list_any (λ line. is_inputs_kind (kind_of line)) lines
+
+-- whether a line of outputs is among lines
+unfoldable pub lists_outputs : List Entry → Bool
+lists_outputs lines = list_any (λ line. is_outputs_kind (kind_of line)) lines
+
+-- the names that are not among others, each once, where it comes first
+unfoldable pub names_beside : List (List ℕ) → List (List ℕ) → List (List ℕ)
+names_beside others names = each_once (filter (λ name. not (has others name)) names)
+
+-- the inputs: those that lines list; without such a line the signals that tables and latches read and nothing drives
+unfoldable pub inputs_in : List Entry → List (List ℕ)
+inputs_in lines = if lists_inputs lines then of_lines listed_inputs lines else names_beside (drives_in lines) (reads_within lines)
+
+-- the outputs: those that lines list; without such a line the signals that are driven and that no table or latch reads
+unfoldable pub outputs_in : List Entry → List (List ℕ)
+outputs_in lines = if lists_outputs lines then of_lines listed_outputs lines else names_beside (reads_within lines) (drives_in lines)
+
+-- the ports that lines list, in file order
+unfoldable pub ports_in : List Entry → List (List ℕ)
+ports_in lines = of_lines listed_ports lines
+
+-- the clocks that lines list, in file order
+unfoldable pub clocks_in : List Entry → List (List ℕ)
+clocks_in lines = of_lines listed_clocks lines
+
+-- the start value of a latch, by the words behind its output: the last of one or three, and 3, which is not known, where
+-- none is written
 abbrev pub init_of : List (List ℕ) → ℕ
-init_of [] = 3
-init_of (word ∷ words) = slice_index word 0 - 48
+init_of (init ∷ []) = slice_index init 0 - 48
+init_of (kind ∷ control ∷ init ∷ words) = slice_index init 0 - 48
+init_of words = 3
 
 -- the latch of the words of a line, if there are two or more
 abbrev pub latch_of : List (List ℕ) → List TheLatch
@@ -106,6 +163,73 @@ latches_by kind words = []
 -- the latches that lines say, in file order
 unfoldable pub latches_in : List Entry → List TheLatch
 latches_in lines = of_lines latches_by lines
+
+-- the kind of a latch by its word
+abbrev pub kind_by : List ℕ → Kind
+kind_by word =
+    if bytes_eq word (codes "fe") then Fe
+    else (if bytes_eq word (codes "re") then Re
+    else (if bytes_eq word (codes "ah") then Ah else Al))
+
+-- the control of a latch by its word; `NIL` is none
+abbrev pub control_by : List ℕ → Option (List ℕ)
+control_by word = if bytes_eq word (codes "NIL") then None else Some word
+
+-- the kind and the control of a latch's words, where they are written
+abbrev pub timing_of : List (List ℕ) → Option Timing
+timing_of (input ∷ output ∷ kind ∷ control ∷ words) = Some (record { kind = kind_by kind; control = control_by control })
+timing_of words = None
+
+-- whether a kind is that of latches
+abbrev pub is_latch_line : Keyword → Bool
+is_latch_line Latch = true
+is_latch_line kind = false
+
+-- the lines of latches
+abbrev pub latch_lines : List Entry → List Entry
+latch_lines lines = filter (λ line. is_latch_line (kind_of line)) lines
+
+-- the timing of a line's latch
+abbrev pub timing_at : Entry → Option Timing
+timing_at line = timing_of (other_words line.words)
+
+-- the timing of the first of some lines
+abbrev pub first_timing : List Entry → Option Timing
+first_timing [] = None
+first_timing (line ∷ lines) = timing_at line
+
+-- the timing that all latches share: that of the first
+unfoldable pub timing_in : List Entry → Option Timing
+timing_in lines = first_timing (latch_lines lines)
+
+-- whether two kinds are the same
+abbrev pub same_kind : Kind → Kind → Bool
+same_kind Fe Fe = true
+same_kind Re Re = true
+same_kind Ah Ah = true
+same_kind Al Al = true
+same_kind kind other = false
+
+-- whether two controls are the same
+abbrev pub same_control : Option (List ℕ) → Option (List ℕ) → Bool
+same_control None None = true
+same_control (Some name) (Some other) = bytes_eq name other
+same_control control other = false
+
+-- whether two timings are the same; none is one of them
+abbrev pub same_timing : Option Timing → Option Timing → Bool
+same_timing None None = true
+same_timing (Some timing) (Some other) = same_kind timing.kind other.kind && same_control timing.control other.control
+same_timing timing other = false
+
+-- the number of the first latch's line whose timing is not that of the first latch
+unfoldable pub mixed_clock : List Entry → Option ℕ
+mixed_clock lines =
+    option_map (λ (line : Entry). line.number) (find (λ line. not (same_timing (timing_in lines) (timing_at line))) (latch_lines lines))
+
+-- the control, where a table or a latch drives it
+unfoldable pub gated_clock : List Entry → Option (List ℕ)
+gated_clock lines = find (has (drives_in lines)) (control_of (timing_in lines))
 
 -- the character of a byte of a row
 abbrev pub character_of : ℕ → Tri
@@ -152,27 +276,42 @@ unfoldable pub model_name : List Entry → List ℕ
 model_name [] = codes "top"
 model_name (line ∷ lines) = named_by (kind_of line) (other_words line.words)
 
--- the circuit that the lines say: each table has each of its inputs once
+-- the circuit that the lines say: each table of its own has each of its inputs once, those of the don't-care part stand as
+-- they are written
 unfoldable pub circuit_of : List Entry → Circuit
 circuit_of lines = record {
   name = model_name lines;
-  inputs = inputs_in lines;
-  outputs = outputs_in lines;
-  clocks = [];
-  timing = None;
-  latches = latches_in lines;
-  tables = map folded (tables_in lines);
-  dont_care = [];
+  inputs = inputs_in (model_lines lines);
+  outputs = outputs_in (model_lines lines);
+  clocks = clocks_in (model_lines lines);
+  timing = timing_in (model_lines lines);
+  latches = latches_in (model_lines lines);
+  tables = map folded (tables_in (model_lines lines));
+  dont_care = tables_in (part_lines lines);
 }
 
--- what is wrong with the whole file: a port listed twice, a signal driven twice, one that is read and not driven, a
--- table that is reached from itself
-unfoldable pub whole_fault : List Entry → Option BlifFault
-whole_fault lines = first_of
-    (option_map (λ name. NameTwice name) (first_listed_twice (inputs_in lines) (outputs_in lines) (ports_in lines))
+-- what is wrong with the model itself, of its lines, but for cycles: a port listed twice, a latch that is timed otherwise
+-- than the first one, a control that is driven, a signal driven twice, one that is read and not driven
+unfoldable pub model_names_fault : List Entry → Option BlifFault
+model_names_fault lines = first_of
+    (option_map (λ name. NameTwice name) (first_listed_twice (of_lines listed_inputs lines) (of_lines listed_outputs lines) (ports_in lines))
+    ∷ option_map (λ number. MixedClock number) (mixed_clock lines)
+    ∷ option_map (λ name. GatedClock name) (gated_clock lines)
     ∷ option_map (λ name. TwoDrivers name) (first_again (inputs_in lines) (drives_in lines))
     ∷ option_map (λ name. Undriven name) (first_missing (inputs_in lines ++ drives_in lines) (reads_in lines))
-    ∷ option_map (λ name. Cycle name) (first_on_cycle (tables_in lines))
+    ∷ [])
+
+-- the leaves of the model of some lines
+abbrev pub leaves_in : List Entry → List (List ℕ)
+leaves_in lines = inputs_in lines ++ map (λ (latch : TheLatch). latch.output) (latches_in lines)
+
+-- what is wrong with the whole file: with the model's names, with its don't-care part, and last a table that is reached
+-- from itself
+unfoldable pub whole_fault : List Entry → Option BlifFault
+whole_fault lines = first_of
+    (model_names_fault (model_lines lines)
+    ∷ option_map (λ name. BadExdc name) (first_bad_part_name (leaves_in (model_lines lines)) (tables_in (part_lines lines)))
+    ∷ option_map (λ name. Cycle name) (first_on_cycle (tables_in (model_lines lines)))
     ∷ [])
 
 -- a fault, or the circuit where there is none

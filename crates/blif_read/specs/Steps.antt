@@ -2,27 +2,31 @@
 -- Source: BLIF appendix of the SIS report (UCB/ERL M92/41). What a file says is defined in Lines and Reader; these are
 -- the steps of the code, which goes through the lines once. A law says that both come to the same.
 -- Clauses of private functions alone cite this module; no public clause needs it.
-use Rattle.std.specs.Prelude.{◌≡◌, ℕ, ◌+◌, Bool, true, false, not, ◌==◌, nat_le, Option, Some, None, Result, Ok, Err, List, [], ◌∷◌, ◌++◌, map, length, codes}
+use Rattle.std.specs.Prelude.{◌≡◌, ℕ, ◌+◌, Bool, true, false, not, ◌||◌, ◌==◌, nat_le, Option, Some, None, Result, Ok, Err, List, [], ◌∷◌, ◌++◌, map, find, length, codes, if◌then◌else◌}
 use Rattle.std.specs.Borrow.{Bor}
 use Rattle.std.specs.Option.{option_map}
-use Rattle.circuit_model.specs.Names.{all_different}
-use Rattle.circuit_model.specs.Soundness.{outputs_of}
+use Rattle.circuit_model.specs.Names.{has, all_different}
+use Rattle.circuit_model.specs.Soundness.{outputs_of, control_of}
 use Rattle.circuit_model.specs.declared.circuit.Tri.{Tri}
+use Rattle.circuit_model.specs.declared.circuit.Timing.{Timing}
 use Rattle.circuit_model.specs.declared.circuit.Table.{Table}
 use Rattle.circuit_model.specs.declared.circuit.Latch.{Latch as TheLatch}
 use Rattle.circuit_model.specs.declared.circuit.Circuit.{Circuit}
 use Rattle.sis_text.specs.Entries.{Entry}
 use Rattle.circuit_checks.specs.NameChecks.{first_again, first_missing, first_listed_twice}
 use Rattle.circuit_checks.specs.Cycles.{first_on_cycle}
+use Rattle.circuit_checks.specs.PartChecks.{first_bad_part_name}
 use Rattle.table_fold.specs.Folding.{folded}
 use Rattle.blif_read.specs.Keyword.{first_word, other_words, keyword_of}
-use Rattle.blif_read.specs.Lines.{when, first_of, input_words, last_word, joined, is_row_of, output_character, model_fault, ports_fault, names_fault, latch_fault}
-use Rattle.blif_read.specs.Reader.{row_of, named_by, table_of, latch_of, latch_input, latch_output, unless}
+use Rattle.blif_read.specs.Lines.{when, first_of, input_words, last_word, joined, is_row_of, output_character, is_behind, model_fault, ports_fault, clock_fault, names_fault, latch_fault, gate_fault, place_fault}
+use Rattle.blif_read.specs.Reader.{row_of, named_by, table_of, latch_of, latch_input, latch_output, timing_of, same_timing, names_beside, unless}
 use Rattle.blif_read.specs.declared.keyword.Keyword.{Keyword}
-use Rattle.blif_read.specs.declared.keyword.Keyword.TheVariants.{Model, Inputs, Outputs, Names, Latch, End, Row, Other}
+use Rattle.blif_read.specs.declared.keyword.Keyword.TheVariants.{Model, Inputs, Outputs, Clock, Names, Latch, Gate, DontCare, End, Skipped, Row, Other}
+use Rattle.blif_read.specs.declared.part.Part.{Part}
+use Rattle.blif_read.specs.declared.part.Part.TheVariants as part
 use Rattle.blif_read.specs.declared.fault.LimitKind.TheVariants as limit
 use Rattle.blif_read.specs.declared.fault.BlifFault.{BlifFault}
-use Rattle.blif_read.specs.declared.fault.BlifFault.TheVariants.{UnknownWord, BadRow, MixedPhase, Limit, NameTwice, TwoDrivers, Undriven, Cycle}
+use Rattle.blif_read.specs.declared.fault.BlifFault.TheVariants.{UnknownWord, BadRow, MixedPhase, Limit, NameTwice, MixedClock, GatedClock, TwoDrivers, Undriven, BadExdc, Cycle}
 use Rattle.blif_read.specs.declared.fault.ReadFault.{ReadFault}
 use Rattle.blif_read.specs.declared.fault.ReadFault.TheVariants as read_fault
 use Rattle.blif_read.specs.declared.draft.Reading.{Reading}
@@ -58,9 +62,9 @@ abbrev pub fault_behind : Option Reading → ℕ → List ℕ → Option BlifFau
 fault_behind None number bytes = Some (BadRow number)
 fault_behind (Some reading) number bytes = reading_fault reading number bytes
 
--- what is wrong with a row, given whether the model has ended and the table that is being read
-unfoldable pub next_fault : Bool → Option Reading → ℕ → List ℕ → Option BlifFault
-next_fault ended reading number bytes = first_of (when ended (UnknownWord number) ∷ fault_behind reading number bytes ∷ [])
+-- what is wrong with a row, by its place and the table that is being read
+unfoldable pub next_fault : Part → Option Reading → ℕ → List ℕ → Option BlifFault
+next_fault place reading number bytes = first_of (when (is_behind place) (UnknownWord number) ∷ fault_behind reading number bytes ∷ [])
 
 -- the table that is being read, with one more row
 unfoldable pub with_row : Reading → List ℕ → Reading
@@ -88,41 +92,86 @@ tables_with tables (Some reading) = tables ++ reading.table ∷ []
 unfoldable pub closed : Draft → Draft
 closed draft = record draft { begun = true; tables = tables_with draft.tables draft.reading; reading = None }
 
+-- where the next line stands, by whether there was an end and whether the don't-care part has begun
+unfoldable pub place_at : Bool → Bool → Part
+place_at ended has_part = if ended then part.Behind else (if has_part then part.DontCare else part.Model)
+
+-- where the next line stands
+abbrev pub place_of : Draft → Part
+place_of draft = place_at draft.ended draft.has_part
+
 -- what is wrong with a line that follows: its kind, its number, its words behind the first, all its words
 abbrev pub draft_fault : Keyword → Draft → ℕ → List (List ℕ) → List (List ℕ) → Option BlifFault
-draft_fault Model draft number words whole = model_fault draft.begun number words
-draft_fault Inputs draft number words whole = ports_fault draft.ended number words
-draft_fault Outputs draft number words whole = ports_fault draft.ended number words
-draft_fault Names draft number words whole = names_fault draft.ended draft.nodes number words
-draft_fault Latch draft number words whole = latch_fault draft.ended draft.nodes number words
+draft_fault Model draft number words whole = model_fault (place_of draft) draft.begun number words
+draft_fault Inputs draft number words whole = ports_fault (place_of draft) number words
+draft_fault Outputs draft number words whole = ports_fault (place_of draft) number words
+draft_fault Clock draft number words whole = clock_fault (place_of draft) number words
+draft_fault Names draft number words whole = names_fault (place_of draft) draft.nodes number words
+draft_fault Latch draft number words whole = latch_fault (place_of draft) draft.nodes number words
+draft_fault Gate draft number words whole = gate_fault (place_of draft) number words
+draft_fault DontCare draft number words whole = place_fault (place_of draft) number
 draft_fault End draft number words whole = None
-draft_fault Row draft number words whole = next_fault draft.ended draft.reading number (joined whole)
+draft_fault Skipped draft number words whole = place_fault (place_of draft) number
+draft_fault Row draft number words whole = next_fault (place_of draft) draft.reading number (joined whole)
 draft_fault Other draft number words whole = Some (UnknownWord number)
 
+-- the names with more behind them, where the lists of the model still grow
+abbrev pub with_more : Bool → List (List ℕ) → List (List ℕ) → List (List ℕ)
+with_more true names more = names
+with_more false names more = names ++ more
+
+-- the timing of the first latch, where one more latch has its own
+unfoldable pub timing_with : List TheLatch → Option Timing → Option Timing → Option Timing
+timing_with [] timing own = own
+timing_with (latch ∷ latches) timing own = timing
+
+-- the line of the first latch that is timed otherwise than the first one, where one more latch with its own timing stands in
+-- a line of this number
+unfoldable pub mixed_with : Option ℕ → Option Timing → ℕ → Option Timing → Option ℕ
+mixed_with None timing number own = if same_timing timing own then None else Some number
+mixed_with (Some line) timing number own = Some line
+
 -- what a line makes of the draft
-abbrev pub with_line : Keyword → Draft → List (List ℕ) → List (List ℕ) → Draft
-with_line Model draft words whole = record (closed draft) { name = named_by Model words }
-with_line Inputs draft words whole = record (closed draft) { inputs = draft.inputs ++ words; ports = draft.ports ++ words }
-with_line Outputs draft words whole = record (closed draft) {
-  outputs = draft.outputs ++ words;
-  ports = draft.ports ++ words;
-  reads = draft.reads ++ words;
+abbrev pub with_line : Keyword → Draft → ℕ → List (List ℕ) → List (List ℕ) → Draft
+with_line Model draft number words whole = record (closed draft) { name = named_by Model words }
+with_line Inputs draft number words whole = record (closed draft) {
+  lists_inputs = not draft.has_part || draft.lists_inputs;
+  inputs = with_more draft.has_part draft.inputs words;
+  ports = with_more draft.has_part draft.ports words;
 }
-with_line Names draft words whole = record (closed draft) {
-  drives = draft.drives ++ last_word words ∷ [];
-  reads = draft.reads ++ input_words words;
+with_line Outputs draft number words whole = record (closed draft) {
+  lists_outputs = not draft.has_part || draft.lists_outputs;
+  outputs = with_more draft.has_part draft.outputs words;
+  ports = with_more draft.has_part draft.ports words;
+  reads = with_more draft.has_part draft.reads words;
+}
+with_line Clock draft number words whole = record (closed draft) { clocks = draft.clocks ++ words }
+with_line Names draft number words whole = record (closed draft) {
+  drives = with_more draft.has_part draft.drives (last_word words ∷ []);
+  reads = with_more draft.has_part draft.reads (input_words words);
+  inner = with_more (draft.has_part || draft.lists_inputs) draft.inner (input_words words);
   reading = Some (record { table = table_of words []; mark = 0 });
   nodes = draft.nodes + 1;
 }
-with_line Latch draft words whole = record (closed draft) {
+with_line Latch draft number words whole = record (closed draft) {
   drives = draft.drives ++ latch_output words;
   reads = draft.reads ++ latch_input words;
+  inner = with_more draft.lists_inputs draft.inner (latch_input words);
+  timing = timing_with draft.latches draft.timing (timing_of words);
+  mixed = mixed_with draft.mixed (timing_with draft.latches draft.timing (timing_of words)) number (timing_of words);
   latches = draft.latches ++ latch_of words;
   nodes = draft.nodes + 1;
 }
-with_line End draft words whole = record (closed draft) { ended = true }
-with_line Row draft words whole = record draft { begun = true; reading = row_behind draft.reading (joined whole) }
-with_line Other draft words whole = draft
+with_line Gate draft number words whole = draft
+with_line DontCare draft number words whole = record (closed draft) {
+  has_part = true;
+  model_tables = tables_with draft.tables draft.reading;
+  tables = [];
+}
+with_line End draft number words whole = record (closed draft) { ended = true }
+with_line Skipped draft number words whole = closed draft
+with_line Row draft number words whole = record draft { begun = true; reading = row_behind draft.reading (joined whole) }
+with_line Other draft number words whole = draft
 
 -- a fault, or what is there without one
 abbrev pub from_fault : {A : Type 0} → Option BlifFault → A → Result A BlifFault
@@ -131,7 +180,7 @@ from_fault (Some fault) value = Err fault
 
 -- a line of a kind taken into what is kept, or its fault
 unfoldable pub take_as : Keyword → Draft → ℕ → List (List ℕ) → List (List ℕ) → Result Draft BlifFault
-take_as kind draft number words whole = from_fault (draft_fault kind draft number words whole) (with_line kind draft words whole)
+take_as kind draft number words whole = from_fault (draft_fault kind draft number words whole) (with_line kind draft number words whole)
 
 -- the draft with one more line
 unfoldable pub take_entry : Draft → Entry → Result Draft BlifFault
@@ -152,57 +201,177 @@ abbrev pub no_lines : Draft
 no_lines = record {
   begun = false;
   ended = false;
+  has_part = false;
   name = codes "top";
+  lists_inputs = false;
   inputs = [];
+  lists_outputs = false;
   outputs = [];
   ports = [];
+  clocks = [];
   drives = [];
   reads = [];
+  inner = [];
+  timing = None;
+  mixed = None;
   latches = [];
+  model_tables = [];
   tables = [];
   reading = None;
   nodes = 0;
 }
 
--- what is wrong with the whole, of its lists of names and its tables
-unfoldable pub lists_fault : List (List ℕ) → List (List ℕ) → List (List ℕ) → List (List ℕ) → List (List ℕ) → List Table → Option BlifFault
-lists_fault inputs outputs ports drives reads tables = first_of
-    (option_map (λ name. NameTwice name) (first_listed_twice inputs outputs ports)
-    ∷ option_map (λ name. TwoDrivers name) (first_again inputs drives)
-    ∷ option_map (λ name. Undriven name) (first_missing (inputs ++ drives) reads)
-    ∷ option_map (λ name. Cycle name) (first_on_cycle tables)
-    ∷ [])
+-- the tables of the model, given the last ones that were read
+abbrev pub model_of : Bool → List Table → List Table → List Table
+model_of true model tables = model
+model_of false model tables = tables
 
--- the circuit of these parts: each table has each of its inputs once; no clocks, no don't-care part
-abbrev pub circuit_with : List ℕ → List (List ℕ) → List (List ℕ) → List TheLatch → List Table → Circuit
-circuit_with name inputs outputs latches tables = record {
-  name = name;
-  inputs = inputs;
-  outputs = outputs;
-  clocks = [];
-  timing = None;
-  latches = latches;
-  tables = map folded tables;
-  dont_care = [];
+-- the tables of the don't-care part, given the last ones that were read
+abbrev pub part_of : Bool → List Table → List Table
+part_of true tables = tables
+part_of false tables = []
+
+-- the ports that are listed, or those that are found where no line lists any
+abbrev pub listed_or : Bool → List (List ℕ) → List (List ℕ) → List (List ℕ)
+listed_or true listed found = listed
+listed_or false listed found = found
+
+-- what is kept of a file's lines: the name of the model, whether lines list inputs and outputs, the listed ones, all ports in
+-- order, clocks, the signals that are driven, those that are read, those that tables and latches read where no line lists
+-- inputs, the latches with their timing and the line of the first that is timed otherwise, the tables, those of the part
+pub record Kept : Type 0 where
+  pub name : List ℕ
+  pub lists_inputs : Bool
+  pub inputs : List (List ℕ)
+  pub lists_outputs : Bool
+  pub outputs : List (List ℕ)
+  pub ports : List (List ℕ)
+  pub clocks : List (List ℕ)
+  pub drives : List (List ℕ)
+  pub reads : List (List ℕ)
+  pub inner : List (List ℕ)
+  pub timing : Option Timing
+  pub mixed : Option ℕ
+  pub latches : List TheLatch
+  pub tables : List Table
+  pub dont_care : List Table
+
+-- what is kept behind the last line
+abbrev pub kept_of : Draft → Kept
+kept_of draft = record {
+  name = draft.name;
+  lists_inputs = draft.lists_inputs;
+  inputs = draft.inputs;
+  lists_outputs = draft.lists_outputs;
+  outputs = draft.outputs;
+  ports = draft.ports;
+  clocks = draft.clocks;
+  drives = draft.drives;
+  reads = draft.reads;
+  inner = draft.inner;
+  timing = draft.timing;
+  mixed = draft.mixed;
+  latches = draft.latches;
+  tables = model_of draft.has_part draft.model_tables (tables_with draft.tables draft.reading);
+  dont_care = part_of draft.has_part (tables_with draft.tables draft.reading);
 }
 
--- the circuit of what is kept behind the last line
-abbrev pub drafted : Draft → Circuit
-drafted draft = circuit_with draft.name draft.inputs draft.outputs draft.latches (tables_with draft.tables draft.reading)
+-- the inputs: those that are listed, else those that are read within and not driven
+abbrev pub kept_inputs : Kept → List (List ℕ)
+kept_inputs kept = listed_or kept.lists_inputs kept.inputs (names_beside kept.drives kept.inner)
 
--- what is wrong with the whole draft: its lists of names, or a cycle of its tables
-abbrev pub draft_lists_fault : Draft → Option BlifFault
-draft_lists_fault draft = lists_fault draft.inputs draft.outputs draft.ports draft.drives draft.reads (tables_with draft.tables draft.reading)
+-- the outputs: those that are listed, else those that are driven and not read
+abbrev pub kept_outputs : Kept → List (List ℕ)
+kept_outputs kept = listed_or kept.lists_outputs kept.outputs (names_beside kept.reads kept.drives)
 
--- the tables of a draft drive different signals where no port stands twice and no signal is driven twice
-abbrev pub HasApartTables : Draft → Type 0
-HasApartTables draft =
-    first_listed_twice draft.inputs draft.outputs draft.ports ≡ None → first_again draft.inputs draft.drives ≡ None
-    → all_different (outputs_of (tables_with draft.tables draft.reading)) ≡ true
+-- the leaves: inputs and what latches drive
+abbrev pub kept_leaves : Kept → List (List ℕ)
+kept_leaves kept = kept_inputs kept ++ map (λ (latch : TheLatch). latch.output) kept.latches
+
+-- what is wrong with the latches' timing, by the line of the first that is timed otherwise and what is driven
+unfoldable pub timing_fault : Option ℕ → Option Timing → List (List ℕ) → Option BlifFault
+timing_fault mixed timing drives = first_of
+    (option_map (λ number. MixedClock number) mixed ∷ option_map (λ name. GatedClock name) (find (has drives) (control_of timing)) ∷ [])
+
+-- what is wrong with the drivers, of inputs, driven and read signals
+unfoldable pub drivers_fault : List (List ℕ) → List (List ℕ) → List (List ℕ) → Option BlifFault
+drivers_fault inputs drives reads = first_of
+    (option_map (λ name. TwoDrivers name) (first_again inputs drives)
+    ∷ option_map (λ name. Undriven name) (first_missing (inputs ++ drives) reads) ∷ [])
+
+-- what is wrong with the tables, of the leaves, the don't-care part and the model's tables
+unfoldable pub tables_fault : List (List ℕ) → List Table → List Table → Option BlifFault
+tables_fault leaves dont_care tables = first_of
+    (option_map (λ name. BadExdc name) (first_bad_part_name leaves dont_care)
+    ∷ option_map (λ name. Cycle name) (first_on_cycle tables) ∷ [])
+
+-- what is wrong with what is listed: a port that stands twice, the timing of the latches
+unfoldable pub listed_fault : List (List ℕ) → List (List ℕ) → List (List ℕ) → Option ℕ → Option Timing → List (List ℕ) → Option BlifFault
+listed_fault inputs outputs ports mixed timing drives = first_of
+    (option_map (λ name. NameTwice name) (first_listed_twice inputs outputs ports) ∷ timing_fault mixed timing drives ∷ [])
+
+-- what is wrong with what is kept
+unfoldable pub kept_fault : Kept → Option BlifFault
+kept_fault kept = first_of
+    (listed_fault kept.inputs kept.outputs kept.ports kept.mixed kept.timing kept.drives
+    ∷ drivers_fault (kept_inputs kept) kept.drives kept.reads
+    ∷ tables_fault (kept_leaves kept) kept.dont_care kept.tables ∷ [])
+
+-- the circuit of what is kept: each table of the model has each of its inputs once
+abbrev pub kept_circuit : Kept → Circuit
+kept_circuit kept = record {
+  name = kept.name;
+  inputs = kept_inputs kept;
+  outputs = kept_outputs kept;
+  clocks = kept.clocks;
+  timing = kept.timing;
+  latches = kept.latches;
+  tables = map folded kept.tables;
+  dont_care = kept.dont_care;
+}
+
+-- what is read of what is kept
+unfoldable pub read_kept : Kept → Result Circuit BlifFault
+read_kept kept = unless (kept_fault kept) (kept_circuit kept)
+
+-- the draft behind the last line, with its ports and with the tables of the model and of the part
+unfoldable pub settled : Draft → Draft
+settled draft = record draft {
+  inputs = kept_inputs (kept_of draft);
+  outputs = kept_outputs (kept_of draft);
+  model_tables = model_of draft.has_part draft.model_tables (tables_with draft.tables draft.reading);
+  tables = part_of draft.has_part (tables_with draft.tables draft.reading);
+  reading = None;
+}
+
+-- the circuit of a draft that is settled
+abbrev pub settled_circuit : Draft → Circuit
+settled_circuit draft = record {
+  name = draft.name;
+  inputs = draft.inputs;
+  outputs = draft.outputs;
+  clocks = draft.clocks;
+  timing = draft.timing;
+  latches = draft.latches;
+  tables = map folded draft.model_tables;
+  dont_care = draft.tables;
+}
+
+-- what is wrong with a draft that is settled
+unfoldable pub settled_fault : Draft → Option BlifFault
+settled_fault draft = first_of
+    (drivers_fault draft.inputs draft.drives draft.reads
+    ∷ tables_fault (draft.inputs ++ map (λ (latch : TheLatch). latch.output) draft.latches) draft.tables draft.model_tables ∷ [])
+
+-- the tables drive different signals where no port stands twice and no signal is driven twice
+abbrev pub HasApartTables : Kept → Type 0
+HasApartTables kept =
+    first_listed_twice kept.inputs kept.outputs kept.ports ≡ None → first_again (kept_inputs kept) kept.drives ≡ None
+    → all_different (outputs_of kept.tables) ≡ true
 
 -- what is read of a draft behind the last line
-unfoldable pub finished : Draft → Result Circuit BlifFault
-finished draft = unless (draft_lists_fault draft) (drafted draft)
+abbrev pub finished : Draft → Result Circuit BlifFault
+finished draft = read_kept (kept_of draft)
 
 -- what is read behind the last line, if no line had a fault
 abbrev pub finish : Result Draft BlifFault → Result Circuit BlifFault

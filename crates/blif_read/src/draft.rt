@@ -1,23 +1,28 @@
 //! What is kept of the lines that are read, and what each kind of line makes of it.
 
-ghost use Rattle.std.specs.Prelude.{◌≡◌, ℕ, List, ◌-◌, ◌<◌, ◌++◌, [], length, IfOk, OnOk, IfSome, slice_index};
+ghost use Rattle.std.specs.Prelude.{◌≡◌, ℕ, List, ◌<◌, ◌++◌, [], length, IfOk, OnOk, IfSome};
 ghost use Rattle.blif_read.specs.declared.keyword.Keyword.{Keyword};
-ghost use Rattle.blif_read.specs.Reader.{named_by, table_of, latch_of, init_of as init_by};
-ghost use Rattle.blif_read.specs.Lines.{joined as all_bytes};
-ghost use Rattle.blif_read.specs.Steps.{texts, with_row, row_behind as behind, tables_with, closed, take_as, take_entry, no_lines, Takes};
+ghost use Rattle.blif_read.specs.Reader.{named_by, table_of};
+ghost use Rattle.blif_read.specs.Steps.{texts, with_row, row_behind as behind, tables_with, closed, place_at as place_by, take_as, take_entry, no_lines, Takes};
 ghost use Rattle.sis_text.specs.Entries.{Entry};
 
 use crate::fault::{BlifFault, ReadFault};
 use crate::keyword::Keyword;
-use crate::line_fault::{latch_fault, model_fault, names_fault, ports_fault, row_fault};
+use crate::latch_words::{add_latch, keep_timing, mixed_at, shared, timing_of};
+use crate::line_fault::{
+    clock_fault, gate_fault, latch_fault, model_fault, names_fault, place_fault, ports_fault,
+    row_fault,
+};
+use crate::part::Part;
 use crate::row::{appended, characters, mark_of};
 use crate::word_list::{
-    add_names, first_word, front_words, joined, keyword_of, last_word, latch_input, latch_output,
-    name_of, other_words,
+    add_more, add_name, add_names, first_word, front_words, joined, keyword_of, last_word,
+    latch_input, latch_output, name_of, other_words,
 };
-use circuit_model::{Latch, Latches, Name, Names, Table, Tables};
+use circuit_model::{Latches, Name, Names, Table, Tables, Timing};
 use sis_base::Sequence;
 use std::alloc::{AllocError, AllocFailed, Global};
+use std::mem;
 
 /// The table whose rows are read, and the output character of its rows, once there is one.
 #[derive(Drop)]
@@ -26,20 +31,30 @@ pub struct Reading {
     pub mark: u8,
 }
 
-/// What the lines so far say: whether there was one, and an end; the parts of the circuit, without the table whose rows
-/// are read; the ports, the signals that are driven and those that are read, each in the order of the file; and how
-/// many tables and latches there are.
+/// What the lines so far say: whether there was one, an end, and the line that begins the don't-care part. Of the model's
+/// own lines: the name, the ports that are listed and whether a line lists some, all ports in order, clocks, the signals
+/// that are driven, those that are read, those that tables and latches read before a line lists inputs; latches, the timing
+/// of the first, the line of the first that is timed otherwise; and the model's tables, once the part has begun. The tables
+/// that were read last, without the one whose rows are read; and how many tables and latches there are.
 #[derive(Drop)]
 pub struct Draft {
     pub begun: bool,
     pub ended: bool,
+    pub has_part: bool,
     pub name: Name,
+    pub lists_inputs: bool,
     pub inputs: Names,
+    pub lists_outputs: bool,
     pub outputs: Names,
     pub ports: Names,
+    pub clocks: Names,
     pub drives: Names,
     pub reads: Names,
+    pub inner: Names,
+    pub timing: Option<Timing>,
+    pub mixed: Option<usize>,
     pub latches: Latches,
+    pub model_tables: Tables,
     pub tables: Tables,
     pub reading: Option<Reading>,
     pub nodes: usize,
@@ -117,44 +132,6 @@ fn model_name(alloc: Global, words: &[&[u8]]) -> Result<Name, AllocError>
     }
 }
 
-/// The start value that a word says: the digit that it begins with.
-fn digit_of(word: &[u8]) -> u8
-    ensures { result ≡ slice_index word.now 0 - 48 }
-{
-    match word {
-        [] => 0,
-        [digit, ..] => digit.saturating_sub(b'0'),
-    }
-}
-
-/// The start value of a latch, by the words behind its output: 3 where there is none.
-fn init_of(words: &[&[u8]]) -> u8
-    ensures { result ≡ init_by (texts words.now) }
-{
-    match words {
-        [] => 3,
-        [word, ..] => digit_of(word),
-    }
-}
-
-/// Puts the latch of a line behind some latches; an error only for want of memory.
-fn add_latch(alloc: Global, latches: &mut Latches, words: &[&[u8]]) -> Result<(), AllocError>
-    ensures { OnOk result (latches.new ≡ latches.old ++ latch_of (texts words.now)) }
-{
-    match words {
-        [input, output, rest @ ..] => {
-            let latch = Latch {
-                input: name_of(alloc, input)?,
-                output: name_of(alloc, output)?,
-                init: init_of(rest),
-            };
-            latches.push(latch)?;
-            Ok(())
-        }
-        _ => Ok(()),
-    }
-}
-
 /// Tables with the one that was read behind them; an error only for want of memory.
 #[tactic(auto, unfolding(crate::specs::Steps::tables_with))]
 pub fn with_reading(tables: &mut Tables, reading: Option<Reading>) -> Result<(), AllocFailed<Table>>
@@ -169,6 +146,20 @@ pub fn with_reading(tables: &mut Tables, reading: Option<Reading>) -> Result<(),
     }
 }
 
+/// Where the next line stands.
+#[tactic(auto, unfolding(crate::specs::Steps::place_at))]
+fn place_at(ended: bool, has_part: bool) -> Part
+    ensures { result ≡ place_by ended has_part }
+{
+    if ended {
+        Part::Behind
+    } else if has_part {
+        Part::DontCare
+    } else {
+        Part::Model
+    }
+}
+
 impl Draft {
     /// The draft before the first line; an error only for want of memory.
     pub fn new(alloc: Global) -> Result<Self, AllocError>
@@ -177,13 +168,21 @@ impl Draft {
         Ok(Draft {
             begun: false,
             ended: false,
+            has_part: false,
             name: name_of(alloc, b"top".as_slice())?,
+            lists_inputs: false,
             inputs: Sequence::new(alloc),
+            lists_outputs: false,
             outputs: Sequence::new(alloc),
             ports: Sequence::new(alloc),
+            clocks: Sequence::new(alloc),
             drives: Sequence::new(alloc),
             reads: Sequence::new(alloc),
+            inner: Sequence::new(alloc),
+            timing: None,
+            mixed: None,
             latches: Sequence::new(alloc),
+            model_tables: Sequence::new(alloc),
             tables: Sequence::new(alloc),
             reading: None,
             nodes: 0,
@@ -206,7 +205,8 @@ impl Draft {
     fn take_model(&mut self, alloc: Global, number: usize, words: &[&[u8]]) -> Result<(), ReadFault>
         ensures { (whole : List (List ℕ)) → Takes result self.new (take_as Keyword.Model self.old number (texts words.now) whole) }
     {
-        if let Some(fault) = model_fault(self.begun, number, words) {
+        let place = place_at(self.ended, self.has_part);
+        if let Some(fault) = model_fault(place, self.begun, number, words) {
             return Err(ReadFault::Fault(fault));
         }
         self.close()?;
@@ -224,12 +224,14 @@ impl Draft {
     ) -> Result<(), ReadFault>
         ensures { (whole : List (List ℕ)) → Takes result self.new (take_as Keyword.Inputs self.old number (texts words.now) whole) }
     {
-        if let Some(fault) = ports_fault(self.ended, number, words) {
+        let place = place_at(self.ended, self.has_part);
+        if let Some(fault) = ports_fault(place, number, words) {
             return Err(ReadFault::Fault(fault));
         }
         self.close()?;
-        add_names(alloc, &mut self.inputs, words)?;
-        add_names(alloc, &mut self.ports, words)?;
+        self.lists_inputs = !self.has_part || self.lists_inputs;
+        add_more(alloc, self.has_part, &mut self.inputs, words)?;
+        add_more(alloc, self.has_part, &mut self.ports, words)?;
         Ok(())
     }
 
@@ -243,13 +245,29 @@ impl Draft {
     ) -> Result<(), ReadFault>
         ensures { (whole : List (List ℕ)) → Takes result self.new (take_as Keyword.Outputs self.old number (texts words.now) whole) }
     {
-        if let Some(fault) = ports_fault(self.ended, number, words) {
+        let place = place_at(self.ended, self.has_part);
+        if let Some(fault) = ports_fault(place, number, words) {
             return Err(ReadFault::Fault(fault));
         }
         self.close()?;
-        add_names(alloc, &mut self.outputs, words)?;
-        add_names(alloc, &mut self.ports, words)?;
-        add_names(alloc, &mut self.reads, words)?;
+        self.lists_outputs = !self.has_part || self.lists_outputs;
+        add_more(alloc, self.has_part, &mut self.outputs, words)?;
+        add_more(alloc, self.has_part, &mut self.ports, words)?;
+        add_more(alloc, self.has_part, &mut self.reads, words)?;
+        Ok(())
+    }
+
+    /// Takes a `.clock` line.
+    #[tactic(auto, unfolding(crate::specs::Steps::take_as, crate::specs::Steps::closed))]
+    fn take_clock(&mut self, alloc: Global, number: usize, words: &[&[u8]]) -> Result<(), ReadFault>
+        ensures { (whole : List (List ℕ)) → Takes result self.new (take_as Keyword.Clock self.old number (texts words.now) whole) }
+    {
+        let place = place_at(self.ended, self.has_part);
+        if let Some(fault) = clock_fault(place, number, words) {
+            return Err(ReadFault::Fault(fault));
+        }
+        self.close()?;
+        add_names(alloc, &mut self.clocks, words)?;
         Ok(())
     }
 
@@ -258,12 +276,16 @@ impl Draft {
     fn take_names(&mut self, alloc: Global, number: usize, words: &[&[u8]]) -> Result<(), ReadFault>
         ensures { (whole : List (List ℕ)) → Takes result self.new (take_as Keyword.Names self.old number (texts words.now) whole) }
     {
-        if let Some(fault) = names_fault(self.ended, self.nodes, number, words) {
+        let place = place_at(self.ended, self.has_part);
+        if let Some(fault) = names_fault(place, self.nodes, number, words) {
             return Err(ReadFault::Fault(fault));
         }
         self.close()?;
-        self.drives.push(name_of(alloc, last_word(words))?)?;
-        add_names(alloc, &mut self.reads, front_words(words))?;
+        let inputs = front_words(words);
+        let kept = self.has_part || self.lists_inputs;
+        add_name(alloc, self.has_part, &mut self.drives, last_word(words))?;
+        add_more(alloc, self.has_part, &mut self.reads, inputs)?;
+        add_more(alloc, kept, &mut self.inner, inputs)?;
         let table = new_table(alloc, words)?;
         self.reading = Some(Reading { table, mark: 0 });
         self.nodes += 1;
@@ -275,14 +297,40 @@ impl Draft {
     fn take_latch(&mut self, alloc: Global, number: usize, words: &[&[u8]]) -> Result<(), ReadFault>
         ensures { (whole : List (List ℕ)) → Takes result self.new (take_as Keyword.Latch self.old number (texts words.now) whole) }
     {
-        if let Some(fault) = latch_fault(self.ended, self.nodes, number, words) {
+        let place = place_at(self.ended, self.has_part);
+        if let Some(fault) = latch_fault(place, self.nodes, number, words) {
             return Err(ReadFault::Fault(fault));
         }
         self.close()?;
         add_names(alloc, &mut self.drives, latch_output(words))?;
         add_names(alloc, &mut self.reads, latch_input(words))?;
+        add_more(
+            alloc,
+            self.lists_inputs,
+            &mut self.inner,
+            latch_input(words),
+        )?;
+        let own = timing_of(alloc, words)?;
+        let timing = shared(self.latches.as_slice(), &self.timing, &own);
+        self.mixed = mixed_at(self.mixed, timing, number, &own);
+        keep_timing(self.latches.as_slice(), &mut self.timing, own);
         add_latch(alloc, &mut self.latches, words)?;
         self.nodes += 1;
+        Ok(())
+    }
+
+    /// Takes the line that begins the don't-care part.
+    #[tactic(auto, unfolding(crate::specs::Steps::take_as, crate::specs::Steps::closed))]
+    fn take_part(&mut self, alloc: Global, number: usize) -> Result<(), ReadFault>
+        ensures { (words whole : List (List ℕ)) → Takes result self.new (take_as Keyword.DontCare self.old number words whole) }
+    {
+        let place = place_at(self.ended, self.has_part);
+        if let Some(fault) = place_fault(place, number) {
+            return Err(ReadFault::Fault(fault));
+        }
+        self.close()?;
+        self.has_part = true;
+        self.model_tables = mem::replace(&mut self.tables, Sequence::new(alloc));
         Ok(())
     }
 
@@ -296,19 +344,42 @@ impl Draft {
         Ok(())
     }
 
+    /// Takes a line that is read past.
+    #[tactic(auto, unfolding(crate::specs::Steps::take_as, crate::specs::Steps::closed))]
+    fn take_skipped(&mut self, number: usize) -> Result<(), ReadFault>
+        ensures { (words whole : List (List ℕ)) → Takes result self.new (take_as Keyword.Skipped self.old number words whole) }
+    {
+        let place = place_at(self.ended, self.has_part);
+        if let Some(fault) = place_fault(place, number) {
+            return Err(ReadFault::Fault(fault));
+        }
+        self.close()?;
+        Ok(())
+    }
+
     /// Takes a row.
     #[tactic(auto, unfolding(crate::specs::Steps::take_as))]
     fn take_row(&mut self, alloc: Global, number: usize, whole: &[&[u8]]) -> Result<(), ReadFault>
         ensures { (words : List (List ℕ)) → Takes result self.new (take_as Keyword.Row self.old number words (texts whole.now)) }
     {
         let bytes = joined(alloc, whole)?;
-        if let Some(fault) = row_fault(self.ended, &self.reading, number, bytes.as_slice()) {
+        let place = place_at(self.ended, self.has_part);
+        if let Some(fault) = row_fault(place, &self.reading, number, bytes.as_slice()) {
             return Err(ReadFault::Fault(fault));
         }
         let reading = self.reading.take();
         self.reading = row_behind(alloc, reading, bytes.as_slice())?;
         self.begun = true;
         Ok(())
+    }
+
+    /// Takes a line of a gate: there is no library, so it is always a fault.
+    #[tactic(auto, unfolding(crate::specs::Steps::take_as))]
+    fn take_gate(&mut self, number: usize, words: &[&[u8]]) -> Result<(), ReadFault>
+        ensures { (whole : List (List ℕ)) → Takes result self.new (take_as Keyword.Gate self.old number (texts words.now) whole) }
+    {
+        let place = place_at(self.ended, self.has_part);
+        Err(ReadFault::Fault(gate_fault(place, number, words)))
     }
 
     /// Takes one line, by its number and its words. After an error the draft stands for nothing.
@@ -321,9 +392,13 @@ impl Draft {
             Keyword::Model => self.take_model(alloc, number, others),
             Keyword::Inputs => self.take_inputs(alloc, number, others),
             Keyword::Outputs => self.take_outputs(alloc, number, others),
+            Keyword::Clock => self.take_clock(alloc, number, others),
             Keyword::Names => self.take_names(alloc, number, others),
             Keyword::Latch => self.take_latch(alloc, number, others),
+            Keyword::Gate => self.take_gate(number, others),
+            Keyword::DontCare => self.take_part(alloc, number),
             Keyword::End => self.take_end(),
+            Keyword::Skipped => self.take_skipped(number),
             Keyword::Row => self.take_row(alloc, number, words),
             Keyword::Other => Err(ReadFault::Fault(BlifFault::UnknownWord(number))),
         }

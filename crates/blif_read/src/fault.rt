@@ -8,7 +8,7 @@ use std::alloc::{AllocError, AllocFailed};
 pub enum LimitKind {
     /// The bytes of a name: 1,023.
     Name,
-    /// The tables and latches of a model: 65,535.
+    /// The tables and latches of a model, its don't-care part among them: 65,535.
     Tables,
     /// The rows of a table: 32,767.
     Rows,
@@ -19,26 +19,36 @@ pub enum LimitKind {
 /// Why a file is not read as a circuit. Lines are numbers of physical lines, from 1.
 #[derive(Debug, Drop, PartialEq)]
 pub enum BlifFault {
-    /// A line whose first word begins with `.` and is not known, or any line but `.model` and `.end` behind `.end`.
+    /// A line whose first word begins with `.` and is not known; any line but `.model` and `.end` behind `.end`; in the
+    /// don't-care part any line but those of tables, ports and the end.
     UnknownWord(usize),
-    /// `.model` with two words or more, or `.names` without one.
+    /// `.model` with two words or more, `.names` or `.gate` without one.
     BadArity(usize),
     /// A line that is no row of a table that is being read.
     BadRow(usize),
     /// A row whose output differs from that of its table's first row.
     MixedPhase(usize),
-    /// A `.latch` line that is not an input, an output and an init from 0 to 3 or none.
+    /// A `.latch` line that is not an input, an output, a kind with a control or none, and an init from 0 to 3 or none.
     BadLatch(usize),
     /// A `.model` line that is not the first logical line.
     SecondModel(usize),
+    /// A `.gate` line, while there is no library.
+    NoLibrary(usize),
     /// A limit is passed; the number is what was reached.
     Limit(LimitKind, usize),
     /// A name that is listed twice among the inputs, or twice among the outputs.
     NameTwice(Name),
+    /// The line of the first latch whose kind or control is not that of the first latch.
+    MixedClock(usize),
+    /// A control of latches that a table or a latch drives.
+    GatedClock(Name),
     /// What a line drives that is an input or driven by an earlier line.
     TwoDrivers(Name),
     /// What is read and driven by nothing.
     Undriven(Name),
+    /// What is wrong with the first wrong table of the don't-care part: its output, where one before it has that too or where
+    /// it is reached from itself; or what it reads and what is neither a table of the part nor a leaf.
+    BadExdc(Name),
     /// The output of the first table that is reached from itself through tables.
     Cycle(Name),
 }

@@ -1,5 +1,5 @@
 //! Reads a text in the Berkeley Logic Interchange Format (appendix of the SIS report, UCB/ERL M92/41) as a circuit:
-//! one model of ports, latches and tables in any order.
+//! one model of ports, clocks, latches and tables in any order, and its don't-care part.
 //!
 //! `specs/Lines` says what is wrong with a line, given the lines before it; `specs/Reader` what must hold of the
 //! whole file, and the circuit that the lines say. `read` answers that circuit or the first fault, exactly; what it
@@ -11,10 +11,14 @@ mod draft;
 mod fault;
 mod file_fault;
 mod keyword;
+mod latch_words;
 mod line_fault;
+mod part;
+mod ports;
 mod reading;
 pub mod reading_laws;
 mod row;
+mod settling;
 mod word_list;
 
 pub use fault::{BlifFault, LimitKind, ReadFault};

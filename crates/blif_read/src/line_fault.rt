@@ -1,13 +1,34 @@
 //! What is wrong with a line: the first of its causes.
 
-ghost use Rattle.std.specs.Prelude.{◌≡◌, ◌<◌, ◌==◌, nat_lt, None, length, find, option_copied, IfSome};
-ghost use Rattle.blif_read.specs.Lines.{long_name as long_among, is_init as is_init_word, is_latch as is_latch_line, model_fault as model_fault_by, ports_fault as ports_fault_by, names_fault as names_fault_by, latch_fault as latch_fault_by};
+ghost use Rattle.std.specs.Prelude.{◌≡◌, ◌<◌, ◌==◌, nat_lt, Some, None, length, find, option_copied, IfSome};
+ghost use Rattle.blif_read.specs.Lines.{long_name as long_among, is_init as is_init_word, is_latch_kind as is_latch_kind_word, is_latch_end as is_latch_end_of, is_latch as is_latch_line, latch_names as latch_names_of, is_in_model as is_model_place, is_behind as is_behind_place, model_fault as model_fault_by, ports_fault as ports_fault_by, clock_fault as clock_fault_by, names_fault as names_fault_by, latch_fault as latch_fault_by, gate_fault as gate_fault_by, place_fault as place_fault_by};
 ghost use Rattle.blif_read.specs.Steps.{texts, reading_fault as reading_fault_by, next_fault as next_fault_by};
 
 use crate::draft::Reading;
 use crate::fault::{BlifFault, LimitKind};
+use crate::part::Part;
 use crate::row::{is_row, mark_of};
 use crate::word_list::{first_words, front_words};
+
+/// Whether a place is in the model itself.
+fn is_in_model(place: Part) -> bool
+    ensures { result ≡ is_model_place place }
+{
+    match place {
+        Part::Model => true,
+        Part::DontCare | Part::Behind => false,
+    }
+}
+
+/// Whether a place is behind the end.
+fn is_behind(place: Part) -> bool
+    ensures { result ≡ is_behind_place place }
+{
+    match place {
+        Part::Behind => true,
+        Part::Model | Part::DontCare => false,
+    }
+}
 
 /// The first of some words that is longer than a name may be.
 fn first_long<'a, 'w>(words: &'w [&'a [u8]]) -> Option<&'w &'a [u8]>
@@ -29,9 +50,12 @@ fn long_name(words: &[&[u8]]) -> Option<BlifFault>
 
 /// What is wrong with the words of a `.model` line behind the first; `begun` says whether a line stands before it.
 #[tactic(auto, unfolding(crate::specs::Lines::model_fault, crate::specs::Lines::first_of))]
-pub fn model_fault(begun: bool, number: usize, words: &[&[u8]]) -> Option<BlifFault>
-    ensures { result ≡ model_fault_by begun number (texts words.now) }
+pub fn model_fault(place: Part, begun: bool, number: usize, words: &[&[u8]]) -> Option<BlifFault>
+    ensures { result ≡ model_fault_by place begun number (texts words.now) }
 {
+    if let Part::DontCare = place {
+        return Some(BlifFault::UnknownWord(number));
+    }
     if words.len() > 1 {
         return Some(BlifFault::BadArity(number));
     }
@@ -41,12 +65,24 @@ pub fn model_fault(begun: bool, number: usize, words: &[&[u8]]) -> Option<BlifFa
     long_name(words)
 }
 
-/// What is wrong with the words of a line of ports behind the first; `ended` says whether an end stands before it.
+/// What is wrong with the words of a line of ports behind the first.
 #[tactic(auto, unfolding(crate::specs::Lines::ports_fault, crate::specs::Lines::first_of))]
-pub fn ports_fault(ended: bool, number: usize, words: &[&[u8]]) -> Option<BlifFault>
-    ensures { result ≡ ports_fault_by ended number (texts words.now) }
+pub fn ports_fault(place: Part, number: usize, words: &[&[u8]]) -> Option<BlifFault>
+    ensures { result ≡ ports_fault_by place number (texts words.now) }
 {
-    if ended {
+    match place {
+        Part::Model => long_name(words),
+        Part::DontCare => None,
+        Part::Behind => Some(BlifFault::UnknownWord(number)),
+    }
+}
+
+/// What is wrong with the words of a line of clocks behind the first.
+#[tactic(auto, unfolding(crate::specs::Lines::clock_fault, crate::specs::Lines::first_of))]
+pub fn clock_fault(place: Part, number: usize, words: &[&[u8]]) -> Option<BlifFault>
+    ensures { result ≡ clock_fault_by place number (texts words.now) }
+{
+    if !is_in_model(place) {
         return Some(BlifFault::UnknownWord(number));
     }
     long_name(words)
@@ -54,11 +90,11 @@ pub fn ports_fault(ended: bool, number: usize, words: &[&[u8]]) -> Option<BlifFa
 
 /// What is wrong with the words of a `.names` line behind the first; `nodes` tables and latches stand before it.
 #[tactic(auto, unfolding(crate::specs::Lines::names_fault, crate::specs::Lines::first_of))]
-pub fn names_fault(ended: bool, nodes: usize, number: usize, words: &[&[u8]]) -> Option<BlifFault>
-    ensures value { result ≡ names_fault_by ended nodes number (texts words.now) }
+pub fn names_fault(place: Part, nodes: usize, number: usize, words: &[&[u8]]) -> Option<BlifFault>
+    ensures value { result ≡ names_fault_by place nodes number (texts words.now) }
     ensures room { result ≡ None → nodes < 65535 }
 {
-    if ended {
+    if is_behind(place) {
         return Some(BlifFault::UnknownWord(number));
     }
     if words.is_empty() {
@@ -87,34 +123,90 @@ fn is_init(word: &[u8]) -> bool
         || word == b"3".as_slice()
 }
 
-/// Whether words are an input, an output, and a start value where there is one more.
+/// Whether a word is the kind of a latch.
+fn is_latch_kind(word: &[u8]) -> bool
+    ensures { result ≡ is_latch_kind_word word.now }
+{
+    word == b"fe".as_slice()
+        || word == b"re".as_slice()
+        || word == b"ah".as_slice()
+        || word == b"al".as_slice()
+}
+
+/// Whether words may stand behind a latch's signals: a kind with a control, a start value, both or none.
+fn is_latch_end(words: &[&[u8]]) -> bool
+    ensures { result ≡ is_latch_end_of (texts words.now) }
+{
+    match words {
+        [] => true,
+        [init] => is_init(init),
+        [kind, _] => is_latch_kind(kind),
+        [kind, _, init] => is_latch_kind(kind) && is_init(init),
+        _ => false,
+    }
+}
+
+/// Whether words are an input, an output, and what may stand behind them.
 fn is_latch(words: &[&[u8]]) -> bool
     ensures { result ≡ is_latch_line (texts words.now) }
 {
     match words {
-        [_, _] => true,
-        [_, _, init] => is_init(init),
+        [_, _, end @ ..] => is_latch_end(end),
         _ => false,
+    }
+}
+
+/// The fault of the first name of a latch that is too long: its input, its output or its control.
+fn long_latch_name(words: &[&[u8]]) -> Option<BlifFault>
+    ensures { result ≡ long_among (latch_names_of (texts words.now)) }
+{
+    match words {
+        [input, output, _, control, ..] => long_name([*input, *output, *control].as_slice()),
+        _ => long_name(first_words(words, 2)),
     }
 }
 
 /// What is wrong with the words of a `.latch` line behind the first; `nodes` tables and latches stand before it.
 #[tactic(auto, unfolding(crate::specs::Lines::latch_fault, crate::specs::Lines::first_of))]
-pub fn latch_fault(ended: bool, nodes: usize, number: usize, words: &[&[u8]]) -> Option<BlifFault>
-    ensures value { result ≡ latch_fault_by ended nodes number (texts words.now) }
+pub fn latch_fault(place: Part, nodes: usize, number: usize, words: &[&[u8]]) -> Option<BlifFault>
+    ensures value { result ≡ latch_fault_by place nodes number (texts words.now) }
     ensures room { result ≡ None → nodes < 65535 }
 {
-    if ended {
+    if !is_in_model(place) {
         return Some(BlifFault::UnknownWord(number));
     }
     if !is_latch(words) {
         return Some(BlifFault::BadLatch(number));
     }
-    if let Some(fault) = long_name(first_words(words, 2)) {
+    if let Some(fault) = long_latch_name(words) {
         return Some(fault);
     }
     if nodes >= 65535 {
         return Some(BlifFault::Limit(LimitKind::Tables, 65536));
+    }
+    None
+}
+
+/// What is wrong with the words of a `.gate` line behind the first: there is no library.
+#[tactic(auto, unfolding(crate::specs::Lines::gate_fault, crate::specs::Lines::first_of))]
+pub fn gate_fault(place: Part, number: usize, words: &[&[u8]]) -> BlifFault
+    ensures { Some result ≡ gate_fault_by place number (texts words.now) }
+{
+    if !is_in_model(place) {
+        return BlifFault::UnknownWord(number);
+    }
+    if words.is_empty() {
+        return BlifFault::BadArity(number);
+    }
+    BlifFault::NoLibrary(number)
+}
+
+/// What is wrong with the line that begins the don't-care part, or with one that is read past.
+pub fn place_fault(place: Part, number: usize) -> Option<BlifFault>
+    ensures { result ≡ place_fault_by place number }
+{
+    if !is_in_model(place) {
+        return Some(BlifFault::UnknownWord(number));
     }
     None
 }
@@ -142,15 +234,15 @@ fn reading_fault(reading: &Reading, number: usize, bytes: &[u8]) -> Option<BlifF
 /// What is wrong with bytes as a row behind the lines before it.
 #[tactic(auto, unfolding(crate::specs::Steps::next_fault, crate::specs::Lines::first_of))]
 pub fn row_fault(
-    ended: bool,
+    place: Part,
     reading: &Option<Reading>,
     number: usize,
     bytes: &[u8],
 ) -> Option<BlifFault>
-    ensures value { result ≡ next_fault_by ended reading.now number bytes.now }
+    ensures value { result ≡ next_fault_by place reading.now number bytes.now }
     ensures room { result ≡ None → IfSome reading.now (λ one. length one.table.inputs < length bytes.now) }
 {
-    if ended {
+    if is_behind(place) {
         return Some(BlifFault::UnknownWord(number));
     }
     match reading {

@@ -1,22 +1,20 @@
 //! Reads a text as a circuit.
 
-ghost use Rattle.std.specs.Prelude.{◌≡◌, ◌++◌, map, take, IfOk};
+ghost use Rattle.std.specs.Prelude.{◌≡◌, map, IfOk};
 ghost use Rattle.circuit_model.specs.Counts.{IsWithinLimits};
 ghost use Rattle.circuit_model.specs.Soundness.{IsSound};
 ghost use Rattle.sis_text.specs.Entries.{entry_at, entries_of};
-ghost use Rattle.table_fold.specs.Folding.{folded};
 ghost use Rattle.blif_read.specs.Reader.{read_lines, Reads};
 ghost use Rattle.blif_read.specs.Limits.{HasShortNames};
-ghost use Rattle.blif_read.specs.Steps.{take_entry, take_entries, no_lines, finished, finish as finish_by, HasApartTables, Takes};
+ghost use Rattle.blif_read.specs.Steps.{take_entry, take_entries, no_lines, kept_of, finished, finish as finish_by, HasApartTables, Takes};
 
-use crate::draft::{Draft, with_reading};
+use crate::draft::Draft;
 use crate::fault::ReadFault;
-use crate::file_fault::lists_fault;
-use circuit_model::{Circuit, Tables};
-use sis_base::Sequence;
+use crate::file_fault::{listed_fault, settled_fault};
+use crate::settling::{circuit_of, settle};
+use circuit_model::Circuit;
 use sis_text::{Line, logical_lines, texts_at};
-use std::alloc::{AllocError, Global};
-use table_fold::fold_table;
+use std::alloc::Global;
 
 /// Takes one logical line of a text.
 fn take_line(alloc: Global, source: &[u8], line: &Line, draft: &mut Draft) -> Result<(), ReadFault>
@@ -41,61 +39,21 @@ fn take_lines(
     Ok(())
 }
 
-/// The tables, each with each of its inputs once; an error only for want of memory.
-fn folded_tables(alloc: Global, tables: Tables) -> Result<Tables, AllocError>
-    ensures { IfOk result (λ less. less ≡ map folded tables) }
-{
-    let mut less = Sequence::new(alloc);
-    for table in tables.into_vec() {
-        less.push(fold_table(alloc, table)?)?;
-    }
-    Ok(less)
-}
-
 /// What is read of a draft behind the last line: its circuit, if nothing is wrong with the whole.
-#[tactic(auto, unfolding(crate::specs::Steps::finished))]
+#[tactic(auto, unfolding(crate::specs::Steps::read_kept, crate::specs::Steps::kept_fault, crate::specs::Steps::settled, crate::specs::Steps::settled_fault, crate::specs::Lines::first_of))]
 fn finish(alloc: Global, draft: Draft) -> Result<Circuit, ReadFault>
-    requires { HasApartTables draft }
+    requires { HasApartTables (kept_of draft) }
     ensures { Reads result (finished draft) }
 {
-    let Draft {
-        begun: _,
-        ended: _,
-        name,
-        inputs,
-        outputs,
-        ports,
-        drives,
-        reads,
-        latches,
-        tables,
-        reading,
-        nodes: _,
-    } = draft;
-    let mut all = tables;
-    with_reading(&mut all, reading)?;
-    let fault = lists_fault(
-        alloc,
-        inputs.as_slice(),
-        outputs.as_slice(),
-        ports.as_slice(),
-        drives.as_slice(),
-        reads.as_slice(),
-        all.as_slice(),
-    )?;
-    if let Some(fault) = fault {
+    let mut draft = draft;
+    if let Some(fault) = listed_fault(alloc, &draft)? {
         return Err(ReadFault::Fault(fault));
     }
-    Ok(Circuit {
-        name,
-        inputs,
-        outputs,
-        clocks: Sequence::new(alloc),
-        timing: None,
-        latches,
-        tables: folded_tables(alloc, all)?,
-        dont_care: Sequence::new(alloc),
-    })
+    settle(alloc, &mut draft)?;
+    if let Some(fault) = settled_fault(alloc, &draft)? {
+        return Err(ReadFault::Fault(fault));
+    }
+    Ok(circuit_of(alloc, draft)?)
 }
 
 /// Reads a text line by line.

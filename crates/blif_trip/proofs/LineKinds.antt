@@ -5,7 +5,7 @@ use Rattle.sis_text.specs.Entries.{Entry}
 use Rattle.circuit_model.specs.declared.circuit.Tri.{Tri}
 use Rattle.circuit_model.specs.declared.circuit.Tri.TheVariants.{Zero, One, Free}
 use Rattle.circuit_model.specs.Text.{character, digit_of_phase, row_line}
-use Rattle.blif_read.specs.Keyword.{keyword_of}
+use Rattle.blif_read.specs.Keyword.{keyword_of, skipped_words}
 use Rattle.blif_read.specs.declared.keyword.Keyword.TheVariants.{Row}
 
 -- a written line as an entry
@@ -13,12 +13,12 @@ abbrev pub entry : ℕ → Written → Entry
 entry number line = record { number = number; words = line.first ∷ line.others }
 
 digit_kind : (phase : Bool) → keyword_of (digit_of_phase phase) ≡ Row
-unfolding keyword_of
+unfolding keyword_of skipped_words
 digit_kind true = refl
 digit_kind false = refl
 
 characters_kind : (place : Tri) (row : List Tri) → keyword_of (map character (place ∷ row)) ≡ Row
-unfolding keyword_of
+unfolding keyword_of skipped_words
 characters_kind Zero row = refl
 characters_kind One row = refl
 characters_kind Free row = refl

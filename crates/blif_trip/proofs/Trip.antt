@@ -1,9 +1,9 @@
 -- The text of a circuit is read as that circuit.
-use Rattle.std.proofs.Common.{◌≡◌, ℕ, true, Option, None, Ok, List, [], ◌∷◌, ◌++◌, refl, sym, ap, ◌∙◌, arith, map, option_map}
+use Rattle.std.proofs.Common.{◌≡◌, ℕ, Bool, true, false, cond, Option, Some, None, Ok, List, [], ◌∷◌, ◌++◌, refl, ap, ◌∙◌, map, find, option_map}
 use Rattle.std.specs.List.{AllByRecursion}
 use Rattle.std.specs.Option.{option_or}
-use Rattle.sis_base.specs.Written.{is_word, lines_text}
-use Rattle.sis_text.specs.Entries.{entries_of}
+use Rattle.sis_base.specs.Written.{is_word}
+use Rattle.sis_text.specs.Entries.{Entry, entries_of}
 use Rattle.sis_text.proofs.Readback.{read_back}
 use Rattle.circuit_model.specs.declared.circuit.Table.{Table}
 use Rattle.circuit_model.specs.declared.circuit.Latch.{Latch as TheLatch}
@@ -11,23 +11,25 @@ use Rattle.circuit_model.specs.declared.circuit.Timing.{Timing}
 use Rattle.circuit_model.specs.declared.circuit.Circuit.{Circuit}
 use Rattle.circuit_model.specs.Names.{has, all_different}
 use Rattle.circuit_model.specs.Runs.{latch_outputs}
-use Rattle.circuit_model.specs.Soundness.{IsSound, given, taken, outputs_of, latch_inputs, table_inputs}
+use Rattle.circuit_model.specs.Soundness.{IsSound, given, taken, control_of, leaf_names, outputs_of, latch_inputs, table_inputs}
 use Rattle.circuit_model.specs.Counts.{IsWithinLimits}
-use Rattle.circuit_model.specs.Text.{text_of}
+use Rattle.circuit_model.specs.Text.{text_of, circuit_lines}
 use Rattle.circuit_checks.specs.NameChecks.{first_again, first_missing, first_listed_twice}
 use Rattle.circuit_checks.specs.Cycles.{first_on_cycle}
+use Rattle.circuit_checks.specs.PartChecks.{first_bad_part_name}
 use Rattle.circuit_checks.proofs.Bridges.{again_from_different, missing_from_known, listed_from_different, none_from_acyclic}
+use Rattle.circuit_checks.proofs.Parts.{part_passes}
 use Rattle.table_fold.specs.Folding.{folded}
 use Rattle.table_fold.proofs.Folded.{folded_same}
-use Rattle.blif_read.specs.Reader.{first_line_fault, inputs_in, outputs_in, ports_in, drives_in, reads_in, latches_in, tables_in, model_name, circuit_of, whole_fault, unless, read_lines}
+use Rattle.blif_read.specs.Lines.{first_of}
+use Rattle.blif_read.specs.Reader.{first_line_fault, of_lines, model_lines, part_lines, listed_inputs, listed_outputs, inputs_in, outputs_in, ports_in, clocks_in, timing_in, mixed_clock, gated_clock, drives_in, reads_in, latches_in, tables_in, model_name, circuit_of, model_names_fault, leaves_in, whole_fault, unless, read_lines}
 use Rattle.blif_read.specs.declared.fault.BlifFault.{BlifFault}
-use Rattle.blif_read.specs.declared.fault.BlifFault.TheVariants.{NameTwice, TwoDrivers, Undriven, Cycle}
+use Rattle.blif_read.specs.declared.fault.BlifFault.TheVariants.{NameTwice, MixedClock, GatedClock, TwoDrivers, Undriven, BadExdc, Cycle}
 use Rattle.blif_read.specs.Limits.{HasShortNames}
-use Rattle.blif_trip.specs.Plain.{IsPlain}
 use Rattle.blif_read.proofs.NameLists.{all_front, all_back, all_append}
-use Rattle.blif_trip.proofs.Words.{of_names, plain_lines, lines_plain, lines_written}
+use Rattle.blif_trip.proofs.Words.{of_names, lines_written}
 use Rattle.blif_trip.proofs.NoFaults.{IsShort, none_of, no_line_fault}
-use Rattle.blif_trip.proofs.Said.{lines_of, inputs_said, outputs_said, ports_said, drives_said, reads_said, latches_said_back, name_said, tables_said_back}
+use Rattle.blif_trip.proofs.Said.{lines_of, own_of, listed_inputs_said, listed_outputs_said, inputs_said, outputs_said, ports_said, clocks_said, drives_said, reads_said, latches_said_back, timing_said, unmixed, name_said, tables_said_back, model_said, part_said}
 
 -- the checks on the whole
 all_read : (circuit : Circuit) → IsSound circuit → AllByRecursion (λ (name : List ℕ). has (given circuit) name ≡ true) (circuit.outputs ++ (latch_inputs circuit ++ table_inputs circuit.tables))
@@ -39,36 +41,70 @@ all_read circuit sound =
     all_append P circuit.outputs (latch_inputs circuit ++ table_inputs circuit.tables) (all_back P (latch_inputs circuit) circuit.outputs others)
     (all_append P (latch_inputs circuit) (table_inputs circuit.tables) (all_front P (latch_inputs circuit) circuit.outputs others) tables)
 
-twice_of : (circuit : Circuit) → IsSound circuit → first_listed_twice (inputs_in (lines_of circuit)) (outputs_in (lines_of circuit)) (ports_in (lines_of circuit)) ≡ None
+twice_of : (circuit : Circuit) → IsSound circuit → first_listed_twice (of_lines listed_inputs (own_of circuit)) (of_lines listed_outputs (own_of circuit)) (ports_in (own_of circuit)) ≡ None
 twice_of circuit sound =
-    rw (inputs_said circuit, outputs_said circuit, ports_said circuit) (listed_from_different circuit.inputs circuit.outputs (circuit.inputs ++ circuit.outputs) sound.inputs_once sound.outputs_once)
+    rw (listed_inputs_said circuit, listed_outputs_said circuit, ports_said circuit) (listed_from_different circuit.inputs circuit.outputs (circuit.inputs ++ circuit.outputs) sound.inputs_once sound.outputs_once)
 
-again_of : (circuit : Circuit) → IsSound circuit → first_again (inputs_in (lines_of circuit)) (drives_in (lines_of circuit)) ≡ None
+timing_of : (circuit : Circuit) → IsSound circuit → timing_in (own_of circuit) ≡ circuit.timing
+timing_of circuit sound = timing_said circuit sound.control_not_nil sound.inits sound.untimed_without_latches
+
+none_has : (names controls : List (List ℕ)) → AllByRecursion (λ name. has names name ≡ false) controls → find (has names) controls ≡ None
+none_has names [] h = refl
+none_has names (control ∷ controls) h = ap (λ (b : Bool). cond b (Some control) (find (has names) controls)) h.0 ∙ none_has names controls h.1
+
+gated_of : (circuit : Circuit) → IsSound circuit → gated_clock (own_of circuit) ≡ None
+unfolding gated_clock
+gated_of circuit sound =
+    ap (λ (drives : List (List ℕ)). find (has drives) (control_of (timing_in (own_of circuit)))) (drives_said circuit)
+    ∙ ap (λ (timing : Option Timing). find (has (latch_outputs circuit ++ outputs_of circuit.tables)) (control_of timing)) (timing_of circuit sound)
+    ∙ none_has (latch_outputs circuit ++ outputs_of circuit.tables) (control_of circuit.timing) sound.control_undriven
+
+again_of : (circuit : Circuit) → IsSound circuit → first_again (inputs_in (own_of circuit)) (drives_in (own_of circuit)) ≡ None
 unfolding given
 again_of circuit sound =
     rw (inputs_said circuit, drives_said circuit) (again_from_different circuit.inputs (latch_outputs circuit ++ outputs_of circuit.tables) sound.one_driver)
 
-missing_of : (circuit : Circuit) → IsSound circuit → first_missing (inputs_in (lines_of circuit) ++ drives_in (lines_of circuit)) (reads_in (lines_of circuit)) ≡ None
+missing_of : (circuit : Circuit) → IsSound circuit → first_missing (inputs_in (own_of circuit) ++ drives_in (own_of circuit)) (reads_in (own_of circuit)) ≡ None
 unfolding given
 missing_of circuit sound =
     rw (inputs_said circuit, drives_said circuit, reads_said circuit) (missing_from_known (circuit.inputs ++ (latch_outputs circuit ++ outputs_of circuit.tables)) (circuit.outputs ++ (latch_inputs circuit ++ table_inputs circuit.tables)) (all_read circuit sound))
 
-cycle_of : (circuit : Circuit) → IsSound circuit → first_on_cycle (tables_in (lines_of circuit)) ≡ None
+part_of : (circuit : Circuit) → IsSound circuit → first_bad_part_name (leaves_in (own_of circuit)) (tables_in (part_lines (lines_of circuit))) ≡ None
+part_of circuit sound =
+    rw (inputs_said circuit, latches_said_back circuit sound.inits, part_said circuit sound.dont_care_shaped)
+    (part_passes (leaf_names circuit) circuit.dont_care sound.dont_care_once sound.dont_care_known sound.dont_care_acyclic)
+
+cycle_of : (circuit : Circuit) → IsSound circuit → first_on_cycle (tables_in (own_of circuit)) ≡ None
 cycle_of circuit sound = ap first_on_cycle (tables_said_back circuit sound.shaped) ∙ none_from_acyclic circuit.tables sound.acyclic
+
+no_names_fault : (circuit : Circuit) → IsSound circuit → model_names_fault (own_of circuit) ≡ None
+unfolding model_names_fault
+no_names_fault circuit sound =
+    let lines = own_of circuit in
+    none_of (option_map (λ (name : List ℕ). NameTwice name) (first_listed_twice (of_lines listed_inputs lines) (of_lines listed_outputs lines) (ports_in lines))
+    ∷ option_map (λ (number : ℕ). MixedClock number) (mixed_clock lines)
+    ∷ option_map (λ (name : List ℕ). GatedClock name) (gated_clock lines)
+    ∷ option_map (λ (name : List ℕ). TwoDrivers name) (first_again (inputs_in lines) (drives_in lines))
+    ∷ option_map (λ (name : List ℕ). Undriven name) (first_missing (inputs_in lines ++ drives_in lines) (reads_in lines)) ∷ []) (
+      ap (option_map (λ (name : List ℕ). NameTwice name)) (twice_of circuit sound),
+      (
+        ap (option_map (λ (number : ℕ). MixedClock number)) (unmixed circuit sound.control_not_nil (timing_of circuit sound)),
+        (
+          ap (option_map (λ (name : List ℕ). GatedClock name)) (gated_of circuit sound),
+          (ap (option_map (λ (name : List ℕ). TwoDrivers name)) (again_of circuit sound), (ap (option_map (λ (name : List ℕ). Undriven name)) (missing_of circuit sound), tt)),
+        ),
+      ),
+    )
 
 no_whole_fault : (circuit : Circuit) → IsSound circuit → whole_fault (lines_of circuit) ≡ None
 unfolding whole_fault
 no_whole_fault circuit sound =
-    let lines = lines_of circuit in
-    none_of (option_map (λ (name : List ℕ). NameTwice name) (first_listed_twice (inputs_in lines) (outputs_in lines) (ports_in lines))
-    ∷ option_map (λ (name : List ℕ). TwoDrivers name) (first_again (inputs_in lines) (drives_in lines))
-    ∷ option_map (λ (name : List ℕ). Undriven name) (first_missing (inputs_in lines ++ drives_in lines) (reads_in lines))
-    ∷ option_map (λ (name : List ℕ). Cycle name) (first_on_cycle (tables_in lines)) ∷ []) (
-      ap (option_map (λ (name : List ℕ). NameTwice name)) (twice_of circuit sound),
-      (
-        ap (option_map (λ (name : List ℕ). TwoDrivers name)) (again_of circuit sound),
-        (ap (option_map (λ (name : List ℕ). Undriven name)) (missing_of circuit sound), (ap (option_map (λ (name : List ℕ). Cycle name)) (cycle_of circuit sound), tt)),
-      ),
+    let own = own_of circuit in
+    let part = tables_in (part_lines (lines_of circuit)) in
+    ap (λ (lines : List Entry). first_of (model_names_fault lines ∷ option_map (λ (name : List ℕ). BadExdc name) (first_bad_part_name (leaves_in lines) part) ∷ option_map (λ (name : List ℕ). Cycle name) (first_on_cycle (tables_in lines)) ∷ [])) (model_said circuit)
+    ∙ none_of (model_names_fault own ∷ option_map (λ (name : List ℕ). BadExdc name) (first_bad_part_name (leaves_in own) part) ∷ option_map (λ (name : List ℕ). Cycle name) (first_on_cycle (tables_in own)) ∷ []) (
+      no_names_fault circuit sound,
+      (ap (option_map (λ (name : List ℕ). BadExdc name)) (part_of circuit sound), (ap (option_map (λ (name : List ℕ). Cycle name)) (cycle_of circuit sound), tt)),
     )
 
 -- the circuit that the lines say
@@ -77,7 +113,7 @@ all_folded_same [] e = refl
 all_folded_same (table ∷ tables) e =
     ap (λ (first : Table). first ∷ map folded tables) (folded_same table e.0) ∙ ap (λ (more : List Table). table ∷ more) (all_folded_same tables e.1)
 
-tables_of : (circuit : Circuit) → IsSound circuit → map folded (tables_in (lines_of circuit)) ≡ circuit.tables
+tables_of : (circuit : Circuit) → IsSound circuit → map folded (tables_in (own_of circuit)) ≡ circuit.tables
 tables_of circuit sound = ap (map folded) (tables_said_back circuit sound.shaped) ∙ all_folded_same circuit.tables sound.table_inputs_once
 
 abbrev circuit_with : List ℕ → List (List ℕ) → List (List ℕ) → List (List ℕ) → Option Timing → List TheLatch → List Table → List Table → Circuit
@@ -89,31 +125,31 @@ circuit_same : (name : List ℕ) (inputs outputs clocks : List (List ℕ)) (timi
     → circuit_with name inputs outputs clocks timing latches tables dont_care ≡ circuit
 circuit_same name inputs outputs clocks timing latches tables dont_care circuit a b c d e f g h = rw (a, b, c, d, e, f, g, h) refl
 
-circuit_back : (circuit : Circuit) → IsSound circuit → IsPlain circuit → circuit_of (lines_of circuit) ≡ circuit
+circuit_back : (circuit : Circuit) → IsSound circuit → circuit_of (lines_of circuit) ≡ circuit
 unfolding circuit_of
-circuit_back circuit sound plain =
-    let lines = lines_of circuit in
-    circuit_same (model_name lines) (inputs_in lines) (outputs_in lines) [] None (latches_in lines) (map folded (tables_in lines)) [] circuit
-    (name_said circuit) (inputs_said circuit) (outputs_said circuit) (sym plain.clocks) (sym plain.timing) (latches_said_back circuit sound.inits) (tables_of circuit sound) (sym plain.dont_care)
+circuit_back circuit sound =
+    let lines = model_lines (lines_of circuit) in
+    circuit_same (model_name (lines_of circuit)) (inputs_in lines) (outputs_in lines) (clocks_in lines) (timing_in lines) (latches_in lines) (map folded (tables_in lines)) (tables_in (part_lines (lines_of circuit))) circuit
+    (name_said circuit) (ap inputs_in (model_said circuit) ∙ inputs_said circuit) (ap outputs_in (model_said circuit) ∙ outputs_said circuit) (ap clocks_in (model_said circuit) ∙ clocks_said circuit)
+    (ap timing_in (model_said circuit) ∙ timing_of circuit sound) (ap latches_in (model_said circuit) ∙ latches_said_back circuit sound.inits)
+    (ap (λ (own : List Entry). map folded (tables_in own)) (model_said circuit) ∙ tables_of circuit sound) (part_said circuit sound.dont_care_shaped)
 
 -- both
 no_line_fault_of : (circuit : Circuit) → IsSound circuit → IsWithinLimits circuit → HasShortNames circuit → first_line_fault [] (lines_of circuit) ≡ None
 no_line_fault_of circuit sound limits short =
-    no_line_fault circuit (of_names IsShort circuit short.names) limits.tables sound.shaped (omega (arith, limits.nodes))
+    no_line_fault circuit (of_names IsShort circuit short.names) limits.tables limits.dont_care sound.shaped sound.dont_care_shaped limits.nodes
 
-lines_read : (circuit : Circuit) → IsSound circuit → IsPlain circuit → IsWithinLimits circuit → HasShortNames circuit → read_lines (lines_of circuit) ≡ Ok circuit
+lines_read : (circuit : Circuit) → IsSound circuit → IsWithinLimits circuit → HasShortNames circuit → read_lines (lines_of circuit) ≡ Ok circuit
 unfolding read_lines
-lines_read circuit sound plain limits short =
+lines_read circuit sound limits short =
     let lines = lines_of circuit in
     ap (λ (fault : Option BlifFault). unless (option_or fault (whole_fault lines)) (circuit_of lines)) (no_line_fault_of circuit sound limits short)
     ∙ ap (λ (fault : Option BlifFault). unless fault (circuit_of lines)) (no_whole_fault circuit sound)
-    ∙ ap (λ (read : Circuit). unless None read) (circuit_back circuit sound plain)
+    ∙ ap (λ (read : Circuit). unless None read) (circuit_back circuit sound)
 
-text_plain : (circuit : Circuit) → IsSound circuit → IsPlain circuit → entries_of (text_of circuit) ≡ lines_of circuit
+text_lines : (circuit : Circuit) → IsSound circuit → entries_of (text_of circuit) ≡ lines_of circuit
 unfolding text_of
-text_plain circuit sound plain =
-    ap (λ lines. entries_of (lines_text lines)) (lines_plain circuit plain)
-    ∙ read_back (plain_lines circuit) (lines_written circuit (of_names (λ (name : List ℕ). is_word name ≡ true) circuit sound.words))
+text_lines circuit sound = read_back (circuit_lines circuit) (lines_written circuit (of_names (λ (name : List ℕ). is_word name ≡ true) circuit sound.words))
 
-pub text_read : (circuit : Circuit) → IsSound circuit → IsPlain circuit → IsWithinLimits circuit → HasShortNames circuit → read_lines (entries_of (text_of circuit)) ≡ Ok circuit
-text_read circuit sound plain limits short = ap read_lines (text_plain circuit sound plain) ∙ lines_read circuit sound plain limits short
+pub text_read : (circuit : Circuit) → IsSound circuit → IsWithinLimits circuit → HasShortNames circuit → read_lines (entries_of (text_of circuit)) ≡ Ok circuit
+text_read circuit sound limits short = ap read_lines (text_lines circuit sound) ∙ lines_read circuit sound limits short

@@ -1,18 +1,22 @@
 -- The names of a circuit part by part, and that its lines are made of words.
-use Rattle.std.proofs.Common.{◌≡◌, ℕ, zero, suc, Bool, true, false, List, [], ◌∷◌, ◌++◌, refl, ap, map, flat_map, codes, None}
+use Rattle.std.proofs.Common.{◌≡◌, ℕ, zero, suc, Bool, true, false, Option, Some, None, List, [], ◌∷◌, ◌++◌, refl, sym, ap, ◌∙◌, map, flat_map, codes}
+use Rattle.std.specs.Prelude.{option_to_list}
+use Rattle.std.proofs.lemmas.List.{append_assoc, append-nil}
 use Rattle.std.specs.List.{All, AllByRecursion, list_all}
 use Rattle.std.proofs.lemmas.List.Elements.{All-from_recursion}
 use Rattle.sis_base.specs.Written.{is_word, is_word_byte, Written}
 use Rattle.sis_text.specs.Written.{IsLineOfWords}
 use Rattle.circuit_model.specs.declared.circuit.Tri.{Tri}
 use Rattle.circuit_model.specs.declared.circuit.Tri.TheVariants.{Zero, One, Free}
+use Rattle.circuit_model.specs.declared.circuit.Kind.{Kind}
+use Rattle.circuit_model.specs.declared.circuit.Kind.TheVariants.{Fe, Re, Ah, Al}
+use Rattle.circuit_model.specs.declared.circuit.Timing.{Timing}
 use Rattle.circuit_model.specs.declared.circuit.Table.{Table}
 use Rattle.circuit_model.specs.declared.circuit.Latch.{Latch}
 use Rattle.circuit_model.specs.declared.circuit.Circuit.{Circuit}
 use Rattle.circuit_model.specs.Runs.{latch_outputs}
 use Rattle.circuit_model.specs.Soundness.{all_names, control_of, latch_inputs, names_of}
-use Rattle.circuit_model.specs.Text.{dotted, character, digit_of_phase, row_line, table_lines, init_word, timing_words, latch_line, clock_lines, dont_care_lines, circuit_lines}
-use Rattle.blif_trip.specs.Plain.{IsPlain}
+use Rattle.circuit_model.specs.Text.{dotted, character, digit_of_phase, row_line, table_lines, init_word, kind_word, control_word, timing_words, latch_line, clock_lines, dont_care_lines, circuit_lines}
 use Rattle.blif_read.proofs.NameLists.{all_front, all_back, all_append}
 
 -- a fact of each name of a circuit, part by part
@@ -26,8 +30,11 @@ pub record OfNames (P : List ℕ → Type 0) (circuit : Circuit) : Type 0 where
   pub name : P circuit.name
   pub inputs : AllByRecursion P circuit.inputs
   pub outputs : AllByRecursion P circuit.outputs
+  pub clocks : AllByRecursion P circuit.clocks
+  pub timing : AllByRecursion P (control_of circuit.timing)
   pub latches : AllByRecursion (OfLatch P) circuit.latches
   pub tables : AllByRecursion (OfTable P) circuit.tables
+  pub dont_care : AllByRecursion (OfTable P) circuit.dont_care
 
 of_latches : (P : List ℕ → Type 0) (latches : List Latch) → AllByRecursion P (map (λ (latch : Latch). latch.output) latches) → AllByRecursion P (map (λ (latch : Latch). latch.input) latches) → AllByRecursion (OfLatch P) latches
 of_latches P [] h k = tt
@@ -51,30 +58,44 @@ of_names P circuit h =
       name = h.0;
       inputs = all_front P circuit.inputs (circuit.outputs ++ (circuit.clocks ++ (control_of circuit.timing ++ (latch_outputs circuit ++ (latch_inputs circuit ++ (names_of circuit.tables ++ names_of circuit.dont_care)))))) h.1;
       outputs = all_front P circuit.outputs (circuit.clocks ++ (control_of circuit.timing ++ (latch_outputs circuit ++ (latch_inputs circuit ++ (names_of circuit.tables ++ names_of circuit.dont_care))))) after_inputs;
+      clocks = all_front P circuit.clocks (control_of circuit.timing ++ (latch_outputs circuit ++ (latch_inputs circuit ++ (names_of circuit.tables ++ names_of circuit.dont_care)))) after_outputs;
+      timing = all_front P (control_of circuit.timing) (latch_outputs circuit ++ (latch_inputs circuit ++ (names_of circuit.tables ++ names_of circuit.dont_care))) after_clocks;
       latches = of_latches P circuit.latches (all_front P (latch_outputs circuit) (latch_inputs circuit ++ (names_of circuit.tables ++ names_of circuit.dont_care)) of_parts) (all_front P (latch_inputs circuit) (names_of circuit.tables ++ names_of circuit.dont_care) after_driven);
       tables = of_tables P circuit.tables (all_front P (names_of circuit.tables) (names_of circuit.dont_care) of_all_tables);
+      dont_care = of_tables P circuit.dont_care (all_back P (names_of circuit.tables) (names_of circuit.dont_care) of_all_tables);
     }
 
--- the lines of a plain circuit
-abbrev pub plain_latch : Latch → Written
-plain_latch latch = dotted (codes ".latch") (latch.input ∷ latch.output ∷ init_word latch.init ∷ [])
-
+-- the last line, where there is no don't-care part; and that part with the last line
 abbrev pub end_lines : List Written
 end_lines = dotted (codes ".end") [] ∷ []
 
-unfoldable pub plain_lines : Circuit → List Written
-plain_lines circuit =
+abbrev pub stop_lines : List Table → List Written
+stop_lines [] = end_lines
+stop_lines (table ∷ tables) = []
+
+abbrev pub part_written : List Table → List Written
+part_written [] = []
+part_written (table ∷ tables) = dotted (codes ".exdc") [] ∷ flat_map table_lines (table ∷ tables) ++ end_lines
+
+-- the lines of the model itself
+unfoldable pub own_lines : Circuit → List Written
+own_lines circuit =
     dotted (codes ".model") (circuit.name ∷ []) ∷ dotted (codes ".inputs") circuit.inputs ∷ dotted (codes ".outputs") circuit.outputs
-    ∷ map plain_latch circuit.latches ++ (flat_map table_lines circuit.tables ++ end_lines)
+    ∷ clock_lines circuit.clocks ++ (map (latch_line circuit.timing) circuit.latches ++ (flat_map table_lines circuit.tables ++ stop_lines circuit.dont_care))
 
-latches_plain : (latches : List Latch) → map (latch_line None) latches ≡ map plain_latch latches
-unfolding latch_line timing_words
-latches_plain [] = refl
-latches_plain (latch ∷ latches) = ap (λ (lines : List Written). plain_latch latch ∷ lines) (latches_plain latches)
+split : (clocks latches tables : List Written) (part : List Table) → clocks ++ (latches ++ (tables ++ (dont_care_lines part ++ end_lines))) ≡ (clocks ++ (latches ++ (tables ++ stop_lines part))) ++ part_written part
+unfolding dont_care_lines
+split clocks latches tables [] = sym (append-nil (clocks ++ (latches ++ (tables ++ end_lines))))
+split clocks latches tables (table ∷ part) =
+    let rest = part_written (table ∷ part) in
+    sym (append_assoc clocks (latches ++ (tables ++ [])) rest
+    ∙ ap (λ more. clocks ++ more) (append_assoc latches (tables ++ []) rest ∙ ap (λ more. latches ++ more) (append_assoc tables [] rest)))
 
-pub lines_plain : (circuit : Circuit) → IsPlain circuit → circuit_lines circuit ≡ plain_lines circuit
-unfolding circuit_lines plain_lines clock_lines dont_care_lines
-lines_plain circuit plain = rw (plain.clocks, plain.timing, plain.dont_care, latches_plain circuit.latches) refl
+pub lines_split : (circuit : Circuit) → circuit_lines circuit ≡ own_lines circuit ++ part_written circuit.dont_care
+unfolding circuit_lines own_lines
+lines_split circuit =
+    ap (λ (more : List Written). dotted (codes ".model") (circuit.name ∷ []) ∷ dotted (codes ".inputs") circuit.inputs ∷ dotted (codes ".outputs") circuit.outputs ∷ more)
+    (split (clock_lines circuit.clocks) (map (latch_line circuit.timing) circuit.latches) (flat_map table_lines circuit.tables) circuit.dont_care)
 
 -- each line is made of words
 abbrev IsName : List ℕ → Type 0
@@ -122,28 +143,61 @@ tables_words : (tables : List Table) → AllByRecursion (OfTable IsName) tables 
 tables_words [] h = tt
 tables_words (table ∷ tables) h = all_append HasWords (table_lines table) (flat_map table_lines tables) (table_words table h.0) (tables_words tables h.1)
 
-latches_words : (latches : List Latch) → AllByRecursion (OfLatch IsName) latches → AllByRecursion HasWords (map plain_latch latches)
+kind_is_word : (kind : Kind) → is_word (kind_word kind) ≡ true
 unfolding is_word
-latches_words [] h = tt
-latches_words (latch ∷ latches) h = ((refl, (h.0.0, (h.0.1, (init_is_word latch.init, tt)))), latches_words latches h.1)
+kind_is_word Fe = refl
+kind_is_word Re = refl
+kind_is_word Ah = refl
+kind_is_word Al = refl
 
-plain_words : (circuit : Circuit) → OfNames IsName circuit → AllByRecursion HasWords (plain_lines circuit)
-unfolding plain_lines is_word
-plain_words circuit h = (
-  (refl, (h.name, tt)),
-  (
-    (refl, h.inputs),
-    (
-      (refl, h.outputs),
-      all_append HasWords (map plain_latch circuit.latches) (flat_map table_lines circuit.tables ++ end_lines) (latches_words circuit.latches h.latches)
-          (all_append HasWords (flat_map table_lines circuit.tables) end_lines (tables_words circuit.tables h.tables) ((refl, tt), tt)),
-    ),
-  ),
-)
+control_is_word : (control : Option (List ℕ)) → AllByRecursion IsName (option_to_list control) → is_word (control_word control) ≡ true
+unfolding is_word
+control_is_word None h = refl
+control_is_word (Some control) h = h.0
+
+timing_are_words : (timing : Option Timing) → AllByRecursion IsName (control_of timing) → AllByRecursion IsName (timing_words timing)
+unfolding timing_words
+timing_are_words None h = tt
+timing_are_words (Some timing) h = (kind_is_word timing.kind, (control_is_word timing.control h, tt))
+
+latches_words : (timing : Option Timing) (latches : List Latch) → AllByRecursion IsName (control_of timing) → AllByRecursion (OfLatch IsName) latches → AllByRecursion HasWords (map (latch_line timing) latches)
+unfolding is_word latch_line
+latches_words timing [] t h = tt
+latches_words timing (latch ∷ latches) t h =
+    ((refl, (h.0.0, (h.0.1, all_append IsName (timing_words timing) (init_word latch.init ∷ []) (timing_are_words timing t) (init_is_word latch.init, tt)))), latches_words timing latches t h.1)
+
+clocks_words : (clocks : List (List ℕ)) → AllByRecursion IsName clocks → AllByRecursion HasWords (clock_lines clocks)
+unfolding is_word clock_lines
+clocks_words [] h = tt
+clocks_words (clock ∷ clocks) h = ((refl, h), tt)
+
+part_words : (tables : List Table) → AllByRecursion (OfTable IsName) tables → AllByRecursion HasWords (dont_care_lines tables)
+unfolding is_word dont_care_lines
+part_words [] h = tt
+part_words (table ∷ tables) h = ((refl, tt), tables_words (table ∷ tables) h)
+
+all_words : (circuit : Circuit) → OfNames IsName circuit → AllByRecursion HasWords (circuit_lines circuit)
+unfolding circuit_lines is_word
+all_words circuit h =
+    let latches = map (latch_line circuit.timing) circuit.latches in
+    let tables = flat_map table_lines circuit.tables in
+    let part = dont_care_lines circuit.dont_care in (
+      (refl, (h.name, tt)),
+      (
+        (refl, h.inputs),
+        (
+          (refl, h.outputs),
+          all_append HasWords (clock_lines circuit.clocks) (latches ++ (tables ++ (part ++ end_lines))) (clocks_words circuit.clocks h.clocks)
+              (all_append HasWords latches (tables ++ (part ++ end_lines)) (latches_words circuit.timing circuit.latches h.timing h.latches)
+              (all_append HasWords tables (part ++ end_lines) (tables_words circuit.tables h.tables)
+              (all_append HasWords part end_lines (part_words circuit.dont_care h.dont_care) ((refl, tt), tt)))),
+        ),
+      ),
+    )
 
 written : (lines : List Written) → AllByRecursion HasWords lines → AllByRecursion IsLineOfWords lines
 written [] h = tt
 written (line ∷ lines) h = (All-from_recursion (λ (word : List ℕ). is_word word ≡ true) (line.first ∷ line.others) h.0, written lines h.1)
 
-pub lines_written : (circuit : Circuit) → OfNames IsName circuit → All IsLineOfWords (plain_lines circuit)
-lines_written circuit h = All-from_recursion IsLineOfWords (plain_lines circuit) (written (plain_lines circuit) (plain_words circuit h))
+pub lines_written : (circuit : Circuit) → OfNames IsName circuit → All IsLineOfWords (circuit_lines circuit)
+lines_written circuit h = All-from_recursion IsLineOfWords (circuit_lines circuit) (written (circuit_lines circuit) (all_words circuit h))

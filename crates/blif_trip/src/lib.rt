@@ -9,12 +9,11 @@ ghost use Rattle.circuit_model.specs.Counts.{IsWithinLimits};
 ghost use Rattle.circuit_model.specs.Text.{text_of};
 ghost use Rattle.blif_read.specs.Limits.{HasShortNames};
 ghost use Rattle.blif_read.specs.Reader.{read_lines};
-ghost use Rattle.blif_trip.specs.Plain.{IsPlain};
 
-/// A law, no work: the text of a circuit is read as that circuit, where the circuit is sound and plain, and keeps the
-/// limits on tables and on names.
+/// A law, no work: the text of a circuit is read as that circuit, where the circuit is sound and keeps the limits on
+/// tables and on names.
 pub fn written_text_is_read()
-    ensures { (circuit : TheCircuit) → IsSound circuit → IsPlain circuit → IsWithinLimits circuit → HasShortNames circuit
+    ensures { (circuit : TheCircuit) → IsSound circuit → IsWithinLimits circuit → HasShortNames circuit
         → read_lines (entries_of (text_of circuit)) ≡ Ok circuit }
 {}
 

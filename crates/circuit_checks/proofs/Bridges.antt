@@ -1,20 +1,20 @@
 -- What the checks tell where they find nothing, and that they find nothing where it holds; crates above may cite these.
-use Rattle.std.proofs.Common.{◌≡◌, ℕ, zero, suc, Bool, true, false, not, ◌&&◌, ◌||◌, cond, if◌then◌else◌, Option, Some, None, option_map, List, [], ◌∷◌, ◌++◌, refl, sym, ap, ◌∙◌, arith, inl, inr, ◌⊎◌, append_assoc}
+use Rattle.std.proofs.Common.{◌≡◌, ℕ, suc, Bool, true, false, not, ◌||◌, cond, if◌then◌else◌, Option, Some, None, option_map, List, [], ◌∷◌, ◌++◌, refl, sym, ap, ◌∙◌, append_assoc}
 use Rattle.std.specs.Prelude.{bytes_eq, find}
 use Rattle.std.specs.List.{AllByRecursion}
-use Rattle.std.proofs.lemmas.Bool.{true≢false, cases_Bool}
+use Rattle.std.proofs.lemmas.Bool.{true≢false}
 use Rattle.std.proofs.lemmas.List.{append-nil}
 use Rattle.circuit_model.specs.Names.{has, all_different}
 use Rattle.circuit_model.specs.Values.{driver}
-use Rattle.circuit_model.specs.Soundness.{Leads, IsAcyclic, outputs_of}
+use Rattle.circuit_model.specs.Soundness.{Leads, IsAcyclic}
 use Rattle.circuit_model.specs.declared.circuit.Table.{Table}
 use Rattle.circuit_checks.specs.NameChecks.{first_again, first_missing, first_listed_twice, is_twice}
 use Rattle.circuit_checks.specs.Cycles.{is_on_cycle, first_on_cycle}
-use Rattle.circuit_checks.proofs.Naming.{same_name, name_itself, has_append, has_more, same_bytes}
+use Rattle.circuit_checks.proofs.Naming.{same_name, has_append, has_more, same_bytes}
 use Rattle.circuit_checks.proofs.Counting.{different_from_count, count_from_different, first_different, rest_different}
 use Rattle.circuit_checks.proofs.Driving.{on_cycle_by_places, led_by_steps}
 
-some_none : {A : Type 0} (x : A) → Some x ≡ None → ⊥
+pub some_none : {A : Type 0} (x : A) → Some x ≡ None → ⊥
 some_none x e = cc
 
 -- no name comes again: all are different
@@ -109,11 +109,11 @@ all_has others (name ∷ names) all query m = cases (bytes_eq query name) refl (
     cases true e rec = ap (λ (n : List ℕ). has others n) (same_name query name e) ∙ all.0
     cases false e rec = rec (sym (ap (λ (c : Bool). c || has names query) e) ∙ m)
 
-or_first : (a b : Bool) → (a || b) ≡ false → a ≡ false
+pub or_first : (a b : Bool) → (a || b) ≡ false → a ≡ false
 or_first true b e = e
 or_first false b e = refl
 
-or_second : (a b : Bool) → (a || b) ≡ false → b ≡ false
+pub or_second : (a b : Bool) → (a || b) ≡ false → b ≡ false
 or_second true b e = absurd (true≢false e)
 or_second false b e = e
 

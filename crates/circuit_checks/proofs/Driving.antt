@@ -1,5 +1,5 @@
 -- Tables as a graph over their places: a place is cyclic exactly if its output leads to itself.
-use Rattle.std.proofs.Common.{◌≡◌, ℕ, zero, suc, ◌+◌, ◌-◌, ◌<◌, ◌≤◌, Bool, true, false, not, ◌&&◌, ◌||◌, cond, if◌then◌else◌, Option, Some, None, option_map, List, [], ◌∷◌, ◌++◌, length, get_or, map, refl, sym, ap, ◌∙◌, arith, inl, inr, ◌⊎◌, eqb, eq-eqb, eqb-true, All, slice_get, subst}
+use Rattle.std.proofs.Common.{◌≡◌, ℕ, zero, suc, ◌+◌, ◌-◌, ◌<◌, ◌≤◌, Bool, true, false, ◌||◌, cond, Option, Some, None, option_map, List, [], ◌∷◌, length, get_or, map, refl, sym, ap, ◌∙◌, arith, inl, inr, ◌⊎◌, eqb, eq-eqb, eqb-true, All, slice_get, subst}
 use Rattle.std.specs.Prelude.{bytes_eq, find}
 use Rattle.std.specs.List.{list_any, filter_map, cons_option, range_with_len, AllByRecursion}
 use Rattle.std.proofs.lemmas.Bool.{true≢false, cases_Bool}
@@ -306,7 +306,7 @@ unfoldable output_from : List Table → ℕ → Option ℕ → Option (List ℕ)
 output_from tables start None = None
 output_from tables start (Some place) = option_map (λ (table : Table). table.output) (slice_get tables (place - start))
 
-found_from : (f : ℕ → Bool) (start n i : ℕ) → find f (range_with_len start n) ≡ Some i → start ≤ i
+pub found_from : (f : ℕ → Bool) (start n i : ℕ) → find f (range_with_len start n) ≡ Some i → start ≤ i
 found_from f start zero i e = absurd (some_none i (sym e))
 found_from f start (suc n) i e = cases (f start) e (found_from f (start + 1) n i)
   where

@@ -3,3 +3,4 @@ pub mod Counting
 pub mod Driving
 pub mod Bridges
 pub mod Placing
+pub mod Parts

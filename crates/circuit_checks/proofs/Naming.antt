@@ -1,17 +1,17 @@
 -- Names in lists and in sets of borrowed bytes.
-use Rattle.std.proofs.Common.{◌≡◌, ℕ, zero, suc, ◌+◌, ◌-◌, ◌<◌, ◌≤◌, Bool, true, false, not, ◌&&◌, ◌||◌, cond, if◌then◌else◌, Option, Some, None, List, [], ◌∷◌, ◌++◌, length, get_or, take, drop, map, refl, sym, ap, ◌∙◌, arith, append_assoc, option_map, count_by, nat_lt}
-use Rattle.std.proofs.Common.{lt-ltb, le-ltb, ltb, leb, ltb-true, ltb-false, inl, inr, ◌⊎◌}
+use Rattle.std.proofs.Common.{◌≡◌, ℕ, ◌+◌, ◌<◌, ◌≤◌, Bool, true, false, not, ◌||◌, cond, if◌then◌else◌, Option, Some, None, List, [], ◌∷◌, ◌++◌, length, get_or, take, drop, map, refl, sym, ap, ◌∙◌}
+use Rattle.std.proofs.Common.{inl, inr, ◌⊎◌}
 use Rattle.std.specs.Borrow.{Bor}
-use Rattle.std.specs.Prelude.{bytes_eq, position, find}
-use Rattle.std.specs.List.{list_any, position_or_len, prefix_len, AllByRecursion}
-use Rattle.std.proofs.lemmas.Bool.{true≢false, cases_Bool, or_cases}
+use Rattle.std.specs.Prelude.{bytes_eq, find}
+use Rattle.std.specs.List.{list_any}
+use Rattle.std.proofs.lemmas.Bool.{true≢false, cases_Bool}
 use Rattle.std.proofs.lemmas.Cmp.{nat_list_eq_equiv}
-use Rattle.std.proofs.lemmas.List.{take_more, drop_more, drop_all, map-append, append-nil, length-append}
+use Rattle.std.proofs.lemmas.List.{take_more, drop_more, drop_all, map-append}
 use Rattle.std.proofs.lemmas.List.Folds.{list_any-append}
 use Rattle.std.proofs.lemmas.Slice.Eq.{bytes_eq-Decides}
-use Rattle.circuit_model.specs.Names.{has, all_different}
-use Rattle.circuit_checks.specs.NameChecks.{first_again, first_missing, is_twice}
-use Rattle.circuit_checks.specs.Sets.{Alike, with_name, place_in}
+use Rattle.circuit_model.specs.Names.{has}
+use Rattle.circuit_checks.specs.NameChecks.{first_again}
+use Rattle.circuit_checks.specs.Sets.{Alike, with_name}
 
 -- equal bytes
 pub same_name : (a b : List ℕ) → bytes_eq a b ≡ true → a ≡ b
@@ -36,36 +36,6 @@ put_held known name more e = ap texts e ∙ by (has (texts known) name.now) (lis
     by : (b test : Bool) → test ≡ b → texts (if test then known else known ++ name ∷ []) ≡ (if b then texts known else texts known ++ name.now ∷ [])
     by true test e = rw e refl
     by false test e = rw e (map-append (λ (word : Bor (List ℕ)). word.now) known (name ∷ []))
-
--- the place by std's word
-pub placed : (name : List ℕ) (names : List (Bor (List ℕ))) → position (λ (k : Bor (List ℕ)). bytes_eq name k.now) names ≡ place_in (texts names) name
-unfolding place_in
-placed name [] = refl
-placed name (k ∷ ks) = cases (bytes_eq name k.now) refl (placed name ks)
-  where
-    next : (n m : ℕ) → cond (ltb (1 + n) (suc m)) (Some (1 + n)) None ≡ option_map suc (cond (ltb n m) (Some n) None)
-    next n m = by (ltb n m) refl
-      where
-        by : (b : Bool) → ltb n m ≡ b → cond (ltb (1 + n) (suc m)) (Some (1 + n)) None ≡ option_map suc (cond b (Some n) None)
-        by true e =
-            let same : 1 + n ≡ suc n = omega arith in
-            let lt : ltb (suc n) (suc m) ≡ true = lt-ltb (suc n) (suc m) (omega (arith, ltb-true n m e)) in
-            rw (same, lt) refl
-        by false e =
-            let ge : ltb (1 + n) (suc m) ≡ false = le-ltb (1 + n) (suc m) (omega (arith, ltb-false n m e)) in
-            rw ge refl
-
-    cases : (b : Bool) → bytes_eq name k.now ≡ b → position (λ (k : Bor (List ℕ)). bytes_eq name k.now) ks ≡ place_in (texts ks) name
-        → position (λ (k : Bor (List ℕ)). bytes_eq name k.now) (k ∷ ks) ≡ cond b (Some 0) (option_map suc (place_in (texts ks) name))
-    cases true e rec =
-        let first : position_or_len (λ (k : Bor (List ℕ)). bytes_eq name k.now) (k ∷ ks) ≡ 0 = ap (λ (b : Bool). cond {A = ℕ} (not b) (1 + position_or_len (λ (k : Bor (List ℕ)). bytes_eq name k.now) ks) 0) e in
-        let lt : ltb 0 (length (k ∷ ks)) ≡ true = lt-ltb 0 (length (k ∷ ks)) (omega arith) in
-        rw (first, lt) refl
-    cases false e rec =
-        let later : position_or_len (λ (k : Bor (List ℕ)). bytes_eq name k.now) (k ∷ ks) ≡ 1 + position_or_len (λ (k : Bor (List ℕ)). bytes_eq name k.now) ks
-        = ap (λ (b : Bool). cond {A = ℕ} (not b) (1 + position_or_len (λ (k : Bor (List ℕ)). bytes_eq name k.now) ks) 0) e in
-        ap (λ (n : ℕ). cond (ltb n (length (k ∷ ks))) (Some n) None) later
-        ∙ next (position_or_len (λ (k : Bor (List ℕ)). bytes_eq name k.now) ks) (length ks) ∙ ap (option_map suc) rec
 
 -- names with some behind
 pub has_append : (names more : List (List ℕ)) (query : List ℕ) → has (names ++ more) query ≡ (has names query || has more query)

@@ -2,7 +2,7 @@
 -- Source: BLIF appendix of the SIS report (UCB/ERL M92/41): the tables of a model form no cycle.
 -- A signal leads to the inputs of the table that drives it (`Leads` in circuit_model's Soundness, any number of
 -- steps); here the same as a test, which a law ties to it.
-use Rattle.std.specs.Prelude.{ℕ, zero, suc, Bool, true, false, ◌||◌, Option, Some, None, option_map, List, [], find, length, bytes_eq}
+use Rattle.std.specs.Prelude.{ℕ, zero, suc, Bool, false, ◌||◌, Option, Some, None, option_map, List, [], find, length, bytes_eq}
 use Rattle.std.specs.List.{list_any}
 use Rattle.circuit_model.specs.Values.{driver}
 use Rattle.circuit_model.specs.declared.circuit.Table.{Table}

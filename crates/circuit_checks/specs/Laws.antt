@@ -5,10 +5,11 @@
 use Rattle.std.specs.Prelude.{◌≡◌, ◌↔◌, ℕ, suc, true, None, List, ◌++◌}
 use Rattle.std.specs.List.{AllByRecursion}
 use Rattle.circuit_model.specs.Names.{has, all_different}
-use Rattle.circuit_model.specs.Soundness.{Leads, IsAcyclic}
+use Rattle.circuit_model.specs.Soundness.{Leads, IsAcyclic, outputs_of, table_inputs}
 use Rattle.circuit_model.specs.declared.circuit.Table.{Table}
 use Rattle.circuit_checks.specs.NameChecks.{first_again, first_missing, first_listed_twice}
 use Rattle.circuit_checks.specs.Cycles.{is_on_cycle, first_on_cycle}
+use Rattle.circuit_checks.specs.PartChecks.{first_bad_part_name}
 
 -- where the known names are all different, no name comes again exactly if all are different
 abbrev pub AgainLaw : Type 0
@@ -36,3 +37,12 @@ OnCycleLaw =
 -- no table is on a cycle exactly if no signal leads to itself
 abbrev pub AcyclicLaw : Type 0
 AcyclicLaw = (tables : List Table) → (first_on_cycle tables ≡ None) ↔ IsAcyclic tables
+
+-- nothing is wrong with a part exactly if its outputs are all different, each name that it reads is one of them or a leaf, and
+-- no signal leads to itself
+abbrev pub PartLaw : Type 0
+PartLaw =
+    (leaves : List (List ℕ)) (part : List Table)
+    → (first_bad_part_name leaves part ≡ None)
+    ↔ ((all_different (outputs_of part) ≡ true)
+    × (AllByRecursion (λ name. has (outputs_of part ++ leaves) name ≡ true) (table_inputs part)) × IsAcyclic part)

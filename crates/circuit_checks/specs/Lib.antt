@@ -1,4 +1,5 @@
 pub mod NameChecks
 pub mod Cycles
+pub mod PartChecks
 pub mod Laws
 pub mod Sets

@@ -1,18 +1,20 @@
 //! The first table that is reached from itself: tables are numbered by their places.
 
-ghost use Rattle.std.specs.Prelude.{◌≡◌, ◌++◌, true, map, option_to_list, IfOk, OnOk};
+ghost use Rattle.std.specs.Prelude.{◌≡◌, ◌++◌, true, map, bytes_eq, option_to_list, IfOk, OnOk};
 ghost use Rattle.std.specs.Option.{option_copied};
 ghost use Rattle.std.specs.List.{filter_map};
+ghost use Rattle.indexmap.specs.IndexMap.{get};
+ghost use Rattle.graph_cycles.specs.Graphs.{first_cyclic};
 ghost use Rattle.circuit_model.specs.Names.{all_different};
 ghost use Rattle.circuit_model.specs.Soundness.{outputs_of};
 ghost use Rattle.circuit_model.specs.declared.circuit.Table.{Table as TheTable};
 ghost use Rattle.circuit_checks.specs.Cycles.{first_on_cycle};
 ghost use Rattle.circuit_checks.specs.Sets.{place_in, graph_of, output_at};
 
-use crate::name_set::NameSet;
 use circuit_model::{Name, Table};
 use graph_cycles::first_cyclic;
-use sis_base::Sequence;
+use indexmap::IndexMap;
+use sis_base::{Copied, Sequence};
 use std::alloc::{AllocError, Global};
 
 /// The output of the first table that is reached from itself; an error only for want of memory.
@@ -23,10 +25,19 @@ pub fn first_on_cycle<'a>(
     requires { all_different (outputs_of tables.now) ≡ true }
     ensures { IfOk result (λ found. option_copied found ≡ first_on_cycle tables.now) }
 {
-    let graph = graph_of(alloc, tables)?;
-    let place = first_cyclic(alloc, graph.as_slice())?;
+    let place = cyclic_place(alloc, tables)?;
     let found = output_at(tables, place);
     Ok(found)
+}
+
+/// The place of the first table that is reached from itself, where a name leads to the first table that has it as
+/// output; an error only for want of memory.
+pub(crate) fn cyclic_place(alloc: Global, tables: &[Table]) -> Result<Option<usize>, AllocError>
+    ensures { IfOk result (λ place. place ≡ first_cyclic (graph_of tables.now)) }
+{
+    let graph = graph_of(alloc, tables)?;
+    let place = first_cyclic(alloc, graph.as_slice())?;
+    Ok(place)
 }
 
 /// The output of the table at a place.
@@ -41,52 +52,60 @@ fn output_at(tables: &[Table], place: Option<usize>) -> Option<&Name>
 /// The tables as a graph over their places.
 #[tactic(auto, unfolding(crate::specs::Sets::graph_of))]
 fn graph_of(alloc: Global, tables: &[Table]) -> Result<Vec<Sequence<usize>>, AllocError>
-    requires { all_different (outputs_of tables.now) ≡ true }
     ensures { IfOk result (λ graph. graph.items ≡ graph_of tables.now) }
 {
-    let outputs = outputs_of(alloc, tables)?;
-    let graph = graph_over(alloc, &outputs, tables)?;
+    let firsts = first_places(alloc, tables)?;
+    let graph = graph_over(alloc, &firsts, tables)?;
     Ok(graph)
 }
 
 /// For each of the tables the places of its inputs.
 fn graph_over(
     alloc: Global,
-    outputs: &NameSet<'_>,
+    firsts: &IndexMap<Name, usize>,
     tables: &[Table],
 ) -> Result<Vec<Sequence<usize>>, AllocError>
-    ensures { IfOk result (λ graph. graph.items ≡ map (λ (table : TheTable). filter_map (place_in outputs.now) table.inputs) tables.now) }
+    ensures { IfOk result (λ graph. graph.items ≡ map (λ (table : TheTable). filter_map (get bytes_eq firsts.now) table.inputs) tables.now) }
 {
     let mut graph = Vec::new(alloc);
     for table in tables {
-        graph.push(places_of(alloc, outputs, table.inputs.as_slice())?)?;
+        graph.push(places_of(alloc, firsts, table.inputs.as_slice())?)?;
     }
     Ok(graph)
 }
 
-/// The outputs of the tables, each at its table's place.
-fn outputs_of(alloc: Global, tables: &[Table]) -> Result<NameSet<'_>, AllocError>
-    requires { all_different (outputs_of tables.now) ≡ true }
-    ensures { IfOk result (λ set. set ≡ outputs_of tables.now) }
+/// The place of the first table of each output: the last are put in first, and those before them in their stead.
+fn first_places(alloc: Global, tables: &[Table]) -> Result<IndexMap<Name, usize>, AllocError>
+    ensures { IfOk result (λ firsts. get bytes_eq firsts ≡ place_in (outputs_of tables.now)) }
 {
-    let mut outputs = NameSet::new(alloc);
-    for table in tables {
-        let _added = outputs.add(&table.output)?;
+    let mut firsts = IndexMap::new(alloc);
+    let mut left = tables.len();
+    while left > 0 {
+        left -= 1;
+        let name = tables[left].output.copy(alloc)?;
+        let _later = firsts.insert(name, left)?;
     }
-    Ok(outputs)
+    Ok(firsts)
 }
 
-/// The places of those of the names that are in the set.
+/// The place of a name.
+fn place_of(firsts: &IndexMap<Name, usize>, name: &Name) -> Option<usize>
+    ensures { result ≡ get bytes_eq firsts.now name.now }
+{
+    firsts.get(name).copied()
+}
+
+/// The places of those of the names that have one.
 fn places_of(
     alloc: Global,
-    set: &NameSet<'_>,
+    firsts: &IndexMap<Name, usize>,
     names: &[Name],
 ) -> Result<Sequence<usize>, AllocError>
-    ensures { IfOk result (λ places. places ≡ filter_map (place_in set.now) names.now) }
+    ensures { IfOk result (λ places. places ≡ filter_map (get bytes_eq firsts.now) names.now) }
 {
     let mut places = Sequence::new(alloc);
     for name in names {
-        add_place(&mut places, set.place(name))?;
+        add_place(&mut places, place_of(firsts, name))?;
     }
     Ok(places)
 }

@@ -1,6 +1,6 @@
 //! Laws of the checks, each the contract of a call that does nothing.
 
-ghost use Rattle.circuit_checks.specs.Laws.{AgainLaw, MissingLaw, ListedTwiceLaw, OnCycleLaw, AcyclicLaw};
+ghost use Rattle.circuit_checks.specs.Laws.{AgainLaw, MissingLaw, ListedTwiceLaw, OnCycleLaw, AcyclicLaw, PartLaw};
 
 /// No name comes again exactly if all are different.
 pub fn none_again_is_all_different()
@@ -25,4 +25,9 @@ pub fn on_cycle_is_led_to()
 /// No table is on a cycle exactly if tables are acyclic.
 pub fn none_on_cycle_is_acyclic()
     ensures { AcyclicLaw }
+{}
+
+/// Nothing is wrong with a don't-care part exactly if it meets its rules.
+pub fn none_bad_is_sound_part()
+    ensures { PartLaw }
 {}

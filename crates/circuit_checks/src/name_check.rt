@@ -52,7 +52,7 @@ pub fn first_missing<'a>(
 }
 
 /// The first of the names that is not in the set.
-fn first_outside<'a>(set: &NameSet<'_>, names: &'a [Name]) -> Option<&'a Name>
+pub(crate) fn first_outside<'a>(set: &NameSet<'_>, names: &'a [Name]) -> Option<&'a Name>
     ensures { option_copied result ≡ find (λ (name : List ℕ). not (has set.now name)) names.now }
 {
     names.iter().find(|name| !set.holds(name))

@@ -2,7 +2,7 @@
 
 ghost use Rattle.std.specs.Prelude.{◌≡◌, not, [], IfOk, OnOk};
 ghost use Rattle.circuit_model.specs.Names.{has};
-ghost use Rattle.circuit_checks.specs.Sets.{with_name, place_in, Alike};
+ghost use Rattle.circuit_checks.specs.Sets.{with_name, Alike};
 
 use circuit_model::Name;
 use indexmap::IndexSet;
@@ -49,13 +49,6 @@ impl<'a> NameSet<'a> {
         ensures { result ≡ has self.now name.now }
     {
         self.names.contains(name.as_slice())
-    }
-
-    /// The place of a name, in the order in which they came.
-    pub fn place(&self, name: &Name) -> Option<usize>
-        ensures { result ≡ place_in self.now name.now }
-    {
-        self.names.get_index_of(name.as_slice())
     }
 
     /// Puts a name behind the last where it is not in the set yet, and says whether it did; an error only for

@@ -1,13 +1,6 @@
-use Rattle.std.proofs.Common.{◌∙◌, List, ℕ, ap, sym, subst}
-use Rattle.graph_cycles.specs.Graphs.{IsGraph, first_cyclic}
-use Rattle.circuit_checks.proofs.Driving.{graph_is, found_on_cycle}
+use Rattle.std.proofs.Common.{◌∙◌}
+use Rattle.circuit_checks.proofs.Driving.{found_on_cycle}
 use Rattle.circuit_checks.proofs.cycle.first_on_cycle.Goals as goal
 
-pub first_cyclic-requires : goal.first_cyclic-requires
-first_cyclic-requires c =
-    subst (λ (graph : List (List ℕ)). IsGraph graph) (sym (c.as_slice.ensures.value ∙ c.in_ok-graph.ensures)) (graph_is c.args.tables.now)
-
 pub returns : goal.returns
-returns c =
-    c.output_at-found.ensures
-    ∙ found_on_cycle c.args.tables.now c.requires c.in_ok-place.place (c.in_ok-place.ensures ∙ ap first_cyclic (c.as_slice.ensures.value ∙ c.in_ok-graph.ensures))
+returns c = c.output_at-found.ensures ∙ found_on_cycle c.args.tables.now c.requires c.in_ok-place.place c.in_ok-place.ensures
