@@ -2,9 +2,12 @@
 //!
 //! Two rows clash where they share an input point and a state and specify a next state or an output differently (De
 //! Micheli, "Synthesis and Optimization of Digital Circuits", chapter 9; `specs/Clashes.antt` of `machine_model`).
-//! Promised: just the definition's answer, the least later row and the least row before it that it clashes with.
+//! Promised: just the definition's answer, the least later row and the least row before it that it clashes with. Rows are
+//! kept in groups by their current states (`specs/Groups`): a row of one state is compared with those of its own group and
+//! with those of every state.
 #![tactic(auto)]
 
 mod finding;
+mod groups;
 
 pub use finding::first_clash;

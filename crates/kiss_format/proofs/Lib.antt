@@ -1,0 +1,13 @@
+pub mod Walk
+pub mod Places
+pub mod Agreement
+pub mod Firsts
+pub mod MadeNames
+pub mod Ports
+pub mod Mentions
+pub mod Drafts
+pub mod Sound
+pub mod Numerals
+pub mod NamedStates
+pub mod WrittenRows
+pub mod Trip

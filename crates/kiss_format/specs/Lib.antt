@@ -1,0 +1,5 @@
+pub mod Keywords
+pub mod Lines
+pub mod Reader
+pub mod Steps
+pub mod Trips

@@ -1,0 +1,114 @@
+-- What the logical lines of a KISS2 table are read as: the first fault, or the machine that they say.
+-- Source: SIS report (UCB/ERL M92/41), KISS2 tables: states are those that rows name, in the order in which they come
+-- first; without `.r` the machine starts in the current state of the first row that names one.
+use Rattle.std.specs.Prelude.{◌≡◌, ℕ, ◌+◌, Option, Some, None, Result, Ok, Err, List, [], ◌∷◌, ◌++◌, map, position, bytes_eq, decimal, codes, unwrap_or, if◌then◌else◌}
+use Rattle.std.specs.List.{filter_map, range_with_len}
+use Rattle.sis_text.specs.Entries.{Entry}
+use Rattle.line_words.specs.LineWords.{character_of}
+use Rattle.machine_model.specs.Soundness.{is_any}
+use Rattle.machine_model.specs.Clashes.{first_clash}
+use Rattle.machine_model.specs.declared.machine.Clash.{Clash}
+use Rattle.machine_model.specs.declared.machine.Machine.{Machine}
+use Rattle.machine_model.specs.declared.machine.MachineRow.{MachineRow}
+use Rattle.kiss_format.specs.Keywords.{before_end}
+use Rattle.kiss_format.specs.Lines.{of_lines, row_words, first_item, inputs_in, outputs_in, reset_in, states_in, first_line_fault}
+use Rattle.kiss_format.specs.declared.fault.KissFault.{KissFault}
+use Rattle.kiss_format.specs.declared.fault.KissFault.TheVariants.{RowClash, NoReset, NoRows}
+use Rattle.kiss_format.specs.declared.fault.ReadFault.{ReadFault}
+use Rattle.kiss_format.specs.declared.fault.ReadFault.TheVariants as read_fault
+
+-- the place of a name among states
+abbrev pub place_of : List (List ℕ) → List ℕ → Option ℕ
+place_of states name = position (bytes_eq name) states
+
+-- the state that a word of a row means; none for a word of every state
+abbrev pub state_of : List (List ℕ) → List ℕ → Option ℕ
+state_of states word = if is_any word then None else place_of states word
+
+-- the row of four words
+abbrev pub row_of : List (List ℕ) → List (List ℕ) → List MachineRow
+row_of states (input ∷ current ∷ next ∷ output ∷ []) = record {
+  input = map character_of input;
+  current = state_of states current;
+  next = state_of states next;
+  output = map character_of output;
+} ∷ []
+row_of states words = []
+
+-- rows, by their words
+unfoldable pub rows_of : List (List ℕ) → List (List (List ℕ)) → List MachineRow
+rows_of states [] = []
+rows_of states (words ∷ rows) = row_of states words ++ rows_of states rows
+
+-- the rows that lines say
+unfoldable pub rows_in : List Entry → List MachineRow
+rows_in lines = rows_of (states_in lines) (of_lines row_words lines)
+
+-- the state that a machine starts in: the one that is named, else the current state of the first row that has one
+abbrev pub reset_place : Option (List ℕ) → List (List ℕ) → List MachineRow → Option ℕ
+reset_place (Some name) states rows = place_of states name
+reset_place None states rows = first_item (filter_map (λ (row : MachineRow). row.current) rows)
+
+-- the name of the state that is no state of a row
+abbrev pub reset_name : Option (List ℕ) → List ℕ
+reset_name None = codes "*"
+reset_name (Some name) = name
+
+-- so many names: a prefix and a number from 0 on
+abbrev pub made_names : List ℕ → ℕ → List (List ℕ)
+made_names prefix count = map (λ k. prefix ++ decimal k) (range_with_len 0 count)
+
+-- the machine of these parts
+abbrev pub machine_with : Option ℕ → Option ℕ → List (List ℕ) → List MachineRow → ℕ → Machine
+machine_with inputs outputs states rows reset = record {
+  name = codes "top";
+  inputs = made_names (codes "IN_") (unwrap_or inputs 0);
+  outputs = made_names (codes "OUT_") (unwrap_or outputs 0);
+  states = states;
+  reset = reset;
+  rows = rows;
+}
+
+-- the place of the reset state, or the clash of the rows; rows are told by numbers from 1
+abbrev pub by_clash : Option Clash → ℕ → Result ℕ KissFault
+by_clash None place = Ok place
+by_clash (Some clash) place = Err (RowClash (clash.earlier + 1) (clash.later + 1))
+
+-- the place of the reset state where there is one, of these rows
+abbrev pub by_place : Option ℕ → Option (List ℕ) → List MachineRow → Result ℕ KissFault
+by_place None reset rows = Err (NoReset (reset_name reset))
+by_place (Some place) reset rows = by_clash (first_clash rows) place
+
+-- the place of the reset state, or what is wrong with the whole: no row, no reset state, a clash
+abbrev pub placed : Option (List ℕ) → List (List ℕ) → List MachineRow → Result ℕ KissFault
+placed reset states [] = Err NoRows
+placed reset states (row ∷ rows) = by_place (reset_place reset states (row ∷ rows)) reset (row ∷ rows)
+
+-- the machine that starts at a place, or what is wrong
+abbrev pub at_place : Result ℕ KissFault → (ℕ → Machine) → Result Machine KissFault
+at_place (Ok place) machine = Ok (machine place)
+at_place (Err fault) machine = Err fault
+
+-- what parts are read as
+abbrev pub whole : Option ℕ → Option ℕ → Option (List ℕ) → List (List ℕ) → List MachineRow → Result Machine KissFault
+whole inputs outputs reset states rows = at_place (placed reset states rows) (machine_with inputs outputs states rows)
+
+-- a fault, or what is read without one
+abbrev pub unless : Option KissFault → Result Machine KissFault → Result Machine KissFault
+unless None read = read
+unless (Some fault) read = Err fault
+
+-- what lines without an end are read as
+unfoldable pub read_all : List Entry → Result Machine KissFault
+read_all lines = unless (first_line_fault [] lines)
+    (whole (inputs_in lines) (outputs_in lines) (reset_in lines) (states_in lines) (rows_in lines))
+
+-- what a table's logical lines are read as: the first fault of a line, then one of the whole, else the machine
+unfoldable pub read_lines : List Entry → Result Machine KissFault
+read_lines lines = read_all (before_end lines)
+
+-- what a reader answers, beside what it should; want of memory is free
+abbrev pub Reads : Result Machine ReadFault → Result Machine KissFault → Type 0
+Reads (Ok machine) should = should ≡ Ok machine
+Reads (Err (read_fault.Fault fault)) should = should ≡ Err fault
+Reads (Err read_fault.Memory) should = Unit {0}

@@ -1,0 +1,65 @@
+//! What is wrong with a table.
+
+use circuit_model::Name;
+use std::alloc::{AllocError, AllocFailed};
+
+/// What a limit is on.
+#[derive(Clone, Copy, Debug, PartialEq, Eq)]
+pub enum LimitKind {
+    /// The bytes of a name: 1,023.
+    Name,
+    /// The rows of a machine: 32,767.
+    Rows,
+    /// The states of a machine: 4,096.
+    States,
+}
+
+/// Why a table is not read as a machine. Lines are numbers of physical lines, from 1; rows are numbers from 1.
+#[derive(Debug, Drop, PartialEq)]
+pub enum KissFault {
+    /// A dotted word that is not known; `.i` or `.o` twice, behind a row, or without one number from 1 to 1,000; `.p`
+    /// or `.s` without one word; `.r` twice or without one word; the first row, where `.i` or `.o` is missing.
+    BadHeader(usize),
+    /// A row that is not an input cube, two states and an output cube, each cube with as many characters as was told.
+    BadRow(usize),
+    /// Two rows that share an input point and a state, and specify a next state or an output differently: the least
+    /// later row of such a pair, behind the least earlier one that it clashes with.
+    RowClash(usize, usize),
+    /// The reset state is no state of a row; `*` where none is named and no row names a current state.
+    NoReset(Name),
+    /// There is no row.
+    NoRows,
+    /// A limit is passed; the number is what was reached.
+    Limit(LimitKind, usize),
+}
+
+/// Why a reading ends without a machine.
+#[derive(Debug, Drop)]
+pub enum ReadFault {
+    /// The table has a fault.
+    Fault(KissFault),
+    /// Memory was wanting.
+    Memory,
+}
+
+impl From<AllocError> for ReadFault {
+    ghost use Rattle.std.specs.Prelude.{◌≡◌};
+    ghost use Rattle.kiss_format.specs.declared.fault.ReadFault.TheVariants.{Memory};
+
+    ghost from_gives = { λ _ fault. fault ≡ Memory };
+
+    fn from(_error: AllocError) -> Self {
+        ReadFault::Memory
+    }
+}
+
+impl<T: Drop> From<AllocFailed<T>> for ReadFault {
+    ghost use Rattle.std.specs.Prelude.{◌≡◌};
+    ghost use Rattle.kiss_format.specs.declared.fault.ReadFault.TheVariants.{Memory};
+
+    ghost from_gives = { λ _ fault. fault ≡ Memory };
+
+    fn from(_error: AllocFailed<T>) -> Self {
+        ReadFault::Memory
+    }
+}

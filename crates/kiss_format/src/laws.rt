@@ -1,0 +1,22 @@
+//! Laws of reading and writing machines, each the contract of a call that does nothing.
+
+ghost use Rattle.std.specs.Prelude.{◌≡◌, ℕ, List, Ok};
+ghost use Rattle.sis_text.specs.Entries.{entries_of};
+ghost use Rattle.machine_model.specs.declared.machine.Machine.{Machine as TheMachine};
+ghost use Rattle.machine_model.specs.Soundness.{IsSound};
+ghost use Rattle.machine_model.specs.Text.{text_of};
+ghost use Rattle.kiss_format.specs.Reader.{read_lines};
+ghost use Rattle.kiss_format.specs.Trips.{IsWithinLimits, plainly_named};
+
+/// A law, no work: the text of a sound machine that keeps the limits on rows, states and names is read as that machine,
+/// with made names for itself and its ports, which a table cannot say.
+pub fn written_text_is_read()
+    ensures { (machine : TheMachine) → IsSound machine → IsWithinLimits machine
+        → read_lines (entries_of (text_of machine)) ≡ Ok (plainly_named machine) }
+{}
+
+/// A law, no work: the text of a machine that was read from a table is read as that machine.
+pub fn read_machine_is_read_again()
+    ensures { (source : List ℕ) (machine : TheMachine) → read_lines (entries_of source) ≡ Ok machine
+        → read_lines (entries_of (text_of machine)) ≡ Ok machine }
+{}

@@ -1,0 +1,118 @@
+//! The states that rows name, in the order in which they come first, looked up by their names.
+
+ghost use Rattle.std.specs.Prelude.{◌≡◌, [], ◌∷◌, not, length, IfOk, OnOk};
+ghost use Rattle.std.specs.List.{filter};
+ghost use Rattle.machine_model.specs.Soundness.{is_any as is_any_word};
+ghost use Rattle.kiss_format.specs.Lines.{with_state, with_states, named_states};
+ghost use Rattle.kiss_format.specs.Reader.{place_of, state_of};
+ghost use Rattle.line_words.specs.LineWords.{texts};
+
+use circuit_model::{Name, Names};
+use indexmap::IndexSet;
+use line_words::name_of;
+use sis_base::{Copied, Sequence};
+use std::alloc::{AllocError, Global};
+use std::marker::Model;
+
+/// Different names, which contracts see as the list of them in the order in which they came.
+#[derive(Drop)]
+pub struct StateNames {
+    names: IndexSet<Name>,
+}
+
+impl Model for StateNames {
+    ghost use Rattle.std.specs.Prelude.{List, ℕ};
+
+    ghost Value = { List (List ℕ) };
+
+    ghost view = { λ states. states.names.keys };
+}
+
+/// Whether a word stands for every state, or for an open one.
+pub fn is_any(word: &[u8]) -> bool
+    ensures { result ≡ is_any_word word.now }
+{
+    word == b"*".as_slice() || word == b"ANY".as_slice() || word == b"-".as_slice()
+}
+
+impl StateNames {
+    /// No states; takes no memory.
+    pub fn new(alloc: Global) -> Self
+        ensures { result ≡ [] }
+    {
+        StateNames {
+            names: IndexSet::new(alloc),
+        }
+    }
+
+    /// How many states there are.
+    pub fn len(&self) -> usize
+        ensures { result ≡ length self.now }
+    {
+        self.names.len()
+    }
+
+    /// Puts a name behind the last where it is new; an error only for want of memory.
+    #[tactic(auto, unfolding(crate::specs::Lines::with_state))]
+    fn add(&mut self, name: Name) -> Result<(), AllocError>
+        ensures { OnOk result (self.new ≡ with_state self.old name) }
+    {
+        let _added = self.names.insert(name)?;
+        Ok(())
+    }
+
+    /// Puts the state that a word names behind the last where it is new; an error only for want of memory.
+    #[tactic(auto, unfolding(crate::specs::Lines::with_states))]
+    fn mention(&mut self, alloc: Global, word: &[u8]) -> Result<(), AllocError>
+        ensures { OnOk result (self.new ≡ with_states self.old (filter (λ one. not (is_any_word one)) (word.now ∷ []))) }
+    {
+        if is_any(word) {
+            return Ok(());
+        }
+        self.add(name_of(alloc, word)?)
+    }
+
+    /// Puts the states that a row's words name behind the last where they are new; an error only for want of memory.
+    #[tactic(auto, unfolding(crate::specs::Lines::named_states, crate::specs::Lines::with_states))]
+    pub fn mention_all(&mut self, alloc: Global, words: &[&[u8]]) -> Result<(), AllocError>
+        ensures { OnOk result (self.new ≡ with_states self.old (named_states (texts words.now))) }
+    {
+        match words {
+            [_, current, next, _] => {
+                self.mention(alloc, current)?;
+                self.mention(alloc, next)?;
+                Ok(())
+            }
+            _ => Ok(()),
+        }
+    }
+
+    /// The place of a name; none where it is not there.
+    pub fn place(&self, name: &Name) -> Option<usize>
+        ensures { result ≡ place_of self.now name.now }
+    {
+        self.names.get_index_of(name)
+    }
+
+    /// The state that a word of a row means; none for a word of every state. An error only for want of memory.
+    pub fn state(&self, alloc: Global, word: &[u8]) -> Result<Option<usize>, AllocError>
+        ensures { IfOk result (λ state. state ≡ state_of self.now word.now) }
+    {
+        if is_any(word) {
+            return Ok(None);
+        }
+        let name = name_of(alloc, word)?;
+        Ok(self.place(&name))
+    }
+
+    /// The names, in order; an error only for want of memory.
+    pub fn to_names(&self, alloc: Global) -> Result<Names, AllocError>
+        ensures { IfOk result (λ names. names ≡ self.now) }
+    {
+        let mut names = Sequence::new(alloc);
+        for name in self.names.as_slice() {
+            names.push(name.copy(alloc)?)?;
+        }
+        Ok(names)
+    }
+}
