@@ -1,0 +1,7 @@
+use Rattle.std.proofs.Common.{◌≡◌, ◌++◌, take}
+use Rattle.line_words.specs.LineWords.{texts}
+use Rattle.gate_lines.specs.GateLines.{signals_of}
+use Rattle.gate_lines.proofs.pairs.add_signals.Given as goal
+
+abbrev pub invariant-loop-word : goal.invariant-loop-word
+invariant-loop-word l = l.names ≡ l.fn.names ++ signals_of (texts (take l.word-index l.words))

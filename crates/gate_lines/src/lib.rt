@@ -1,0 +1,15 @@
+//! The words of a `.gate` line, with a library at hand, as the table that they say.
+//!
+//! Source: the BLIF appendix of the SIS report (UCB/ERL M92/41), `.gate`, and its genlib format.
+//! `specs/GateLines.antt` says which table a line says and what is wrong with it. Promised: `read_gate` gives exactly that
+//! table or that fault; `add_signals` and `long_signal` tell of the signals that a line mentions, in its order. `laws` has
+//! what holds of the table: it is shaped, small and named by signals of the line, and its value is the function of the
+//! gate. A signal may stand at two pins: the table then has an input twice. Each error is want of memory.
+#![tactic(auto)]
+
+pub mod laws;
+mod pairs;
+mod reading;
+
+pub use pairs::{add_signals, long_signal};
+pub use reading::{GateFault, read_gate};
