@@ -5,11 +5,15 @@ use Rattle.std.specs.Prelude.{ℕ, ◌==◌, Option, Some, None, Result, Ok, Err
 use Rattle.sis_text.specs.Entries.{Entry}
 use Rattle.sis_script.specs.Grammar.{parse}
 use Rattle.sis_script.specs.declared.command.Op.{Op}
-use Rattle.sis_script.specs.declared.command.Op.TheVariants.{Echo, Quit, ReadBlif, WriteBlif, PrintStats, Print, PrintLatch, PrintFactor, PrintKernel, Change, Undo, Source, Bad}
+use Rattle.sis_script.specs.declared.command.Op.TheVariants.{Echo, Quit, ReadBlif, ReadKiss, ReadLibrary, WriteBlif, WriteKiss, PrintStats, Print, PrintLatch, PrintFactor, PrintKernel, Change, Undo, Source, Bad}
 use Rattle.sis_script.specs.declared.command.Change.TheVariants.{Sweep, Eliminate, Collapse}
 use Rattle.sis_script.specs.declared.command.ScriptFault.{ScriptFault}
 use Rattle.sis_script.specs.declared.command.ScriptFault.TheVariants.{BadCommand, MissingWord}
 use Rattle.sis_script.specs.declared.command.Command.{Command}
+use Rattle.sis_script.specs.declared.script.FileVerb.{FileVerb}
+use Rattle.sis_script.specs.declared.script.FileVerb.TheVariants as of_file
+use Rattle.sis_script.specs.declared.script.WriteVerb.{WriteVerb}
+use Rattle.sis_script.specs.declared.script.WriteVerb.TheVariants as write
 use Rattle.sis_script.specs.declared.script.Verb.{Verb}
 use Rattle.sis_script.specs.declared.script.Verb.TheVariants as verb
 use Rattle.sis_script.specs.declared.kinds.Kind.TheVariants as kind
@@ -48,22 +52,28 @@ abbrev pub plain_op : Op → Result Given ScriptFault → Op
 plain_op op (Ok given) = op
 plain_op op (Err fault) = Bad fault
 
--- `read_blif`, by the file that it needs
-abbrev pub read_op : Result (Option (List ℕ)) ScriptFault → Op
-read_op (Ok (Some file)) = ReadBlif file
-read_op (Ok None) = Bad MissingWord
-read_op (Err fault) = Bad fault
+-- the command of a file
+abbrev pub file_op : FileVerb → List ℕ → Op
+file_op of_file.ReadBlif file = ReadBlif file
+file_op of_file.ReadKiss file = ReadKiss file
+file_op of_file.ReadLibrary file = ReadLibrary file
+file_op of_file.Source file = Source file
 
--- `source`, by the file that it needs
-abbrev pub source_op : Result (Option (List ℕ)) ScriptFault → Op
-source_op (Ok (Some file)) = Source file
-source_op (Ok None) = Bad MissingWord
-source_op (Err fault) = Bad fault
+-- a command of a file, by the file that it needs
+abbrev pub needed_file_op : FileVerb → Result (Option (List ℕ)) ScriptFault → Op
+needed_file_op verb (Ok (Some file)) = file_op verb file
+needed_file_op verb (Ok None) = Bad MissingWord
+needed_file_op verb (Err fault) = Bad fault
 
--- `write_blif`, by its file, if it has one
-abbrev pub write_op : Result (Option (List ℕ)) ScriptFault → Op
-write_op (Ok file) = WriteBlif file
-write_op (Err fault) = Bad fault
+-- the command that writes to a file, or to the output
+abbrev pub file_written : WriteVerb → Option (List ℕ) → Op
+file_written write.Blif file = WriteBlif file
+file_written write.Kiss file = WriteKiss file
+
+-- a command that writes, by its file, if it has one
+abbrev pub write_op : WriteVerb → Result (Option (List ℕ)) ScriptFault → Op
+write_op verb (Ok file) = file_written verb file
+write_op verb (Err fault) = Bad fault
 
 -- `print`, by its name, if it has one
 abbrev pub print_op : Result (Option (List ℕ)) ScriptFault → Op
@@ -113,8 +123,11 @@ eliminate_op (Err fault) = Bad fault
 unfoldable pub verb_of : List ℕ → Option Verb
 verb_of word =
     if bytes_eq word (codes "quit") then Some verb.Quit
-    else (if bytes_eq word (codes "read_blif") then Some verb.ReadBlif
-    else (if bytes_eq word (codes "write_blif") then Some verb.WriteBlif
+    else (if bytes_eq word (codes "read_blif") then Some (verb.OfFile of_file.ReadBlif)
+    else (if bytes_eq word (codes "read_kiss") then Some (verb.OfFile of_file.ReadKiss)
+    else (if bytes_eq word (codes "read_library") then Some (verb.OfFile of_file.ReadLibrary)
+    else (if bytes_eq word (codes "write_blif") then Some (verb.Write write.Blif)
+    else (if bytes_eq word (codes "write_kiss") then Some (verb.Write write.Kiss)
     else (if bytes_eq word (codes "print_stats") then Some verb.PrintStats
     else (if bytes_eq word (codes "print") then Some verb.Print
     else (if bytes_eq word (codes "print_latch") then Some verb.PrintLatch
@@ -124,14 +137,14 @@ verb_of word =
     else (if bytes_eq word (codes "eliminate") then Some verb.Eliminate
     else (if bytes_eq word (codes "collapse") then Some verb.Collapse
     else (if bytes_eq word (codes "undo") then Some verb.Undo
-    else (if bytes_eq word (codes "source") then Some verb.Source
-    else None))))))))))))
+    else (if bytes_eq word (codes "source") then Some (verb.OfFile of_file.Source)
+    else None)))))))))))))))
 
 -- the grammar of each command: its options, then the slots for its other words
 abbrev pub parse_words : Verb → List (List ℕ) → Result Given ScriptFault
 parse_words verb.Quit words = parse [] [] words
-parse_words verb.ReadBlif words = parse [] (Needed kind.File ∷ []) words
-parse_words verb.WriteBlif words = parse [] (Optional kind.File ∷ []) words
+parse_words (verb.OfFile which) words = parse [] (Needed kind.File ∷ []) words
+parse_words (verb.Write which) words = parse [] (Optional kind.File ∷ []) words
 parse_words verb.PrintStats words = parse [] [] words
 parse_words verb.Print words = parse [] (Optional kind.Name ∷ []) words
 parse_words verb.PrintLatch words = parse [] [] words
@@ -141,13 +154,12 @@ parse_words verb.Sweep words = parse [] [] words
 parse_words verb.Eliminate words = parse (record { letter = 108; kind = Some (kind.Number 1 32767) } ∷ []) (Needed kind.Integer ∷ []) words
 parse_words verb.Collapse words = parse [] [] words
 parse_words verb.Undo words = parse [] [] words
-parse_words verb.Source words = parse [] (Needed kind.File ∷ []) words
 
 -- what each command does, by what its words give
 abbrev pub op_given : Verb → Result Given ScriptFault → Op
 op_given verb.Quit given = plain_op Quit given
-op_given verb.ReadBlif given = read_op (file_in given)
-op_given verb.WriteBlif given = write_op (file_in given)
+op_given (verb.OfFile which) given = needed_file_op which (file_in given)
+op_given (verb.Write which) given = write_op which (file_in given)
 op_given verb.PrintStats given = plain_op PrintStats given
 op_given verb.Print given = print_op (name_in given)
 op_given verb.PrintLatch given = plain_op PrintLatch given
@@ -157,7 +169,6 @@ op_given verb.Sweep given = plain_op (Change Sweep) given
 op_given verb.Eliminate given = eliminate_op given
 op_given verb.Collapse given = plain_op (Change Collapse) given
 op_given verb.Undo given = plain_op Undo given
-op_given verb.Source given = source_op (file_in given)
 
 -- a command by its verb, if its name is one
 abbrev pub op_of_verb : Option Verb → List (List ℕ) → Op

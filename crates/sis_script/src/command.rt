@@ -17,8 +17,14 @@ pub enum Op {
     Quit,
     /// Reads a file as a circuit.
     ReadBlif(Word),
+    /// Reads a file as a machine.
+    ReadKiss(Word),
+    /// Reads a file as a library of gates.
+    ReadLibrary(Word),
     /// Writes the network to a file, or to the output where no file is named.
     WriteBlif(Option<Word>),
+    /// Writes the machine to a file, or to the output where no file is named.
+    WriteKiss(Option<Word>),
     /// Prints how large the network is.
     PrintStats,
     /// Prints the table of a name, or all tables where none is named.

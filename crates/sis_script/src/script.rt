@@ -7,8 +7,10 @@ ghost use Rattle.sis_script.specs.Script.{
   command_of,
   eliminate_op,
   file_in,
+  file_op,
   first_word,
   name_in,
+  needed_file_op,
   number_behind,
   number_in,
   op_by,
@@ -20,8 +22,6 @@ ghost use Rattle.sis_script.specs.Script.{
   print_factor_op,
   print_kernel_op,
   print_op,
-  read_op,
-  source_op,
   verb_of,
   write_op,
 };
@@ -33,12 +33,28 @@ use sis_base::Sequence;
 use sis_text::{Line, Span, Word, bytes_at, script_pieces};
 use std::alloc::{AllocError, Global};
 
+/// A command that needs a file.
+#[derive(Clone, Copy)]
+enum FileVerb {
+    ReadBlif,
+    ReadKiss,
+    ReadLibrary,
+    Source,
+}
+
+/// A command that writes to a file, or to the output.
+#[derive(Clone, Copy)]
+enum WriteVerb {
+    Blif,
+    Kiss,
+}
+
 /// A command whose words have a grammar.
 #[derive(Clone, Copy)]
 enum Verb {
     Quit,
-    ReadBlif,
-    WriteBlif,
+    OfFile(FileVerb),
+    Write(WriteVerb),
     PrintStats,
     Print,
     PrintLatch,
@@ -48,7 +64,6 @@ enum Verb {
     Eliminate,
     Collapse,
     Undo,
-    Source,
 }
 
 /// The words of a script as they were read.
@@ -132,34 +147,38 @@ fn plain_op(op: Op, given: Result<Given, ScriptFault>) -> Op
     }
 }
 
-/// `read_blif`, by the file that it needs.
-fn read_op(file: Result<Option<Word>, ScriptFault>) -> Op
-    ensures { result ≡ read_op file }
+/// The command of a file.
+fn file_op(verb: FileVerb, file: Word) -> Op
+    ensures { result ≡ file_op verb file }
+{
+    match verb {
+        FileVerb::ReadBlif => Op::ReadBlif(file),
+        FileVerb::ReadKiss => Op::ReadKiss(file),
+        FileVerb::ReadLibrary => Op::ReadLibrary(file),
+        FileVerb::Source => Op::Source(file),
+    }
+}
+
+/// A command of a file, by the file that it needs.
+fn needed_file_op(verb: FileVerb, file: Result<Option<Word>, ScriptFault>) -> Op
+    ensures { result ≡ needed_file_op verb file }
 {
     match file {
-        Ok(Some(file)) => Op::ReadBlif(file),
+        Ok(Some(file)) => file_op(verb, file),
         Ok(None) => Op::Bad(ScriptFault::MissingWord),
         Err(fault) => Op::Bad(fault),
     }
 }
 
-/// `source`, by the file that it needs.
-fn source_op(file: Result<Option<Word>, ScriptFault>) -> Op
-    ensures { result ≡ source_op file }
+/// A command that writes, by its file, if it has one.
+fn write_op(verb: WriteVerb, file: Result<Option<Word>, ScriptFault>) -> Op
+    ensures { result ≡ write_op verb file }
 {
     match file {
-        Ok(Some(file)) => Op::Source(file),
-        Ok(None) => Op::Bad(ScriptFault::MissingWord),
-        Err(fault) => Op::Bad(fault),
-    }
-}
-
-/// `write_blif`, by its file, if it has one.
-fn write_op(file: Result<Option<Word>, ScriptFault>) -> Op
-    ensures { result ≡ write_op file }
-{
-    match file {
-        Ok(file) => Op::WriteBlif(file),
+        Ok(file) => match verb {
+            WriteVerb::Blif => Op::WriteBlif(file),
+            WriteVerb::Kiss => Op::WriteKiss(file),
+        },
         Err(fault) => Op::Bad(fault),
     }
 }
@@ -219,9 +238,15 @@ fn verb_of(name: &[u8]) -> Option<Verb>
     if name == b"quit".as_slice() {
         Some(Verb::Quit)
     } else if name == b"read_blif".as_slice() {
-        Some(Verb::ReadBlif)
+        Some(Verb::OfFile(FileVerb::ReadBlif))
+    } else if name == b"read_kiss".as_slice() {
+        Some(Verb::OfFile(FileVerb::ReadKiss))
+    } else if name == b"read_library".as_slice() {
+        Some(Verb::OfFile(FileVerb::ReadLibrary))
     } else if name == b"write_blif".as_slice() {
-        Some(Verb::WriteBlif)
+        Some(Verb::Write(WriteVerb::Blif))
+    } else if name == b"write_kiss".as_slice() {
+        Some(Verb::Write(WriteVerb::Kiss))
     } else if name == b"print_stats".as_slice() {
         Some(Verb::PrintStats)
     } else if name == b"print".as_slice() {
@@ -241,7 +266,7 @@ fn verb_of(name: &[u8]) -> Option<Verb>
     } else if name == b"undo".as_slice() {
         Some(Verb::Undo)
     } else if name == b"source".as_slice() {
-        Some(Verb::Source)
+        Some(Verb::OfFile(FileVerb::Source))
     } else {
         None
     }
@@ -258,8 +283,8 @@ fn parse_words(
 {
     match verb {
         Verb::Quit => parse(alloc, &[], &[], source, words),
-        Verb::ReadBlif => parse(alloc, &[], &[Slot::Needed(Kind::File)], source, words),
-        Verb::WriteBlif => parse(alloc, &[], &[Slot::Optional(Kind::File)], source, words),
+        Verb::OfFile(_) => parse(alloc, &[], &[Slot::Needed(Kind::File)], source, words),
+        Verb::Write(_) => parse(alloc, &[], &[Slot::Optional(Kind::File)], source, words),
         Verb::PrintStats => parse(alloc, &[], &[], source, words),
         Verb::Print => parse(alloc, &[], &[Slot::Optional(Kind::Name)], source, words),
         Verb::PrintLatch => parse(alloc, &[], &[], source, words),
@@ -281,7 +306,6 @@ fn parse_words(
         }
         Verb::Collapse => parse(alloc, &[], &[], source, words),
         Verb::Undo => parse(alloc, &[], &[], source, words),
-        Verb::Source => parse(alloc, &[], &[Slot::Needed(Kind::File)], source, words),
     }
 }
 
@@ -291,8 +315,8 @@ fn op_given(verb: Verb, given: Result<Given, ScriptFault>) -> Op
 {
     match verb {
         Verb::Quit => plain_op(Op::Quit, given),
-        Verb::ReadBlif => read_op(file_in(given)),
-        Verb::WriteBlif => write_op(file_in(given)),
+        Verb::OfFile(verb) => needed_file_op(verb, file_in(given)),
+        Verb::Write(verb) => write_op(verb, file_in(given)),
         Verb::PrintStats => plain_op(Op::PrintStats, given),
         Verb::Print => print_op(name_in(given)),
         Verb::PrintLatch => plain_op(Op::PrintLatch, given),
@@ -302,7 +326,6 @@ fn op_given(verb: Verb, given: Result<Given, ScriptFault>) -> Op
         Verb::Eliminate => eliminate_op(given),
         Verb::Collapse => plain_op(Op::Change(Change::Collapse), given),
         Verb::Undo => plain_op(Op::Undo, given),
-        Verb::Source => source_op(file_in(given)),
     }
 }
 

@@ -9,8 +9,9 @@ use Rattle.sis_outside.specs.declared.store.SaveFault.{SaveFault}
 use Rattle.sis_outside.specs.declared.store.SaveFault.TheVariants as save
 use Rattle.sis_outside.specs.declared.sink.PutFault.{PutFault}
 use Rattle.sis_outside.specs.declared.sink.PutFault.TheVariants as put
-use Rattle.circuit_model.proofs.Refinement.{refines-itself, refines-through}
-use Rattle.circuit_model.specs.Runs.{Refines}
+use Rattle.circuit_model.proofs.Refinement.{behaves-as-itself, behaves-through}
+use Rattle.circuit_model.specs.Behaviors.{RefinesAs}
+use Rattle.circuit_model.specs.Runs.{of_circuit, Refines}
 use Rattle.circuit_model.specs.Soundness.{IsSound}
 use Rattle.circuit_model.specs.Text.{text_of}
 use Rattle.circuit_model.specs.declared.circuit.Circuit.{Circuit}
@@ -19,6 +20,17 @@ use Rattle.blif_read.proofs.ProperWords.{proper_words}
 use Rattle.blif_read.proofs.WhatIsRead.{sound_read}
 use Rattle.blif_read.specs.Reader.{read_lines}
 use Rattle.blif_read.specs.declared.fault.BlifFault.{BlifFault}
+use Rattle.machine_model.specs.Behaviors.{of_machine, of_spec}
+use Rattle.machine_model.specs.Soundness.{IsSound as IsSoundMachine}
+use Rattle.machine_model.specs.Text.{text_of as machine_text_of}
+use Rattle.machine_model.specs.declared.machine.Machine.{Machine}
+use Rattle.machine_model.specs.declared.machine.Spec.{Spec}
+use Rattle.machine_model.specs.declared.machine.Spec.TheVariants as asked
+use Rattle.kiss_format.specs.Reader.{read_lines as machine_lines_read}
+use Rattle.kiss_format.proofs.Sound.{read_sound}
+use Rattle.kiss_format.specs.declared.fault.KissFault.{KissFault}
+use Rattle.genlib_format.specs.Reader.{library_of}
+use Rattle.genlib_format.specs.declared.fault.LibFault.{LibFault}
 use Rattle.sweep_rules.proofs.Chaining.{chain_kept}
 use Rattle.elim_rules.specs.Collapsing.{collapsed}
 use Rattle.elim_rules.proofs.Stepping.{chain_keeps, chain_refines}
@@ -27,12 +39,12 @@ use Rattle.std.proofs.lemmas.Option.{same_Some}
 use Rattle.sis_script.specs.declared.command.Change.{Change}
 use Rattle.sis_script.specs.declared.command.Change.TheVariants.{Sweep, Eliminate, Collapse}
 use Rattle.sis_script.specs.declared.command.Op.{Op}
-use Rattle.sis_script.specs.declared.command.Op.TheVariants.{Echo, Quit, ReadBlif, WriteBlif, PrintStats, Print, PrintLatch, PrintFactor, PrintKernel, Change as ChangeOp, Undo, Source, Bad}
-use Rattle.sis_session.specs.Commands.{Changes, ChangePlans, Plans, Prints, changed_by, commands_in, last_read, latches_told, read_by, sends, stats_told, stays, tables_told, text_told, told_of, undo_plan}
-use Rattle.sis_session.specs.Keeping.{RefinesRead, RefinesSpec, IsRefined, Holds, HasText}
+use Rattle.sis_script.specs.declared.command.Op.TheVariants.{Echo, Quit, ReadBlif, ReadKiss, ReadLibrary, WriteBlif, WriteKiss, PrintStats, Print, PrintLatch, PrintFactor, PrintKernel, Change as ChangeOp, Undo, Source, Bad}
+use Rattle.sis_session.specs.Commands.{Changes, ChangePlans, Plans, Prints, changed_by, circuit_read, commands_in, last_read, latches_told, library_read, machine_read, machine_told, read_as, sends, stats_told, stays, tables_told, text_told, told_of, undo_plan}
+use Rattle.sis_session.specs.Keeping.{RefinesRead, RefinesSpec, MachineRefines, IsRefined, Holds, HasText, IsWriting, WritesTo}
 use Rattle.sis_session.specs.Plan.{MAX_DEPTH, Asked, Nothing, OnStore, OnOut, OnInput, Comes, ComesLoaded, ComesSaved, ComesPut, Done, Ending, Goes, Loads, Outcome, Does, Refuses, Plan, Quiet, Puts, Saves, Takes, Steps, by_plan, no_memory}
 use Rattle.sis_session.specs.Replies.{echo_line}
-use Rattle.sis_session.specs.State.{Held, Spec, CircuitRead, MachineRead, Written, CircuitWritten, nothing_held, with_exchanged}
+use Rattle.sis_session.specs.State.{Held, Library, Written, CircuitWritten, MachineWritten, NetlistWritten, nothing_held, with_read, with_machine, with_library, with_exchanged}
 use Rattle.sis_session.specs.declared.refusal.Next.{Next}
 use Rattle.sis_session.specs.declared.refusal.Next.TheVariants.{Go, Script}
 use Rattle.sis_session.specs.declared.refusal.Next.TheVariants as onward
@@ -111,24 +123,61 @@ sends_leads is held (Some name) (Err why) holds = quiet_leads is (Refuses why) t
 sound_circuit : (bytes : List ℕ) (circuit : Circuit) → read_lines (entries_of bytes) ≡ Ok circuit → IsSound circuit
 sound_circuit bytes circuit reads = sound_read (entries_of bytes) circuit (proper_words bytes) (all_agree (entries_of bytes) ∙ reads)
 
--- a circuit that was just read refines itself
-refines_read : (circuit : Circuit) → IsSound circuit → RefinesSpec (Some (CircuitRead circuit)) (Some circuit)
+-- and so is a machine
+sound_machine : (bytes : List ℕ) (machine : Machine) → machine_lines_read (entries_of bytes) ≡ Ok machine → IsSoundMachine machine
+sound_machine bytes machine reads = read_sound (entries_of bytes) machine (proper_words bytes) reads
+
+-- a circuit that was just read refines itself, and so does a machine
+refines_read : (circuit : Circuit) → IsSound circuit → RefinesSpec (Some (asked.Circuit circuit)) (Some circuit)
 refines_read circuit sound other same =
-    let equal : circuit ≡ other = cc in (CircuitRead circuit, refl, subst IsSound equal sound, subst (λ x. Refines circuit x) equal (refines-itself circuit))
+    let equal : circuit ≡ other = cc in (
+      asked.Circuit circuit,
+      refl,
+      subst IsSound equal sound,
+      subst (λ x. RefinesAs (of_circuit circuit) (of_circuit x)) equal (behaves-as-itself (of_circuit circuit)),
+    )
 
-none_refines : (spec : Option Spec) → RefinesSpec spec None
-none_refines spec circuit is = cc
+none_refines : (read : Option Spec) → RefinesSpec read None
+none_refines read circuit is = cc
 
-read_leaves : (held : Held) (name bytes : List ℕ) (spec : Option Spec) (read : Result Circuit BlifFault) → read_lines (entries_of bytes) ≡ read
-    → Leaves (λ h. IsRefined (last_read (ReadBlif name) h spec) h) (read_by held name read)
-read_leaves held name bytes spec (Ok circuit) reads =
-    record { network = refines_read circuit (sound_circuit bytes circuit reads); previous = none_refines (Some (CircuitRead circuit)) }
-read_leaves held name bytes spec (Err fault) reads = tt
+machine_refines : (machine : Machine) → IsSoundMachine machine → MachineRefines (Some (asked.Machine machine)) (Some machine)
+machine_refines machine sound other same =
+    let equal : machine ≡ other = cc in (
+      asked.Machine machine,
+      refl,
+      subst IsSoundMachine equal sound,
+      subst (λ x. RefinesAs (of_machine machine) (of_machine x)) equal (behaves-as-itself (of_machine machine)),
+    )
+
+no_machine_refines : (read : Option Spec) → MachineRefines read None
+no_machine_refines read machine is = cc
+
+circuit_leaves : (held : Held) (name bytes : List ℕ) (read : Option Spec) (answer : Result Circuit BlifFault) → read_lines (entries_of bytes) ≡ answer
+    → Leaves (λ h. IsRefined (last_read (ReadBlif name) h read) h) (read_as (with_read held) (λ fault. refusal.Blif name fault) answer)
+circuit_leaves held name bytes read (Ok circuit) reads = record {
+  network = refines_read circuit (sound_circuit bytes circuit reads);
+  previous = none_refines (Some (asked.Circuit circuit));
+  machine = no_machine_refines (Some (asked.Circuit circuit));
+}
+circuit_leaves held name bytes read (Err fault) reads = tt
+
+machine_leaves : (held : Held) (name bytes : List ℕ) (read : Option Spec) (answer : Result Machine KissFault) → machine_lines_read (entries_of bytes) ≡ answer
+    → Leaves (λ h. IsRefined (last_read (ReadKiss name) h read) h) (read_as (with_machine held) (λ fault. refusal.Kiss name fault) answer)
+machine_leaves held name bytes read (Ok machine) reads = record {
+  network = none_refines (Some (asked.Machine machine));
+  previous = none_refines (Some (asked.Machine machine));
+  machine = machine_refines machine (sound_machine bytes machine reads);
+}
+machine_leaves held name bytes read (Err fault) reads = tt
+
+library_leaves : (held : Held) (name : List ℕ) (read : Option Spec) (answer : Result Library LibFault) → IsRefined read held
+    → Leaves (λ h. IsRefined read h) (read_as (with_library held) (λ fault. refusal.Lib name fault) answer)
+library_leaves held name read (Ok library) refined = record { network = refined.network; previous = refined.previous; machine = refined.machine }
+library_leaves held name read (Err fault) refined = tt
 
 -- what refines a circuit refines what that refines
 refines_on : (read : Spec) (old new : Circuit) → RefinesRead read old → Refines old new → RefinesRead read new
-refines_on (CircuitRead read) old new before after = refines-through read old new before after
-refines_on (MachineRead read) old new before after = absurd before
+refines_on read old new before after = behaves-through (of_spec read) (of_circuit old) (of_circuit new) before after
 
 -- a change leads on: what it makes of a sound circuit is sound and refines it
 changed_refines : (spec : Option Spec) (change : Change) (old new : Circuit) → Changes change old (Ok new) → RefinesSpec spec (Some old) → RefinesSpec spec (Some new)
@@ -153,13 +202,14 @@ change_leads spec held change (Some old) plan there refined (Ok new, changes, is
     subst (Leads (λ h. IsRefined spec h)) (sym is) (quiet_leads (λ h. IsRefined spec h) (changed_by held (Ok new)) (record {
       network = changed_refines spec change old new changes (subst (RefinesSpec spec) there refined.network);
       previous = refined.network;
+      machine = refined.machine;
     }))
 change_leads spec held change (Some old) plan there refined (Err why, changes, is) =
     subst (Leads (λ h. IsRefined spec h)) (sym is) (quiet_leads (λ h. IsRefined spec h) (Refuses why) tt)
 
 undo_leads : (spec : Option Spec) (held : Held) (previous : Option Circuit) → IsRefined spec held → Leads (λ h. IsRefined spec h) (undo_plan held previous)
 undo_leads spec held None refined = quiet_leads (λ h. IsRefined spec h) (Refuses refusal.NothingToUndo) tt
-undo_leads spec held (Some circuit) refined = quiet_leads (λ h. IsRefined spec h) (Does (with_exchanged held) Go) (record { network = refined.previous; previous = refined.network })
+undo_leads spec held (Some circuit) refined = quiet_leads (λ h. IsRefined spec h) (Does (with_exchanged held) Go) (record { network = refined.previous; previous = refined.network; machine = refined.machine })
 
 source_leads : (is : Held → Type 0) (shallow : Bool) (held : Held) (name : List ℕ) → is held
     → Leads is (if shallow then Loads name (λ bytes. Does held (Script (commands_in bytes))) else Quiet (Refuses refusal.Nested))
@@ -176,8 +226,14 @@ plan_leads depth spec held (Echo words) plan refined is = subst (Leads (λ h. Is
 plan_leads depth spec held Quit plan refined is = subst (Leads (λ h. IsRefined spec h)) (sym is) (quiet_leads (λ h. IsRefined spec h) (Does held onward.Quit) refined)
 plan_leads depth spec held (ReadBlif name) plan refined is =
     subst (Leads (λ h. IsRefined (last_read (ReadBlif name) h spec) h)) (sym is)
-    (loads_leads (λ h. IsRefined (last_read (ReadBlif name) h spec) h) name (λ bytes. read_by held name (read_lines (entries_of bytes))) (λ bytes. read_leaves held name bytes spec (read_lines (entries_of bytes)) refl))
+    (loads_leads (λ h. IsRefined (last_read (ReadBlif name) h spec) h) name (circuit_read held name) (λ bytes. circuit_leaves held name bytes spec (read_lines (entries_of bytes)) refl))
+plan_leads depth spec held (ReadKiss name) plan refined is =
+    subst (Leads (λ h. IsRefined (last_read (ReadKiss name) h spec) h)) (sym is)
+    (loads_leads (λ h. IsRefined (last_read (ReadKiss name) h spec) h) name (machine_read held name) (λ bytes. machine_leaves held name bytes spec (machine_lines_read (entries_of bytes)) refl))
+plan_leads depth spec held (ReadLibrary name) plan refined is =
+    subst (Leads (λ h. IsRefined spec h)) (sym is) (loads_leads (λ h. IsRefined spec h) name (library_read held name) (λ bytes. library_leaves held name spec (library_of bytes) refined))
 plan_leads depth spec held (WriteBlif file) plan refined is = subst (Leads (λ h. IsRefined spec h)) (sym is) (sends_leads (λ h. IsRefined spec h) held file (told_of text_told held.network) refined)
+plan_leads depth spec held (WriteKiss file) plan refined is = subst (Leads (λ h. IsRefined spec h)) (sym is) (sends_leads (λ h. IsRefined spec h) held file (machine_told held.machine) refined)
 plan_leads depth spec held PrintStats plan refined is = subst (Leads (λ h. IsRefined spec h)) (sym is) (sends_leads (λ h. IsRefined spec h) held None (told_of stats_told held.network) refined)
 plan_leads depth spec held (Print name) plan refined is = subst (Leads (λ h. IsRefined spec h)) (sym is) (sends_leads (λ h. IsRefined spec h) held None (told_of (tables_told name) held.network) refined)
 plan_leads depth spec held PrintLatch plan refined is = subst (Leads (λ h. IsRefined spec h)) (sym is) (sends_leads (λ h. IsRefined spec h) held None (told_of latches_told held.network) refined)
@@ -195,7 +251,7 @@ refined_step depth held op asked held' next spec (by_plan plan planned goes) ref
 refined_step depth held op asked held' next spec (no_memory none cut) refined = cc
 
 pub refined_nothing : (spec : Option Spec) → IsRefined spec nothing_held
-refined_nothing spec = record { network = none_refines spec; previous = none_refines spec }
+refined_nothing spec = record { network = none_refines spec; previous = none_refines spec; machine = no_machine_refines spec }
 
 -- what a plan saves, and what it puts
 abbrev IsSave : List ℕ → List ℕ → Plan → Type 0
@@ -249,17 +305,40 @@ change_saves_nothing held change None plan name bytes is saves = subst (IsSave n
 change_saves_nothing held change (Some old) plan name bytes (answer, changes, is) saves = subst (IsSave name bytes) is saves
 
 write_saves : (held : Held) (file : Option (List ℕ)) (network : Option Circuit) (name bytes : List ℕ) → IsSave name bytes (sends held file (told_of text_told network))
-    → (circuit : Circuit) × (WriteBlif file ≡ WriteBlif (Some name)) × (network ≡ Some circuit) × (bytes ≡ text_of circuit)
+    → (circuit : Circuit) × (file ≡ Some name) × (network ≡ Some circuit) × (bytes ≡ text_of circuit)
 write_saves held None network name bytes saves = absurd (puts_save_nothing held (told_of text_told network) name bytes saves)
 write_saves held (Some to) None name bytes saves = absurd saves
-write_saves held (Some to) (Some circuit) name bytes saves = (circuit, ap (λ n. WriteBlif (Some n)) (sym saves.0), refl, saves.1)
+write_saves held (Some to) (Some circuit) name bytes saves = (circuit, ap (λ n. Some n) (sym saves.0), refl, saves.1)
+
+machine_saves : (held : Held) (file : Option (List ℕ)) (there : Option Machine) (name bytes : List ℕ) → IsSave name bytes (sends held file (machine_told there))
+    → (machine : Machine) × (file ≡ Some name) × (there ≡ Some machine) × (bytes ≡ machine_text_of machine)
+machine_saves held None there name bytes saves = absurd (puts_save_nothing held (machine_told there) name bytes saves)
+machine_saves held (Some to) None name bytes saves = absurd saves
+machine_saves held (Some to) (Some machine) name bytes saves = (machine, ap (λ n. Some n) (sym saves.0), refl, saves.1)
+
+-- what a command writes to a file is the text of what is held
+abbrev IsWritten : Held → Option (List ℕ) → Op → List ℕ → Type 0
+IsWritten held to op bytes = (written : Written) × WritesTo to op written × Holds held written × HasText written bytes
+
+circuit_written : (held : Held) (to file : Option (List ℕ)) (bytes : List ℕ) → (circuit : Circuit) × (file ≡ to) × (held.network ≡ Some circuit) × (bytes ≡ text_of circuit)
+    → IsWritten held to (WriteBlif file) bytes
+circuit_written held to file bytes (circuit, same, there, text) = (CircuitWritten circuit, same, there, text)
+
+machine_written : (held : Held) (to file : Option (List ℕ)) (bytes : List ℕ) → (machine : Machine) × (file ≡ to) × (held.machine ≡ Some machine) × (bytes ≡ machine_text_of machine)
+    → IsWritten held to (WriteKiss file) bytes
+machine_written held to file bytes (machine, same, there, text) = (MachineWritten machine, same, there, text)
 
 plan_saves : (depth : ℕ) (held : Held) (op : Op) (plan : Plan) (name bytes : List ℕ) → Plans depth held op plan → IsSave name bytes plan
-    → (circuit : Circuit) × (op ≡ WriteBlif (Some name)) × (held.network ≡ Some circuit) × (bytes ≡ text_of circuit)
+    → IsWritten held (Some name) op bytes
 plan_saves depth held (Echo words) plan name bytes is saves = absurd (puts_save_nothing held (Ok (echo_line words)) name bytes (subst (IsSave name bytes) is saves))
 plan_saves depth held Quit plan name bytes is saves = absurd (subst (IsSave name bytes) is saves)
 plan_saves depth held (ReadBlif from) plan name bytes is saves = absurd (subst (IsSave name bytes) is saves)
-plan_saves depth held (WriteBlif file) plan name bytes is saves = write_saves held file held.network name bytes (subst (IsSave name bytes) is saves)
+plan_saves depth held (ReadKiss from) plan name bytes is saves = absurd (subst (IsSave name bytes) is saves)
+plan_saves depth held (ReadLibrary from) plan name bytes is saves = absurd (subst (IsSave name bytes) is saves)
+plan_saves depth held (WriteBlif file) plan name bytes is saves =
+    circuit_written held (Some name) file bytes (write_saves held file held.network name bytes (subst (IsSave name bytes) is saves))
+plan_saves depth held (WriteKiss file) plan name bytes is saves =
+    machine_written held (Some name) file bytes (machine_saves held file held.machine name bytes (subst (IsSave name bytes) is saves))
 plan_saves depth held PrintStats plan name bytes is saves = absurd (puts_save_nothing held (told_of stats_told held.network) name bytes (subst (IsSave name bytes) is saves))
 plan_saves depth held (Print signal) plan name bytes is saves = absurd (puts_save_nothing held (told_of (tables_told signal) held.network) name bytes (subst (IsSave name bytes) is saves))
 plan_saves depth held PrintLatch plan name bytes is saves = absurd (puts_save_nothing held (told_of latches_told held.network) name bytes (subst (IsSave name bytes) is saves))
@@ -273,25 +352,49 @@ plan_saves depth held (Bad fault) plan name bytes is saves = absurd (subst (IsSa
 
 pub saved_step : (depth : ℕ) (held : Held) (op : Op) (name bytes : List ℕ) (answer : Result (Unit {0}) SaveFault) (ending : Ending)
     → Steps (Plans depth held op) (OnStore (Save name bytes answer)) ending
-    → (written : Written) × (op ≡ WriteBlif (Some name)) × Holds held written × HasText written bytes
+    → (written : Written) × WritesTo (Some name) op written × Holds held written × HasText written bytes
 saved_step depth held op name bytes answer ending (by_plan plan planned goes) =
-    let saves = plan_saves depth held op plan name bytes planned (goes_save plan name bytes answer ending goes) in (CircuitWritten saves.0, saves.1, saves.2, saves.3)
+    plan_saves depth held op plan name bytes planned (goes_save plan name bytes answer ending goes)
 saved_step depth held op name bytes answer ending (no_memory none cut) = cc
+
+put_whole : (held : Held) (piece text : List ℕ) → IsPut piece (sends held None (Ok text)) → piece ≡ text
+put_whole held piece [] p = absurd p
+put_whole held piece (byte ∷ bytes) p = p
 
 write_puts : (held : Held) (file : Option (List ℕ)) (network : Option Circuit) (piece : List ℕ) → IsPut piece (sends held file (told_of text_told network))
     → (circuit : Circuit) × (file ≡ None) × (network ≡ Some circuit) × (piece ≡ text_of circuit)
 write_puts held None None piece puts = absurd puts
 write_puts held (Some name) None piece puts = absurd puts
 write_puts held (Some name) (Some circuit) piece puts = absurd puts
-write_puts held None (Some circuit) piece puts = (circuit, refl, refl, put_whole (text_of circuit) puts)
-  where
-    put_whole : (text : List ℕ) → IsPut piece (sends held None (Ok text)) → piece ≡ text
-    put_whole [] p = absurd p
-    put_whole (byte ∷ bytes) p = p
+write_puts held None (Some circuit) piece puts = (circuit, refl, refl, put_whole held piece (text_of circuit) puts)
 
-pub put_step : (depth : ℕ) (held : Held) (file : Option (List ℕ)) (call : PutCall) (ending : Ending)
-    → Steps (Plans depth held (WriteBlif file)) (OnOut call) ending
-    → (written : Written) × (file ≡ None) × Holds held written × HasText written call.piece
-put_step depth held file call ending (by_plan plan planned goes) =
-    let puts = write_puts held file held.network call.piece (subst (IsPut call.piece) planned (goes_put plan call ending goes)) in (CircuitWritten puts.0, puts.1, puts.2, puts.3)
-put_step depth held file call ending (no_memory none cut) = cc
+machine_puts : (held : Held) (file : Option (List ℕ)) (there : Option Machine) (piece : List ℕ) → IsPut piece (sends held file (machine_told there))
+    → (machine : Machine) × (file ≡ None) × (there ≡ Some machine) × (piece ≡ machine_text_of machine)
+machine_puts held None None piece puts = absurd puts
+machine_puts held (Some name) None piece puts = absurd puts
+machine_puts held (Some name) (Some machine) piece puts = absurd puts
+machine_puts held None (Some machine) piece puts = (machine, refl, refl, put_whole held piece (machine_text_of machine) puts)
+
+plan_puts : (depth : ℕ) (held : Held) (op : Op) (plan : Plan) (piece : List ℕ) → IsWriting op → Plans depth held op plan → IsPut piece plan → IsWritten held None op piece
+plan_puts depth held (WriteBlif file) plan piece writing is puts = circuit_written held None file piece (write_puts held file held.network piece (subst (IsPut piece) is puts))
+plan_puts depth held (WriteKiss file) plan piece writing is puts = machine_written held None file piece (machine_puts held file held.machine piece (subst (IsPut piece) is puts))
+plan_puts depth held (Echo words) plan piece writing is puts = absurd writing
+plan_puts depth held Quit plan piece writing is puts = absurd writing
+plan_puts depth held (ReadBlif name) plan piece writing is puts = absurd writing
+plan_puts depth held (ReadKiss name) plan piece writing is puts = absurd writing
+plan_puts depth held (ReadLibrary name) plan piece writing is puts = absurd writing
+plan_puts depth held PrintStats plan piece writing is puts = absurd writing
+plan_puts depth held (Print name) plan piece writing is puts = absurd writing
+plan_puts depth held PrintLatch plan piece writing is puts = absurd writing
+plan_puts depth held (PrintFactor name) plan piece writing is puts = absurd writing
+plan_puts depth held (PrintKernel name) plan piece writing is puts = absurd writing
+plan_puts depth held (ChangeOp change) plan piece writing is puts = absurd writing
+plan_puts depth held Undo plan piece writing is puts = absurd writing
+plan_puts depth held (Source name) plan piece writing is puts = absurd writing
+plan_puts depth held (Bad fault) plan piece writing is puts = absurd writing
+
+pub put_step : (depth : ℕ) (held : Held) (op : Op) (call : PutCall) (ending : Ending) → IsWriting op
+    → Steps (Plans depth held op) (OnOut call) ending
+    → (written : Written) × WritesTo None op written × Holds held written × HasText written call.piece
+put_step depth held op call ending writing (by_plan plan planned goes) = plan_puts depth held op plan call.piece writing planned (goes_put plan call ending goes)
+put_step depth held op call ending writing (no_memory none cut) = cc

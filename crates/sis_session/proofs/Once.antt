@@ -14,7 +14,7 @@ use Rattle.circuit_model.specs.Values.{driver}
 use Rattle.circuit_model.specs.declared.circuit.Circuit.{Circuit}
 use Rattle.circuit_model.specs.declared.circuit.Table.{Table}
 use Rattle.algebra_texts.proofs.Once.{factor_line_once, factor_lines_once, kernel_lines_once}
-use Rattle.circuit_laws.specs.Chains.{Leads, Chain}
+use Rattle.chain_laws.proofs.Chains.{chain_same}
 use Rattle.sweep_rules.specs.Rules.{sweep_step}
 use Rattle.table_algebra.specs.declared.taking.TakeFault.{TakeFault as TableFault}
 use Rattle.table_algebra.specs.declared.taking.TakeFault.TheVariants.{CubeLimit, TooWide, Memory}
@@ -23,9 +23,9 @@ use Rattle.elim_rules.specs.Collapsing.{collapse_refusal}
 use Rattle.sis_script.specs.declared.command.Change.{Change}
 use Rattle.sis_script.specs.declared.command.Change.TheVariants.{Sweep, Eliminate, Collapse}
 use Rattle.sis_script.specs.declared.command.Op.{Op}
-use Rattle.sis_script.specs.declared.command.Op.TheVariants.{Echo, Quit, ReadBlif, WriteBlif, PrintStats, Print, PrintLatch, PrintFactor, PrintKernel, Change as ChangeOp, Undo, Source, Bad}
+use Rattle.sis_script.specs.declared.command.Op.TheVariants.{Echo, Quit, ReadBlif, ReadKiss, ReadLibrary, WriteBlif, WriteKiss, PrintStats, Print, PrintLatch, PrintFactor, PrintKernel, Change as ChangeOp, Undo, Source, Bad}
 use Rattle.sis_session.specs.Commands.{ChangePlans, IsCollapseRefusal, FactorsTold, FactorTold, KernelsOf, KernelsTold, KernelTold, Plans, Prints, ToldBy, changed_by, sends}
-use Rattle.sis_session.specs.Keeping.{ChangesOnce, HasOneOutcome}
+use Rattle.sis_session.specs.Keeping.{ChangesOnce}
 use Rattle.sis_session.specs.Plan.{Asked, Nothing, OnStore, OnOut, OnInput, Comes, ComesLoaded, ComesSaved, ComesPut, ComesTaken, ComesPiece, Cut, Done, Ending, Goes, Loads, Outcome, Does, Refuses, Plan, Quiet, Puts, Refused, Saves, Takes, Steps, by_plan, no_memory}
 use Rattle.sis_session.specs.State.{Held}
 use Rattle.sis_session.specs.declared.refusal.Failed.TheVariants as failed
@@ -108,12 +108,46 @@ goes_once (Takes used) (OnStore (Save saved sent answer)) one other h k = absurd
 goes_once (Takes used) (OnOut call) one other h k = absurd h
 goes_once (Takes used) (OnInput calls) one other h k = taken_once used [] calls one other h k
 
--- a command with one outcome has one plan
-change_once : (held : Held) (change : Change) (network : Option Circuit) (plan plan' : Plan) → ChangesOnce change
+-- a sweep makes one thing of each network
+sweeps_once : ChangesOnce Sweep
+sweeps_once old (Ok one) (Ok other) h k = ap (λ (c : Circuit). Ok c) (chain_same sweep_step old one other h k)
+sweeps_once old (Ok one) (Err why) h k = absurd k
+sweeps_once old (Err why) other h k = absurd h
+
+-- so does an elimination
+eliminations_once : (threshold : ℤ) (rows : ℕ) → ChangesOnce (Eliminate threshold rows)
+eliminations_once threshold rows old (Ok one) (Ok other) h k = ap (λ (c : Circuit). Ok c) (chain_same (eliminate_step threshold rows) old one other h k)
+eliminations_once threshold rows old (Ok one) (Err why) h k = absurd k
+eliminations_once threshold rows old (Err why) other h k = absurd h
+
+refusals_once : (found : Option (List ℕ × TableFault)) (why other : Refusal) → IsCollapseRefusal found why → IsCollapseRefusal found other → why ≡ other
+refusals_once (Some (name, CubeLimit)) why other h k = h ∙ sym k
+refusals_once (Some (name, TooWide count)) why other h k = h ∙ sym k
+refusals_once (Some (name, Memory)) why other h k = absurd h
+refusals_once None why other h k = absurd h
+
+refused_or_not : (found : Option (List ℕ × TableFault)) (why : Refusal) → found ≡ None → IsCollapseRefusal found why → ⊥
+refused_or_not found why none refused = subst (λ f. IsCollapseRefusal f why) none refused
+
+-- and a collapse
+collapses_once : ChangesOnce Collapse
+collapses_once old (Ok one) (Ok other) h k = ap (λ (c : Circuit). Ok c) (h.1 ∙ sym k.1)
+collapses_once old (Ok one) (Err why) h k = absurd (refused_or_not (collapse_refusal old) why h.0 k)
+collapses_once old (Err why) (Ok other) h k = absurd (refused_or_not (collapse_refusal old) why k.0 h)
+collapses_once old (Err why) (Err other) h k = ap (λ (r : Refusal). Err r) (refusals_once (collapse_refusal old) why other h k)
+
+-- each change makes one thing of each network
+pub changes_once : (change : Change) → ChangesOnce change
+changes_once Sweep = sweeps_once
+changes_once (Eliminate threshold rows) = eliminations_once threshold rows
+changes_once Collapse = collapses_once
+
+-- a change has one plan
+change_once : (held : Held) (change : Change) (network : Option Circuit) (plan plan' : Plan)
     → ChangePlans held change network plan → ChangePlans held change network plan' → plan ≡ plan'
-change_once held change None plan plan' once h k = h ∙ sym k
-change_once held change (Some old) plan plan' once (answer, changes, is) (answer', changes', is') =
-    is ∙ ap (λ (a : Result Circuit Refusal). Quiet (changed_by held a)) (once old answer answer' changes changes') ∙ sym is'
+change_once held change None plan plan' h k = h ∙ sym k
+change_once held change (Some old) plan plan' (answer, changes, is) (answer', changes', is') =
+    is ∙ ap (λ (a : Result Circuit Refusal). Quiet (changed_by held a)) (changes_once change old answer answer' changes changes') ∙ sym is'
 
 -- what is told by a relation is one thing
 IsOne : (Result (List ℕ) Refusal → Type 0) → Type 0
@@ -150,82 +184,31 @@ unfolding IsOne
 kernel_once name None what other h k = h ∙ sym k
 kernel_once name (Some table) what other h k = kernels_once name table what other h k
 
-plans_once : (depth : ℕ) (held : Held) (op : Op) (plan plan' : Plan) → HasOneOutcome op → Plans depth held op plan → Plans depth held op plan' → plan ≡ plan'
-plans_once depth held (Echo words) plan plan' once h k = h ∙ sym k
-plans_once depth held Quit plan plan' once h k = h ∙ sym k
-plans_once depth held (ReadBlif name) plan plan' once h k = h ∙ sym k
-plans_once depth held (WriteBlif file) plan plan' once h k = h ∙ sym k
-plans_once depth held PrintStats plan plan' once h k = h ∙ sym k
-plans_once depth held (Print name) plan plan' once h k = h ∙ sym k
-plans_once depth held PrintLatch plan plan' once h k = h ∙ sym k
-plans_once depth held (PrintFactor name) plan plan' once h k =
+-- each command has one plan
+pub plans_once : (depth : ℕ) (held : Held) (op : Op) (plan plan' : Plan) → Plans depth held op plan → Plans depth held op plan' → plan ≡ plan'
+plans_once depth held (Echo words) plan plan' h k = h ∙ sym k
+plans_once depth held Quit plan plan' h k = h ∙ sym k
+plans_once depth held (ReadBlif name) plan plan' h k = h ∙ sym k
+plans_once depth held (ReadKiss name) plan plan' h k = h ∙ sym k
+plans_once depth held (ReadLibrary name) plan plan' h k = h ∙ sym k
+plans_once depth held (WriteBlif file) plan plan' h k = h ∙ sym k
+plans_once depth held (WriteKiss file) plan plan' h k = h ∙ sym k
+plans_once depth held PrintStats plan plan' h k = h ∙ sym k
+plans_once depth held (Print name) plan plan' h k = h ∙ sym k
+plans_once depth held PrintLatch plan plan' h k = h ∙ sym k
+plans_once depth held (PrintFactor name) plan plan' h k =
     prints_once held (ToldBy (FactorsTold name) held.network) plan plan' (told_once (FactorsTold name) held.network (factors_once name)) h k
-plans_once depth held (PrintKernel name) plan plan' once h k =
+plans_once depth held (PrintKernel name) plan plan' h k =
     prints_once held (ToldBy (KernelsTold name) held.network) plan plan' (told_once (KernelsTold name) held.network (λ circuit. kernel_once name (driver circuit.tables name))) h k
-plans_once depth held (ChangeOp change) plan plan' once h k = change_once held change held.network plan plan' once h k
-plans_once depth held Undo plan plan' once h k = h ∙ sym k
-plans_once depth held (Source name) plan plan' once h k = h ∙ sym k
-plans_once depth held (Bad fault) plan plan' once h k = h ∙ sym k
+plans_once depth held (ChangeOp change) plan plan' h k = change_once held change held.network plan plan' h k
+plans_once depth held Undo plan plan' h k = h ∙ sym k
+plans_once depth held (Source name) plan plan' h k = h ∙ sym k
+plans_once depth held (Bad fault) plan plan' h k = h ∙ sym k
 
-pub one_ending : (depth : ℕ) (held : Held) (op : Op) (asked : Asked) (one other : Ending) → HasOneOutcome op
+pub one_ending : (depth : ℕ) (held : Held) (op : Op) (asked : Asked) (one other : Ending)
     → Steps (Plans depth held op) asked one → Steps (Plans depth held op) asked other
     → (one ≡ other) ⊎ ((one ≡ Cut failed.Memory) ⊎ (other ≡ Cut failed.Memory))
-one_ending depth held op asked one other once (by_plan plan planned goes) (by_plan plan' planned' goes') =
-    goes_once plan asked one other goes (subst (λ p. Goes p asked other) (plans_once depth held op plan' plan once planned' planned) goes')
-one_ending depth held op asked one other once (no_memory none is) k = inr (inl is)
-one_ending depth held op asked one other once (by_plan plan planned goes) (no_memory none is) = inr (inr is)
-
--- steps lead to one thing where no step applies
-leads_once : {N : Type 0} (step : N → Option N) (xs ys : List N) (begin one other : N) → Leads step xs begin one → Leads step ys begin other
-    → step one ≡ None → step other ≡ None → one ≡ other
-leads_once step [] [] begin one other h k e f = sym h ∙ k
-leads_once step [] (y ∷ ys) begin one other h k e f =
-    let none : step begin ≡ None = ap step h ∙ e in
-    let some : step begin ≡ Some y = k.0 in
-    cc
-leads_once step (x ∷ xs) [] begin one other h k e f =
-    let none : step begin ≡ None = ap step k ∙ f in
-    let some : step begin ≡ Some x = h.0 in
-    cc
-leads_once step (x ∷ xs) (y ∷ ys) begin one other h k e f =
-    let first : step begin ≡ Some x = h.0 in
-    let second : step begin ≡ Some y = k.0 in
-    let same : y ≡ x = cc in
-    leads_once step xs ys x one other h.1 (subst (λ z. Leads step ys z other) same k.1) e f
-
-chains_once : {N : Type 0} (step : N → Option N) (begin one other : N) → Chain step begin one → Chain step begin other → one ≡ other
-chains_once step begin one other h k = leads_once step h.between k.between begin one other h.leads k.leads h.finished k.finished
-
--- a sweep makes one thing of each network
-sweeps_once : ChangesOnce Sweep
-sweeps_once old (Ok one) (Ok other) h k = ap (λ (c : Circuit). Ok c) (chains_once sweep_step old one other h k)
-sweeps_once old (Ok one) (Err why) h k = absurd k
-sweeps_once old (Err why) other h k = absurd h
-
--- so does an elimination
-eliminations_once : (threshold : ℤ) (rows : ℕ) → ChangesOnce (Eliminate threshold rows)
-eliminations_once threshold rows old (Ok one) (Ok other) h k = ap (λ (c : Circuit). Ok c) (chains_once (eliminate_step threshold rows) old one other h k)
-eliminations_once threshold rows old (Ok one) (Err why) h k = absurd k
-eliminations_once threshold rows old (Err why) other h k = absurd h
-
-refusals_once : (found : Option (List ℕ × TableFault)) (why other : Refusal) → IsCollapseRefusal found why → IsCollapseRefusal found other → why ≡ other
-refusals_once (Some (name, CubeLimit)) why other h k = h ∙ sym k
-refusals_once (Some (name, TooWide count)) why other h k = h ∙ sym k
-refusals_once (Some (name, Memory)) why other h k = absurd h
-refusals_once None why other h k = absurd h
-
-refused_or_not : (found : Option (List ℕ × TableFault)) (why : Refusal) → found ≡ None → IsCollapseRefusal found why → ⊥
-refused_or_not found why none refused = subst (λ f. IsCollapseRefusal f why) none refused
-
--- and a collapse
-collapses_once : ChangesOnce Collapse
-collapses_once old (Ok one) (Ok other) h k = ap (λ (c : Circuit). Ok c) (h.1 ∙ sym k.1)
-collapses_once old (Ok one) (Err why) h k = absurd (refused_or_not (collapse_refusal old) why h.0 k)
-collapses_once old (Err why) (Ok other) h k = absurd (refused_or_not (collapse_refusal old) why k.0 h)
-collapses_once old (Err why) (Err other) h k = ap (λ (r : Refusal). Err r) (refusals_once (collapse_refusal old) why other h k)
-
--- each change makes one thing of each network
-pub changes_once : (change : Change) → ChangesOnce change
-changes_once Sweep = sweeps_once
-changes_once (Eliminate threshold rows) = eliminations_once threshold rows
-changes_once Collapse = collapses_once
+one_ending depth held op asked one other (by_plan plan planned goes) (by_plan plan' planned' goes') =
+    goes_once plan asked one other goes (subst (λ p. Goes p asked other) (plans_once depth held op plan' plan planned' planned) goes')
+one_ending depth held op asked one other (no_memory none is) k = inr (inl is)
+one_ending depth held op asked one other (by_plan plan planned goes) (no_memory none is) = inr (inr is)

@@ -11,15 +11,19 @@ use Rattle.circuit_model.specs.declared.circuit.Table.{Table}
 use Rattle.algebra_texts.specs.Told.{HasManyKernels}
 use Rattle.table_algebra.specs.declared.taking.TakeFault.{TakeFault}
 use Rattle.elim_rules.specs.Collapsing.{collapse_refusal}
+use Rattle.machine_model.specs.Text.{text_of as machine_text_of}
+use Rattle.machine_model.specs.declared.machine.Machine.{Machine}
 use Rattle.blif_read.specs.Reader.{read_lines}
+use Rattle.kiss_format.specs.Reader.{read_lines as machine_lines_read}
+use Rattle.genlib_format.specs.Reader.{library_of}
 use Rattle.sis_script.specs.declared.command.Change.{Change}
 use Rattle.sis_script.specs.declared.command.Change.TheVariants.{Sweep, Eliminate, Collapse}
 use Rattle.sis_script.specs.declared.command.Op.{Op}
-use Rattle.sis_script.specs.declared.command.Op.TheVariants.{Echo, Quit, ReadBlif, WriteBlif, PrintStats, Print, PrintLatch, PrintFactor, PrintKernel, Change as ChangeOp, Undo, Source, Bad}
-use Rattle.sis_session.specs.Commands.{ChangePlans, IsCollapseRefusal, FactorsTold, FactorTold, KernelsOf, KernelsTold, KernelTold, Plans, Prints, ToldBy, commands_in, latches_told, named_told, read_by, sends, source_plan, stats_told, stays, tables_told, text_told, told_of, undo_plan}
-use Rattle.sis_session.specs.Keeping.{Allows, HasBytes, HasKernels, HasNeeds, HasNetwork, HasTable, IsAnswered, IsServed}
+use Rattle.sis_script.specs.declared.command.Op.TheVariants.{Echo, Quit, ReadBlif, ReadKiss, ReadLibrary, WriteBlif, WriteKiss, PrintStats, Print, PrintLatch, PrintFactor, PrintKernel, Change as ChangeOp, Undo, Source, Bad}
+use Rattle.sis_session.specs.Commands.{ChangePlans, IsCollapseRefusal, FactorsTold, FactorTold, KernelsOf, KernelsTold, KernelTold, Plans, Prints, ToldBy, commands_in, circuit_read, latches_told, library_read, machine_read, machine_told, named_told, read_as, sends, source_plan, stats_told, stays, tables_told, text_told, told_of, undo_plan}
+use Rattle.sis_session.specs.Keeping.{Allows, HasBytes, HasKernels, HasMachine, HasNeeds, HasNetwork, HasTable, IsAnswered, IsServed}
 use Rattle.sis_session.specs.Plan.{MAX_DEPTH, Asked, Nothing, OnStore, OnOut, OnInput, Comes, ComesPut, Cut, Done, Ending, Goes, Loads, Outcome, Does, Refuses, Plan, Quiet, Puts, Saves, Steps, by_plan, no_memory}
-use Rattle.sis_session.specs.State.{Held, with_read, with_changed, with_exchanged}
+use Rattle.sis_session.specs.State.{Held, Library, with_read, with_machine, with_library, with_changed, with_exchanged}
 use Rattle.sis_session.specs.declared.refusal.Failed.TheVariants as failed
 use Rattle.sis_session.specs.declared.refusal.Next.{Next}
 use Rattle.sis_session.specs.declared.refusal.Next.TheVariants.{Go, Quit as QuitNext, Script}
@@ -114,9 +118,22 @@ kernels_told_text : (name : List ℕ) (network : Option Circuit) (what : Result 
 kernels_told_text name network what (circuit, there, table, found, few) told =
     kernels_text name table what few (subst (λ d. KernelTold name d what) found (subst (λ n. ToldBy (KernelsTold name) n what) there told))
 
-read_works : (held : Held) (name bytes : List ℕ) (ending : Ending) → HasBytes (ReadBlif name) bytes → Comes (read_by held name (read_lines (entries_of bytes))) ending → IsDone ending
-read_works held name bytes ending (circuit, reads) comes =
-    does_done (with_read held circuit) Go ending (subst (λ r. Comes (read_by held name r) ending) reads comes)
+circuit_works : (held : Held) (name bytes : List ℕ) (ending : Ending) → HasBytes (ReadBlif name) bytes → Comes (circuit_read held name bytes) ending → IsDone ending
+circuit_works held name bytes ending (circuit, reads) comes =
+    does_done (with_read held circuit) Go ending (subst (λ r. Comes (read_as (with_read held) (λ fault. refusal.Blif name fault) r) ending) reads comes)
+
+machine_works : (held : Held) (name bytes : List ℕ) (ending : Ending) → HasBytes (ReadKiss name) bytes → Comes (machine_read held name bytes) ending → IsDone ending
+machine_works held name bytes ending (machine, reads) comes =
+    does_done (with_machine held machine) Go ending (subst (λ r. Comes (read_as (with_machine held) (λ fault. refusal.Kiss name fault) r) ending) reads comes)
+
+library_works : (held : Held) (name bytes : List ℕ) (ending : Ending) → HasBytes (ReadLibrary name) bytes → Comes (library_read held name bytes) ending → IsDone ending
+library_works held name bytes ending (library, reads) comes =
+    does_done (with_library held library) Go ending (subst (λ r. Comes (read_as (with_library held) (λ fault. refusal.Lib name fault) r) ending) reads comes)
+
+-- a machine that is there is told
+machine_told_works : (op : Op) (held : Held) (file : Option (List ℕ)) (there : Option Machine) → HasMachine there → Works op (sends held file (machine_told there))
+machine_told_works op held file there (machine, is) =
+    subst (λ m. Works op (sends held file (machine_told m))) (sym is) (sends_works op held file (machine_text_of machine))
 
 undo_works : (held : Held) (previous : Option Circuit) → HasNetwork previous → Works Undo (undo_plan held previous)
 undo_works held None (circuit, there) = cc
@@ -144,9 +161,13 @@ change_works held Collapse (Some circuit) plan old there allows (Err why, change
 plan_works : (depth : ℕ) (held : Held) (op : Op) (plan : Plan) → HasNeeds depth held op → Plans depth held op plan → Works op plan
 plan_works depth held (Echo words) plan needs is = subst (Works (Echo words)) (sym is) (sends_works (Echo words) held None _)
 plan_works depth held Quit plan needs is = subst (Works Quit) (sym is) (quiet_works Quit held QuitNext)
-plan_works depth held (ReadBlif name) plan needs is = subst (Works (ReadBlif name)) (sym is) (loads_works (ReadBlif name) name _ (read_works held name))
+plan_works depth held (ReadBlif name) plan needs is = subst (Works (ReadBlif name)) (sym is) (loads_works (ReadBlif name) name _ (circuit_works held name))
+plan_works depth held (ReadKiss name) plan needs is = subst (Works (ReadKiss name)) (sym is) (loads_works (ReadKiss name) name _ (machine_works held name))
+plan_works depth held (ReadLibrary name) plan needs is = subst (Works (ReadLibrary name)) (sym is) (loads_works (ReadLibrary name) name _ (library_works held name))
 plan_works depth held (WriteBlif file) plan needs is =
     subst (Works (WriteBlif file)) (sym is) (tells_works (WriteBlif file) held file text_told held.network (λ circuit there. (_, refl)) needs)
+plan_works depth held (WriteKiss file) plan needs is =
+    subst (Works (WriteKiss file)) (sym is) (machine_told_works (WriteKiss file) held file held.machine needs)
 plan_works depth held PrintStats plan needs is =
     subst (Works PrintStats) (sym is) (tells_works PrintStats held None stats_told held.network (λ circuit there. (_, refl)) needs)
 plan_works depth held (Print None) plan needs is =

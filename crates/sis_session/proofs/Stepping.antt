@@ -1,25 +1,24 @@
 -- What the methods below a step did, command by command.
 use Rattle.std.proofs.Common.{◌≡◌, ℕ, ◌<◌, ◌≤◌, List, refl, sym, ap, subst, ◌∙◌, inl, true, false, arith}
 use Rattle.std.proofs.lemmas.Bool.Decides.{nat_tests}
-use Rattle.std.specs.Prelude.{Bool, Option, Some, None, Ok, Err, nat_lt, if◌then◌else◌}
+use Rattle.std.specs.Prelude.{Bool, Option, Some, None, Result, Ok, Err, nat_lt, if◌then◌else◌}
 use Rattle.std.specs.Global.{Vec}
 use Rattle.sis_text.specs.Entries.{entries_of}
 use Rattle.sis_outside.specs.Calls.{StoreCall, Follows}
 use Rattle.circuit_model.specs.declared.circuit.Circuit.{Circuit}
 use Rattle.blif_read.specs.Reader.{read_lines}
-use Rattle.blif_read.specs.declared.fault.BlifFault.{BlifFault}
-use Rattle.blif_read.specs.declared.fault.ReadFault.TheVariants as reading
 use Rattle.sis_script.specs.declared.command.Change.{Change}
-use Rattle.sis_session.specs.Commands.{ChangePlans, commands_in, read_by, read_plan, source_plan, undo_plan}
+use Rattle.sis_session.specs.Commands.{ChangePlans, circuit_read, commands_in, read_as, source_plan, undo_plan}
 use Rattle.sis_session.specs.Methods.{HasLoaded, HasRead, IsChanged, Undoes}
-use Rattle.sis_session.specs.Plan.{MAX_DEPTH, Does, Refuses, Quiet, Loads, Ending, Done, Refused, Cut, Comes, Did, AskedNone, faulted}
-use Rattle.sis_session.specs.State.{Held, with_changed, with_exchanged}
+use Rattle.sis_session.specs.Plan.{MAX_DEPTH, Outcome, Does, Refuses, Quiet, Loads, Ending, Done, Refused, Cut, Comes, Did, AskedNone, faulted}
+use Rattle.sis_session.specs.State.{Held, with_read, with_changed, with_exchanged}
 use Rattle.sis_session.specs.declared.refusal.Failed.TheVariants as failed
 use Rattle.sis_session.specs.declared.refusal.Next.TheVariants.{Go, Script}
+use Rattle.sis_session.specs.declared.refusal.Refusal.{Refusal}
 use Rattle.sis_session.specs.declared.refusal.Refusal.TheVariants as refusal
 use Rattle.sis_session.specs.declared.refusal.StepFault.{StepFault}
 use Rattle.sis_session.specs.declared.refusal.StepFault.TheVariants as fault
-use Rattle.sis_session.proofs.Going.{loaded_did, unloaded_did, out_alone, quiet_did, wanting, wanting_did}
+use Rattle.sis_session.proofs.Going.{loaded_did, unloaded_did, out_alone, quiet_did, wanting_did}
 
 -- `source`: by whether the scripts are nested too deep
 nested_plan : (depth : ℕ) (held : Held) (name : List ℕ) → MAX_DEPTH ≤ depth → Quiet (Refuses refusal.Nested) ≡ source_plan depth held name
@@ -51,45 +50,30 @@ unsourced_did goes depth held name old new why shallow h =
     subst (λ p. Did (λ plan. plan ≡ p) (Follows goes old new) AskedNone (faulted why)) (script_plan depth held name shallow)
     (unloaded_did goes name (λ b. Does held (Script (commands_in b))) old new why h)
 
--- `read_blif`: what comes of the bytes
-read_comes : (held held' : Held) (name bytes : List ℕ) → HasRead bytes held (Ok tt) held' → Comes (read_by held name (read_lines (entries_of bytes))) (Done held' Go)
-read_comes held held' name bytes (circuit, reads, is) =
-    subst (λ r. Comes (read_by held name r) (Done held' Go)) (sym reads) (inl (ap (λ h. Done h Go) is))
+-- what comes of a file that is read: what it says is held, or its fault is the refusal
+pub read_comes : {A F : Type 0} (held_with : A → Held) (refusal_of : F → Refusal) (read : Result A F) (one : A) (new : Held) → read ≡ Ok one → new ≡ held_with one
+    → Comes (read_as held_with refusal_of read) (Done new Go)
+read_comes held_with refusal_of read one new reads is =
+    subst (λ r. Comes (read_as held_with refusal_of r) (Done new Go)) (sym reads) (inl (ap (λ h. Done h Go) is))
 
-misread_comes : (held held' : Held) (name file bytes : List ℕ) (why : BlifFault) → file ≡ name → HasRead bytes held (Err (reading.Fault why)) held'
-    → Comes (read_by held name (read_lines (entries_of bytes))) (Refused (refusal.Blif file why))
-misread_comes held held' name file bytes why same h =
-    subst (λ r. Comes (read_by held name r) (Refused (refusal.Blif file why))) (sym h.0) (inl (ap (λ f. Refused (refusal.Blif f why)) same))
+pub misread_comes : {A F : Type 0} (held_with : A → Held) (refusal_of : F → Refusal) (read : Result A F) (fault : F) (why : Refusal) → read ≡ Err fault → why ≡ refusal_of fault
+    → Comes (read_as held_with refusal_of read) (Refused why)
+misread_comes held_with refusal_of read fault why reads is =
+    subst (λ r. Comes (read_as held_with refusal_of r) (Refused why)) (sym reads) (inl (ap (λ w. Refused w) is))
 
--- the same of the command, where the name and the bytes are lent as text and slice
-load_read : {S : Type 0} (goes : S → StoreCall → S → Type 0) (held : Held) (name text shown : List ℕ) (old new : S) (bytes : Vec ℕ) (ending : Ending) → text ≡ name → shown ≡ bytes.items
-    → HasLoaded goes text old (Ok bytes) new → Comes (read_by held name (read_lines (entries_of shown))) ending
-    → Did (λ plan. plan ≡ read_plan held name) (Follows goes old new) AskedNone ending
-load_read goes held name text shown old new bytes ending same seen h comes =
-    loaded_did goes name (λ b. read_by held name (read_lines (entries_of b))) old new bytes ending
-    (subst (λ n. HasLoaded goes n old (Ok bytes) new) same h)
-    (subst (λ b. Comes (read_by held name (read_lines (entries_of b))) ending) seen comes)
+pub circuit_comes : (held held' : Held) (name bytes : List ℕ) → HasRead bytes held (Ok tt) held' → Comes (circuit_read held name bytes) (Done held' Go)
+circuit_comes held held' name bytes (circuit, reads, is) = read_comes (with_read held) (λ fault. refusal.Blif name fault) (read_lines (entries_of bytes)) circuit held' reads is
 
-pub read_did : {S : Type 0} (goes : S → StoreCall → S → Type 0) (held held' : Held) (name text shown : List ℕ) (old new : S) (bytes : Vec ℕ) → text ≡ name → shown ≡ bytes.items
-    → HasLoaded goes text old (Ok bytes) new → HasRead shown held (Ok tt) held' → Did (λ plan. plan ≡ read_plan held name) (Follows goes old new) AskedNone (Done held' Go)
-read_did goes held held' name text shown old new bytes same seen h read =
-    load_read goes held name text shown old new bytes (Done held' Go) same seen h (read_comes held held' name shown read)
+-- a file was loaded, where its name and its bytes are lent as text and slice
+pub used_did : {S : Type 0} (goes : S → StoreCall → S → Type 0) (used : List ℕ → Outcome) (name text shown : List ℕ) (old new : S) (bytes : Vec ℕ) (ending : Ending)
+    → text ≡ name → shown ≡ bytes.items → HasLoaded goes text old (Ok bytes) new → Comes (used shown) ending
+    → Did (λ plan. plan ≡ Loads name used) (Follows goes old new) AskedNone ending
+used_did goes used name text shown old new bytes ending same seen h comes =
+    loaded_did goes name used old new bytes ending (subst (λ n. HasLoaded goes n old (Ok bytes) new) same h) (subst (λ b. Comes (used b) ending) seen comes)
 
-pub misread_did : {S : Type 0} (goes : S → StoreCall → S → Type 0) (held held' : Held) (name text file shown : List ℕ) (why : BlifFault) (old new : S) (bytes : Vec ℕ) → text ≡ name → file ≡ name → shown ≡ bytes.items
-    → HasLoaded goes text old (Ok bytes) new → HasRead shown held (Err (reading.Fault why)) held'
-    → Did (λ plan. plan ≡ read_plan held name) (Follows goes old new) AskedNone (Refused (refusal.Blif file why))
-misread_did goes held held' name text file shown why old new bytes same named seen h read =
-    load_read goes held name text shown old new bytes (Refused (refusal.Blif file why)) same seen h (misread_comes held held' name file shown why named read)
-
-pub unread_did : {S : Type 0} (goes : S → StoreCall → S → Type 0) (held : Held) (name text : List ℕ) (old new : S) (bytes : Vec ℕ) → text ≡ name
-    → HasLoaded goes text old (Ok bytes) new → Did (λ plan. plan ≡ read_plan held name) (Follows goes old new) AskedNone (Cut failed.Memory)
-unread_did goes held name text old new bytes same h =
-    load_read goes held name text bytes.items old new bytes (Cut failed.Memory) same refl h (wanting (read_by held name (read_lines (entries_of bytes.items))))
-
-pub not_loaded_did : {S : Type 0} (goes : S → StoreCall → S → Type 0) (held : Held) (name text : List ℕ) (old new : S) (why : StepFault) → text ≡ name
-    → HasLoaded goes text old (Err why) new → Did (λ plan. plan ≡ read_plan held name) (Follows goes old new) AskedNone (faulted why)
-not_loaded_did goes held name text old new why same h =
-    unloaded_did goes name (λ b. read_by held name (read_lines (entries_of b))) old new why (subst (λ n. HasLoaded goes n old (Err why) new) same h)
+pub unused_did : {S : Type 0} (goes : S → StoreCall → S → Type 0) (used : List ℕ → Outcome) (name text : List ℕ) (old new : S) (why : StepFault)
+    → text ≡ name → HasLoaded goes text old (Err why) new → Did (λ plan. plan ≡ Loads name used) (Follows goes old new) AskedNone (faulted why)
+unused_did goes used name text old new why same h = unloaded_did goes name used old new why (subst (λ n. HasLoaded goes n old (Err why) new) same h)
 
 -- a change of the network
 pub changed_did : (held held' : Held) (change : Change) (network : Option Circuit) (old new : Circuit) → network ≡ Some old → IsChanged change old (Ok new)

@@ -1,6 +1,7 @@
 -- The commands one by one: the plan of each. A new command is a new case.
 -- Source: the SIS manual (UCB/ERL M92/41), the commands; the order of refusals is the project's own: a command's words, then
--- how deep scripts are nested, then the parts that it needs, then names, then the file that it loads, then what is read of it.
+-- how deep scripts are nested, then the parts that it needs, then names, then the file that it loads, then what is read of it,
+-- then the command's own limits.
 use Rattle.std.specs.Prelude.{◌≡◌, ℕ, Option, Some, None, Result, Ok, Err, List, nat_lt, flat_map, map, option_map, if◌then◌else◌}
 use Rattle.sis_base.specs.Written.{lines_text}
 use Rattle.sis_text.specs.Entries.{entries_of, script_entries_of}
@@ -8,8 +9,13 @@ use Rattle.circuit_model.specs.Text.{text_of, table_lines, latch_line}
 use Rattle.circuit_model.specs.Values.{driver}
 use Rattle.circuit_model.specs.declared.circuit.Circuit.{Circuit}
 use Rattle.circuit_model.specs.declared.circuit.Table.{Table}
+use Rattle.machine_model.specs.Text.{text_of as machine_text_of}
+use Rattle.machine_model.specs.declared.machine.Machine.{Machine}
+use Rattle.machine_model.specs.declared.machine.Spec.{Spec}
+use Rattle.machine_model.specs.declared.machine.Spec.TheVariants as spec
 use Rattle.blif_read.specs.Reader.{read_lines}
-use Rattle.blif_read.specs.declared.fault.BlifFault.{BlifFault}
+use Rattle.kiss_format.specs.Reader.{read_lines as machine_lines_read}
+use Rattle.genlib_format.specs.Reader.{library_of}
 use Rattle.circuit_laws.specs.Chains.{Chain}
 use Rattle.algebra_texts.specs.Told.{IsFactorLine, AreFactorLines, AreKernelLines, HasManyKernels}
 use Rattle.sweep_rules.specs.Rules.{sweep_step}
@@ -22,10 +28,10 @@ use Rattle.sis_script.specs.declared.command.Command.{Command}
 use Rattle.sis_script.specs.declared.command.Change.{Change}
 use Rattle.sis_script.specs.declared.command.Change.TheVariants.{Sweep, Eliminate, Collapse}
 use Rattle.sis_script.specs.declared.command.Op.{Op}
-use Rattle.sis_script.specs.declared.command.Op.TheVariants.{Echo, Quit, ReadBlif, WriteBlif, PrintStats, Print, PrintLatch, PrintFactor, PrintKernel, Change as ChangeOp, Undo, Source, Bad}
+use Rattle.sis_script.specs.declared.command.Op.TheVariants.{Echo, Quit, ReadBlif, ReadKiss, ReadLibrary, WriteBlif, WriteKiss, PrintStats, Print, PrintLatch, PrintFactor, PrintKernel, Change as ChangeOp, Undo, Source, Bad}
 use Rattle.sis_session.specs.Plan.{MAX_DEPTH, Outcome, Does, Refuses, Plan, Quiet, Loads, Saves, replies}
 use Rattle.sis_session.specs.Replies.{stats_line, echo_line}
-use Rattle.sis_session.specs.State.{Held, Spec, CircuitRead, with_read, with_changed, with_exchanged}
+use Rattle.sis_session.specs.State.{Held, with_read, with_machine, with_library, with_changed, with_exchanged}
 use Rattle.sis_session.specs.declared.refusal.Next.TheVariants as next
 use Rattle.sis_session.specs.declared.refusal.Refusal.{Refusal}
 use Rattle.sis_session.specs.declared.refusal.Refusal.TheVariants as refusal
@@ -38,14 +44,20 @@ commands_in text = map command_of (script_entries_of text)
 abbrev pub stays : Held → Outcome
 stays held = Does held next.Go
 
--- what comes of reading a file: its circuit becomes the network, or its fault is the refusal
-abbrev pub read_by : Held → List ℕ → Result Circuit BlifFault → Outcome
-read_by held name (Ok circuit) = Does (with_read held circuit) next.Go
-read_by held name (Err fault) = Refuses (refusal.Blif name fault)
+-- what comes of reading a file: what it says is held, or its fault is the refusal
+abbrev pub read_as : {A F : Type 0} → (A → Held) → (F → Refusal) → Result A F → Outcome
+read_as held_with refusal_of (Ok one) = Does (held_with one) next.Go
+read_as held_with refusal_of (Err fault) = Refuses (refusal_of fault)
 
--- `read_blif`: the file is loaded and read
-abbrev pub read_plan : Held → List ℕ → Plan
-read_plan held name = Loads name (λ bytes. read_by held name (read_lines (entries_of bytes)))
+-- what comes of the bytes of a file that is read as a circuit, as a machine, as a library
+abbrev pub circuit_read : Held → List ℕ → List ℕ → Outcome
+circuit_read held name bytes = read_as (with_read held) (λ fault. refusal.Blif name fault) (read_lines (entries_of bytes))
+
+abbrev pub machine_read : Held → List ℕ → List ℕ → Outcome
+machine_read held name bytes = read_as (with_machine held) (λ fault. refusal.Kiss name fault) (machine_lines_read (entries_of bytes))
+
+abbrev pub library_read : Held → List ℕ → List ℕ → Outcome
+library_read held name bytes = read_as (with_library held) (λ fault. refusal.Lib name fault) (library_of bytes)
 
 -- what is told of the network, or the refusal where there is none
 abbrev pub told_of : (Circuit → Result (List ℕ) Refusal) → Option Circuit → Result (List ℕ) Refusal
@@ -61,6 +73,11 @@ sends held file (Err why) = Quiet (Refuses why)
 -- `write_blif`: the network's text
 abbrev pub text_told : Circuit → Result (List ℕ) Refusal
 text_told circuit = Ok (text_of circuit)
+
+-- `write_kiss`: the machine's text, or the refusal where there is none
+abbrev pub machine_told : Option Machine → Result (List ℕ) Refusal
+machine_told None = Err refusal.NoMachine
+machine_told (Some machine) = Ok (machine_text_of machine)
 
 -- `print` of a name: its table as it is written, or a refusal where there is none
 abbrev pub named_told : List ℕ → Option Table → Result (List ℕ) Refusal
@@ -154,8 +171,11 @@ source_plan depth held name =
 abbrev pub Plans : ℕ → Held → Op → Plan → Type 0
 Plans depth held (Echo words) plan = plan ≡ sends held None (Ok (echo_line words))
 Plans depth held Quit plan = plan ≡ Quiet (Does held next.Quit)
-Plans depth held (ReadBlif name) plan = plan ≡ read_plan held name
+Plans depth held (ReadBlif name) plan = plan ≡ Loads name (circuit_read held name)
+Plans depth held (ReadKiss name) plan = plan ≡ Loads name (machine_read held name)
+Plans depth held (ReadLibrary name) plan = plan ≡ Loads name (library_read held name)
 Plans depth held (WriteBlif file) plan = plan ≡ sends held file (told_of text_told held.network)
+Plans depth held (WriteKiss file) plan = plan ≡ sends held file (machine_told held.machine)
 Plans depth held PrintStats plan = plan ≡ sends held None (told_of stats_told held.network)
 Plans depth held (Print name) plan = plan ≡ sends held None (told_of (tables_told name) held.network)
 Plans depth held PrintLatch plan = plan ≡ sends held None (told_of latches_told held.network)
@@ -168,5 +188,6 @@ Plans depth held (Bad fault) plan = plan ≡ Quiet (Refuses (refusal.Script faul
 
 -- what was read last, behind a command that is done and after which this is held
 abbrev pub last_read : Op → Held → Option Spec → Option Spec
-last_read (ReadBlif name) held spec = option_map CircuitRead held.network
-last_read op held spec = spec
+last_read (ReadBlif name) held read = option_map spec.Circuit held.network
+last_read (ReadKiss name) held read = option_map spec.Machine held.machine
+last_read op held read = read

@@ -4,14 +4,11 @@ use Rattle.std.specs.Prelude.{ℕ, List, [], ◌∷◌, ◌++◌, length, flat_m
 use Rattle.sis_base.specs.Written.{spaced}
 use Rattle.circuit_model.specs.Counts.{literals_of}
 use Rattle.circuit_model.specs.declared.circuit.Circuit.{Circuit}
-use Rattle.blif_read.specs.declared.fault.BlifFault.{BlifFault}
-use Rattle.blif_read.specs.declared.fault.BlifFault.TheVariants.{UnknownWord, BadArity, BadRow, MixedPhase, BadLatch, SecondModel, Limit, NameTwice, TwoDrivers, Undriven, Cycle}
-use Rattle.blif_read.specs.declared.fault.LimitKind.{LimitKind}
-use Rattle.blif_read.specs.declared.fault.LimitKind.TheVariants.{Name, Tables, Rows, Inputs}
+use Rattle.fault_texts.specs.Texts.{blif_text, kiss_text, library_text}
 use Rattle.sis_script.specs.declared.command.ScriptFault.{ScriptFault}
 use Rattle.sis_script.specs.declared.command.ScriptFault.TheVariants.{BadCommand, BadOption, MissingWord}
 use Rattle.sis_session.specs.declared.refusal.Refusal.{Refusal}
-use Rattle.sis_session.specs.declared.refusal.Refusal.TheVariants.{Script, Nested, NoNetwork, NothingToUndo, NoSignal, CubeLimit, TooWide, KernelLimit, Missing, TooLong, Blif, LongScript}
+use Rattle.sis_session.specs.declared.refusal.Refusal.TheVariants.{Script, Nested, NoNetwork, NoMachine, NothingToUndo, NoSignal, CubeLimit, TooWide, KernelLimit, Missing, TooLong, Blif, Kiss, Lib, LongScript}
 use Rattle.sis_session.specs.declared.texts.Stats.{Stats}
 
 -- words as a line, with one blank between
@@ -41,46 +38,22 @@ numbers_line name stats =
 abbrev pub stats_line : Circuit → List ℕ
 stats_line circuit = numbers_line circuit.name (stats_of circuit)
 
--- what is wrong with a line, behind its number
-unfoldable pub line_fault_text : ℕ → List ℕ → List ℕ
-line_fault_text line what = codes "line " ++ (decimal line ++ (codes ": " ++ what))
-
--- the word for what a limit is on
-abbrev pub kind_word : LimitKind → List ℕ
-kind_word Name = codes "name"
-kind_word Tables = codes "tables"
-kind_word Rows = codes "rows"
-kind_word Inputs = codes "inputs"
-
--- the text of a limit that is passed
-unfoldable pub limit_text : List ℕ → ℕ → List ℕ
-limit_text kind reached = codes "limit " ++ (kind ++ (codes " " ++ decimal reached))
-
--- the text of a fault of a file
-unfoldable pub blif_fault_text : BlifFault → List ℕ
-blif_fault_text (UnknownWord line) = line_fault_text line (codes "unknown word")
-blif_fault_text (BadArity line) = line_fault_text line (codes "bad arity")
-blif_fault_text (BadRow line) = line_fault_text line (codes "bad row")
-blif_fault_text (MixedPhase line) = line_fault_text line (codes "mixed phase")
-blif_fault_text (BadLatch line) = line_fault_text line (codes "bad latch")
-blif_fault_text (SecondModel line) = line_fault_text line (codes "second model")
-blif_fault_text (Limit kind reached) = limit_text (kind_word kind) reached
-blif_fault_text (NameTwice name) = name ++ codes " listed twice"
-blif_fault_text (TwoDrivers name) = codes "two drivers of " ++ name
-blif_fault_text (Undriven name) = codes "undriven " ++ name
-blif_fault_text (Cycle name) = codes "cycle through " ++ name
-
 -- why the words of a command are refused
 abbrev pub script_fault_text : ScriptFault → List ℕ
 script_fault_text BadCommand = codes "unknown command"
 script_fault_text BadOption = codes "bad option"
 script_fault_text MissingWord = codes "missing word"
 
+-- what is wrong with a file, behind its name
+abbrev pub file_text : List ℕ → List ℕ → List ℕ
+file_text file what = file ++ (codes ": " ++ what)
+
 -- the text of a refusal
 unfoldable pub refusal_text : Refusal → List ℕ
 refusal_text (Script fault) = script_fault_text fault
 refusal_text Nested = codes "sources nested deeper than 16"
 refusal_text NoNetwork = codes "no network"
+refusal_text NoMachine = codes "no machine"
 refusal_text NothingToUndo = codes "nothing to undo"
 refusal_text (NoSignal name) = codes "no table " ++ name
 refusal_text (CubeLimit name) = codes "too many rows at " ++ name
@@ -88,7 +61,9 @@ refusal_text (TooWide name count) = decimal count ++ (codes " inputs at " ++ nam
 refusal_text (KernelLimit name) = codes "too many kernels at " ++ name
 refusal_text (Missing file) = codes "no file " ++ file
 refusal_text (TooLong file) = codes "file " ++ (file ++ codes " is longer than 67108864 bytes")
-refusal_text (Blif file fault) = file ++ (codes ": " ++ blif_fault_text fault)
+refusal_text (Blif file fault) = file_text file (blif_text fault)
+refusal_text (Kiss file fault) = file_text file (kiss_text fault)
+refusal_text (Lib file fault) = file_text file (library_text fault)
 refusal_text LongScript = codes "script is longer than 67108864 bytes"
 
 -- a line on the error output: the line of the script, and a text

@@ -1,15 +1,16 @@
 -- What a session holds between two commands, what it read last, and what it writes.
 -- Source: the SIS manual (UCB/ERL M92/41): a shell has one current network, finite-state machine, library and mapped netlist,
 -- and `undo` takes back the last change.
-use Rattle.std.specs.Prelude.{Option, Some, None}
+use Rattle.std.specs.Prelude.{Option, Some, None, List}
 use Rattle.circuit_model.specs.declared.circuit.Circuit.{Circuit}
+use Rattle.machine_model.specs.declared.machine.Machine.{Machine}
+use Rattle.genlib_format.specs.declared.gate.Gate.{Gate}
 
--- a finite-state machine, a library of gates, a mapped netlist: no command reads or makes one so far, and so these types
--- have no value
-pub data Machine : Type 0 where
+-- a library: its gates, in order
+abbrev pub Library : Type 0
+Library = List Gate
 
-pub data Library : Type 0 where
-
+-- a mapped netlist: no command makes one so far, and so this type has no value
 pub data Netlist : Type 0 where
 
 -- the network and its netlist, and the previous ones: as they were before the last change; the machine and the library
@@ -21,18 +22,26 @@ pub record Held : Type 0 where
   pub netlist : Option Netlist
   pub previous_netlist : Option Netlist
 
--- a network and a previous one, if there are any, and nothing else
-abbrev pub networks_held : Option Circuit → Option Circuit → Held
-networks_held network previous =
-    record { network = network; previous = previous; machine = None; library = None; netlist = None; previous_netlist = None }
+-- a network, a previous one, a machine and a library, where they are there, and no netlist
+abbrev pub parts_held : Option Circuit → Option Circuit → Option Machine → Option Library → Held
+parts_held network previous machine library =
+    record { network = network; previous = previous; machine = machine; library = library; netlist = None; previous_netlist = None }
 
 -- what a new session holds
 abbrev pub nothing_held : Held
-nothing_held = networks_held None None
+nothing_held = parts_held None None None None
 
 -- a circuit that was read becomes the network; but for the library nothing else is held, and there is nothing to take back
 abbrev pub with_read : Held → Circuit → Held
 with_read held circuit = record held { network = Some circuit; previous = None; machine = None; netlist = None; previous_netlist = None }
+
+-- a machine that was read is held; but for the library nothing else is, and there is nothing to take back
+abbrev pub with_machine : Held → Machine → Held
+with_machine held machine = record held { network = None; previous = None; machine = Some machine; netlist = None; previous_netlist = None }
+
+-- a library that was read is held, and no netlist over the one before
+abbrev pub with_library : Held → Library → Held
+with_library held library = record held { library = Some library; netlist = None; previous_netlist = None }
 
 -- a new network in place of the one that is held, which becomes the previous one with its netlist; the new one has none
 abbrev pub with_changed : Held → Circuit → Held
@@ -42,11 +51,6 @@ with_changed held new = record held { network = Some new; previous = held.networ
 abbrev pub with_exchanged : Held → Held
 with_exchanged held =
     record held { network = held.previous; previous = held.network; netlist = held.previous_netlist; previous_netlist = held.netlist }
-
--- what is read: a circuit or a machine
-pub data Spec : Type 0 where
-  CircuitRead : (circuit : Circuit) → Spec
-  MachineRead : (machine : Machine) → Spec
 
 -- what is written: a circuit, a machine or a netlist
 pub data Written : Type 0 where

@@ -5,7 +5,7 @@ ghost use Rattle.sis_base.specs.Written.{lines_text};
 ghost use Rattle.circuit_model.specs.Text.{table_lines};
 ghost use Rattle.circuit_model.specs.Values.{driver};
 ghost use Rattle.net_core.specs.Reads.{HasBounds};
-ghost use Rattle.sis_session.specs.Commands.{latches_told, named_told, stats_told, tables_told, text_told, told_of};
+ghost use Rattle.sis_session.specs.Commands.{latches_told, machine_told as machine_told_of, named_told, stats_told, tables_told, text_told, told_of};
 ghost use Rattle.sis_session.specs.Methods.{IsTold};
 ghost use Rattle.sis_session.specs.Replies.{echo_line, stats_of};
 
@@ -13,6 +13,8 @@ use crate::refusal::{Refusal, StepFault};
 use crate::texts::{Stats, echo_text, stats_text};
 use blif_write::{circuit_text, latches_text, table_text, tables_text};
 use cube_cover::PlainRow;
+use kiss_format::machine_text;
+use machine_model::Machine;
 use net_core::Network;
 use sis_base::Copied;
 use sis_script::{RawWord, RawWords};
@@ -118,5 +120,17 @@ pub fn network_text(
     };
     let mut text = Vec::new(alloc);
     circuit_text(alloc, &network.to_circuit(alloc)?, &mut text)?;
+    Ok(text)
+}
+
+/// What `write_kiss` sends.
+pub fn machine_told(alloc: Global, machine: &Option<Machine>) -> Result<Vec<u8>, StepFault>
+    ensures { IsTold (machine_told_of machine.now) result }
+{
+    let Some(machine) = machine else {
+        return Err(StepFault::Refused(Refusal::NoMachine));
+    };
+    let mut text = Vec::new(alloc);
+    machine_text(alloc, machine, &mut text)?;
     Ok(text)
 }

@@ -1,6 +1,8 @@
 //! How a step ends: what comes next, or why it was not done.
 
 use blif_read::BlifFault;
+use genlib_format::LibFault;
+use kiss_format::KissFault;
 use sis_script::{Commands, RawWord, ScriptFault};
 use sis_text::Word;
 use std::alloc::AllocError;
@@ -40,6 +42,8 @@ pub enum Refusal {
     Nested,
     /// There is no network.
     NoNetwork,
+    /// There is no machine.
+    NoMachine,
     /// There is no previous network.
     NothingToUndo,
     /// No table has this name.
@@ -54,8 +58,12 @@ pub enum Refusal {
     Missing(Word),
     /// The file of this name is longer than is read.
     TooLong(Word),
-    /// The file of this name has a fault.
+    /// The file of this name has a fault as a circuit.
     Blif(Word, BlifFault),
+    /// The file of this name has a fault as a machine.
+    Kiss(Word, KissFault),
+    /// The file of this name has a fault as a library.
+    Lib(Word, LibFault),
     /// The script as a whole is longer than is run; no command is refused so.
     LongScript,
 }

@@ -5,20 +5,24 @@
 
 ghost use Rattle.std.specs.Prelude.{◌≡◌, ◌<◌, IfOk, IfSome, OnErr, option_map};
 ghost use Rattle.sis_outside.specs.Calls.{Follows};
-ghost use Rattle.sis_session.specs.Commands.{ChangePlans, Plans, read_plan, undo_plan};
+ghost use Rattle.sis_session.specs.Commands.{ChangePlans, Plans, circuit_read, library_read, machine_read, undo_plan};
 ghost use Rattle.sis_session.specs.Methods.{HasRead, Undoes};
-ghost use Rattle.sis_session.specs.Plan.{AskedNone, Did, NestsBelow, ended};
+ghost use Rattle.sis_session.specs.Plan.{AskedNone, Comes, Did, Loads, NestsBelow, ended};
 ghost use Rattle.sis_session.specs.Replies.{stats_of};
 ghost use Rattle.sis_session.specs.State.{nothing_held};
 
 use crate::algebra::{print_factor, print_kernel};
 use crate::changing::changed;
 use crate::outside::{load, put_told, send_told, source};
-use crate::printing::{echo, network_text, print, print_latch, print_stats, stats_of};
+use crate::printing::{
+    echo, machine_told, network_text, print, print_latch, print_stats, stats_of,
+};
 use crate::refusal::{Next, Refusal, StepFault};
 use crate::texts::Stats;
 use blif_read::{ReadFault, read};
 use cube_cover::PlainRow;
+use genlib_format::Library;
+use machine_model::Machine;
 use net_core::Network;
 use sis_outside::{Sink, Store};
 use sis_script::{Change, Command, Op};
@@ -33,22 +37,24 @@ pub const MAX_BYTES: usize = 67_108_864;
 /// The most scripts that may stand round one another.
 pub const MAX_DEPTH: u32 = 16;
 
-/// What is held between two commands: the network, and the one before its last change; both keep the bounds in which
-/// literals are counted.
+/// What is held between two commands: the network, and the one before its last change, which both keep the bounds in which
+/// literals are counted; the machine and the library.
 #[derive(Drop)]
 pub struct Session {
     network: Option<Network<PlainRow>>,
     previous: Option<Network<PlainRow>>,
+    machine: Option<Machine>,
+    library: Option<Library>,
 }
 
 impl Model for Session {
     ghost use Rattle.std.specs.Prelude.{IfSome};
     ghost use Rattle.net_core.specs.Reads.{HasBounds};
-    ghost use Rattle.sis_session.specs.State.{Held, networks_held};
+    ghost use Rattle.sis_session.specs.State.{Held, parts_held};
 
     ghost Value = { Held };
 
-    ghost view = { λ s. networks_held s.network s.previous };
+    ghost view = { λ s. parts_held s.network s.previous s.machine s.library };
 
     ghost invariant = { λ s. IfSome s.network HasBounds × IfSome s.previous HasBounds };
 }
@@ -61,6 +67,8 @@ impl Session {
         Session {
             network: None,
             previous: None,
+            machine: None,
+            library: None,
         }
     }
 
@@ -72,6 +80,7 @@ impl Session {
         let circuit = read(alloc, bytes)?;
         self.network = Some(Network::from_circuit(alloc, circuit)?);
         self.previous = None;
+        self.machine = None;
         Ok(())
     }
 
@@ -96,18 +105,12 @@ impl Session {
         true
     }
 
-    /// Reads a file as the network.
-    fn read_blif<S: Store>(
-        &mut self,
-        alloc: Global,
-        name: &Word,
-        store: &mut S,
-    ) -> Result<Next, StepFault>
-        ensures did { Did (λ plan. plan ≡ read_plan self.old name.now) (Follows S.calls store.old store.new) AskedNone (ended result self.new) }
+    /// Reads the bytes of a file as the network.
+    fn take_circuit(&mut self, alloc: Global, name: &Word, bytes: &[u8]) -> Result<Next, StepFault>
+        ensures came { Comes (circuit_read self.old name.now bytes.now) (ended result self.new) }
         ensures err { OnErr result (self.new ≡ self.old) }
     {
-        let bytes = load(alloc, name.text(), store)?;
-        match self.read(alloc, bytes.as_slice()) {
+        match self.read(alloc, bytes) {
             Ok(()) => Ok(Next::Go),
             Err(ReadFault::Fault(fault)) => Err(StepFault::Refused(Refusal::Blif(
                 name.copy(alloc)?,
@@ -115,6 +118,86 @@ impl Session {
             ))),
             Err(ReadFault::Memory) => Err(StepFault::Memory),
         }
+    }
+
+    /// Reads the bytes of a file as the machine.
+    fn take_machine(&mut self, alloc: Global, name: &Word, bytes: &[u8]) -> Result<Next, StepFault>
+        ensures came { Comes (machine_read self.old name.now bytes.now) (ended result self.new) }
+        ensures err { OnErr result (self.new ≡ self.old) }
+    {
+        match kiss_format::read(alloc, bytes) {
+            Ok(machine) => {
+                self.network = None;
+                self.previous = None;
+                self.machine = Some(machine);
+                Ok(Next::Go)
+            }
+            Err(kiss_format::ReadFault::Fault(fault)) => Err(StepFault::Refused(Refusal::Kiss(
+                name.copy(alloc)?,
+                fault,
+            ))),
+            Err(kiss_format::ReadFault::Memory) => Err(StepFault::Memory),
+        }
+    }
+
+    /// Reads the bytes of a file as the library.
+    fn take_library(&mut self, alloc: Global, name: &Word, bytes: &[u8]) -> Result<Next, StepFault>
+        ensures came { Comes (library_read self.old name.now bytes.now) (ended result self.new) }
+        ensures err { OnErr result (self.new ≡ self.old) }
+    {
+        match genlib_format::read(alloc, bytes) {
+            Ok(library) => {
+                self.library = Some(library);
+                Ok(Next::Go)
+            }
+            Err(genlib_format::ReadFault::Fault(fault)) => Err(StepFault::Refused(Refusal::Lib(
+                name.copy(alloc)?,
+                fault,
+            ))),
+            Err(genlib_format::ReadFault::Memory) => Err(StepFault::Memory),
+        }
+    }
+
+    /// Reads a file as the network.
+    fn read_blif<S: Store>(
+        &mut self,
+        alloc: Global,
+        name: &Word,
+        store: &mut S,
+    ) -> Result<Next, StepFault>
+        ensures did { Did (λ plan. plan ≡ Loads name.now (circuit_read self.old name.now)) (Follows S.calls store.old store.new) AskedNone (ended result self.new) }
+        ensures err { OnErr result (self.new ≡ self.old) }
+    {
+        let bytes = load(alloc, name.text(), store)?;
+        self.take_circuit(alloc, name, bytes.as_slice())
+    }
+
+    /// Reads a file as the machine.
+    fn read_kiss<S: Store>(
+        &mut self,
+        alloc: Global,
+        name: &Word,
+        store: &mut S,
+    ) -> Result<Next, StepFault>
+        ensures did { Did (λ plan. plan ≡ Loads name.now (machine_read self.old name.now)) (Follows S.calls store.old store.new) AskedNone (ended result self.new) }
+        ensures err { OnErr result (self.new ≡ self.old) }
+    {
+        let bytes = load(alloc, name.text(), store)?;
+        self.take_machine(alloc, name, bytes.as_slice())
+    }
+
+    /// Reads a file as the library.
+    fn read_library<S: Store>(
+        &mut self,
+        alloc: Global,
+        name: &Word,
+        store: &mut S,
+    ) -> Result<Next, StepFault>
+        ensures did { Did (λ plan. plan ≡ Loads name.now (library_read self.old name.now)) (Follows S.calls store.old store.new) AskedNone (ended result self.new) }
+        ensures err { OnErr result (self.new ≡ self.old) }
+    {
+        let bytes = load(alloc, name.text(), store)?;
+        self.take_library(alloc, name, bytes.as_slice())
     }
 
     /// Changes the network, and keeps the one before as the previous one.
@@ -160,7 +243,10 @@ impl Session {
             Op::Echo(words) => put_told(echo(alloc, words), out),
             Op::Quit => Ok(Next::Quit),
             Op::ReadBlif(name) => self.read_blif(alloc, name, store),
+            Op::ReadKiss(name) => self.read_kiss(alloc, name, store),
+            Op::ReadLibrary(name) => self.read_library(alloc, name, store),
             Op::WriteBlif(file) => send_told(network_text(alloc, &self.network), file, store, out),
+            Op::WriteKiss(file) => send_told(machine_told(alloc, &self.machine), file, store, out),
             Op::PrintStats => put_told(print_stats(alloc, &self.network), out),
             Op::Print(name) => put_told(print(alloc, &self.network, name), out),
             Op::PrintLatch => put_told(print_latch(alloc, &self.network), out),

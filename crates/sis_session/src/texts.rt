@@ -2,19 +2,22 @@
 
 ghost use Rattle.std.specs.Prelude.{◌≡◌, ◌++◌, flat_map, codes, decimal, IfOk, OnOk};
 ghost use Rattle.sis_base.specs.Written.{spaced};
+ghost use Rattle.fault_texts.specs.Texts.{blif_text, kiss_text, library_text};
 ghost use Rattle.sis_session.specs.Replies.{
-  blif_fault_text,
   echo_line,
   error_line,
+  file_text,
   numbers_line,
   refusal_line,
   refusal_text,
   script_fault_text,
 };
 
-use crate::fault_texts::{put_blif_fault, put_text, put_three, put_two};
 use crate::refusal::Refusal;
 use blif_read::BlifFault;
+use fault_texts::{put_blif_fault, put_kiss_fault, put_library_fault, put_three, put_two};
+use genlib_format::LibFault;
+use kiss_format::KissFault;
 use sis_script::{RawWord, ScriptFault};
 use sis_text::Word;
 use std::alloc::{AllocError, Global};
@@ -116,19 +119,57 @@ fn script_fault_text(fault: ScriptFault) -> &'static [u8]
     }
 }
 
-/// Puts the name of a file and what is wrong with it.
+/// Puts a text.
 #[tactic(auto, using(std::proofs::lemmas::Grind::common_steps))]
-fn put_file_fault(
+fn put_text(out: &mut Vec<u8>, text: &[u8]) -> Result<(), AllocError>
+    ensures { OnOk result (out.new.items ≡ out.old.items ++ text.now) }
+{
+    out.extend_from_slice(text)?;
+    Ok(())
+}
+
+/// Puts the name of a file and what is wrong with it as a circuit.
+#[tactic(auto, using(std::proofs::lemmas::Grind::common_steps))]
+fn put_circuit_fault(
     out: &mut Vec<u8>,
     alloc: Global,
     file: &Word,
     fault: &BlifFault,
 ) -> Result<(), AllocError>
-    ensures { OnOk result (out.new.items ≡ out.old.items ++ (file.now ++ (codes ": " ++ blif_fault_text fault.now))) }
+    ensures { OnOk result (out.new.items ≡ out.old.items ++ file_text file.now (blif_text fault.now)) }
 {
-    out.extend_from_slice(file.text().as_bytes())?;
-    out.extend_from_slice(b": ".as_slice())?;
+    put_two(out, file.text().as_bytes(), b": ".as_slice())?;
     put_blif_fault(out, alloc, fault)?;
+    Ok(())
+}
+
+/// Puts the name of a file and what is wrong with it as a machine.
+#[tactic(auto, using(std::proofs::lemmas::Grind::common_steps))]
+fn put_machine_fault(
+    out: &mut Vec<u8>,
+    alloc: Global,
+    file: &Word,
+    fault: &KissFault,
+) -> Result<(), AllocError>
+    ensures { OnOk result (out.new.items ≡ out.old.items ++ file_text file.now (kiss_text fault.now)) }
+{
+    put_two(out, file.text().as_bytes(), b": ".as_slice())?;
+    put_kiss_fault(out, alloc, fault)?;
+    Ok(())
+}
+
+/// Puts the name of a file and what is wrong with it as a library.
+#[tactic(auto, using(std::proofs::lemmas::Grind::common_steps))]
+fn put_gates_fault(
+    out: &mut Vec<u8>,
+    alloc: Global,
+    file: &Word,
+    fault: &LibFault,
+) -> Result<(), AllocError>
+    ensures { OnOk result (out.new.items ≡ out.old.items ++ file_text file.now (library_text fault.now)) }
+{
+    put_two(out, file.text().as_bytes(), b": ".as_slice())?;
+    put_library_fault(out, alloc, fault)?;
     Ok(())
 }
 
@@ -158,6 +199,7 @@ fn put_refusal(out: &mut Vec<u8>, alloc: Global, refusal: &Refusal) -> Result<()
         Refusal::Script(fault) => out.extend_from_slice(script_fault_text(*fault)),
         Refusal::Nested => out.extend_from_slice(b"sources nested deeper than 16".as_slice()),
         Refusal::NoNetwork => out.extend_from_slice(b"no network".as_slice()),
+        Refusal::NoMachine => out.extend_from_slice(b"no machine".as_slice()),
         Refusal::NothingToUndo => out.extend_from_slice(b"nothing to undo".as_slice()),
         Refusal::NoSignal(name) => put_two(out, b"no table ".as_slice(), name.as_slice()),
         Refusal::CubeLimit(name) => {
@@ -174,7 +216,9 @@ fn put_refusal(out: &mut Vec<u8>, alloc: Global, refusal: &Refusal) -> Result<()
             file.text().as_bytes(),
             b" is longer than 67108864 bytes".as_slice(),
         ),
-        Refusal::Blif(file, fault) => put_file_fault(out, alloc, file, fault),
+        Refusal::Blif(file, fault) => put_circuit_fault(out, alloc, file, fault),
+        Refusal::Kiss(file, fault) => put_machine_fault(out, alloc, file, fault),
+        Refusal::Lib(file, fault) => put_gates_fault(out, alloc, file, fault),
         Refusal::LongScript => { put_text(out, b"script is longer than 67108864 bytes".as_slice()) }
     }
 }

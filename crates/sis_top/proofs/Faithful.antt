@@ -11,11 +11,11 @@ use Rattle.sis_outside.specs.declared.source.TakeFault.{TakeFault}
 use Rattle.sis_outside.specs.declared.source.TakeFault.TheVariants as take
 use Rattle.sis_words.specs.Asked.{TheScript, InFile, AsText, OnInput}
 use Rattle.sis_script.specs.declared.command.Op.{Op}
-use Rattle.sis_script.specs.declared.command.Op.TheVariants.{WriteBlif}
 use Rattle.sis_session.specs.Commands.{Plans, last_read}
-use Rattle.sis_session.specs.Keeping.{HasText, Holds, IsRefined}
+use Rattle.sis_session.specs.Keeping.{HasText, Holds, IsRefined, IsWriting, WritesTo}
 use Rattle.sis_session.specs.Plan.{MAX_BYTES, Outcome, Refuses, Plan, Quiet, Loads, Takes, Asked, OnStore, OnOut, OnInput, Ending, Done, Refused, Cut, Comes, ComesLoaded, ComesPiece, ComesTaken, Goes, Steps, by_plan, no_memory}
-use Rattle.sis_session.specs.State.{Held, Spec, Written, CircuitWritten, MachineWritten, NetlistWritten}
+use Rattle.machine_model.specs.declared.machine.Spec.{Spec}
+use Rattle.sis_session.specs.State.{Held, Written, CircuitWritten, MachineWritten, NetlistWritten}
 use Rattle.sis_session.specs.declared.refusal.Failed.{Failed}
 use Rattle.sis_session.specs.declared.refusal.Next.{Next}
 use Rattle.sis_session.specs.declared.refusal.Refusal.TheVariants.{LongScript}
@@ -31,11 +31,11 @@ Kept = (depth : ℕ) (held : Held) (op : Op) (asked : Asked) (held' : Held) (nex
 abbrev pub Saved : Type 0
 Saved = (depth : ℕ) (held : Held) (op : Op) (name bytes : List ℕ) (answer : Result (Unit {0}) SaveFault) (ending : Ending)
     → Steps (Plans depth held op) (OnStore (Save name bytes answer)) ending
-    → (written : Written) × (op ≡ WriteBlif (Some name)) × Holds held written × HasText written bytes
+    → (written : Written) × WritesTo (Some name) op written × Holds held written × HasText written bytes
 
 abbrev pub Put : Type 0
-Put = (depth : ℕ) (held : Held) (file : Option (List ℕ)) (call : PutCall) (ending : Ending) → Steps (Plans depth held (WriteBlif file)) (OnOut call) ending
-    → (written : Written) × (file ≡ None) × Holds held written × HasText written call.piece
+Put = (depth : ℕ) (held : Held) (op : Op) (call : PutCall) (ending : Ending) → IsWriting op → Steps (Plans depth held op) (OnOut call) ending
+    → (written : Written) × WritesTo None op written × Holds held written × HasText written call.piece
 
 -- what is held where a script was begun
 held_of : Held → Ending → Held
@@ -140,7 +140,8 @@ ending_refined kept goes_on machine due asked (Cut what) told steps refined = re
 text_faithful : (turn : Turn) (bytes : List ℕ) (written : Written) → IsRefined turn.spec turn.held → Holds turn.held written → HasText written bytes → AreFaithful turn bytes
 text_faithful turn bytes (CircuitWritten circuit) refined network text =
     let found = refined.network circuit network in (CircuitWritten circuit, network, text, found.0, found.1, found.3)
-text_faithful turn bytes (MachineWritten machine) refined there text = absurd text
+text_faithful turn bytes (MachineWritten machine) refined there text =
+    let found = refined.machine machine there in (MachineWritten machine, there, text, found.0, found.1, found.3)
 text_faithful turn bytes (NetlistWritten netlist) refined there text = absurd text
 
 turn_saved : Saved → (turn : Turn) (work : Work) (asked : Asked) (name bytes : List ℕ) (answer : Result (Unit {0}) SaveFault)
@@ -152,11 +153,11 @@ turn_saved saved turn (Run depth op) asked name bytes answer steps refined e =
     let wrote = saved depth turn.held op name bytes answer turn.ending (subst (λ (a : Asked). Steps (Plans depth turn.held op) a turn.ending) e steps) in
     text_faithful turn bytes wrote.0 refined wrote.2 wrote.3
 
-turn_put : Put → (turn : Turn) (work : Work) (asked : Asked) (depth : ℕ) (file : Option (List ℕ)) (call : PutCall)
-    → Steps (WorkPlans turn.held work) asked turn.ending → IsRefined turn.spec turn.held → work ≡ Run depth (WriteBlif file) → asked ≡ OnOut call → AreFaithful turn call.piece
-turn_put put turn work asked depth file call steps refined w e =
-    let wrote = put depth turn.held file call turn.ending
-    (subst (λ (a : Asked). Steps (Plans depth turn.held (WriteBlif file)) a turn.ending) e (subst (λ (x : Work). Steps (WorkPlans turn.held x) asked turn.ending) w steps)) in
+turn_put : Put → (turn : Turn) (work : Work) (asked : Asked) (depth : ℕ) (op : Op) (call : PutCall)
+    → Steps (WorkPlans turn.held work) asked turn.ending → IsRefined turn.spec turn.held → work ≡ Run depth op → IsWriting op → asked ≡ OnOut call → AreFaithful turn call.piece
+turn_put put turn work asked depth op call steps refined w writing e =
+    let wrote = put depth turn.held op call turn.ending writing
+    (subst (λ (a : Asked). Steps (Plans depth turn.held op) a turn.ending) e (subst (λ (x : Work). Steps (WorkPlans turn.held x) asked turn.ending) w steps)) in
     text_faithful turn call.piece wrote.0 refined wrote.2 wrote.3
 
 -- a turn of a machine, by its parts: its work went by one of its plans, and it is told
@@ -176,7 +177,7 @@ turn_faithful saved put machine turn is refined =
     let held : IsRefined turn.spec turn.held = subst (λ (h : Held). IsRefined turn.spec h) (sym parts.0) (subst (λ (s : Option Spec). IsRefined s machine.held) (sym parts.1) refined) in
     let steps : Steps (WorkPlans turn.held turn.due.work) turn.asked turn.ending = subst (λ (h : Held). Steps (WorkPlans h turn.due.work) turn.asked turn.ending) (sym parts.0) parts.2 in record {
       saved = λ name bytes answer e. turn_saved saved turn turn.due.work turn.asked name bytes answer steps held e;
-      put = λ depth file call w e. turn_put put turn turn.due.work turn.asked depth file call steps held w e;
+      put = λ depth op call w writing e. turn_put put turn turn.due.work turn.asked depth op call steps held w writing e;
     }
 
 pub turns_faithful : Kept → Saved → Put → (goes_on : Bool) (from to : Machine) (turns : List Turn) → Runs goes_on from turns to → IsRefined from.spec from.held

@@ -5,27 +5,27 @@ use Rattle.std.specs.List.{AllByRecursion}
 use Rattle.sis_outside.specs.Calls.{PutCall}
 use Rattle.sis_script.specs.declared.command.Op.{Op}
 use Rattle.sis_session.specs.Commands.{Plans}
-use Rattle.sis_session.specs.Keeping.{HasOneOutcome}
 use Rattle.sis_session.specs.Plan.{Plan, Asked, Ending, Cut, Goes, Steps, by_plan, no_memory}
-use Rattle.sis_session.specs.State.{Held, Spec}
+use Rattle.machine_model.specs.declared.machine.Spec.{Spec}
+use Rattle.sis_session.specs.State.{Held}
 use Rattle.sis_session.specs.declared.refusal.Failed.TheVariants as failed
 use Rattle.sis_session.proofs.Once.{goes_once}
 use Rattle.sis_top.specs.Machine.{Begin, Run, Work, Due, Machine, Turn, WorkPlans, IsTurn, IsTurnOf, Runs, after}
-use Rattle.sis_top.specs.Laws.{AreAlike, IsCertain, WorksOnce}
+use Rattle.sis_top.specs.Laws.{AreAlike, HasMemory}
 use Rattle.sis_top.proofs.Faithful.{turn_steps}
 
 -- the law of the session that is used here
 abbrev pub Once : Type 0
-Once = (depth : ℕ) (held : Held) (op : Op) (asked : Asked) (one other : Ending) → HasOneOutcome op → Steps (Plans depth held op) asked one → Steps (Plans depth held op) asked other
+Once = (depth : ℕ) (held : Held) (op : Op) (asked : Asked) (one other : Ending) → Steps (Plans depth held op) asked one → Steps (Plans depth held op) asked other
     → (one ≡ other) ⊎ ((one ≡ Cut failed.Memory) ⊎ (other ≡ Cut failed.Memory))
 
-work_once : Once → (held : Held) (work : Work) (asked : Asked) (one other : Ending) → WorksOnce work → Steps (WorkPlans held work) asked one → Steps (WorkPlans held work) asked other
+work_once : Once → (held : Held) (work : Work) (asked : Asked) (one other : Ending) → Steps (WorkPlans held work) asked one → Steps (WorkPlans held work) asked other
     → (one ≡ other) ⊎ ((one ≡ Cut failed.Memory) ⊎ (other ≡ Cut failed.Memory))
-work_once law held (Run depth op) asked one other once h k = law depth held op asked one other once h k
-work_once law held (Begin script) asked one other once (by_plan plan p g) (by_plan plan' p' g') =
+work_once law held (Run depth op) asked one other h k = law depth held op asked one other h k
+work_once law held (Begin script) asked one other (by_plan plan p g) (by_plan plan' p' g') =
     goes_once plan asked one other g (subst (λ (x : Plan). Goes x asked other) (p' ∙ sym p) g')
-work_once law held (Begin script) asked one other once (no_memory a e) k = inr (inl e)
-work_once law held (Begin script) asked one other once (by_plan plan p g) (no_memory a e) = inr (inr e)
+work_once law held (Begin script) asked one other (no_memory a e) k = inr (inl e)
+work_once law held (Begin script) asked one other (by_plan plan p g) (no_memory a e) = inr (inr e)
 
 same_ending : (one other : Ending) → (one ≡ Cut failed.Memory → ⊥) → (other ≡ Cut failed.Memory → ⊥) → (one ≡ other) ⊎ ((one ≡ Cut failed.Memory) ⊎ (other ≡ Cut failed.Memory)) → one ≡ other
 same_ending one other not nor (inl e) = e
@@ -45,7 +45,7 @@ one_turn one other held spec due asked ending told =
     ∙ ap (λ (x : Ending). record { held = other.held; spec = other.spec; due = other.due; asked = other.asked; ending = x; told = one.told }) ending
     ∙ ap (λ (x : Option PutCall). record { held = other.held; spec = other.spec; due = other.due; asked = other.asked; ending = other.ending; told = x }) told
 
-same_turn : Once → (machine : Machine) (one other : Turn) → IsTurn machine one → IsTurn machine other → IsCertain one → IsCertain other → one.asked ≡ other.asked → one.told ≡ other.told → one ≡ other
+same_turn : Once → (machine : Machine) (one other : Turn) → IsTurn machine one → IsTurn machine other → HasMemory one → HasMemory other → one.asked ≡ other.asked → one.told ≡ other.told → one ≡ other
 same_turn law machine one other h k certain sure asked told =
     let first = turn_steps machine machine.todo one h in
     let second = turn_steps machine machine.todo other k in
@@ -54,13 +54,13 @@ same_turn law machine one other h k certain sure asked told =
     subst (λ (a : Asked). Steps (WorkPlans machine.held one.due.work) a other.ending) (sym asked)
     (subst (λ (d : Due). Steps (WorkPlans machine.held d.work) other.asked other.ending) (sym due) second.2) in
     one_turn one other (first.0 ∙ sym second.0) (first.1 ∙ sym second.1) due asked
-    (same_ending one.ending other.ending certain.1 sure.1 (work_once law machine.held one.due.work one.asked one.ending other.ending certain.0 first.2 steps)) told
+    (same_ending one.ending other.ending certain sure (work_once law machine.held one.due.work one.asked one.ending other.ending first.2 steps)) told
 
 ended_run : (machine end : Machine) (turn : Turn) → end ≡ machine → end.todo ≡ [] → IsTurn machine turn → ⊥
 ended_run machine end turn e none is = subst (λ (todo : List Due). IsTurnOf machine todo turn) (ap (λ (m : Machine). m.todo) (sym e) ∙ none) is
 
 pub one_run : Once → (goes_on : Bool) (from end last : Machine) (one other : List Turn) → Runs goes_on from one end → Runs goes_on from other last → end.todo ≡ [] → last.todo ≡ []
-    → AllByRecursion IsCertain one → AllByRecursion IsCertain other → AreAlike one other → one ≡ other
+    → AllByRecursion HasMemory one → AllByRecursion HasMemory other → AreAlike one other → one ≡ other
 one_run law goes_on from end last [] [] h k none nothing certain sure alike = refl
 one_run law goes_on from end last [] (turn ∷ other) h k none nothing certain sure alike = absurd (ended_run from end turn h none k.0)
 one_run law goes_on from end last (turn ∷ one) [] h k none nothing certain sure alike = absurd (ended_run from last turn k nothing h.0)

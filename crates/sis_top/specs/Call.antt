@@ -8,11 +8,12 @@ use Rattle.sis_outside.specs.declared.store.SaveFault.{SaveFault}
 use Rattle.sis_outside.specs.declared.sink.PutFault.{PutFault}
 use Rattle.sis_outside.specs.declared.sink.PutFault.TheVariants as put
 use Rattle.sis_words.specs.Asked.{TheOptions, TheScript}
-use Rattle.sis_script.specs.declared.command.Op.TheVariants.{WriteBlif}
-use Rattle.sis_session.specs.Keeping.{HasText, Holds, IsRefining}
+use Rattle.sis_script.specs.declared.command.Op.{Op}
+use Rattle.sis_session.specs.Keeping.{HasText, Holds, IsRefining, IsWriting}
 use Rattle.sis_session.specs.Plan.{OnStore, OnOut, on_store, on_out, on_input}
 use Rattle.sis_session.specs.Replies.{error_line}
-use Rattle.sis_session.specs.State.{Spec, Written}
+use Rattle.machine_model.specs.declared.machine.Spec.{Spec}
+use Rattle.sis_session.specs.State.{Written}
 use Rattle.sis_session.specs.declared.refusal.Failed.{Failed}
 use Rattle.sis_session.specs.declared.refusal.Failed.TheVariants as failed
 use Rattle.sis_top.specs.Machine.{Run, Machine, Turn, Runs, begun}
@@ -67,10 +68,10 @@ abbrev pub AreFaithful : Turn → List ℕ → Type 0
 AreFaithful turn bytes =
     (written : Written) × Holds turn.held written × HasText written bytes × (read : Spec) × (turn.spec ≡ Some read) × IsRefining read written
 
--- what a turn saves is faithful, whatever the save answers, and so is what `write_blif` puts
+-- what a turn saves is faithful, whatever the save answers, and so is what a command puts that writes
 pub record IsFaithful (turn : Turn) : Type 0 where
   pub saved : (name bytes : List ℕ) (answer : Result (Unit {0}) SaveFault) → turn.asked ≡ OnStore (Save name bytes answer) → AreFaithful turn bytes
-  pub put : (depth : ℕ) (file : Option (List ℕ)) (call : PutCall) → turn.due.work ≡ Run depth (WriteBlif file) → turn.asked ≡ OnOut call
+  pub put : (depth : ℕ) (op : Op) (call : PutCall) → turn.due.work ≡ Run depth op → IsWriting op → turn.asked ≡ OnOut call
       → AreFaithful turn call.piece
 
 -- the status of a call, unless memory was wanting in the put of its last line

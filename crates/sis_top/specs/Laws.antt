@@ -8,7 +8,7 @@ use Rattle.sis_outside.specs.declared.store.LoadFault.{LoadFault}
 use Rattle.sis_outside.specs.declared.store.LoadFault.TheVariants as load
 use Rattle.sis_outside.specs.declared.source.TakeFault.{TakeFault}
 use Rattle.sis_words.specs.Asked.{TheOptions, TheScript, InFile, AsText, OnInput}
-use Rattle.sis_session.specs.Keeping.{HasOneOutcome, IsServed}
+use Rattle.sis_session.specs.Keeping.{IsServed}
 use Rattle.sis_session.specs.Plan.{MAX_BYTES, Asked, OnStore, OnOut, OnInput as FromInput, Cut}
 use Rattle.sis_session.specs.State.{Held}
 use Rattle.sis_session.specs.declared.refusal.Failed.TheVariants.{Memory as NoMemory}
@@ -76,14 +76,9 @@ abbrev pub Completes : Option TheOptions → Files → List ℕ → Status → T
 Completes None files left status = Unit {0}
 Completes (Some options) files left status = AreServed options.keep options.script files left → (status ≡ Done) ⊎ ((status ≡ Fault) ⊎ (status ≡ Memory))
 
--- each command has one outcome
-abbrev pub WorksOnce : Work → Type 0
-WorksOnce (Begin script) = Unit {0}
-WorksOnce (Run depth op) = HasOneOutcome op
-
--- a turn can end in one way only: its command has one outcome, and memory was not wanting
-abbrev pub IsCertain : Turn → Type 0
-IsCertain turn = WorksOnce turn.due.work × (turn.ending ≡ Cut NoMemory → ⊥)
+-- memory was not wanting in a turn
+abbrev pub HasMemory : Turn → Type 0
+HasMemory turn = turn.ending ≡ Cut NoMemory → ⊥
 
 -- two runs asked the same of the outside and were answered the same, as far as both go
 abbrev pub AreAlike : List Turn → List Turn → Type 0

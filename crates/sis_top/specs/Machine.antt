@@ -11,7 +11,8 @@ use Rattle.sis_script.specs.declared.command.Command.{Command}
 use Rattle.sis_session.specs.Commands.{Plans, commands_in, last_read}
 use Rattle.sis_session.specs.Plan.{MAX_BYTES, Outcome, Does, Refuses, Plan, Quiet, Loads, Takes, Asked, Ending, Done, Refused, Cut, Steps}
 use Rattle.sis_session.specs.Replies.{refusal_line}
-use Rattle.sis_session.specs.State.{Held, Spec, nothing_held}
+use Rattle.machine_model.specs.declared.machine.Spec.{Spec}
+use Rattle.sis_session.specs.State.{Held, nothing_held}
 use Rattle.sis_session.specs.declared.refusal.Failed.{Failed}
 use Rattle.sis_session.specs.declared.refusal.Failed.TheVariants as failed
 use Rattle.sis_session.specs.declared.refusal.Next.{Next}

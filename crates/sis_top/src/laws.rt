@@ -4,7 +4,7 @@ ghost use Rattle.std.specs.Prelude.{◌≡◌, Bool, List, [], false};
 ghost use Rattle.std.specs.List.{AllByRecursion};
 ghost use Rattle.sis_words.specs.Asked.{TheScript};
 ghost use Rattle.sis_session.specs.Keeping.{IsRefined};
-ghost use Rattle.sis_top.specs.Laws.{AreAlike, IsCertain, IsServedTurn};
+ghost use Rattle.sis_top.specs.Laws.{AreAlike, HasMemory, IsServedTurn};
 ghost use Rattle.sis_top.specs.Machine.{Machine, Runs, Turn, begun};
 
 use sis_session::{commands_end_once, served_commands_are_done, steps_keep_refinement};
@@ -24,11 +24,11 @@ pub fn served_runs_refuse_nothing()
     served_commands_are_done();
 }
 
-/// A law, no work: two whole runs of a script that asked the same of the outside and were answered the same are one,
-/// where each command has one outcome and memory was not wanting.
+/// A law, no work: two whole runs of a script that asked the same of the outside and were answered the same are one, where
+/// memory was not wanting.
 pub fn runs_are_one()
     ensures { (goes_on : Bool) (script : TheScript) (one other : List Turn) (end last : Machine) → Runs goes_on (begun script) one end → Runs goes_on (begun script) other last
-        → end.todo ≡ [] → last.todo ≡ [] → AllByRecursion IsCertain one → AllByRecursion IsCertain other → AreAlike one other → one ≡ other }
+        → end.todo ≡ [] → last.todo ≡ [] → AllByRecursion HasMemory one → AllByRecursion HasMemory other → AreAlike one other → one ≡ other }
 {
     commands_end_once();
 }

@@ -81,7 +81,10 @@ const FILES: &[(&str, &str, usize, &str, &str)] = &[
     (".names a y\n1 1\n0 0\n", "", 0, "", "line 3: mixed phase"),
     (".latch n\n", "", 0, "", "line 1: bad latch"),
     (".latch n q 4\n", "", 0, "", "line 1: bad latch"),
-    (".latch n q re c 0\n", "", 0, "", "line 1: bad latch"),
+    (".latch n q as c 0\n", "", 0, "", "line 1: bad latch"),
+    (".gate nand2 a=a O=y\n", "", 0, "", "line 1: no library"),
+    (".exdc\n.exdc\n", "", 0, "", "line 2: unknown word"),
+    (".exdc\n.clock c\n", "", 0, "", "line 2: unknown word"),
     (".inputs a\n.model m\n", "", 0, "", "line 2: second model"),
     (".inputs ", "n", 1024, "\n", "limit name 1024"),
     ("", ".latch n n\n", 65536, "", "limit tables 65536"),
@@ -137,6 +140,21 @@ const FILES: &[(&str, &str, usize, &str, &str)] = &[
         "line 65536: bad latch",
     ),
     (".inputs\n.model ", "n", 1024, "\n", "line 2: second model"),
+    (".exdc\n.model a b\n", "", 0, "", "line 2: unknown word"),
+    (".exdc\n.latch n\n", "", 0, "", "line 2: unknown word"),
+    (".exdc\n.gate\n", "", 0, "", "line 2: unknown word"),
+    (".end\n.gate\n", "", 0, "", "line 2: unknown word"),
+    (".gate\n", "", 0, "", "line 1: bad arity"),
+    (".exdc\n.names\n", "", 0, "", "line 2: bad arity"),
+    (".latch n q re ", "c", 1024, " 4\n", "line 1: bad latch"),
+    (".latch n q re ", "c", 1024, " 0\n", "limit name 1024"),
+    (
+        "",
+        ".latch n n\n",
+        65535,
+        ".exdc\n.names y\n",
+        "limit tables 65536",
+    ),
     // two lines: the first in the file
     (
         ".names a y\n1 1\n0 0\n.frob\n",
@@ -152,7 +170,22 @@ const FILES: &[(&str, &str, usize, &str, &str)] = &[
     (".names a\n.inputs a\n", "", 0, "", "two drivers of a"),
     (".names y\n.latch y y\n", "", 0, "", "two drivers of y"),
     (".outputs z\n", "", 0, "", "undriven z"),
-    (".names a y\n.latch n q\n", "", 0, "", "undriven a"),
+    (".inputs\n.names a y\n.latch n q\n", "", 0, "", "undriven a"),
+    (
+        ".latch d q\n.latch d r re NIL\n",
+        "",
+        0,
+        "",
+        "line 2: mixed clock",
+    ),
+    (".latch d q al q\n", "", 0, "", "gated clock q"),
+    (
+        ".names a n\n1 1\n.names n y\n1 1\n.exdc\n.names n y\n",
+        "",
+        0,
+        "",
+        "bad don't-care n",
+    ),
     (
         ".outputs y\n.names y x\n0 1\n.names x y\n0 1\n",
         "",
@@ -173,27 +206,43 @@ fn refused_files_change_nothing(rt: HostRuntime) -> Result<(), AllocError> {
     Ok(())
 }
 
-/// Parts of a file at which all that can be wrong with a whole file stands, and what mends each in turn.
-const PARTS: &[(&str, &str, &str)] = &[
+/// Parts of a file at which all that can be wrong with a whole file stands, in file order: each with what mends it, its fault,
+/// and how many are mended before it.
+const PARTS: &[(&str, &str, &str, usize)] = &[
     (
         ".model m\n.inputs a a\n",
         ".model m\n.inputs a b\n",
         "a listed twice",
+        0,
     ),
-    (".names a\n", ".names c\n", "two drivers of a"),
-    (".names u y\n1 1\n", ".names b y\n1 1\n", "undriven u"),
+    (
+        ".latch a q re c\n.latch a r fe c\n",
+        ".latch a q re c\n.latch a r re c\n",
+        "line 4: mixed clock",
+        1,
+    ),
+    (".names c\n", ".names d\n", "gated clock c", 2),
+    (".names a\n", ".names f\n", "two drivers of a", 3),
+    (".names u y\n1 1\n", ".names b y\n1 1\n", "undriven u", 4),
     (
         ".names v w\n1 1\n.names w v\n0 1\n",
         ".names b w\n1 1\n.names w v\n0 1\n",
         "cycle through w",
+        6,
+    ),
+    (
+        ".exdc\n.names e y\n",
+        ".exdc\n.names a y\n",
+        "bad don't-care e",
+        5,
     ),
 ];
 
 /// The file of which so many parts are mended.
 fn mended_file(alloc: Global, mended: usize) -> Result<String, AllocError> {
     let mut text = String::new(alloc);
-    for (i, (wrong, right, _)) in PARTS.iter().enumerate() {
-        text.push_str(if i < mended { right } else { wrong })?;
+    for (wrong, right, _, before) in PARTS {
+        text.push_str(if *before < mended { right } else { wrong })?;
     }
     Ok(text)
 }
@@ -201,14 +250,14 @@ fn mended_file(alloc: Global, mended: usize) -> Result<String, AllocError> {
 #[test]
 fn faults_of_a_whole_file_are_told_in_order(rt: HostRuntime) -> Result<(), AllocError> {
     let alloc = rt.alloc();
-    for (mended, (_, _, fault)) in PARTS.iter().enumerate() {
-        let text = mended_file(alloc, mended)?;
+    for (_, _, fault, before) in PARTS {
+        let text = mended_file(alloc, *before)?;
         assert_refused(&rt, alloc, text.as_str(), fault, fault)?;
     }
     let text = mended_file(alloc, PARTS.len())?;
     let left = Left {
         status: Status::Done,
-        out: b"m pi=2 po=0 nodes=4 latches=0 lits=3 dc=0\n",
+        out: b"m pi=2 po=6 nodes=5 latches=2 lits=3 dc=1\n",
         err: b"",
         written: None,
     };

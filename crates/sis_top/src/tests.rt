@@ -90,6 +90,60 @@ const FILES: &[(&str, &[u8])] = &[
         "s",
         b"echo hi\nfrob # no command\necho bye; quit; echo no\n",
     ),
+    ("empty", b""),
+    (
+        "clk",
+        b"# from a tool\n.model t\n.inputs clk d\n.outputs q\n.latch d q re clk 2\n.names $false\n.end\n",
+    ),
+    (
+        "mixed",
+        b"# from a tool\n.model t\n.inputs clk d\n.outputs q\n.latch d q re clk 2\n.latch q r fe clk\n.names $false\n.end\n",
+    ),
+    (
+        "gated",
+        b"# from a tool\n.model t\n.inputs clk d\n.outputs q\n.latch d q re clk 2\n.names clk\n.end\n",
+    ),
+    ("ports", b".model m\n.names a b y\n11 1\n"),
+    (
+        "exdc",
+        b".model d\n.inputs a b\n.outputs y\n.names a b y\n10 1\n01 1\n.exdc\n.names a y\n1 1\n.end\n",
+    ),
+    (
+        "sub",
+        b".model d\n.inputs a b\n.outputs y\n.subckt e\n.names a b y\n10 1\n01 1\n.exdc\n.names a y\n1 1\n.end\n",
+    ),
+    (
+        "bad",
+        b".model d\n.inputs a b\n.outputs y\n.names a y\n1 1\n.exdc\n.names c y\n1 1\n.end\n",
+    ),
+    (
+        "kiss",
+        b".i 1\n.o 1\n0 A A 0\n1 A B 0\n- B C 1\n0 C A -\n.e\n",
+    ),
+    (
+        "clash",
+        b".i 1\n.o 1\n0 A A 0\n- A A 1\n1 A B 0\n- B C 1\n0 C A -\n.e\n",
+    ),
+    (
+        "lib",
+        b"GATE inv 1 O=!a; PIN * INV 1 999 1 0 1 0\nGATE nand2 2 O=!(a*b); PIN * INV 1 999 1 0 1 0\n",
+    ),
+    (
+        "number",
+        b"GATE g x O=a; PIN * INV 1 999 1 0 1 0\nGATE inv 1 O=!a; PIN * INV 1 999 1 0 1 0\n",
+    ),
+    (
+        "same",
+        b"GATE xor 5 O=a*!b+!a*b; PIN * INV 1 999 1 0 1 0\nGATE xor 5 O=!(a*b+!a*!b); PIN * INV 1 999 1 0 1 0\n",
+    ),
+    (
+        "twice",
+        b"GATE xor 5 O=a*!b+!a*b; PIN * INV 1 999 1 0 1 0\nGATE xor 6 O=!(a*b+!a*!b); PIN * INV 1 999 1 0 1 0\n",
+    ),
+    (
+        "gate",
+        b".model g\n.inputs a b\n.outputs y\n.gate nand2 a=a b=b O=y\n.end\n",
+    ),
     ("h", b"echo hi"),
     ("p", b"echo hi\nfrob\n"),
     ("r", b"source r"),
@@ -307,6 +361,53 @@ const DONE: &[(&[&str], &[u8], &[u8], Option<&[u8]>)] = &[
         b"f = a*(c + d) + b*(c + d)\n\nf = a*(c + d) + b*(c + d)\n!g = a*f\n",
         None,
     ),
+    (
+        &["-c", "read_blif empty; write_blif b"],
+        b"",
+        b"",
+        Some(b".model top\n.inputs\n.outputs\n.end\n"),
+    ),
+    (
+        &["-c", "read_blif clk; print_latch; write_blif b"],
+        b"",
+        b".latch d q re clk 2\n",
+        Some(b".model t\n.inputs clk d\n.outputs q\n.latch d q re clk 2\n.names $false\n.end\n"),
+    ),
+    (
+        &["-c", "read_blif ports; write_blif b"],
+        b"",
+        b"",
+        Some(b".model m\n.inputs a b\n.outputs y\n.names a b y\n11 1\n.end\n"),
+    ),
+    (
+        &[
+            "-c",
+            "read_blif exdc; print_stats; sweep; eliminate -1; collapse; write_blif b",
+        ],
+        b"",
+        b"d pi=2 po=1 nodes=1 latches=0 lits=4 dc=1\n",
+        Some(
+            b".model d\n.inputs a b\n.outputs y\n.names a b y\n10 1\n01 1\n.exdc\n.names a y\n1 1\n.end\n",
+        ),
+    ),
+    (
+        &[
+            "-c",
+            "read_blif a; read_kiss kiss; write_kiss; write_kiss b",
+        ],
+        b"",
+        b".i 1\n.o 1\n.p 4\n.s 3\n.r A\n0 A A 0\n1 A B 0\n- B C 1\n0 C A -\n.e\n",
+        Some(b".i 1\n.o 1\n.p 4\n.s 3\n.r A\n0 A A 0\n1 A B 0\n- B C 1\n0 C A -\n.e\n"),
+    ),
+    (
+        &[
+            "-c",
+            "read_library lib; read_library same; read_blif a; print_stats",
+        ],
+        b"",
+        STATS,
+        None,
+    ),
     (&[], b"echo ready\nquit\n", b"ready\n", None),
     (&["-k"], b"", b"", None),
     (&["-c", "source h; echo bye"], b"", b"hi\nbye\n", None),
@@ -369,6 +470,57 @@ const REFUSED: &[(&[&str], &[u8], &[u8])] = &[
         &["-c", "read_blif n; print -z"],
         b"",
         b"sis: line 1: no table -z\n",
+    ),
+    (
+        &["-c", "read_blif mixed"],
+        b"",
+        b"sis: line 1: mixed: line 6: mixed clock\n",
+    ),
+    (
+        &["-c", "read_blif gated"],
+        b"",
+        b"sis: line 1: gated: gated clock clk\n",
+    ),
+    (
+        &["-c", "read_blif sub"],
+        b"",
+        b"sis: line 1: sub: line 4: unknown word\n",
+    ),
+    (
+        &["-c", "read_blif bad"],
+        b"",
+        b"sis: line 1: bad: bad don't-care c\n",
+    ),
+    (
+        &["-c", "read_blif gate"],
+        b"",
+        b"sis: line 1: gate: line 4: no library\n",
+    ),
+    (&["-c", "write_kiss"], b"", b"sis: line 1: no machine\n"),
+    (
+        &["-c", "read_kiss kiss; write_blif"],
+        b"",
+        b"sis: line 1: no network\n",
+    ),
+    (
+        &["-c", "read_kiss kiss; read_blif a; write_kiss"],
+        b"",
+        b"sis: line 1: no machine\n",
+    ),
+    (
+        &["-c", "read_kiss clash"],
+        b"",
+        b"sis: line 1: clash: rows 1 and 2 clash\n",
+    ),
+    (
+        &["-c", "read_library number"],
+        b"",
+        b"sis: line 1: number: line 1: bad number\n",
+    ),
+    (
+        &["-c", "read_library twice"],
+        b"",
+        b"sis: line 1: twice: gate xor twice\n",
     ),
     (&["-c", "frob"], b"", b"sis: line 1: unknown command\n"),
     (&["-c", "read_blif"], b"", b"sis: line 1: missing word\n"),

@@ -13,7 +13,7 @@ use crate::running::run;
 use crate::status::{Status, Stop};
 use sis_outside::{PutFault, Sink, Source, Store, sinks_went, sources_went, stores_went};
 use sis_session::{
-    Failed, error_text, networks_are_written, served_commands_are_done, steps_keep_refinement,
+    Failed, error_text, served_commands_are_done, steps_keep_refinement, what_is_held_is_written,
 };
 use sis_text::Word;
 use sis_words::{Options, WordsFault, read_words};
@@ -96,7 +96,7 @@ fn run_options<S: Store, I: Source, O: Sink, E: Sink>(
     ensures { IsRun (options_in options.entry).keep (options_in options.entry).script (Follows S.calls store.old store.new) (Follows I.calls input.old input.new) (Follows O.calls out.old out.new) (Follows E.calls err.old err.new) result }
 {
     steps_keep_refinement();
-    networks_are_written();
+    what_is_held_is_written();
     match run(alloc, options, store, input, out, err) {
         Ok(refused) => status_of(refused),
         Err(stop) => tell_stop(alloc, stop, err),

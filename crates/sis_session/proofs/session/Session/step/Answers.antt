@@ -21,9 +21,21 @@ pub returns-in-ReadBlif-clause-did : goal.returns-in-ReadBlif-clause-did
 returns-in-ReadBlif-clause-did g c =
     rw c.in-ReadBlif.is (store_alone g.O.Sink.calls _ _ c.args.out.now _ c.read_blif.ensures.did)
 
+pub returns-in-ReadKiss-clause-did : goal.returns-in-ReadKiss-clause-did
+returns-in-ReadKiss-clause-did g c =
+    rw c.in-ReadKiss.is (store_alone g.O.Sink.calls _ _ c.args.out.now _ c.read_kiss.ensures.did)
+
+pub returns-in-ReadLibrary-clause-did : goal.returns-in-ReadLibrary-clause-did
+returns-in-ReadLibrary-clause-did g c =
+    rw c.in-ReadLibrary.is (store_alone g.O.Sink.calls _ _ c.args.out.now _ c.read_library.ensures.did)
+
 pub returns-in-WriteBlif-clause-did : goal.returns-in-WriteBlif-clause-did
 returns-in-WriteBlif-clause-did g c =
     rw (c.in-WriteBlif.is, ← c.self.view_is) (c.send_told.ensures.did _ _ c.network_text.ensures)
+
+pub returns-in-WriteKiss-clause-did : goal.returns-in-WriteKiss-clause-did
+returns-in-WriteKiss-clause-did g c =
+    rw (c.in-WriteKiss.is, ← c.self-in-WriteKiss.view_is) (c.send_told-in-WriteKiss.ensures.did _ _ c.machine_told.ensures)
 
 pub returns-in-PrintStats-clause-did : goal.returns-in-PrintStats-clause-did
 returns-in-PrintStats-clause-did g c =
@@ -68,6 +80,9 @@ returns-in-Echo-clause-nests g c = c.put_told.ensures.nests c.args.depth
 
 pub returns-in-WriteBlif-clause-nests : goal.returns-in-WriteBlif-clause-nests
 returns-in-WriteBlif-clause-nests g c = c.send_told.ensures.nests c.args.depth
+
+pub returns-in-WriteKiss-clause-nests : goal.returns-in-WriteKiss-clause-nests
+returns-in-WriteKiss-clause-nests g c = c.send_told-in-WriteKiss.ensures.nests c.args.depth
 
 pub returns-in-PrintStats-clause-nests : goal.returns-in-PrintStats-clause-nests
 returns-in-PrintStats-clause-nests g c = c.put_told-in-PrintStats.ensures.nests c.args.depth

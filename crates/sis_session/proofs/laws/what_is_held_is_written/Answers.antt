@@ -1,5 +1,5 @@
 use Rattle.sis_session.proofs.Effects.{saved_step, put_step}
-use Rattle.sis_session.proofs.laws.networks_are_written.Goals as goal
+use Rattle.sis_session.proofs.laws.what_is_held_is_written.Goals as goal
 
 pub returns-clause-saved : goal.returns-clause-saved
 returns-clause-saved c = saved_step
