@@ -109,10 +109,14 @@ fn fault_text(alloc: Global, fault: &BlifFault) -> Result<Vec<u8>, AllocError> {
         BlifFault::MixedPhase(line) => numbered(alloc, "phase", *line),
         BlifFault::BadLatch(line) => numbered(alloc, "latch", *line),
         BlifFault::SecondModel(line) => numbered(alloc, "model", *line),
+        BlifFault::NoLibrary(line) => numbered(alloc, "library", *line),
         BlifFault::Limit(kind, reached) => limit_text(alloc, *kind, *reached),
         BlifFault::NameTwice(name) => named(alloc, b"listed", name),
+        BlifFault::MixedClock(line) => numbered(alloc, "clock", *line),
+        BlifFault::GatedClock(name) => named(alloc, b"gated", name),
         BlifFault::TwoDrivers(name) => named(alloc, b"driven", name),
         BlifFault::Undriven(name) => named(alloc, b"undriven", name),
+        BlifFault::BadExdc(name) => named(alloc, b"exdc", name),
         BlifFault::Cycle(name) => named(alloc, b"cycle", name),
     }
 }

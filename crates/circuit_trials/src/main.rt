@@ -5,6 +5,7 @@
 //! out by hand from the definitions, and each call stands there at least once.
 #![tactic(auto)]
 
+mod aliases;
 mod base;
 mod checks;
 mod files;
@@ -15,7 +16,6 @@ mod needed;
 mod parts;
 mod readers;
 mod tables;
-mod wires;
 
 use std::alloc::{AllocError, Global};
 use std::io;
@@ -38,9 +38,9 @@ fn lower_answer(alloc: Global, case: &Case<'_>) -> Result<Vec<u8>, CaseFault> {
 fn answer(alloc: Global, case: &Case<'_>) -> Result<Vec<u8>, CaseFault> {
     match case.word(0) {
         "tables" => tables::answer(alloc, case),
-        "net_readers" => readers::answer(alloc, case),
+        "input_readers" => readers::answer(alloc, case),
         "net_needed" => needed::answer(alloc, case),
-        "net_wires" => wires::answer(alloc, case),
+        "net_wires" => aliases::answer(alloc, case),
         "files" => files::answer(alloc, case),
         _ => lower_answer(alloc, case),
     }

@@ -10,7 +10,7 @@ use blif_write::circuit_text;
 use circuit_model::{Circuit, Latch, Name, Names, Table};
 use indexmap::{IndexMap, IndexSet};
 use net_needed::{
-    constant_table, driven_names, is_among, leaves_read, need_step, note_place, written_bit,
+    constant_table, dangling_step, driven_names, is_among, leaves_read, note_place, written_bit,
 };
 use sis_base::{Copied, Sequence};
 use std::alloc::{AllocError, Global};
@@ -20,7 +20,7 @@ use trial_cases::{Case, CaseFault, number_of, put_line};
 pub fn answer(alloc: Global, case: &Case<'_>) -> Result<Vec<u8>, CaseFault> {
     let made = circuit(alloc, case.lines.as_slice())?;
     match case.word(1) {
-        "need_step" => need_answer(alloc, &made),
+        "dangling_step" => dangling_answer(alloc, &made),
         "written_bit" => Ok(bits_answer(alloc, made.tables.as_slice())?),
         "constant_table" => constant_answer(alloc, case.word(2), case.word(3)),
         "driven_names" => Ok(names_answer(alloc, &driven_names(alloc, made.tables.as_slice())?)?),
@@ -58,11 +58,11 @@ fn needed(alloc: Global, circuit: &Circuit) -> Result<Option<Circuit>, CaseFault
     if !have_one_latch(alloc, circuit.latches.as_slice())? {
         return Err(CaseFault::Bad);
     }
-    Ok(need_step(alloc, circuit)?)
+    Ok(dangling_step(alloc, circuit)?)
 }
 
 /// The text of the circuit of what is needed, or that all is.
-fn need_answer(alloc: Global, circuit: &Circuit) -> Result<Vec<u8>, CaseFault> {
+fn dangling_answer(alloc: Global, circuit: &Circuit) -> Result<Vec<u8>, CaseFault> {
     match needed(alloc, circuit)? {
         None => Ok(line(alloc, "all is needed")?),
         Some(next) => {

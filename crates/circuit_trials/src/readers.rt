@@ -1,13 +1,14 @@
-//! Who reads what, while tables change. Lines `table` are the tables at first; `ask` tells of each signal whether it is
-//! read, how many tables read it, and where they stand; `change` puts another table at a place.
+//! Who reads what, while the inputs at places change. Lines `table` are the tables at first, which stand at places in their
+//! order; `ask` tells of each signal whether it is read, how many places read it, and which; `change` puts another table at
+//! a place.
 
 use crate::parts::{circuit, circuit_lines, letters, name_of, put_names, table, word_at, words_of};
 use circuit_model::{Name, Table};
-use net_readers::Readers;
+use input_readers::Readers;
 use std::alloc::{AllocError, Global};
 use trial_cases::{Case, CaseFault, number_of, put_line};
 
-/// The answer to a case of net_readers.
+/// The answer to a case of input_readers.
 pub fn answer(alloc: Global, case: &Case<'_>) -> Result<Vec<u8>, CaseFault> {
     let (first, rest) = circuit_lines(case.lines.as_slice());
     let mut tables = circuit(alloc, first)?.tables.into_vec();
@@ -20,13 +21,22 @@ pub fn answer(alloc: Global, case: &Case<'_>) -> Result<Vec<u8>, CaseFault> {
     Ok(out)
 }
 
-/// The readers in tables, or those in no table.
+/// The readers where tables are added, or where nothing is read.
 fn begun(alloc: Global, word: &str, tables: &[Table]) -> Result<Readers, CaseFault> {
     match word {
-        "of_tables" => Ok(Readers::of_tables(alloc, tables)?),
+        "add" => added(alloc, tables),
         "of_none" => Ok(Readers::of_none(alloc)),
         _ => Err(CaseFault::Bad),
     }
+}
+
+/// The readers where the inputs of each table are added at its place.
+fn added(alloc: Global, tables: &[Table]) -> Result<Readers, CaseFault> {
+    let mut readers = Readers::of_none(alloc);
+    for (place, table) in tables.iter().enumerate() {
+        readers.add(alloc, place, table.inputs.as_slice())?;
+    }
+    Ok(readers)
 }
 
 /// Takes a line behind the tables.
@@ -59,7 +69,8 @@ fn change(
     if place >= tables.len() {
         return Err(CaseFault::Bad);
     }
-    readers.change(alloc, place, &tables[place], &now)?;
+    let before = tables[place].inputs.as_slice();
+    readers.change(alloc, place, before, now.inputs.as_slice())?;
     tables[place] = now;
     Ok(())
 }
@@ -87,7 +98,7 @@ fn tell(
     let places = readers.places(alloc, name)?;
     let text = format!(in alloc;
         " {} {} {places:?}",
-        readers.is_read(name),
+        readers.has_readers(name),
         readers.count(name)
     )?;
     out.extend_from_slice(name.as_slice())?;

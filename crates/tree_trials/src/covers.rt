@@ -1,0 +1,238 @@
+//! What is told of a circuit's trees and of their covers.
+
+ghost use Rattle.std.specs.Prelude.{◌≡◌, ◌<◌, ◌≤◌, ℕ, length, IfOk};
+ghost use Rattle.circuit_model.specs.Soundness.{IsSound as IsSoundCircuit};
+ghost use Rattle.genlib_format.specs.Soundness.{IsSound as IsSoundLibrary};
+ghost use Rattle.subject_tree.specs.Trees.{size_of};
+ghost use Rattle.subject_tree.specs.Arenas.{tree_at};
+ghost use Rattle.tree_cover.specs.Candidates.{IsLibrary};
+ghost use Rattle.cover_gates.specs.Postorder.{AreBelow};
+
+use crate::gates::{Naming, put_gates};
+use crate::libraries::lack;
+use crate::texts::{
+    behind_first, circuit, library, line, parted, put_area, put_last_number, put_word,
+};
+use circuit_model::Circuit;
+use cover_gates::{WrittenCover, write_cover};
+use genlib_format::Library;
+use library_cells::laws::sound_libraries_cover_trees;
+use library_cells::library_patterns;
+use pattern_set::{Patterns, covers_all};
+use std::alloc::{AllocError, Global};
+use subject_tree::{Forest, ForestFault, Root, forest_of};
+use tree_cover::{Choice, best};
+use trial_cases::CaseFault;
+
+/// The forest of a circuit.
+fn forest(alloc: Global, circuit: &Circuit) -> Result<Forest, ForestFault>
+    requires { IsSoundCircuit circuit.now }
+    ensures { IfOk result (λ forest. (n : ℕ) → n < length forest.arena → size_of (tree_at forest.arena n) ≤ 1048575) }
+{
+    forest_of(alloc, circuit)
+}
+
+/// What is told of a circuit's forest: each root with the size of its tree, or how many vertices there are.
+pub fn forest_answer(alloc: Global, lines: &[&str], is_whole: bool) -> Result<Vec<u8>, CaseFault> {
+    let circuit = circuit(alloc, lines)?;
+    match forest(alloc, &circuit) {
+        Ok(forest) => Ok(tell_forest(alloc, &forest, is_whole)?),
+        Err(ForestFault::TreeLimit) => Ok(line(alloc, "tree limit")?),
+        Err(ForestFault::Memory) => Err(CaseFault::Memory),
+    }
+}
+
+/// What is told of a forest.
+fn tell_forest(alloc: Global, forest: &Forest, is_whole: bool) -> Result<Vec<u8>, AllocError> {
+    if is_whole {
+        return tell_roots(alloc, forest);
+    }
+    tell_vertices(alloc, forest)
+}
+
+/// How many vertices a forest keeps.
+fn tell_vertices(alloc: Global, forest: &Forest) -> Result<Vec<u8>, AllocError> {
+    let mut out = Vec::new(alloc);
+    put_last_number(alloc, &mut out, forest.arena.len())?;
+    Ok(out)
+}
+
+/// Each root of a forest with the size of its tree.
+fn tell_roots(alloc: Global, forest: &Forest) -> Result<Vec<u8>, AllocError> {
+    let mut out = Vec::new(alloc);
+    let sizes = forest.arena.sizes(alloc)?;
+    for root in &forest.roots {
+        put_word(&mut out, root.name.as_slice())?;
+        let size = sizes.as_slice().get(root.number).copied().unwrap_or(0);
+        put_last_number(alloc, &mut out, size as usize)?;
+    }
+    Ok(out)
+}
+
+/// The covers of a circuit's trees by the gates of a library, each gate on a line where all is told, and their area and
+/// number together; or why there are none.
+pub fn cover_answer(alloc: Global, lines: &[&str], is_whole: bool) -> Result<Vec<u8>, CaseFault> {
+    let (first, rest) = parted(lines);
+    let library = library(alloc, first)?;
+    let circuit = circuit(alloc, behind_first(rest))?;
+    tell_cover(alloc, &library, &circuit, is_whole)
+}
+
+/// What is told of the covers of a circuit's trees.
+fn tell_cover(
+    alloc: Global,
+    library: &Library,
+    circuit: &Circuit,
+    is_whole: bool,
+) -> Result<Vec<u8>, CaseFault>
+    requires library { IsSoundLibrary library.now }
+    requires circuit { IsSoundCircuit circuit.now }
+{
+    sound_libraries_cover_trees();
+    let patterns = library_patterns(alloc, library)?;
+    match covers_all(&patterns) {
+        Ok(()) => cover_trees(alloc, library, &patterns, circuit, is_whole),
+        Err(fault) => Ok(line(alloc, lack(fault))?),
+    }
+}
+
+/// Covers the trees of a circuit, where the library covers all trees.
+fn cover_trees(
+    alloc: Global,
+    library: &Library,
+    patterns: &Patterns,
+    circuit: &Circuit,
+    is_whole: bool,
+) -> Result<Vec<u8>, CaseFault>
+    requires patterns { IsLibrary patterns.now.arena patterns.now.gates }
+    requires circuit { IsSoundCircuit circuit.now }
+{
+    match forest(alloc, circuit) {
+        Ok(forest) => Ok(cover_forest(alloc, library, patterns, &forest, is_whole)?),
+        Err(ForestFault::TreeLimit) => Ok(line(alloc, "tree limit")?),
+        Err(ForestFault::Memory) => Err(CaseFault::Memory),
+    }
+}
+
+/// Covers the trees of a forest.
+fn cover_forest(
+    alloc: Global,
+    library: &Library,
+    patterns: &Patterns,
+    forest: &Forest,
+    is_whole: bool,
+) -> Result<Vec<u8>, AllocError>
+    requires patterns { IsLibrary patterns.now.arena patterns.now.gates }
+    requires sizes { (n : ℕ) → n < length forest.now.arena → size_of (tree_at forest.now.arena n) ≤ 1048575 }
+{
+    let choices = best(alloc, &forest.leaves, &forest.arena, patterns)?;
+    tell_covers(alloc, library, forest, choices.as_slice(), is_whole)
+}
+
+/// The area and the number of gates so far, and how many of them drive no root.
+#[derive(Clone, Copy)]
+struct Tally {
+    area: u128,
+    gates: usize,
+    inner: usize,
+}
+
+/// What is told of the covers that choices make.
+fn tell_covers(
+    alloc: Global,
+    library: &Library,
+    forest: &Forest,
+    choices: &[Choice],
+    is_whole: bool,
+) -> Result<Vec<u8>, AllocError>
+    requires count { length choices.now ≡ length forest.now.arena }
+    requires below { AreBelow choices.now }
+{
+    let mut out = Vec::new(alloc);
+    let mut tally = Tally {
+        area: 0,
+        gates: 0,
+        inner: 0,
+    };
+    for root in &forest.roots {
+        take_root(
+            alloc, &mut out, &mut tally, library, forest, choices, root, is_whole,
+        )?;
+    }
+    put_totals(alloc, &mut out, &tally)?;
+    Ok(out)
+}
+
+/// Counts the cover of a root in, and puts its lines behind a text where all is told.
+fn take_root(
+    alloc: Global,
+    out: &mut Vec<u8>,
+    tally: &mut Tally,
+    library: &Library,
+    forest: &Forest,
+    choices: &[Choice],
+    root: &Root,
+    is_whole: bool,
+) -> Result<(), AllocError>
+    requires count { length choices.now ≡ length forest.now.arena }
+    requires below { AreBelow choices.now }
+{
+    if root.number >= forest.arena.len() {
+        return Ok(());
+    }
+    let cover = write_cover(alloc, &forest.arena, choices, root.number)?;
+    let area = cost_at(choices, root.number);
+    if is_whole {
+        put_tree(alloc, out, library, forest, root, &cover, area, tally.inner)?;
+    }
+    count_in(tally, area, cover.gates.len());
+    Ok(())
+}
+
+/// What the tree of a number costs.
+fn cost_at(choices: &[Choice], number: usize) -> u128 {
+    match choices.get(number) {
+        Some(choice) => choice.cost,
+        None => 0,
+    }
+}
+
+/// Counts a cover in.
+fn count_in(tally: &mut Tally, area: u128, gates: usize) {
+    tally.area = tally.area.saturating_add(area);
+    tally.gates = tally.gates.saturating_add(gates);
+    tally.inner = tally.inner.saturating_add(gates.saturating_sub(1));
+}
+
+/// Puts the lines of a root's cover behind a text.
+fn put_tree(
+    alloc: Global,
+    out: &mut Vec<u8>,
+    library: &Library,
+    forest: &Forest,
+    root: &Root,
+    cover: &WrittenCover,
+    area: u128,
+    first: usize,
+) -> Result<(), AllocError> {
+    put_word(out, b"tree")?;
+    out.extend_from_slice(root.name.as_slice())?;
+    out.extend_from_slice(b" area=")?;
+    put_area(alloc, out, area)?;
+    out.push(b'\n')?;
+    let naming = Naming {
+        leaves: &forest.leaves,
+        root: &root.name,
+        count: cover.gates.len(),
+        first,
+    };
+    put_gates(alloc, out, &naming, library, cover)
+}
+
+/// Puts the area and the number of all gates behind a text.
+fn put_totals(alloc: Global, out: &mut Vec<u8>, tally: &Tally) -> Result<(), AllocError> {
+    out.extend_from_slice(b"total area=")?;
+    put_area(alloc, out, tally.area)?;
+    out.extend_from_slice(b" gates=")?;
+    put_last_number(alloc, out, tally.gates)
+}
