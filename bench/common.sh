@@ -1,4 +1,4 @@
-# What the benchmarks share: time and peak memory of a command, and the same script run by `sis` and by ABC (Debian's
+# What the benchmarks share: time, processor time and peak memory of a command, and the same script run by `sis` and by ABC (Debian's
 # berkeley-abc). Read by the scripts beside it, which set $top (the repository); $work is a folder for
 # files that goes with the script.
 
@@ -14,8 +14,8 @@ name, command = sys.argv[1], sys.argv[2:]
 begun = time.time()
 status = subprocess.run(command, stdout=subprocess.DEVNULL, stderr=subprocess.DEVNULL).returncode
 taken = time.time() - begun
-peak = resource.getrusage(resource.RUSAGE_CHILDREN).ru_maxrss
-print(f"  {name:4} {taken:.2f} s, peak {peak} kB, status {status}")
+used = resource.getrusage(resource.RUSAGE_CHILDREN)
+print(f"  {name:4} {taken:.2f} s, processor {used.ru_utime + used.ru_stime:.2f} s, peak {used.ru_maxrss} kB, status {status}")
 PY
 }
 
