@@ -72,8 +72,8 @@ unfolding tidied
 tidied_rows table =
     let ready : Table = with_phase_one (folded table) in
     let few : length ready.rows ≤ suc (length table.rows) = phase_rows (folded table) (length table.rows) (folded_few table) in
-    let once : length (rows_once [] ready.rows) ≤ length ready.rows = once_small [] ready.rows in
-    let narrow : length (narrowed (record ready { rows = rows_once [] ready.rows })).rows ≤ length (rows_once [] ready.rows) = narrowed_rows (record ready { rows = rows_once [] ready.rows }) in
+    let once : length (rows_once ready.rows) ≤ length ready.rows = once_small ready.rows in
+    let narrow : length (narrowed (record ready { rows = rows_once ready.rows })).rows ≤ length (rows_once ready.rows) = narrowed_rows (record ready { rows = rows_once ready.rows }) in
     omega (arith, few, once, narrow)
 
 tidied_inputs : (table : Table) → length (tidied table).inputs ≤ length table.inputs
@@ -81,7 +81,7 @@ unfolding tidied
 tidied_inputs table =
     let ready : Table = with_phase_one (folded table) in
     let few : length ready.inputs ≤ length table.inputs = phase_inputs (folded table) (length table.inputs) (folded_input_count table) in
-    let narrow : length (narrowed (record ready { rows = rows_once [] ready.rows })).inputs ≤ length ready.inputs = narrowed_inputs (record ready { rows = rows_once [] ready.rows }) in
+    let narrow : length (narrowed (record ready { rows = rows_once ready.rows })).inputs ≤ length ready.inputs = narrowed_inputs (record ready { rows = rows_once ready.rows }) in
     omega (arith, few, narrow)
 
 -- what is not refused is small

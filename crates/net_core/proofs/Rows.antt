@@ -5,7 +5,8 @@ use Rattle.sis_base.specs.Rows.{HasWidth}
 use Rattle.circuit_model.specs.declared.circuit.Tri.{Tri}
 use Rattle.circuit_model.specs.declared.circuit.Tri.TheVariants.{Zero, One, Free}
 use Rattle.circuit_model.specs.declared.circuit.Table.{Table as Written}
-use Rattle.net_core.specs.Tables.{place_of, character_of, places_of, characters_of, HasCharacters, named, covered}
+use Rattle.circuit_model.specs.Values.{literal_of}
+use Rattle.net_core.specs.Tables.{character_of, places_of, characters_of, HasCharacters, named, covered}
 
 -- a loop that fills a list from the front
 pub fill_more : {X : Type 0} (xs ys : List X) (i : ℕ) (d : X) → i < length xs → length ys ≡ length xs → set (take i xs ++ drop i ys) i (get_or xs i d) ≡ take (suc i) xs ++ drop (suc i) ys
@@ -22,12 +23,12 @@ fill_step {X} {Y} f xs ys row i d h e k =
     let n : i + 1 ≡ suc i = omega arith in
     rw (k, at, n) (fill_more (map f xs) ys i (f d) (omega (arith, length-map xs f)) (omega (arith, length-map xs f)))
 
-pub character_back : (c : Tri) → character_of (place_of c) ≡ c
+pub character_back : (c : Tri) → character_of (literal_of c) ≡ c
 character_back Zero = refl
 character_back One = refl
 character_back Free = refl
 
-pub place_back : (p : Option Bool) → place_of (character_of p) ≡ p
+pub place_back : (p : Option Bool) → literal_of (character_of p) ≡ p
 place_back None = refl
 place_back (Some true) = refl
 place_back (Some false) = refl
@@ -51,7 +52,7 @@ all_places_back (row ∷ rows) = rw (places_back row, all_places_back rows) refl
 pub width_of_characters : (w : ℕ) (rows : List (List Tri)) → HasCharacters w rows → HasWidth w (map places_of rows)
 unfolding HasWidth
 width_of_characters w [] h = tt
-width_of_characters w (row ∷ rows) h = (length-map row place_of ∙ h.0, width_of_characters w rows h.1)
+width_of_characters w (row ∷ rows) h = (length-map row literal_of ∙ h.0, width_of_characters w rows h.1)
 
 pub written_back : (R : Type 0) (t : Written) → named t.output (covered {R = R} t) ≡ t
 unfolding named covered

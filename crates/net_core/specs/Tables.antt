@@ -10,10 +10,6 @@ use Rattle.circuit_model.specs.declared.circuit.Tri.TheVariants.{Zero, One, Free
 use Rattle.circuit_model.specs.declared.circuit.Table.{Table as Written}
 use Rattle.net_core.specs.declared.table.Table.{Table}
 
--- the place that a character stands for
-abbrev pub place_of : Tri → Option Bool
-place_of character = literal_of character
-
 -- the character of a place
 abbrev pub character_of : Option Bool → Tri
 character_of None = Free
@@ -22,7 +18,7 @@ character_of (Some false) = Zero
 
 -- the places of a row
 abbrev pub places_of : List Tri → List (Option Bool)
-places_of row = map place_of row
+places_of row = map literal_of row
 
 -- the characters of a row
 abbrev pub characters_of : List (Option Bool) → List Tri

@@ -2,7 +2,8 @@
 
 ghost use Rattle.std.specs.Prelude.{◌≡◌, ℕ, List, length, map, IfOk};
 ghost use Rattle.std.specs.List.{AllByRecursion};
-ghost use Rattle.net_core.specs.Tables.{place_of, character_of, places_of, characters_of, covered, named, HasCharacters};
+ghost use Rattle.circuit_model.specs.Values.{literal_of};
+ghost use Rattle.net_core.specs.Tables.{character_of, places_of, characters_of, covered, named, HasCharacters};
 
 use circuit_model::{Name, Names, Row as Characters, Rows, Table as Written, Tri};
 use cube_cover::{Cover, Row};
@@ -19,7 +20,7 @@ pub struct Table<R: Row> {
 
 // The place of a row that a character stands for.
 fn place_from(character: Tri) -> Option<bool>
-    ensures { result ≡ place_of character }
+    ensures { result ≡ literal_of character }
 {
     match character {
         Tri::Zero => Some(false),

@@ -74,14 +74,14 @@ phased_no_wider table = cases (some_row_or_phase_one table.rows table.phase)
 narrowed_no_longer : (table : Table) → length (narrowed (with_rows_once table)).rows ≤ length table.rows
 unfolding narrowed
 narrowed_no_longer table =
-    let same : length (map (chosen (used_places table.inputs (rows_once [] table.rows))) (rows_once [] table.rows)) ≡ length (rows_once [] table.rows) =
-    length-map (rows_once [] table.rows) (chosen (used_places table.inputs (rows_once [] table.rows))) in
-    let once : length (rows_once [] table.rows) ≤ length table.rows = once_small [] table.rows in
+    let same : length (map (chosen (used_places table.inputs (rows_once table.rows))) (rows_once table.rows)) ≡ length (rows_once table.rows) =
+    length-map (rows_once table.rows) (chosen (used_places table.inputs (rows_once table.rows))) in
+    let once : length (rows_once table.rows) ≤ length table.rows = once_small table.rows in
     omega arith
 
 narrowed_no_wider : (table : Table) → length (narrowed (with_rows_once table)).inputs ≤ length table.inputs
 unfolding narrowed
-narrowed_no_wider table = chosen_small (used_places table.inputs (rows_once [] table.rows)) table.inputs
+narrowed_no_wider table = chosen_small (used_places table.inputs (rows_once table.rows)) table.inputs
 
 tidied_no_longer : (most : ℕ) → 1 ≤ most → (table : Table) → HasRows most table → HasRows most (tidied table)
 unfolding tidied

@@ -104,10 +104,10 @@ tidied_at : (name : List ℕ) (bit : Bool) (table : Table) → IsShaped table �
 tidied_at name bit table shaped once reads =
     cases (some_row_or_phase_one (with_rows_at name bit table).rows (with_rows_at name bit table).phase) refl (filtered_few (row_at_bit name bit table.inputs) table.rows) (names_some table.inputs name reads)
   where
-    free : list_all (λ used. used) (used_places table.inputs (rows_once [] (with_rows_at name bit table).rows)) ≡ false
+    free : list_all (λ used. used) (used_places table.inputs (rows_once (with_rows_at name bit table).rows)) ≡ false
     free =
-        unused name table.inputs (rows_once [] (with_rows_at name bit table).rows) reads
-        (once_all (IsFreeAt name table.inputs) [] (with_rows_at name bit table).rows (rows_free (IsFreeAt name table.inputs) (row_at_bit name bit table.inputs) (row_at_free name bit table.inputs) table.rows))
+        unused name table.inputs (rows_once (with_rows_at name bit table).rows) reads
+        (once_all (IsFreeAt name table.inputs) (with_rows_at name bit table).rows (rows_free (IsFreeAt name table.inputs) (row_at_bit name bit table.inputs) (row_at_free name bit table.inputs) table.rows))
 
     cases : (t : Bool) → some_row_or_phase_one (with_rows_at name bit table).rows (with_rows_at name bit table).phase ≡ t → length (with_rows_at name bit table).rows ≤ length table.rows → 1 ≤ length table.inputs
         → size_of (tidied (with_rows_at name bit table)) < size_of table
@@ -143,7 +143,7 @@ unused_gone name (input ∷ inputs) rows all =
 
 narrowed_without : (name : List ℕ) (table : Table) → AllByRecursion (IsFreeAt name table.inputs) table.rows → has (narrowed (with_rows_once table)).inputs name ≡ false
 unfolding narrowed
-narrowed_without name table free = unused_gone name table.inputs (rows_once [] table.rows) (once_all (IsFreeAt name table.inputs) [] table.rows free)
+narrowed_without name table free = unused_gone name table.inputs (rows_once table.rows) (once_all (IsFreeAt name table.inputs) table.rows free)
 
 -- a table at a bit does not read the signal any more
 pub at_without : (name : List ℕ) (bit : Bool) (table : Table) → all_different table.inputs ≡ true → has (at_bit name bit table).inputs name ≡ false

@@ -9,9 +9,9 @@ use Rattle.circuit_model.specs.Counts.{is_literal}
 use Rattle.circuit_model.specs.declared.circuit.Tri.{Tri}
 use Rattle.circuit_model.specs.declared.circuit.Tri.TheVariants.{Zero, One, Free}
 use Rattle.table_fold.specs.Folding.{each_once}
-use Rattle.table_tidy.specs.Tidy.{row_text, same_row, rows_differ, rows_once, used_places, chosen, front_place, behind_front}
+use Rattle.table_tidy.specs.Tidy.{row_text, same_row, rows_differ, used_places, chosen, front_place, behind_front}
 use Rattle.table_fold.proofs.Once.{same_name, itself, bytes_eq-sym, full-each_once, each_once-different}
-use Rattle.table_tidy.proofs.Tidied.{row_same, row_itself, chosen_nil}
+use Rattle.table_tidy.proofs.Tidied.{rows_behind, row_same, row_itself, chosen_nil}
 
 -- rows as texts
 tri_back : ℕ → Tri
@@ -109,22 +109,22 @@ marks_all whole now made inv done = sym (append-nil made) ∙ (ap (λ (r : List 
 
 -- rows without repeats: one more is put behind those made so far where it is new
 pub once_next : (whole made new : List (List Tri)) (row : List Tri) (rows now : List (List Tri)) (seen : Bool) → now ≡ row ∷ rows → seen ≡ has (map row_text made) (row_text row) → new ≡ made ++ (if seen then [] else row ∷ [])
-    → made ++ rows_once made now ≡ whole → new ++ rows_once new rows ≡ whole
-unfolding rows_once
+    → made ++ rows_behind made now ≡ whole → new ++ rows_behind new rows ≡ whole
+unfolding rows_behind
 once_next whole made new row rows now seen more s n inv = rw n (by seen refl)
   where
     rest : Bool → List (List Tri)
-    rest b = if b then rows_once made rows else row ∷ rows_once (made ++ row ∷ []) rows
+    rest b = if b then rows_behind made rows else row ∷ rows_behind (made ++ row ∷ []) rows
 
     step : (b : Bool) → seen ≡ b → made ++ rest b ≡ whole
-    step b e = ap (λ (c : Bool). made ++ rest c) (sym e ∙ (s ∙ has_text made row)) ∙ (ap (λ (rs : List (List Tri)). made ++ rows_once made rs) (sym more) ∙ inv)
+    step b e = ap (λ (c : Bool). made ++ rest c) (sym e ∙ (s ∙ has_text made row)) ∙ (ap (λ (rs : List (List Tri)). made ++ rows_behind made rs) (sym more) ∙ inv)
 
-    by : (b : Bool) → seen ≡ b → (made ++ (if b then [] else row ∷ [])) ++ rows_once (made ++ (if b then [] else row ∷ [])) rows ≡ whole
-    by true e = ap (λ (m : List (List Tri)). m ++ rows_once m rows) (append-nil made) ∙ step true e
-    by false e = append_assoc made (row ∷ []) (rows_once (made ++ row ∷ []) rows) ∙ step false e
+    by : (b : Bool) → seen ≡ b → (made ++ (if b then [] else row ∷ [])) ++ rows_behind (made ++ (if b then [] else row ∷ [])) rows ≡ whole
+    by true e = ap (λ (m : List (List Tri)). m ++ rows_behind m rows) (append-nil made) ∙ step true e
+    by false e = append_assoc made (row ∷ []) (rows_behind (made ++ row ∷ []) rows) ∙ step false e
 
-pub once_done : (whole made now : List (List Tri)) → length now ≡ 0 → made ++ rows_once made now ≡ whole → made ≡ whole
-unfolding rows_once
+pub once_done : (whole made now : List (List Tri)) → length now ≡ 0 → made ++ rows_behind made now ≡ whole → made ≡ whole
+unfolding rows_behind
 once_done whole made [] none inv = sym (append-nil made) ∙ inv
 once_done whole made (row ∷ rows) none inv = absurd (omega arith)
 

@@ -1,6 +1,6 @@
 -- What holds of tidy tables.
 use Rattle.std.proofs.Common.{◌≡◌, ℕ, suc, ◌+◌, ◌<◌, ◌≤◌, Bool, true, false, not, ◌&&◌, ◌||◌, if◌then◌else◌, List, [], ◌∷◌, ◌++◌, length, map, bytes_eq, refl, sym, ap, ◌∙◌, subst, arith, inl, inr}
-use Rattle.std.specs.List.{AllByRecursion, list_any, list_all}
+use Rattle.std.specs.List.{AllByRecursion, list_any, list_all, filter}
 use Rattle.std.proofs.lemmas.Bool.{false≢true, and_parts, and_from, or_left, or_right, or_cases, or_from, or_parts, not_from_false, not-true, false_from_ne_true, cases_eq}
 use Rattle.std.proofs.lemmas.List.{length-map}
 use Rattle.std.proofs.lemmas.List.Folds.{list_any-append}
@@ -106,10 +106,15 @@ fits_push (first ∷ front) row point =
     ap (λ (b : Bool). matches (map literal_of first) point || b) (fits_push front row point)
     ∙ sym (or_assoc (matches (map literal_of first) point) (some_fits front point) (matches (map literal_of row) point))
 
-once_fits : (front rows : List (List Tri)) (point : List Bool) → (some_fits front point || some_fits (rows_once front rows) point) ≡ (some_fits front point || some_fits rows point)
-unfolding rows_once some_matches
-once_fits front [] point = refl
-once_fits front (row ∷ rows) point = cases (list_any (same_row row) front) refl (once_fits front rows point) (once_fits (front ++ row ∷ []) rows point)
+-- the rows behind some rows, without those that equal a row before them
+unfoldable pub rows_behind : List (List Tri) → List (List Tri) → List (List Tri)
+rows_behind front [] = []
+rows_behind front (row ∷ rows) = if list_any (same_row row) front then rows_behind front rows else row ∷ rows_behind (front ++ row ∷ []) rows
+
+behind_fits : (front rows : List (List Tri)) (point : List Bool) → (some_fits front point || some_fits (rows_behind front rows) point) ≡ (some_fits front point || some_fits rows point)
+unfolding rows_behind some_matches
+behind_fits front [] point = refl
+behind_fits front (row ∷ rows) point = cases (list_any (same_row row) front) refl (behind_fits front rows point) (behind_fits (front ++ row ∷ []) rows point)
   where
     absorb : (a m s : Bool) → (m ≡ true → a ≡ true) → (a || s) ≡ (a || (m || s))
     absorb true m s h = refl
@@ -117,78 +122,78 @@ once_fits front (row ∷ rows) point = cases (list_any (same_row row) front) ref
     absorb false false s h = refl
 
     cases : (t : Bool) → list_any (same_row row) front ≡ t
-        → (some_fits front point || some_fits (rows_once front rows) point) ≡ (some_fits front point || some_fits rows point)
-        → (some_fits (front ++ row ∷ []) point || some_fits (rows_once (front ++ row ∷ []) rows) point) ≡ (some_fits (front ++ row ∷ []) point || some_fits rows point)
-        → (some_fits front point || some_fits (if t then rows_once front rows else row ∷ rows_once (front ++ row ∷ []) rows) point)
+        → (some_fits front point || some_fits (rows_behind front rows) point) ≡ (some_fits front point || some_fits rows point)
+        → (some_fits (front ++ row ∷ []) point || some_fits (rows_behind (front ++ row ∷ []) rows) point) ≡ (some_fits (front ++ row ∷ []) point || some_fits rows point)
+        → (some_fits front point || some_fits (if t then rows_behind front rows else row ∷ rows_behind (front ++ row ∷ []) rows) point)
         ≡ (some_fits front point || (matches (map literal_of row) point || some_fits rows point))
     cases true e same more = same ∙ absorb (some_fits front point) (matches (map literal_of row) point) (some_fits rows point) (λ m. among_fits front row point e m)
     cases false e same more =
-        sym (or_assoc (some_fits front point) (matches (map literal_of row) point) (some_fits (rows_once (front ++ row ∷ []) rows) point))
-        ∙ ap (λ (b : Bool). b || some_fits (rows_once (front ++ row ∷ []) rows) point) (sym (fits_push front row point))
+        sym (or_assoc (some_fits front point) (matches (map literal_of row) point) (some_fits (rows_behind (front ++ row ∷ []) rows) point))
+        ∙ ap (λ (b : Bool). b || some_fits (rows_behind (front ++ row ∷ []) rows) point) (sym (fits_push front row point))
         ∙ more
         ∙ ap (λ (b : Bool). b || some_fits rows point) (fits_push front row point)
         ∙ or_assoc (some_fits front point) (matches (map literal_of row) point) (some_fits rows point)
 
-pub once_all : (P : List Tri → Type 0) (front rows : List (List Tri)) → AllByRecursion P rows → AllByRecursion P (rows_once front rows)
-unfolding rows_once
-once_all P front [] all = tt
-once_all P front (row ∷ rows) all = cases (list_any (same_row row) front) (once_all P front rows all.1) (once_all P (front ++ row ∷ []) rows all.1)
+behind_all : (P : List Tri → Type 0) (front rows : List (List Tri)) → AllByRecursion P rows → AllByRecursion P (rows_behind front rows)
+unfolding rows_behind
+behind_all P front [] all = tt
+behind_all P front (row ∷ rows) all = cases (list_any (same_row row) front) (behind_all P front rows all.1) (behind_all P (front ++ row ∷ []) rows all.1)
   where
-    cases : (t : Bool) → AllByRecursion P (rows_once front rows) → AllByRecursion P (rows_once (front ++ row ∷ []) rows)
-        → AllByRecursion P (if t then rows_once front rows else row ∷ rows_once (front ++ row ∷ []) rows)
+    cases : (t : Bool) → AllByRecursion P (rows_behind front rows) → AllByRecursion P (rows_behind (front ++ row ∷ []) rows)
+        → AllByRecursion P (if t then rows_behind front rows else row ∷ rows_behind (front ++ row ∷ []) rows)
     cases true same more = same
     cases false same more = (all.0, more)
 
 among_push : (front : List (List Tri)) (last row : List Tri) → list_any (same_row row) (front ++ last ∷ []) ≡ (list_any (same_row row) front || same_row row last)
 among_push front last row = list_any-append (same_row row) front (last ∷ []) ∙ ap (λ (b : Bool). list_any (same_row row) front || b) (or_none (same_row row last))
 
-once_new : (front rows : List (List Tri)) (row : List Tri) → list_any (same_row row) front ≡ true → list_any (same_row row) (rows_once front rows) ≡ false
-unfolding rows_once
-once_new front [] row h = refl
-once_new front (first ∷ rows) row h =
-    cases (list_any (same_row first) front) refl (once_new front rows row h)
-    (once_new (front ++ first ∷ []) rows row (among_push front first row ∙ or_left (list_any (same_row row) front) (same_row row first) h))
+behind_new : (front rows : List (List Tri)) (row : List Tri) → list_any (same_row row) front ≡ true → list_any (same_row row) (rows_behind front rows) ≡ false
+unfolding rows_behind
+behind_new front [] row h = refl
+behind_new front (first ∷ rows) row h =
+    cases (list_any (same_row first) front) refl (behind_new front rows row h)
+    (behind_new (front ++ first ∷ []) rows row (among_push front first row ∙ or_left (list_any (same_row row) front) (same_row row first) h))
   where
-    cases : (t : Bool) → list_any (same_row first) front ≡ t → list_any (same_row row) (rows_once front rows) ≡ false
-        → list_any (same_row row) (rows_once (front ++ first ∷ []) rows) ≡ false
-        → list_any (same_row row) (if t then rows_once front rows else first ∷ rows_once (front ++ first ∷ []) rows) ≡ false
+    cases : (t : Bool) → list_any (same_row first) front ≡ t → list_any (same_row row) (rows_behind front rows) ≡ false
+        → list_any (same_row row) (rows_behind (front ++ first ∷ []) rows) ≡ false
+        → list_any (same_row row) (if t then rows_behind front rows else first ∷ rows_behind (front ++ first ∷ []) rows) ≡ false
     cases true e same more = same
     cases false e same more =
-        or_from (same_row row first) (list_any (same_row row) (rows_once (front ++ first ∷ []) rows))
+        or_from (same_row row first) (list_any (same_row row) (rows_behind (front ++ first ∷ []) rows))
         (false_from_ne_true (same_row row first) (λ k. false≢true (sym e ∙ subst (λ (r : List Tri). list_any (same_row r) front ≡ true) (row_same row first k) h))) more
 
-pub once_differ : (front rows : List (List Tri)) → rows_differ (rows_once front rows) ≡ true
-unfolding rows_once rows_differ
-once_differ front [] = refl
-once_differ front (row ∷ rows) =
-    cases (list_any (same_row row) front) (once_differ front rows) (once_differ (front ++ row ∷ []) rows)
-    (once_new (front ++ row ∷ []) rows row (among_push front row row ∙ or_right (list_any (same_row row) front) (same_row row row) (row_itself row)))
+behind_differ : (front rows : List (List Tri)) → rows_differ (rows_behind front rows) ≡ true
+unfolding rows_behind rows_differ
+behind_differ front [] = refl
+behind_differ front (row ∷ rows) =
+    cases (list_any (same_row row) front) (behind_differ front rows) (behind_differ (front ++ row ∷ []) rows)
+    (behind_new (front ++ row ∷ []) rows row (among_push front row row ∙ or_right (list_any (same_row row) front) (same_row row row) (row_itself row)))
   where
-    cases : (t : Bool) → rows_differ (rows_once front rows) ≡ true → rows_differ (rows_once (front ++ row ∷ []) rows) ≡ true
-        → list_any (same_row row) (rows_once (front ++ row ∷ []) rows) ≡ false
-        → rows_differ (if t then rows_once front rows else row ∷ rows_once (front ++ row ∷ []) rows) ≡ true
+    cases : (t : Bool) → rows_differ (rows_behind front rows) ≡ true → rows_differ (rows_behind (front ++ row ∷ []) rows) ≡ true
+        → list_any (same_row row) (rows_behind (front ++ row ∷ []) rows) ≡ false
+        → rows_differ (if t then rows_behind front rows else row ∷ rows_behind (front ++ row ∷ []) rows) ≡ true
     cases true same more new = same
     cases false same more new =
-        and_from (not (list_any (same_row row) (rows_once (front ++ row ∷ []) rows))) (rows_differ (rows_once (front ++ row ∷ []) rows))
-        (not_from_false (list_any (same_row row) (rows_once (front ++ row ∷ []) rows)) new) more
+        and_from (not (list_any (same_row row) (rows_behind (front ++ row ∷ []) rows))) (rows_differ (rows_behind (front ++ row ∷ []) rows))
+        (not_from_false (list_any (same_row row) (rows_behind (front ++ row ∷ []) rows)) new) more
 
 none_each : (row : List Tri) (rows : List (List Tri)) → list_any (same_row row) rows ≡ false → AllByRecursion (λ (other : List Tri). same_row other row ≡ false) rows
 none_each row [] h = tt
 none_each row (first ∷ rows) h =
     let p = or_parts (same_row row first) (list_any (same_row row) rows) h in (row_apart row first p.0, none_each row rows p.1)
 
-once_same : (front rows : List (List Tri)) → AllByRecursion (λ (row : List Tri). list_any (same_row row) front ≡ false) rows → rows_differ rows ≡ true → rows_once front rows ≡ rows
-unfolding rows_once rows_differ
-once_same front [] new h = refl
-once_same front (row ∷ rows) new h =
+behind_same : (front rows : List (List Tri)) → AllByRecursion (λ (row : List Tri). list_any (same_row row) front ≡ false) rows → rows_differ rows ≡ true → rows_behind front rows ≡ rows
+unfolding rows_behind rows_differ
+behind_same front [] new h = refl
+behind_same front (row ∷ rows) new h =
     let p = and_parts (not (list_any (same_row row) rows)) (rows_differ rows) h in
     cases (list_any (same_row row) front) new.0
-    (once_same (front ++ row ∷ []) rows
+    (behind_same (front ++ row ∷ []) rows
     (all_both (λ (r : List Tri). list_any (same_row r) front ≡ false) (λ (r : List Tri). same_row r row ≡ false) (λ (r : List Tri). list_any (same_row r) (front ++ row ∷ []) ≡ false)
     (λ r old apart. among_push front row r ∙ or_from (list_any (same_row r) front) (same_row r row) old apart) rows new.1
     (none_each row rows (not-true (list_any (same_row row) rows) p.0))) p.1)
   where
-    cases : (t : Bool) → t ≡ false → rows_once (front ++ row ∷ []) rows ≡ rows → (if t then rows_once front rows else row ∷ rows_once (front ++ row ∷ []) rows) ≡ row ∷ rows
+    cases : (t : Bool) → t ≡ false → rows_behind (front ++ row ∷ []) rows ≡ rows → (if t then rows_behind front rows else row ∷ rows_behind (front ++ row ∷ []) rows) ≡ row ∷ rows
     cases true e more = absurd (false≢true (sym e))
     cases false e more = ap (λ (rest : List (List Tri)). row ∷ rest) more
 
@@ -196,8 +201,80 @@ all_unit : (P : List Tri → Type 0) → ((row : List Tri) → P row) → (rows 
 all_unit P h [] = tt
 all_unit P h (row ∷ rows) = (h row, all_unit P h rows)
 
-once_stays : (rows : List (List Tri)) → rows_differ rows ≡ true → rows_once [] rows ≡ rows
-once_stays rows h = once_same [] rows (all_unit (λ (row : List Tri). list_any (same_row row) [] ≡ false) (λ row. refl) rows) h
+-- they are the rows once, without those before them
+
+abbrev is_new : List (List Tri) → List Tri → Bool
+is_new front row = not (list_any (same_row row) front)
+
+abbrev is_other : List Tri → List Tri → Bool
+is_other row other = not (same_row row other)
+
+filter_known : (front : List (List Tri)) (row : List Tri) → list_any (same_row row) front ≡ true → (rows : List (List Tri)) → filter (is_new front) (filter (is_other row) rows) ≡ filter (is_new front) rows
+filter_known front row e [] = refl
+filter_known front row e (one ∷ rows) = by (same_row row one) refl (filter_known front row e rows)
+  where
+    by : (s : Bool) → same_row row one ≡ s → filter (is_new front) (filter (is_other row) rows) ≡ filter (is_new front) rows
+        → filter (is_new front) (if not s then one ∷ filter (is_other row) rows else filter (is_other row) rows) ≡ filter (is_new front) (one ∷ rows)
+    by true is rest =
+        rest ∙ sym (ap (λ b. if not b then one ∷ filter (is_new front) rows else filter (is_new front) rows) (subst (λ (r : List Tri). list_any (same_row r) front ≡ true) (row_same row one is) e))
+    by false is rest = ap (λ more. if is_new front one then one ∷ more else more) rest
+
+row_turned : (row other : List Tri) → same_row row other ≡ same_row other row
+row_turned row other = by (same_row row other) (same_row other row) refl refl
+  where
+    by : (s t : Bool) → same_row row other ≡ s → same_row other row ≡ t → s ≡ t
+    by true true e d = refl
+    by false false e d = refl
+    by true false e d = sym (subst (λ (r : List Tri). same_row r row ≡ true) (row_same row other e) (row_itself row)) ∙ d
+    by false true e d = sym e ∙ subst (λ (r : List Tri). same_row r other ≡ true) (row_same other row d) (row_itself other)
+
+filter_pushed : (front : List (List Tri)) (row : List Tri) (rows : List (List Tri)) → filter (is_new (front ++ row ∷ [])) rows ≡ filter (is_new front) (filter (is_other row) rows)
+filter_pushed front row [] = refl
+filter_pushed front row (one ∷ rows) =
+    ap (λ b. if not b then one ∷ filter (is_new (front ++ row ∷ [])) rows else filter (is_new (front ++ row ∷ [])) rows) (among_push front row one ∙ ap (λ b. list_any (same_row one) front || b) (row_turned one row))
+    ∙ by (list_any (same_row one) front) (same_row row one) refl (filter_pushed front row rows)
+  where
+    by : (a s : Bool) → list_any (same_row one) front ≡ a → filter (is_new (front ++ row ∷ [])) rows ≡ filter (is_new front) (filter (is_other row) rows)
+        → (if not (a || s) then one ∷ filter (is_new (front ++ row ∷ [])) rows else filter (is_new (front ++ row ∷ [])) rows)
+        ≡ filter (is_new front) (if not s then one ∷ filter (is_other row) rows else filter (is_other row) rows)
+    by true true e rest = rest
+    by false true e rest = rest
+    by true false e rest = rest ∙ sym (ap (λ b. if not b then one ∷ filter (is_new front) (filter (is_other row) rows) else filter (is_new front) (filter (is_other row) rows)) e)
+    by false false e rest =
+        ap (λ (more : List (List Tri)). one ∷ more) rest
+        ∙ sym (ap (λ b. if not b then one ∷ filter (is_new front) (filter (is_other row) rows) else filter (is_new front) (filter (is_other row) rows)) e)
+
+behind_is : (front rows : List (List Tri)) → rows_behind front rows ≡ filter (is_new front) (rows_once rows)
+unfolding rows_behind rows_once
+behind_is front [] = refl
+behind_is front (row ∷ rows) = cases (list_any (same_row row) front) refl (behind_is front rows) (behind_is (front ++ row ∷ []) rows)
+  where
+    cases : (t : Bool) → list_any (same_row row) front ≡ t → rows_behind front rows ≡ filter (is_new front) (rows_once rows)
+        → rows_behind (front ++ row ∷ []) rows ≡ filter (is_new (front ++ row ∷ [])) (rows_once rows)
+        → (if t then rows_behind front rows else row ∷ rows_behind (front ++ row ∷ []) rows)
+        ≡ (if not t then row ∷ filter (is_new front) (filter (is_other row) (rows_once rows)) else filter (is_new front) (filter (is_other row) (rows_once rows)))
+    cases true e same more = same ∙ sym (filter_known front row e (rows_once rows))
+    cases false e same more = ap (λ (rest : List (List Tri)). row ∷ rest) (more ∙ filter_pushed front row (rows_once rows))
+
+filter_all : (rows : List (List Tri)) → filter (is_new []) rows ≡ rows
+filter_all [] = refl
+filter_all (row ∷ rows) = ap (λ (rest : List (List Tri)). row ∷ rest) (filter_all rows)
+
+pub behind_none : (rows : List (List Tri)) → rows_behind [] rows ≡ rows_once rows
+behind_none rows = behind_is [] rows ∙ filter_all (rows_once rows)
+
+once_fits : (rows : List (List Tri)) (point : List Bool) → some_fits (rows_once rows) point ≡ some_fits rows point
+unfolding some_matches
+once_fits rows point = ap (λ (made : List (List Tri)). some_fits made point) (sym (behind_none rows)) ∙ behind_fits [] rows point
+
+pub once_all : (P : List Tri → Type 0) (rows : List (List Tri)) → AllByRecursion P rows → AllByRecursion P (rows_once rows)
+once_all P rows all = subst (AllByRecursion P) (behind_none rows) (behind_all P [] rows all)
+
+pub once_differ : (rows : List (List Tri)) → rows_differ (rows_once rows) ≡ true
+once_differ rows = subst (λ (made : List (List Tri)). rows_differ made ≡ true) (behind_none rows) (behind_differ [] rows)
+
+once_stays : (rows : List (List Tri)) → rows_differ rows ≡ true → rows_once rows ≡ rows
+once_stays rows h = sym (behind_none rows) ∙ behind_same [] rows (all_unit (λ (row : List Tri). list_any (same_row row) [] ≡ false) (λ row. refl) rows) h
 
 -- places with a literal
 
@@ -451,7 +528,7 @@ ready_reads table name = phases (λ (made : Table). has made.inputs name ≡ tru
 
 once_value : (table : Table) (point : List Bool) → table_value (with_rows_once table) point ≡ table_value table point
 unfolding table_value value_by_phase some_matches
-once_value table point = ap (phase_value table.phase) (once_fits [] table.rows point)
+once_value table point = ap (phase_value table.phase) (once_fits table.rows point)
 
 narrowed_value : (table : Table) (value : List ℕ → Bool) → table_value (narrowed table) (map value (narrowed table).inputs) ≡ table_value table (map value table.inputs)
 unfolding table_value value_by_phase narrowed
@@ -471,17 +548,17 @@ tidied_output table = ready_output table
 pub tidied_reads : (table : Table) (name : List ℕ) → has (tidied table).inputs name ≡ true → has table.inputs name ≡ true
 unfolding tidied narrowed
 tidied_reads table name h =
-    ready_reads table name (chosen_has (used_places (ready table).inputs (rows_once [] (ready table).rows)) (ready table).inputs name h)
+    ready_reads table name (chosen_has (used_places (ready table).inputs (rows_once (ready table).rows)) (ready table).inputs name h)
 
 pub tidied_once : (table : Table) → all_different (tidied table).inputs ≡ true
 unfolding tidied narrowed
-tidied_once table = chosen_different (used_places (ready table).inputs (rows_once [] (ready table).rows)) (ready table).inputs (ready_once table)
+tidied_once table = chosen_different (used_places (ready table).inputs (rows_once (ready table).rows)) (ready table).inputs (ready_once table)
 
 map_some : (f : List Tri → List Tri) (rows : List (List Tri)) (phase : Bool) → some_row_or_phase_one (map f rows) phase ≡ some_row_or_phase_one rows phase
 map_some f [] phase = refl
 map_some f (row ∷ rows) phase = refl
 
-once_some : (rows : List (List Tri)) (phase : Bool) → some_row_or_phase_one (rows_once [] rows) phase ≡ some_row_or_phase_one rows phase
+once_some : (rows : List (List Tri)) (phase : Bool) → some_row_or_phase_one (rows_once rows) phase ≡ some_row_or_phase_one rows phase
 unfolding rows_once
 once_some [] phase = refl
 once_some (row ∷ rows) phase = refl
@@ -501,13 +578,13 @@ narrowed_wide table wide =
 tidied_some : (table : Table) → some_row_or_phase_one (tidied table).rows (tidied table).phase ≡ true
 unfolding tidied narrowed
 tidied_some table =
-    map_some (chosen (used_places (ready table).inputs (rows_once [] (ready table).rows))) (rows_once [] (ready table).rows) (ready table).phase
+    map_some (chosen (used_places (ready table).inputs (rows_once (ready table).rows))) (rows_once (ready table).rows) (ready table).phase
     ∙ once_some (ready table).rows (ready table).phase ∙ ready_some table
 
 pub tidied_shaped : (table : Table) → IsWide table → IsShaped (tidied table)
 unfolding tidied
 tidied_shaped table wide = (
-  narrowed_wide (with_rows_once (ready table)) (once_all (λ (row : List Tri). length row ≡ length (ready table).inputs) [] (ready table).rows (ready_wide table wide)),
+  narrowed_wide (with_rows_once (ready table)) (once_all (λ (row : List Tri). length row ≡ length (ready table).inputs) (ready table).rows (ready_wide table wide)),
   some_shaped (tidied table).rows (tidied table).phase (tidied_some table),
 )
 
@@ -529,7 +606,7 @@ tidied_tidy table wide =
       once = tidied_once table;
       used = narrowed_used (with_rows_once (ready table));
       differ = narrowed_differ (with_rows_once (ready table))
-          (once_all (λ (row : List Tri). length row ≡ length (ready table).inputs) [] (ready table).rows (ready_wide table wide)) (once_differ [] (ready table).rows);
+          (once_all (λ (row : List Tri). length row ≡ length (ready table).inputs) (ready table).rows (ready_wide table wide)) (once_differ (ready table).rows);
       some = tidied_some table;
     })
 
@@ -599,24 +676,24 @@ chosen_less (mark ∷ marks) [] h e = absurd (omega arith)
 chosen_less (true ∷ marks) (x ∷ xs) h e = let k : length (chosen marks xs) < length xs = chosen_less marks xs h (omega arith) in omega arith
 chosen_less (false ∷ marks) (x ∷ xs) h e = let k : length (chosen marks xs) ≤ length xs = chosen_small marks xs in omega arith
 
-pub once_small : (front rows : List (List Tri)) → length (rows_once front rows) ≤ length rows
-unfolding rows_once
-once_small front [] = omega arith
-once_small front (row ∷ rows) = cases (list_any (same_row row) front) (once_small front rows) (once_small (front ++ row ∷ []) rows)
+behind_small : (front rows : List (List Tri)) → length (rows_behind front rows) ≤ length rows
+unfolding rows_behind
+behind_small front [] = omega arith
+behind_small front (row ∷ rows) = cases (list_any (same_row row) front) (behind_small front rows) (behind_small (front ++ row ∷ []) rows)
   where
-    cases : (t : Bool) → length (rows_once front rows) ≤ length rows → length (rows_once (front ++ row ∷ []) rows) ≤ length rows
-        → length (if t then rows_once front rows else row ∷ rows_once (front ++ row ∷ []) rows) ≤ suc (length rows)
+    cases : (t : Bool) → length (rows_behind front rows) ≤ length rows → length (rows_behind (front ++ row ∷ []) rows) ≤ length rows
+        → length (if t then rows_behind front rows else row ∷ rows_behind (front ++ row ∷ []) rows) ≤ suc (length rows)
     cases true h k = omega arith
     cases false h k = omega arith
 
-once_full : (front rows : List (List Tri)) → length (rows_once front rows) ≡ length rows → rows_once front rows ≡ rows
-unfolding rows_once
-once_full front [] e = refl
-once_full front (row ∷ rows) e = cases (list_any (same_row row) front) e (once_small front rows) (λ d. once_full (front ++ row ∷ []) rows d)
+behind_full : (front rows : List (List Tri)) → length (rows_behind front rows) ≡ length rows → rows_behind front rows ≡ rows
+unfolding rows_behind
+behind_full front [] e = refl
+behind_full front (row ∷ rows) e = cases (list_any (same_row row) front) e (behind_small front rows) (λ d. behind_full (front ++ row ∷ []) rows d)
   where
-    cases : (t : Bool) → length (if t then rows_once front rows else row ∷ rows_once (front ++ row ∷ []) rows) ≡ suc (length rows) → length (rows_once front rows) ≤ length rows
-        → (length (rows_once (front ++ row ∷ []) rows) ≡ length rows → rows_once (front ++ row ∷ []) rows ≡ rows)
-        → (if t then rows_once front rows else row ∷ rows_once (front ++ row ∷ []) rows) ≡ row ∷ rows
+    cases : (t : Bool) → length (if t then rows_behind front rows else row ∷ rows_behind (front ++ row ∷ []) rows) ≡ suc (length rows) → length (rows_behind front rows) ≤ length rows
+        → (length (rows_behind (front ++ row ∷ []) rows) ≡ length rows → rows_behind (front ++ row ∷ []) rows ≡ rows)
+        → (if t then rows_behind front rows else row ∷ rows_behind (front ++ row ∷ []) rows) ≡ row ∷ rows
     cases true d h more = absurd (omega arith)
     cases false d h more = ap (λ (rest : List (List Tri)). row ∷ rest) (more (omega arith))
 
@@ -624,34 +701,40 @@ once_full front (row ∷ rows) e = cases (list_any (same_row row) front) e (once
 abbrev pub size_of : Table → ℕ
 size_of table = length table.inputs + length table.rows
 
+pub once_small : (rows : List (List Tri)) → length (rows_once rows) ≤ length rows
+once_small rows = subst (λ (made : List (List Tri)). length made ≤ length rows) (behind_none rows) (behind_small [] rows)
+
+once_full : (rows : List (List Tri)) → length (rows_once rows) ≡ length rows → rows_once rows ≡ rows
+once_full rows e = sym (behind_none rows) ∙ behind_full [] rows (ap length (behind_none rows) ∙ e)
+
 narrowed_small : (table : Table) → size_of (narrowed (with_rows_once table)) ≤ size_of table
 unfolding narrowed
 narrowed_small table =
-    let inputs : length (chosen (used_places table.inputs (rows_once [] table.rows)) table.inputs) ≤ length table.inputs = chosen_small (used_places table.inputs (rows_once [] table.rows)) table.inputs in
-    let rows : length (map (chosen (used_places table.inputs (rows_once [] table.rows))) (rows_once [] table.rows)) ≡ length (rows_once [] table.rows) =
-    length-map (rows_once [] table.rows) (chosen (used_places table.inputs (rows_once [] table.rows))) in
-    let once : length (rows_once [] table.rows) ≤ length table.rows = once_small [] table.rows in
+    let inputs : length (chosen (used_places table.inputs (rows_once table.rows)) table.inputs) ≤ length table.inputs = chosen_small (used_places table.inputs (rows_once table.rows)) table.inputs in
+    let rows : length (map (chosen (used_places table.inputs (rows_once table.rows))) (rows_once table.rows)) ≡ length (rows_once table.rows) =
+    length-map (rows_once table.rows) (chosen (used_places table.inputs (rows_once table.rows))) in
+    let once : length (rows_once table.rows) ≤ length table.rows = once_small table.rows in
     omega arith
 
 -- where an input has no literal, the table is smaller
-pub narrowed_fewer : (table : Table) → list_all (λ used. used) (used_places table.inputs (rows_once [] table.rows)) ≡ false → size_of (narrowed (with_rows_once table)) < size_of table
+pub narrowed_fewer : (table : Table) → list_all (λ used. used) (used_places table.inputs (rows_once table.rows)) ≡ false → size_of (narrowed (with_rows_once table)) < size_of table
 unfolding narrowed
 narrowed_fewer table h =
-    let inputs : length (chosen (used_places table.inputs (rows_once [] table.rows)) table.inputs) < length table.inputs =
-    chosen_less (used_places table.inputs (rows_once [] table.rows)) table.inputs h (used_long table.inputs (rows_once [] table.rows)) in
-    let rows : length (map (chosen (used_places table.inputs (rows_once [] table.rows))) (rows_once [] table.rows)) ≡ length (rows_once [] table.rows) =
-    length-map (rows_once [] table.rows) (chosen (used_places table.inputs (rows_once [] table.rows))) in
-    let once : length (rows_once [] table.rows) ≤ length table.rows = once_small [] table.rows in
+    let inputs : length (chosen (used_places table.inputs (rows_once table.rows)) table.inputs) < length table.inputs =
+    chosen_less (used_places table.inputs (rows_once table.rows)) table.inputs h (used_long table.inputs (rows_once table.rows)) in
+    let rows : length (map (chosen (used_places table.inputs (rows_once table.rows))) (rows_once table.rows)) ≡ length (rows_once table.rows) =
+    length-map (rows_once table.rows) (chosen (used_places table.inputs (rows_once table.rows))) in
+    let once : length (rows_once table.rows) ≤ length table.rows = once_small table.rows in
     omega arith
 
 -- and where a row stands twice
-narrowed_shorter : (table : Table) → (length (rows_once [] table.rows) ≡ length table.rows → ⊥) → size_of (narrowed (with_rows_once table)) < size_of table
+narrowed_shorter : (table : Table) → (length (rows_once table.rows) ≡ length table.rows → ⊥) → size_of (narrowed (with_rows_once table)) < size_of table
 unfolding narrowed
 narrowed_shorter table n =
-    let inputs : length (chosen (used_places table.inputs (rows_once [] table.rows)) table.inputs) ≤ length table.inputs = chosen_small (used_places table.inputs (rows_once [] table.rows)) table.inputs in
-    let rows : length (map (chosen (used_places table.inputs (rows_once [] table.rows))) (rows_once [] table.rows)) ≡ length (rows_once [] table.rows) =
-    length-map (rows_once [] table.rows) (chosen (used_places table.inputs (rows_once [] table.rows))) in
-    let once : length (rows_once [] table.rows) ≤ length table.rows = once_small [] table.rows in
+    let inputs : length (chosen (used_places table.inputs (rows_once table.rows)) table.inputs) ≤ length table.inputs = chosen_small (used_places table.inputs (rows_once table.rows)) table.inputs in
+    let rows : length (map (chosen (used_places table.inputs (rows_once table.rows))) (rows_once table.rows)) ≡ length (rows_once table.rows) =
+    length-map (rows_once table.rows) (chosen (used_places table.inputs (rows_once table.rows))) in
+    let once : length (rows_once table.rows) ≤ length table.rows = once_small table.rows in
     omega arith
 
 shaped_some : (rows : List (List Tri)) (phase : Bool) → (rows ≡ [] → phase ≡ true) → some_row_or_phase_one rows phase ≡ true
@@ -698,13 +781,13 @@ tidied_smaller table shaped once untidy =
     let some : some_row_or_phase_one table.rows table.phase ≡ true = shaped_some table.rows table.phase shaped.1 in
     let is : size_of (tidied table) ≡ size_of (narrowed (with_rows_once table)) = ap size_of (tidied_is table once some) in
     let less : size_of (narrowed (with_rows_once table)) < size_of table =
-    elim (cases_eq (length (rows_once [] table.rows)) (length table.rows)) as (λ _. size_of (narrowed (with_rows_once table)) < size_of table) [
-      | inl full ↦ narrowed_fewer table (false_from_ne_true (list_all (λ used. used) (used_places table.inputs (rows_once [] table.rows))) (λ used.
-          let same : rows_once [] table.rows ≡ table.rows = once_full [] table.rows full in
+    elim (cases_eq (length (rows_once table.rows)) (length table.rows)) as (λ _. size_of (narrowed (with_rows_once table)) < size_of table) [
+      | inl full ↦ narrowed_fewer table (false_from_ne_true (list_all (λ used. used) (used_places table.inputs (rows_once table.rows))) (λ used.
+          let same : rows_once table.rows ≡ table.rows = once_full table.rows full in
           false≢true (sym untidy ∙ parts_tidy table (record {
             once = once;
             used = subst (λ (rows : List (List Tri)). list_all (λ used. used) (used_places table.inputs rows) ≡ true) same used;
-            differ = subst (λ (rows : List (List Tri)). rows_differ rows ≡ true) same (once_differ [] table.rows);
+            differ = subst (λ (rows : List (List Tri)). rows_differ rows ≡ true) same (once_differ table.rows);
             some = some;
           }))))
       | inr fewer ↦ narrowed_shorter table fewer

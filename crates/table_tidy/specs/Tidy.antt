@@ -1,8 +1,8 @@
 -- Tidy tables: each input once and with a literal in some row, no row twice.
 -- Source: De Micheli, "Synthesis and Optimization of Digital Circuits", chapters 7 and 8: a cover has each cube once,
 -- and the support of a table is the inputs of which it has a literal.
-use Rattle.std.specs.Prelude.{ℕ, Bool, true, false, not, ◌≡◌, ◌&&◌, List, [], ◌∷◌, ◌++◌, map, length, if◌then◌else◌}
-use Rattle.std.specs.List.{AllByRecursion, list_any, list_all}
+use Rattle.std.specs.Prelude.{ℕ, Bool, true, false, not, ◌≡◌, ◌&&◌, List, [], ◌∷◌, map, length, if◌then◌else◌}
+use Rattle.std.specs.List.{AllByRecursion, list_any, list_all, filter}
 use Rattle.circuit_model.specs.Names.{all_different}
 use Rattle.circuit_model.specs.Counts.{is_literal}
 use Rattle.circuit_model.specs.Text.{character}
@@ -63,10 +63,10 @@ is_tidy table =
     all_different table.inputs && list_all (λ used. used) (used_places table.inputs table.rows) && rows_differ table.rows
     && some_row_or_phase_one table.rows table.phase
 
--- the rows that no row in front of them equals
-unfoldable pub rows_once : List (List Tri) → List (List Tri) → List (List Tri)
-rows_once front [] = []
-rows_once front (row ∷ rows) = if list_any (same_row row) front then rows_once front rows else row ∷ rows_once (front ++ row ∷ []) rows
+-- the rows, each where it comes first
+unfoldable pub rows_once : List (List Tri) → List (List Tri)
+rows_once [] = []
+rows_once (row ∷ rows) = row ∷ filter (λ other. not (same_row row other)) (rows_once rows)
 
 -- the items at the places that are marked
 unfoldable pub chosen : {A : Type 0} → List Bool → List A → List A
@@ -88,7 +88,7 @@ with_phase_one table = if some_row_or_phase_one table.rows table.phase then tabl
 
 -- a table without the rows that equal one in front of them
 abbrev pub with_rows_once : Table → Table
-with_rows_once table = record table { rows = rows_once [] table.rows }
+with_rows_once table = record table { rows = rows_once table.rows }
 
 -- repeated inputs are folded, then repeated rows go, then inputs without a literal; where no row is left at phase 0, it is
 -- the constant 1

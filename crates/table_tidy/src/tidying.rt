@@ -4,7 +4,7 @@
 ghost use Rattle.std.specs.Prelude.{◌≡◌, ℕ, ◌||◌, false, List, [], ◌∷◌, ◌++◌, map, bytes_eq, slice_index_or, if◌then◌else◌, IfOk, OnOk};
 ghost use Rattle.indexmap.specs.IndexSet.{contains};
 ghost use Rattle.table_fold.specs.Folding.{constant_one as one_of};
-ghost use Rattle.table_tidy.specs.Tidy.{tidied, chosen, narrowed as narrowed_of, rows_once as once_behind, with_phase_one as phase_one_of, with_rows_once as once_of, row_text};
+ghost use Rattle.table_tidy.specs.Tidy.{tidied, chosen, narrowed as narrowed_of, rows_once as once_each, with_phase_one as phase_one_of, with_rows_once as once_of, row_text};
 
 use crate::rows::{has_row_or_phase, text_of, used_places};
 use circuit_model::{Name, Row, Rows, Table, Tri};
@@ -124,7 +124,7 @@ fn push_new(
 
 // The rows without those that equal an earlier one.
 fn rows_once(alloc: Global, rows: Rows) -> Result<Rows, AllocError>
-    ensures { IfOk result (λ made. made ≡ once_behind [] rows) }
+    ensures { IfOk result (λ made. made ≡ once_each rows) }
 {
     let mut seen = IndexSet::new(alloc);
     let mut made = Sequence::new(alloc);

@@ -1,4 +1,4 @@
-use Rattle.std.proofs.Common.{ℕ, eqb, length, refl, sym, ap, ◌∙◌}
+use Rattle.std.proofs.Common.{ℕ, eqb, length, sym, ap, ◌∙◌}
 use Rattle.table_fold.specs.Folding.{each_once}
 use Rattle.table_fold.proofs.Once.{listed_once}
 use Rattle.table_fold.proofs.Steps.{names_more, names_done}
