@@ -1,7 +1,8 @@
 -- Tables at places: what holds of each, and what they become together.
-use Rattle.std.proofs.Common.{◌≡◌, ℕ, zero, suc, Bool, true, false, ◌&&◌, Result, Ok, Err, IfOk, Option, Some, None, List, [], ◌∷◌, map, slice_get, refl, ap, ◌∙◌, subst}
+use Rattle.std.proofs.Common.{◌≡◌, ℕ, zero, suc, Bool, true, false, ◌&&◌, Result, Ok, Err, IfOk, Option, Some, None, List, [], ◌∷◌, map, slice_get, refl, sym, ap, ◌∙◌, subst}
 use Rattle.std.specs.List.{AllByRecursion, list_all}
 use Rattle.std.specs.Option.{option_map}
+use Rattle.std.proofs.lemmas.Bool.{false≢true}
 use Rattle.std.proofs.lemmas.Option.{same_Some}
 use Rattle.circuit_model.specs.Names.{all_different}
 use Rattle.circuit_model.specs.Values.{driver}
@@ -47,6 +48,13 @@ tests_none test (Some s ∷ slots) (suc at) t e f = ap (λ (b : Bool). test s &&
     none : (b : Bool) → (b && false) ≡ false
     none true = refl
     none false = refl
+
+pub tests_each : (test : Written → Bool) (slots : List (Option Written)) → list_all test (standing slots) ≡ true → (at : ℕ) (t : Written) → table_at slots at ≡ Some t → test t ≡ true
+tests_each test slots h at t e = cases (test t) refl
+  where
+    cases : (b : Bool) → test t ≡ b → b ≡ true
+    cases true k = refl
+    cases false k = absurd (false≢true (sym (tests_none test slots at t e k) ∙ h))
 
 -- a change of each table
 pub standing_map : (turn : Written → Written) (slots : List (Option Written)) → standing (map (option_map turn) slots) ≡ map turn (standing slots)

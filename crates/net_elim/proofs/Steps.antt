@@ -21,7 +21,7 @@ use Rattle.net_core.specs.Places.{written_of}
 use Rattle.net_core.specs.Reads.{value_of}
 use Rattle.net_core.specs.Tables.{named}
 use Rattle.net_core.specs.declared.places.Entry.{Entry}
-use Rattle.net_core.proofs.Lookups.{get_set_same, get_set_other, get_push_left, get_push_at}
+use Rattle.net_core.proofs.Lookups.{get_push_left, get_push_at}
 use Rattle.net_core.proofs.Removals.{removed_table, tables_differ}
 use Rattle.net_work.specs.Placed.{Placed, standing, circuit_of, joined, table_at, with_slot}
 use Rattle.chain_laws.proofs.Mapped.{outputs-mapped}
@@ -29,7 +29,7 @@ use Rattle.table_algebra.specs.Taking.{taken_in}
 use Rattle.table_algebra.proofs.Taken.{taken_output}
 use Rattle.net_elim.specs.Putting.{slots_taken, with_put}
 use Rattle.net_elim.specs.Waiting.{when, worth_within, worth_at, flat, waits_at, AreWaiting, IsLeast, IsLeastTo}
-use Rattle.net_elim.proofs.Leasts.{value_there, value_within}
+use Rattle.net_elim.proofs.Leasts.{value_within, waits_same, waits_other}
 use Rattle.net_elim.proofs.Places.{drives_at, standing_map}
 use Rattle.net_elim.proofs.Readers.{taken_there}
 
@@ -164,7 +164,7 @@ rootless : (placed : Placed) (name : List ℕ) → is_root (circuit_of placed) n
 unfolding is_root
 rootless placed name = refl
 
-candidate_worth : (threshold : ℤ) (rows : ℕ) (placed : Placed) (t : Table) → is_candidate threshold rows (circuit_of placed) t ≡ true
+pub candidate_worth : (threshold : ℤ) (rows : ℕ) (placed : Placed) (t : Table) → is_candidate threshold rows (circuit_of placed) t ≡ true
     → (worth_within threshold placed t ≡ Some (value_of (standing placed.slots) t.output)) × (all_take rows (circuit_of placed) t ≡ true)
 unfolding is_candidate is_root
 candidate_worth threshold rows placed t h =
@@ -176,7 +176,7 @@ candidate_worth threshold rows placed t h =
     cases true false c k = absurd (false≢true k)
     cases false b c k = absurd (false≢true k)
 
-worth_candidate : (threshold : ℤ) (rows : ℕ) (placed : Placed) (t : Table) (v : ℤ) → worth_within threshold placed t ≡ Some v → all_take rows (circuit_of placed) t ≡ true
+pub worth_candidate : (threshold : ℤ) (rows : ℕ) (placed : Placed) (t : Table) (v : ℤ) → worth_within threshold placed t ≡ Some v → all_take rows (circuit_of placed) t ≡ true
     → is_candidate threshold rows (circuit_of placed) t ≡ true
 unfolding is_candidate is_root
 worth_candidate threshold rows placed t v h takes =
@@ -278,56 +278,49 @@ step_none threshold rows placed values are none =
     (are.all place t at fits ∙ (worth_of_table threshold placed place t at ∙ (candidate_worth threshold rows placed t fits).0))))
 
 -- the answers of a try
-pub step_done : (threshold : ℤ) (rows : ℕ) (placed mid next : Placed) (values list : List (Option ℤ)) (place : ℕ) (done : Bool) → mid ≡ placed → AreWaiting threshold rows placed values → list ≡ values
-    → IsLeast list (length list) place → done ≡ true → ((inner : Table) → table_at mid.slots place ≡ Some inner → done ≡ all_take rows (circuit_of mid) inner)
-    → (done ≡ true → (inner : Table) → table_at mid.slots place ≡ Some inner → circuit_of next ≡ with_eliminated (circuit_of mid) inner) → eliminate_step threshold rows (circuit_of placed) ≡ Some (circuit_of next)
-step_done threshold rows placed mid next values list place done same are is first yes_ answer circuit =
-    let least : IsLeast values (length values) place = subst (λ (xs : List (Option ℤ)). IsLeast xs (length xs) place) is first in
-    let (inner, e) = waits_there threshold rows placed values place least.value are least.here in
-    let e_mid : table_at mid.slots place ≡ Some inner = ap (λ (p : Placed). table_at p.slots place) same ∙ e in
-    let takes : all_take rows (circuit_of placed) inner ≡ true = ap (λ (p : Placed). all_take rows (circuit_of p) inner) (sym same) ∙ (sym (answer inner e_mid) ∙ yes_) in
-    step_found threshold rows placed values place are least inner e takes
-    ∙ ap (λ (c : Circuit). Some c) (ap (λ (p : Placed). with_eliminated (circuit_of p) inner) (sym same) ∙ sym (circuit yes_ inner e_mid))
+pub step_done : (threshold : ℤ) (rows : ℕ) (placed next : Placed) (values : List (Option ℤ)) (place : ℕ) (done : Bool) → AreWaiting threshold rows placed values → IsLeast values (length values) place → done ≡ true
+    → ((inner : Table) → table_at placed.slots place ≡ Some inner → done ≡ all_take rows (circuit_of placed) inner)
+    → (done ≡ true → (inner : Table) → table_at placed.slots place ≡ Some inner → circuit_of next ≡ with_eliminated (circuit_of placed) inner) → eliminate_step threshold rows (circuit_of placed) ≡ Some (circuit_of next)
+step_done threshold rows placed next values place done are first yes_ answer circuit =
+    let (inner, e) = waits_there threshold rows placed values place first.value are first.here in
+    step_found threshold rows placed values place are first inner e (sym (answer inner e) ∙ yes_) ∙ ap (λ (c : Circuit). Some c) (sym (circuit yes_ inner e))
 
-pub done_fewer : (threshold : ℤ) (rows : ℕ) (placed mid next : Placed) (values list : List (Option ℤ)) (place : ℕ) (done : Bool) → mid ≡ placed → AreWaiting threshold rows placed values → list ≡ values
-    → IsLeast list (length list) place → done ≡ true → (done ≡ true → (inner : Table) → table_at mid.slots place ≡ Some inner → next ≡ with_slot (with_put inner mid) place None)
-    → length (standing next.slots) < length (standing placed.slots)
-done_fewer threshold rows placed mid next values list place done same are is first yes_ gone =
-    let least : IsLeast values (length values) place = subst (λ (xs : List (Option ℤ)). IsLeast xs (length xs) place) is first in
-    let (inner, e) = waits_there threshold rows placed values place least.value are least.here in
-    let e_mid : table_at mid.slots place ≡ Some inner = ap (λ (p : Placed). table_at p.slots place) same ∙ e in
-    eliminated_fewer placed next place inner e (gone yes_ inner e_mid ∙ ap (λ (p : Placed). with_slot (with_put inner p) place None) same)
-
-pub refused_before : (rows : ℕ) (placed mid : Placed) (place : ℕ) (done : Bool) → mid ≡ placed → done ≡ false → ((inner : Table) → table_at mid.slots place ≡ Some inner → done ≡ all_take rows (circuit_of mid) inner)
-    → (inner : Table) → table_at placed.slots place ≡ Some inner → false ≡ all_take rows (circuit_of placed) inner
-refused_before rows placed mid place done same none answer inner e =
-    sym none ∙ (answer inner (ap (λ (p : Placed). table_at p.slots place) same ∙ e) ∙ ap (λ (p : Placed). all_take rows (circuit_of p) inner) same)
+pub done_fewer : (threshold : ℤ) (rows : ℕ) (placed next : Placed) (values : List (Option ℤ)) (place : ℕ) (done : Bool) → AreWaiting threshold rows placed values → IsLeast values (length values) place → done ≡ true
+    → (done ≡ true → (inner : Table) → table_at placed.slots place ≡ Some inner → next ≡ with_slot (with_put inner placed) place None) → length (standing next.slots) < length (standing placed.slots)
+done_fewer threshold rows placed next values place done are first yes_ gone =
+    let (inner, e) = waits_there threshold rows placed values place first.value are first.here in
+    eliminated_fewer placed next place inner e (gone yes_ inner e)
 
 pub chosen : (bit : Bool) (o : Option Circuit) (next : Circuit) → o ≡ (if bit then Some next else None) → bit ≡ true → o ≡ Some next
 chosen bit o next is h = is ∙ ap (λ (b : Bool). if b then Some next else None) h
 
 -- one that is refused waits no more
-pub waiting_less : (threshold : ℤ) (rows : ℕ) (placed : Placed) (values : List (Option ℤ)) (place : ℕ) (v : ℤ) → AreWaiting threshold rows placed values → waits_at values place ≡ Some v
-    → ((inner : Table) → table_at placed.slots place ≡ Some inner → false ≡ all_take rows (circuit_of placed) inner) → AreWaiting threshold rows placed (set values place None)
-waiting_less threshold rows placed values place v are here refused = record {
+waiting_less : (threshold : ℤ) (rows : ℕ) (placed : Placed) (values : List (Option ℤ)) (place : ℕ) (done : Bool) → AreWaiting threshold rows placed values → place < length values → done ≡ false
+    → ((inner : Table) → table_at placed.slots place ≡ Some inner → done ≡ all_take rows (circuit_of placed) inner) → AreWaiting threshold rows placed (set values place None)
+waiting_less threshold rows placed values place done are within none answer = record {
   long = length-set values place None ∙ are.long;
   worth = λ other w h. worth other w h (place == other) refl;
   all = λ other t e h. all other t e h (place == other) refl;
 }
   where
-    stays : (other : ℕ) → (place == other) ≡ false → waits_at (set values place None) other ≡ waits_at values other
-    stays other apart = ap flat (get_set_other values place other None (λ same. eqb-false place other apart (sym same)))
-
     worth : (other : ℕ) (w : ℤ) → waits_at (set values place None) other ≡ Some w → (b : Bool) → (place == other) ≡ b → worth_at threshold placed other ≡ Some w
     worth other w h true same =
-        absurd (let z : None ≡ Some w = sym (ap flat (get_set_same values place (Some v) None (value_there values place v here))) ∙ (ap (waits_at (set values place None)) (eqb-true place other same) ∙ h) in cc)
-    worth other w h false apart = are.worth other w (sym (stays other apart) ∙ h)
+        absurd (let z : None ≡ Some w = sym (waits_same values place None within) ∙ (ap (waits_at (set values place None)) (eqb-true place other same) ∙ h) in cc)
+    worth other w h false apart = are.worth other w (sym (waits_other values place other None (λ same. eqb-false place other apart (sym same))) ∙ h)
 
     all : (other : ℕ) (t : Table) → table_at placed.slots other ≡ Some t → is_candidate threshold rows (circuit_of placed) t ≡ true → (b : Bool) → (place == other) ≡ b
         → waits_at (set values place None) other ≡ worth_at threshold placed other
     all other t e h true same =
-        absurd (false≢true (refused t (ap (table_at placed.slots) (eqb-true place other same) ∙ e) ∙ (candidate_worth threshold rows placed t h).1))
-    all other t e h false apart = stays other apart ∙ are.all other t e h
+        absurd (false≢true (sym none ∙ (answer t (ap (table_at placed.slots) (eqb-true place other same) ∙ e) ∙ (candidate_worth threshold rows placed t h).1)))
+    all other t e h false apart = waits_other values place other None (λ same. eqb-false place other apart (sym same)) ∙ are.all other t e h
+
+pub waiting_refused : (threshold : ℤ) (rows : ℕ) (placed next : Placed) (before mid after : List (Option ℤ)) (place : ℕ) (done : Bool) → AreWaiting threshold rows placed before → IsLeast before (length before) place → done ≡ false
+    → (done ≡ false → (next ≡ placed) × (mid ≡ before)) → ((inner : Table) → table_at placed.slots place ≡ Some inner → done ≡ all_take rows (circuit_of placed) inner) → after ≡ set mid place None
+    → AreWaiting threshold rows next after
+waiting_refused threshold rows placed next before mid after place done are first none same answer is =
+    subst (λ (p : Placed). AreWaiting threshold rows p after) (sym (same none).0)
+    (subst (AreWaiting threshold rows placed) (sym (is ∙ ap (λ (values : List (Option ℤ)). set values place None) (same none).1))
+    (waiting_less threshold rows placed before place done are first.within none answer))
 
 -- chains of steps
 pub record IsLed (step : Circuit → Option Circuit) (from to : Circuit) : Type 0 where

@@ -1,27 +1,33 @@
--- Places that an elimination touches, gathered one after the other, and worths that are made anew there.
-use Rattle.std.proofs.Common.{◌≡◌, ℕ, ◌+◌, ◌<◌, ◌==◌, ℤ, Bool, true, false, ◌||◌, Option, Some, None, List, [], ◌∷◌, ◌++◌, length, bytes_eq, drop, take, get_or, slice_get, set, refl, sym, ap, ◌∙◌, subst, arith, inl, inr, ◌⊎◌}
+-- Places that an elimination touches, gathered one after the other, and values that are made anew there.
+use Rattle.std.proofs.Common.{◌≡◌, ℕ, ◌+◌, ◌<◌, ◌==◌, ℤ, Bool, true, false, Option, Some, None, List, [], ◌∷◌, ◌++◌, length, is_none, bytes_eq, take, get_or, set, refl, sym, ap, ◌∙◌, subst, inl, inr, ◌⊎◌}
 use Rattle.std.specs.Option.{option_map}
 use Rattle.std.proofs.lemmas.Bool.{false≢true, eqb-true, eqb-false, eq-eqb, or_left, or_right, or_cases}
-use Rattle.std.proofs.lemmas.List.{length-map, length-set, drop_more, take_more}
+use Rattle.std.proofs.lemmas.List.{length-map, length-set, take_more}
+use Rattle.std.proofs.lemmas.List.Folds.{list_any_at}
 use Rattle.std.proofs.lemmas.Option.{same_Some}
 use Rattle.circuit_model.specs.Names.{has}
 use Rattle.circuit_model.specs.Soundness.{outputs_of, IsSound}
 use Rattle.circuit_model.specs.declared.circuit.Table.{Table}
 use Rattle.circuit_laws.proofs.Names.{has_not, has_either, same_name}
+use Rattle.elim_rules.specs.Eliminating.{all_take, is_candidate}
 use Rattle.input_readers.specs.Readers.{is_in}
 use Rattle.net_core.specs.Places.{written_of}
+use Rattle.net_core.specs.Reads.{value_of}
 use Rattle.net_core.specs.Tables.{named}
 use Rattle.net_core.specs.declared.places.Entry.{Entry}
-use Rattle.net_core.proofs.Lookups.{get_at, get_set_same, get_set_other}
 use Rattle.net_core.proofs.Removals.{tables_differ}
 use Rattle.net_work.specs.Placed.{Placed, standing, circuit_of, table_at, with_slot}
 use Rattle.net_work.specs.Slots.{inputs_in, inputs_at}
-use Rattle.table_algebra.specs.Taking.{taken_in}
+use Rattle.table_algebra.specs.Taking.{taken_in, take_refusal}
+use Rattle.table_algebra.proofs.Taken.{taken_apart}
 use Rattle.net_elim.specs.Putting.{slots_taken, with_put}
-use Rattle.net_elim.specs.Waiting.{worth_at, AreWaiting}
-use Rattle.net_elim.specs.Touching.{AreWithin, IsGrown, IsCovered, IsJoined, AreTouched, AreWorthsBut}
-use Rattle.net_elim.proofs.Steps.{there_named, place_within, begun_waiting}
-use Rattle.net_elim.proofs.Uses.{IsUntouched, same_place, worth_left}
+use Rattle.net_elim.specs.Waiting.{worth_within, worth_at, waits_at, AreWaiting}
+use Rattle.net_elim.specs.Touching.{AreWithin, IsGrown, IsCovered, IsJoined, AreTouched, AreRenewed}
+use Rattle.net_elim.proofs.Leasts.{waits_same, waits_other}
+use Rattle.net_elim.proofs.Places.{tests_all, tests_each}
+use Rattle.net_elim.proofs.Readers.{unread_takes}
+use Rattle.net_elim.proofs.Steps.{there_named, place_within, worth_of_table, candidate_worth, worth_candidate}
+use Rattle.net_elim.proofs.Uses.{IsUntouched, same_place, slot_left, worth_left}
 
 -- a place behind others
 in_more : (places : List ℕ) (place at : ℕ) → is_in (places ++ place ∷ []) at ≡ true → (is_in places at ≡ true) ⊎ (place ≡ at)
@@ -161,48 +167,108 @@ untouched slots place at inner t places e h out there = (
   },
 )
 
-pub worths_stepped : (threshold : ℤ) (placed next : Placed) (place : ℕ) (inner : Table) (places : List ℕ) (values : List (Option ℤ)) → IsSound (circuit_of placed) → table_at placed.slots place ≡ Some inner
-    → next ≡ with_slot (with_put inner placed) place None → AreTouched placed.slots inner.output place places → AreWorthsBut threshold placed [] values → AreWorthsBut threshold next places values
-worths_stepped threshold placed next place inner places values sound e is h worths = record {
-  long = worths.long ∙ sym long;
-  within = λ at k. omega (arith, long, h.within at k);
-  each = λ at lt out.
-      worths.each at (omega (arith, long, lt)) refl
-      ∙ ap (λ (worth : Option ℤ). Some worth)
-      (sym (worth_left threshold placed next place at inner sound e is (λ same. false≢true (sym out ∙ (ap (is_in places) same ∙ h.own.own))) (λ t there. untouched placed.slots place at inner t places e h out there)));
+-- a table that is not touched is taken in after a step only where it is before
+takes_before : (rows : ℕ) (placed next : Placed) (place : ℕ) (inner t : Table) → table_at placed.slots place ≡ Some inner → next ≡ with_slot (with_put inner placed) place None → IsUntouched placed.slots inner t.output
+    → all_take rows (circuit_of next) t ≡ true → all_take rows (circuit_of placed) t ≡ true
+unfolding all_take
+takes_before rows placed next place inner t e is untouched h =
+    tests_all (λ (u : Table). is_none (take_refusal 32767 rows t u)) placed.slots (λ other u there. cases other u there (has u.inputs t.output) refl)
+  where
+    cases : (other : ℕ) (u : Table) → table_at placed.slots other ≡ Some u → (b : Bool) → has u.inputs t.output ≡ b → is_none (take_refusal 32767 rows t u) ≡ true
+    cases other u there false k = ap is_none (unread_takes 32767 rows t u k)
+    cases other u there true k =
+        tests_each (λ (u : Table). is_none (take_refusal 32767 rows t u)) next.slots h other u
+        (ap (λ (p : Placed). table_at p.slots other) is
+        ∙ (slot_left placed.slots place other inner apart
+        ∙ (ap (option_map (taken_in inner)) there
+        ∙ ap (λ (v : Table). Some v) (taken_apart inner u (has_not u.inputs inner.output (λ reads. false≢true (sym (untouched.readers other u there reads) ∙ k)))))))
+      where
+        apart : other ≡ place → ⊥
+        apart same =
+            let own : inner ≡ u = same_Some inner u (sym e ∙ (ap (table_at placed.slots) (sym same) ∙ there)) in
+            false≢true (sym untouched.own ∙ (ap (λ (v : Table). has v.inputs t.output) own ∙ k))
+
+-- values made anew where an elimination touched them
+pub waiting_stepped : (threshold : ℤ) (rows : ℕ) (placed next : Placed) (place : ℕ) (inner : Table) (places : List ℕ) (before after : List (Option ℤ)) → IsSound (circuit_of placed) → table_at placed.slots place ≡ Some inner
+    → next ≡ with_slot (with_put inner placed) place None → AreTouched placed.slots inner.output place places → AreWaiting threshold rows placed before → AreRenewed threshold next places before after
+    → AreWaiting threshold rows next after
+waiting_stepped threshold rows placed next place inner places before after sound e is h are renewed = record {
+  long = renewed.long ∙ (are.long ∙ sym long);
+  worth = λ at v k. worth at v k (is_in places at) refl;
+  all = λ at t there fits. all at t there fits (is_in places at) refl;
 }
   where
     long : length next.slots ≡ length placed.slots
     long = ap (λ (p : Placed). length p.slots) is ∙ (length-set (slots_taken inner placed.slots) place None ∙ length-map placed.slots (option_map (taken_in inner)))
 
--- one worth anew
-pub worths_next : (threshold : ℤ) (placed : Placed) (places : List ℕ) (i d : ℕ) (values next : List (Option ℤ)) → i < length places → AreWorthsBut threshold placed (drop i places) values
-    → next ≡ set values (get_or places i d) (worth_at threshold placed (get_or places i d)) → AreWorthsBut threshold placed (drop (i + 1) places) next
-worths_next threshold placed places i d values next lt h is =
-    renewed (get_or places i d) (drop (i + 1) places) next (subst (λ (ps : List ℕ). AreWorthsBut threshold placed ps values) (drop_more places i d lt) h) is
-  where
-    renewed : (first : ℕ) (rest : List ℕ) (next : List (Option ℤ)) → AreWorthsBut threshold placed (first ∷ rest) values → next ≡ set values first (worth_at threshold placed first) → AreWorthsBut threshold placed rest next
-    renewed first rest next h is = subst (AreWorthsBut threshold placed rest) (sym is) (record {
-      long = length-set values first (worth_at threshold placed first) ∙ h.long;
-      within = λ at k. h.within at (or_right (first == at) (is_in rest at) k);
-      each = λ at lt out. cases at lt out (first == at) refl;
-    })
+    apart : (at : ℕ) → is_in places at ≡ false → at ≡ place → ⊥
+    apart at out same = false≢true (sym out ∙ (ap (is_in places) same ∙ h.own.own))
+
+    stays : (at : ℕ) → is_in places at ≡ false → worth_at threshold next at ≡ worth_at threshold placed at
+    stays at out = worth_left threshold placed next place at inner sound e is (apart at out) (λ t there. untouched placed.slots place at inner t places e h out there)
+
+    worth : (at : ℕ) (v : ℤ) → waits_at after at ≡ Some v → (b : Bool) → is_in places at ≡ b → worth_at threshold next at ≡ Some v
+    worth at v k true within = sym (renewed.there at within) ∙ k
+    worth at v k false out = stays at out ∙ are.worth at v (sym (renewed.others at out) ∙ k)
+
+    all : (at : ℕ) (t : Table) → table_at next.slots at ≡ Some t → is_candidate threshold rows (circuit_of next) t ≡ true → (b : Bool) → is_in places at ≡ b → waits_at after at ≡ worth_at threshold next at
+    all at t there fits true within = renewed.there at within
+    all at t there fits false out = by (table_at placed.slots at) refl
       where
-        cases : (at : ℕ) → at < length placed.slots → is_in rest at ≡ false → (b : Bool) → (first == at) ≡ b → slice_get (set values first (worth_at threshold placed first)) at ≡ Some (worth_at threshold placed at)
-        cases at lt out true e =
-            let same : first ≡ at = eqb-true first at e in
-            subst (λ (j : ℕ). slice_get (set values first (worth_at threshold placed first)) j ≡ Some (worth_at threshold placed j)) same
-            (get_set_same values first (get_or values first None) (worth_at threshold placed first) (get_at values first None (omega (arith, h.long, lt, same))))
-        cases at lt out false e =
-            get_set_other values first at (worth_at threshold placed first) (λ same. eqb-false first at e (sym same))
-            ∙ h.each at lt (ap (λ (b : Bool). b || is_in rest at) e ∙ out)
+        now : option_map (taken_in inner) (table_at placed.slots at) ≡ Some t
+        now = sym (ap (λ (p : Placed). table_at p.slots at) is ∙ slot_left placed.slots place at inner (apart at out)) ∙ there
 
-pub listed_within : (threshold : ℤ) (placed : Placed) (places : List ℕ) (i d : ℕ) (values : List (Option ℤ)) → i < length places → AreWorthsBut threshold placed (drop i places) values → get_or places i d < length values
-listed_within threshold placed places i d values lt h =
-    let first : get_or places i d < length placed.slots =
-    h.within (get_or places i d) (ap (λ (ps : List ℕ). is_in ps (get_or places i d)) (drop_more places i d lt) ∙ or_left (get_or places i d == get_or places i d) (is_in (drop (i + 1) places) (get_or places i d)) (eq-eqb (get_or places i d) (get_or places i d) refl)) in
-    omega (arith, h.long, first)
+        same : (u : Table) → table_at placed.slots at ≡ Some u → u ≡ t
+        same u was =
+            sym (taken_apart inner u (untouched placed.slots place at inner u places e h out was).0)
+            ∙ same_Some (taken_in inner u) t (sym (ap (option_map (taken_in inner)) was) ∙ now)
 
--- worths that wait
-pub worths_wait : (threshold : ℤ) (rows : ℕ) (placed : Placed) (values copy : List (Option ℤ)) → AreWorthsBut threshold placed [] values → copy ≡ values → AreWaiting threshold rows placed copy
-worths_wait threshold rows placed values copy h is = subst (AreWaiting threshold rows placed) (sym is) (begun_waiting threshold rows placed values h.long (λ at lt. h.each at lt refl))
+        by : (o : Option Table) → table_at placed.slots at ≡ o → waits_at after at ≡ worth_at threshold next at
+        by None was = absurd (let z : None ≡ Some t = sym (ap (option_map (taken_in inner)) was) ∙ now in cc)
+        by (Some u) was =
+            let stood : table_at placed.slots at ≡ Some t = was ∙ ap (λ (v : Table). Some v) (same u was) in
+            let worths : worth_within threshold placed t ≡ Some (value_of (standing next.slots) t.output) =
+            sym (worth_of_table threshold placed at t stood) ∙ (sym (stays at out) ∙ (worth_of_table threshold next at t there ∙ (candidate_worth threshold rows next t fits).0)) in
+            let takes : all_take rows (circuit_of placed) t ≡ true =
+            takes_before rows placed next place inner t e is (untouched placed.slots place at inner t places e h out stood).1 (candidate_worth threshold rows next t fits).1 in
+            renewed.others at out
+            ∙ (are.all at t stood (worth_candidate threshold rows placed t (value_of (standing next.slots) t.output) worths takes) ∙ sym (stays at out))
+
+-- one value after the other anew
+pub renewed_begun : (threshold : ℤ) (placed : Placed) (values : List (Option ℤ)) → AreRenewed threshold placed [] values values
+renewed_begun threshold placed values = record {
+  long = refl;
+  there = λ at h. absurd (false≢true h);
+  others = λ at h. refl;
+}
+
+pub renewed_more : (threshold : ℤ) (placed : Placed) (places : List ℕ) (i d : ℕ) (before now next : List (Option ℤ)) → i < length places → get_or places i d < length now → AreRenewed threshold placed (take i places) before now
+    → next ≡ set now (get_or places i d) (worth_at threshold placed (get_or places i d)) → AreRenewed threshold placed (take (i + 1) places) before next
+renewed_more threshold placed places i d before now next lt within h is =
+    subst (λ (ps : List ℕ). AreRenewed threshold placed ps before next) (sym (take_more places i d lt)) (one (take i places) (get_or places i d) h within is)
+  where
+    one : (done : List ℕ) (first : ℕ) → AreRenewed threshold placed done before now → first < length now → next ≡ set now first (worth_at threshold placed first) → AreRenewed threshold placed (done ++ first ∷ []) before next
+    one done first h within is = record {
+      long = ap length is ∙ (length-set now first (worth_at threshold placed first) ∙ h.long);
+      there = λ at k. there at k (first == at) refl;
+      others = λ at k.
+          ap (λ (values : List (Option ℤ)). waits_at values at) is
+          ∙ (waits_other now first at (worth_at threshold placed first) (λ same. false≢true (sym k ∙ subst (λ (j : ℕ). is_in (done ++ first ∷ []) j ≡ true) (sym same) (more_last done first)))
+          ∙ h.others at (out at k (is_in done at) refl));
+    }
+      where
+        there : (at : ℕ) → is_in (done ++ first ∷ []) at ≡ true → (b : Bool) → (first == at) ≡ b → waits_at next at ≡ worth_at threshold placed at
+        there at k true e =
+            subst (λ (j : ℕ). waits_at next j ≡ worth_at threshold placed j) (eqb-true first at e) (ap (λ (values : List (Option ℤ)). waits_at values first) is ∙ waits_same now first (worth_at threshold placed first) within)
+        there at k false e =
+            elim (in_more done first at k) as (λ _. waits_at next at ≡ worth_at threshold placed at) [
+              | inl old ↦ ap (λ (values : List (Option ℤ)). waits_at values at) is ∙ (waits_other now first at (worth_at threshold placed first) (λ same. eqb-false first at e (sym same)) ∙ h.there at old)
+              | inr new ↦ absurd (eqb-false first at e new)
+            ]
+
+        out : (at : ℕ) → is_in (done ++ first ∷ []) at ≡ false → (b : Bool) → is_in done at ≡ b → b ≡ false
+        out at k true e = absurd (false≢true (sym k ∙ more_front done first at e))
+        out at k false e = refl
+
+pub listed : (places : List ℕ) (i d : ℕ) → i < length places → is_in places (get_or places i d) ≡ true
+listed places i d lt = list_any_at (λ (other : ℕ). other == get_or places i d) places i d lt (eq-eqb (get_or places i d) (get_or places i d) refl)

@@ -120,7 +120,7 @@ value_left slots place at inner t different e there apart unread h =
     (ap literals_in (driver_left slots place at inner t different e there apart unread ∙ sym (drives_at slots different at t there)))
 
 -- what it is worth
-slot_left : (slots : List (Option Table)) (place at : ℕ) (inner : Table) → (at ≡ place → ⊥) → table_at (set (slots_taken inner slots) place None) at ≡ option_map (taken_in inner) (table_at slots at)
+pub slot_left : (slots : List (Option Table)) (place at : ℕ) (inner : Table) → (at ≡ place → ⊥) → table_at (set (slots_taken inner slots) place None) at ≡ option_map (taken_in inner) (table_at slots at)
 slot_left slots place at inner apart =
     ap joined (get_set_other (slots_taken inner slots) place at None apart) ∙ (ap joined (slice_get-map (option_map (taken_in inner)) slots at) ∙ cases (slice_get slots at))
   where

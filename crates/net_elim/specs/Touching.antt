@@ -2,13 +2,13 @@
 -- read. What any other table is worth stays.
 -- Source: Brayton, Rudell, Sangiovanni-Vincentelli and Wang, "MIS: A Multiple-Level Logic Optimization System" (1987); De Micheli,
 -- "Synthesis and Optimization of Digital Circuits", chapter 8 (the value of a vertex changes with its fanout and its literals).
-use Rattle.std.specs.Prelude.{◌≡◌, ℕ, ◌<◌, ℤ, true, false, Option, Some, List, length, slice_get}
+use Rattle.std.specs.Prelude.{◌≡◌, ℕ, ◌<◌, ℤ, true, false, Option, Some, List, length}
 use Rattle.circuit_model.specs.Names.{has}
 use Rattle.circuit_model.specs.declared.circuit.Table.{Table}
 use Rattle.input_readers.specs.Readers.{is_in}
 use Rattle.net_work.specs.Placed.{Placed, table_at}
 use Rattle.net_work.specs.Slots.{inputs_at}
-use Rattle.net_elim.specs.Waiting.{worth_at}
+use Rattle.net_elim.specs.Waiting.{worth_at, waits_at}
 
 -- the network has all the places
 abbrev pub AreWithin : List (Option Table) → List ℕ → Type 0
@@ -37,8 +37,8 @@ pub record AreTouched (slots : List (Option Table)) (name : List ℕ) (place : �
   pub own : IsCovered slots places place
   pub readers : (at : ℕ) → has (inputs_at slots at) name ≡ true → IsCovered slots places at
 
--- values tell what the table at each place is worth, but for some places
-pub record AreWorthsBut (threshold : ℤ) (placed : Placed) (places : List ℕ) (values : List (Option ℤ)) : Type 0 where
-  pub long : length values ≡ length placed.slots
-  pub within : AreWithin placed.slots places
-  pub each : (at : ℕ) → at < length placed.slots → is_in places at ≡ false → slice_get values at ≡ Some (worth_at threshold placed at)
+-- values at some places become what the tables there are worth, and all others stay
+pub record AreRenewed (threshold : ℤ) (placed : Placed) (places : List ℕ) (before after : List (Option ℤ)) : Type 0 where
+  pub long : length after ≡ length before
+  pub there : (at : ℕ) → is_in places at ≡ true → waits_at after at ≡ worth_at threshold placed at
+  pub others : (at : ℕ) → is_in places at ≡ false → waits_at after at ≡ waits_at before at

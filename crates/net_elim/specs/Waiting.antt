@@ -3,6 +3,9 @@
 -- report (UCB/ERL M92/41), `eliminate`; De Micheli, "Synthesis and Optimization of Digital Circuits", chapter 8 (elimination).
 use Rattle.std.specs.Prelude.{◌≡◌, ℕ, ◌<◌, ℤ, Bool, true, false, not, ◌&&◌, if◌then◌else◌, Option, Some, None, List, length, slice_get, int_lt}
 use Rattle.std.specs.Option.{option_map_or}
+use Rattle.std.specs.BTreeSet.{BTreeSet, contains}
+use Rattle.std.specs.declared.cmp.Ordering.{Ordering}
+use Rattle.std.specs.Ordering.{int_cmp, nat_cmp, ordering_then}
 use Rattle.circuit_model.specs.declared.circuit.Table.{Table}
 use Rattle.circuit_laws.specs.Edits.{is_root}
 use Rattle.elim_rules.specs.Eliminating.{is_candidate}
@@ -49,13 +52,11 @@ abbrev pub IsLeastTo : List (Option ℤ) → ℕ → Option ℕ → Type 0
 IsLeastTo values count None = (other : ℕ) (that : ℤ) → other < count → waits_at values other ≡ Some that → ⊥
 IsLeastTo values count (Some place) = IsLeast values count place
 
--- the value at a place that may be missing
-abbrev pub value_in : List (Option ℤ) → Option ℕ → Option ℤ
-value_in values None = None
-value_in values (Some place) = waits_at values place
+-- values with their places: the lesser value first, of equal ones that at the first place
+abbrev pub pair_order : ℤ × ℕ → ℤ × ℕ → Ordering
+pair_order pair other = ordering_then (int_cmp pair.0 other.0) (nat_cmp pair.1 other.1)
 
--- whether a value is there and less than another one, if that is there
-abbrev pub is_less : Option ℤ → Option ℤ → Bool
-is_less None other = false
-is_less (Some value) None = true
-is_less (Some value) (Some other) = int_lt value other
+-- a set has each value with its place, and nothing else
+pub record AreOrdered (values : List (Option ℤ)) (order : BTreeSet (ℤ × ℕ)) : Type 0 where
+  pub all : (place : ℕ) (value : ℤ) → waits_at values place ≡ Some value → contains pair_order order (value, place) ≡ true
+  pub only : (place : ℕ) (value : ℤ) → contains pair_order order (value, place) ≡ true → waits_at values place ≡ Some value

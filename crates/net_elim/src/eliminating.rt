@@ -1,18 +1,19 @@
 //! Elimination, step by step.
 
-ghost use Rattle.std.specs.Prelude.{◌≡◌, ℕ, ℤ, ◌<◌, Ok, Bool, true, false, not, ◌&&◌, if◌then◌else◌, Option, Some, None, List, [], length, is_some, slice_get, slice_set, int_lt, IfOk, OnOk};
+ghost use Rattle.std.specs.Prelude.{◌≡◌, ℕ, ℤ, ◌<◌, Ok, Bool, true, false, not, ◌&&◌, if◌then◌else◌, Some, None, length, is_some, slice_set, int_lt, IfOk, OnOk};
 ghost use Rattle.circuit_model.specs.Soundness.{IsSound};
 ghost use Rattle.circuit_model.specs.declared.circuit.Table.{Table as TheWritten};
 ghost use Rattle.circuit_laws.specs.Chains.{Chain};
 ghost use Rattle.elim_rules.specs.Eliminating.{all_take, with_eliminated, eliminate_step};
+ghost use Rattle.input_readers.specs.Readers.{is_in};
 ghost use Rattle.net_work.specs.Placed.{standing, circuit_of, table_at, with_slot};
 ghost use Rattle.net_elim.specs.Putting.{with_put};
-ghost use Rattle.net_elim.specs.Touching.{AreWorthsBut};
-ghost use Rattle.net_elim.specs.Waiting.{when, worth_at};
+ghost use Rattle.net_elim.specs.Touching.{AreRenewed};
+ghost use Rattle.net_elim.specs.Waiting.{when, worth_at, AreWaiting};
 
-use crate::least::least_place;
 use crate::putting::{PutFault, put_at};
 use crate::touching::touched_by;
+use crate::waiting::Waiting;
 use cube_cover::Row;
 use net_core::Network;
 use net_work::Work;
@@ -78,18 +79,14 @@ fn worth_of<R: Row>(
 }
 
 // What the tables at all places are worth.
-fn all_worths<R: Row>(
-    alloc: Global,
-    work: &Work<R>,
-    threshold: i32,
-) -> Result<Vec<Option<i128>>, AllocError>
-    ensures { IfOk result (λ values. AreWorthsBut threshold work.now [] values.items) }
+fn all_worths<R: Row>(alloc: Global, work: &Work<R>, threshold: i32) -> Result<Waiting, AllocError>
+    ensures { IfOk result (λ waiting. (rows : ℕ) → AreWaiting threshold rows work.now waiting) }
 {
-    let mut values = Vec::with_capacity(alloc, work.len())?;
+    let mut waiting = Waiting::new(alloc);
     for place in 0..work.len() {
-        values.push(worth_of(work, place, threshold)?)?;
+        waiting.push(worth_of(work, place, threshold)?)?;
     }
-    Ok(values)
+    Ok(waiting)
 }
 
 // Makes what the table at a place is worth anew.
@@ -97,13 +94,12 @@ fn renew<R: Row>(
     work: &Work<R>,
     place: usize,
     threshold: i32,
-    worths: &mut Vec<Option<i128>>,
+    waiting: &mut Waiting,
 ) -> Result<(), AllocError>
-    requires { place < length worths.old.items }
-    ensures { OnOk result (worths.new.items ≡ slice_set worths.old.items place (worth_at threshold work.now place)) }
+    requires { place < length waiting.old }
+    ensures { OnOk result (waiting.new ≡ slice_set waiting.old place (worth_at threshold work.now place)) }
 {
-    worths[place] = worth_of(work, place, threshold)?;
-    Ok(())
+    waiting.set(place, worth_of(work, place, threshold)?)
 }
 
 // Makes what the tables at some places are worth anew.
@@ -111,13 +107,13 @@ fn renew_all<R: Row>(
     work: &Work<R>,
     places: &[usize],
     threshold: i32,
-    worths: &mut Vec<Option<i128>>,
+    waiting: &mut Waiting,
 ) -> Result<(), AllocError>
-    requires { AreWorthsBut threshold work.now places.now worths.old.items }
-    ensures { OnOk result (AreWorthsBut threshold work.now [] worths.new.items) }
+    requires { (at : ℕ) → is_in places.now at ≡ true → at < length waiting.old }
+    ensures { OnOk result (AreRenewed threshold work.now places.now waiting.old waiting.new) }
 {
     for place in places {
-        renew(work, *place, threshold, worths)?;
+        renew(work, *place, threshold, waiting)?;
     }
     Ok(())
 }
@@ -126,50 +122,50 @@ fn renew_all<R: Row>(
 fn try_at<R: Row>(
     alloc: Global,
     work: &mut Work<R>,
-    worths: &mut Vec<Option<i128>>,
+    waiting: &mut Waiting,
     place: usize,
     threshold: i32,
     rows: usize,
 ) -> Result<bool, AllocError>
     requires sound { IsSound (circuit_of work.old) }
     requires there { is_some (table_at work.old.slots place) ≡ true }
-    requires worths { AreWorthsBut threshold work.old [] worths.old.items }
+    requires waiting { AreWaiting threshold rows work.old waiting.old }
     ensures answer { IfOk result (λ done. (inner : TheWritten) → table_at work.old.slots place ≡ Some inner → done ≡ all_take rows (circuit_of work.old) inner) }
     ensures done { IfOk result (λ done. done ≡ true → (inner : TheWritten) → table_at work.old.slots place ≡ Some inner → work.new ≡ with_slot (with_put inner work.old) place None) }
     ensures circuit { IfOk result (λ done. done ≡ true → (inner : TheWritten) → table_at work.old.slots place ≡ Some inner → circuit_of work.new ≡ with_eliminated (circuit_of work.old) inner) }
-    ensures same { IfOk result (λ done. done ≡ false → work.new ≡ work.old) }
-    ensures worths { OnOk result (AreWorthsBut threshold work.new [] worths.new.items) }
+    ensures same { IfOk result (λ done. done ≡ false → (work.new ≡ work.old) × (waiting.new ≡ waiting.old)) }
+    ensures waiting { OnOk result (AreWaiting threshold rows work.new waiting.new) }
 {
     let touched = touched_by(alloc, work, place)?;
     if eliminate_at(alloc, work, place, rows)? {
-        renew_all(work, touched.as_slice(), threshold, worths)?;
+        renew_all(work, touched.as_slice(), threshold, waiting)?;
         Ok(true)
     } else {
         Ok(false)
     }
 }
 
-// Takes the next step, if there is one: of the tables that are worth least the first that its readers can take in goes.
+// Takes the next step, if there is one: of the tables that are worth least the first that its readers can take in goes. One that
+// they refuse waits no more, until a step touches it.
 fn take_step<R: Row>(
     alloc: Global,
     work: &mut Work<R>,
-    worths: &mut Vec<Option<i128>>,
+    waiting: &mut Waiting,
     threshold: i32,
     rows: usize,
 ) -> Result<bool, AllocError>
     requires sound { IsSound (circuit_of work.old) }
-    requires worths { AreWorthsBut threshold work.old [] worths.old.items }
+    requires waiting { AreWaiting threshold rows work.old waiting.old }
     ensures step { IfOk result (λ taken. eliminate_step threshold rows (circuit_of work.old) ≡ (if taken then Some (circuit_of work.new) else None)) }
     ensures same { IfOk result (λ taken. taken ≡ false → work.new ≡ work.old) }
     ensures fewer { IfOk result (λ taken. taken ≡ true → length (standing work.new.slots) < length (standing work.old.slots)) }
-    ensures worths { OnOk result (AreWorthsBut threshold work.new [] worths.new.items) }
+    ensures waiting { OnOk result (AreWaiting threshold rows work.new waiting.new) }
 {
-    let mut values = Vec::from_slice(alloc, worths.as_slice())?;
-    while let Some(place) = least_place(values.as_slice()) {
-        if try_at(alloc, work, worths, place, threshold, rows)? {
+    while let Some(place) = waiting.first() {
+        if try_at(alloc, work, waiting, place, threshold, rows)? {
             return Ok(true);
         }
-        values[place] = None;
+        waiting.clear(place);
     }
     Ok(false)
 }
@@ -185,8 +181,8 @@ fn take_steps<R: Row>(
     ensures sound { OnOk result (IsSound (circuit_of work.new)) }
     ensures chain { OnOk result (Chain (eliminate_step threshold rows) (circuit_of work.old) (circuit_of work.new)) }
 {
-    let mut worths = all_worths(alloc, work, threshold)?;
-    while take_step(alloc, work, &mut worths, threshold, rows)? {}
+    let mut waiting = all_worths(alloc, work, threshold)?;
+    while take_step(alloc, work, &mut waiting, threshold, rows)? {}
     Ok(())
 }
 

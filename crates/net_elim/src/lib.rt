@@ -4,14 +4,14 @@
 //! report (UCB/ERL M92/41), `eliminate`. Promised: the network becomes exactly the end of the chain of steps that elim_rules
 //! defines, and so what its laws say of such chains holds: outputs and latches keep their functions, and no inner table is left
 //! whose value is not above the threshold and that all its readers can take in. The results for all readers are made before one
-//! is set, so a table that a reader refuses is tried once a step. Values are kept from step to step, and computed anew only where
-//! a step may have changed them: at the readers, and at the tables that drive what these read. A step looks through all of them
-//! for the least; no clause says so.
+//! is set. Values are kept from step to step, with an ordered set of them (`waiting`), and computed anew only where a step may
+//! have changed them: at the readers, and at the tables that drive what these read. A table that a reader refuses is tried again
+//! only behind such a step. No clause says how much work that saves.
 #![tactic(auto)]
 
 mod eliminating;
-mod least;
 mod putting;
 mod touching;
+mod waiting;
 
 pub use eliminating::eliminated;

@@ -4,6 +4,6 @@ use Rattle.net_elim.proofs.eliminating.all_worths.Given as goal
 
 abbrev pub invariant-loop-place : goal.invariant-loop-place
 invariant-loop-place g l = record {
-  long : length l.values.items ≡ l.place;
-  each : (other : ℕ) → other < l.place → slice_get l.values.items other ≡ Some (worth_at l.threshold l.work other);
+  long : length l.waiting ≡ l.place;
+  each : (other : ℕ) → other < l.place → slice_get l.waiting other ≡ Some (worth_at l.threshold l.work other);
 }

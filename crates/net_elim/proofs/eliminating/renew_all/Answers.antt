@@ -1,18 +1,27 @@
-use Rattle.std.proofs.Common.{ℤ, ℕ, List, drop, subst, w32}
+use Rattle.std.proofs.Common.{◌<◌, ℤ, ℕ, List, length, get_or, take, subst, arith, w32}
 use Rattle.std.proofs.lemmas.Int.{to_z-of_z}
-use Rattle.std.proofs.lemmas.List.{drop_all}
-use Rattle.net_elim.specs.Touching.{AreWorthsBut}
-use Rattle.net_elim.proofs.Touched.{worths_next, listed_within}
+use Rattle.std.proofs.lemmas.List.{take_all}
+use Rattle.net_elim.specs.Touching.{AreRenewed}
+use Rattle.net_elim.proofs.Touched.{renewed_begun, renewed_more, listed}
 use Rattle.net_elim.proofs.eliminating.renew_all.Goals as goal
 
 pub renew-requires : goal.renew-requires
-renew-requires g c = listed_within _ c.args.work.now c.args.places.now c.loop-place.place-index 0 c.loop-place.worths.items c.loop-place-test.true c.loop-place.invariant
+renew-requires g c =
+    let within : get_or c.args.places.now c.loop-place.place-index 0 < length c.args.waiting.now =
+    c.requires (get_or c.args.places.now c.loop-place.place-index 0) (listed c.args.places.now c.loop-place.place-index 0 c.loop-place-test.true) in
+    omega (arith, within, c.loop-place.invariant.long)
+
+pub loop-place-init : goal.loop-place-init
+loop-place-init g c = renewed_begun _ c.args.work.now c.args.waiting.now
 
 pub loop-place-preserved : goal.loop-place-preserved
 loop-place-preserved g c =
-    worths_next _ c.args.work.now c.args.places.now c.loop-place.place-index 0 c.loop-place.worths.items c.renew.new.worths.items c.loop-place-test.true c.loop-place.invariant c.in_ok-renew.ensures
+    let within : get_or c.args.places.now c.loop-place.place-index 0 < length c.args.waiting.now =
+    c.requires (get_or c.args.places.now c.loop-place.place-index 0) (listed c.args.places.now c.loop-place.place-index 0 c.loop-place-test.true) in
+    renewed_more _ c.args.work.now c.args.places.now c.loop-place.place-index 0 c.args.waiting.now c.loop-place.waiting c.renew.new.waiting c.loop-place-test.true (omega (arith, within, c.loop-place.invariant.long)) c.loop-place.invariant
+    c.in_ok-renew.ensures
 
 pub returns : goal.returns
 returns g c =
-    subst (λ (ps : List ℕ). AreWorthsBut c.args.threshold c.args.work.now ps c.loop-place.worths.items) (drop_all c.loop-place.place-index c.args.places.now c.loop-place-test.false)
-    (subst (λ (t : ℤ). AreWorthsBut t c.args.work.now (drop c.loop-place.place-index c.args.places.now) c.loop-place.worths.items) (to_z-of_z w32 c.args.threshold c.ranges.threshold) c.loop-place.invariant)
+    subst (λ (ps : List ℕ). AreRenewed c.args.threshold c.args.work.now ps c.args.waiting.now c.loop-place.waiting) (take_all c.loop-place.place-index c.args.places.now c.loop-place-test.false)
+    (subst (λ (t : ℤ). AreRenewed t c.args.work.now (take c.loop-place.place-index c.args.places.now) c.args.waiting.now c.loop-place.waiting) (to_z-of_z w32 c.args.threshold c.ranges.threshold) c.loop-place.invariant)

@@ -1,6 +1,6 @@
-use Rattle.std.proofs.Common.{drop}
-use Rattle.net_elim.specs.Touching.{AreWorthsBut}
+use Rattle.std.proofs.Common.{take}
+use Rattle.net_elim.specs.Touching.{AreRenewed}
 use Rattle.net_elim.proofs.eliminating.renew_all.Given as goal
 
 abbrev pub invariant-loop-place : goal.invariant-loop-place
-invariant-loop-place g l = AreWorthsBut l.threshold l.work (drop l.place-index l.places) l.worths.items
+invariant-loop-place g l = AreRenewed l.threshold l.work (take l.place-index l.places) l.fn.waiting l.waiting

@@ -1,12 +1,19 @@
 use Rattle.net_work.specs.Placed.{circuit_of}
-use Rattle.net_elim.proofs.Steps.{next_sound, led_more, chosen}
+use Rattle.net_elim.proofs.Steps.{next_sound, led_itself, led_more, chosen}
 use Rattle.net_elim.proofs.eliminating.take_steps.Goals as goal
 
-pub loop-worths-preserved : goal.loop-worths-preserved
-loop-worths-preserved g c = record {
-  sound = next_sound _ c.args.rows (circuit_of c.loop-worths.work) (circuit_of c.take_step.new.work) c.loop-worths.invariant.sound
+pub loop-waiting-init : goal.loop-waiting-init
+loop-waiting-init g c = record {
+  sound = c.requires;
+  led = led_itself _ (circuit_of c.args.work.now);
+  waiting = c.in_ok-waiting.ensures c.args.rows;
+}
+
+pub loop-waiting-preserved : goal.loop-waiting-preserved
+loop-waiting-preserved g c = record {
+  sound = next_sound _ c.args.rows (circuit_of c.loop-waiting.work) (circuit_of c.take_step.new.work) c.loop-waiting.invariant.sound
       (chosen c.in_ok-take_step.field-0 _ (circuit_of c.take_step.new.work) c.in_ok-take_step.ensures.step c.if-branch.true);
-  led = led_more _ (circuit_of c.args.work.now) (circuit_of c.loop-worths.work) (circuit_of c.take_step.new.work) c.loop-worths.invariant.led
+  led = led_more _ (circuit_of c.args.work.now) (circuit_of c.loop-waiting.work) (circuit_of c.take_step.new.work) c.loop-waiting.invariant.led
       (chosen c.in_ok-take_step.field-0 _ (circuit_of c.take_step.new.work) c.in_ok-take_step.ensures.step c.if-branch.true);
-  worths = c.in_ok-take_step.ensures.worths;
+  waiting = c.in_ok-take_step.ensures.waiting;
 }
