@@ -23,11 +23,11 @@ fit_proper (Leaf pin) t e = absurd (false≢true e)
 fit_proper (Inv p) t e = tt
 fit_proper (Nand p q) t e = tt
 
-both_false : (a b : Bool) → (a && b) ≡ false → (a ≡ false) ⊎ (b ≡ false)
+pub both_false : (a b : Bool) → (a && b) ≡ false → (a ≡ false) ⊎ (b ≡ false)
 both_false true b e = inr e
 both_false false b e = inl refl
 
-either_false : (a b : Bool) → (a || b) ≡ false → (a ≡ false) × (b ≡ false)
+pub either_false : (a b : Bool) → (a || b) ≡ false → (a ≡ false) × (b ≡ false)
 either_false true b e = absurd (false≢true (sym e))
 either_false false b e = (refl, e)
 
@@ -40,6 +40,17 @@ no_nand_below : (v : Vertex) (ts : List (Tree ℕ)) (f : ℕ → ℕ → List Bi
 no_nand_below (AtLeaf place) ts f e = refl
 no_nand_below (AtInv m) ts f e = refl
 no_nand_below (AtNand m k) ts f e = absurd (false≢true (sym e))
+
+-- where a pattern has no match, no choice is the best one
+pub no_match_best : (vs : List Vertex) (order : Choice → Choice → Ordering) (choices : List Choice) (gate : Gate) (place n : ℕ) (p : Tree ℕ) → (IsProper p → matched vs p n ≡ []) → BestOf order (FromPattern vs choices gate place n p) None
+no_match_best vs order choices gate place n p no_match = record {
+  among = λ c e. absurd (none-some c e);
+  first = λ c d e h g. none-some c e;
+  none = λ d e h.
+      let (k, lt, from) = h.1 in
+      let empty : length (matched vs p n) ≡ 0 = ap (λ (bs : List Binding). length bs) (no_match h.0) in
+      omega (arith, lt, empty);
+}
 
 module _ (vs : List Vertex) (arena : IsArena vs) where
   root_none : (p : Tree ℕ) (n : ℕ) (bs : List Binding) → fits_root p (tree_at vs n) ≡ false → grown vs p n bs ≡ []
@@ -74,11 +85,4 @@ module _ (vs : List Vertex) (arena : IsArena vs) where
   fit_none (Nand p q) n bs proper e = nand_none p q (vertex_at vs n) bs (ap (may_fit (Nand p q)) (sym (reads_all vs arena n)) ∙ e)
 
   pub unfit_best : (order : Choice → Choice → Ordering) (choices : List Choice) (gate : Gate) (place n : ℕ) (p : Tree ℕ) (fits : Bool) → fits ≡ may_fit p (tree_at vs n) → fits ≡ false → BestOf order (FromPattern vs choices gate place n p) None
-  unfit_best order choices gate place n p fits is no_fit = record {
-    among = λ c e. absurd (none-some c e);
-    first = λ c d e h g. none-some c e;
-    none = λ d e h.
-        let (k, lt, from) = h.1 in
-        let empty : length (matched vs p n) ≡ 0 = ap (λ (bs : List Binding). length bs) (fit_none p n _ h.0 (sym is ∙ no_fit)) in
-        omega (arith, lt, empty);
-  }
+  unfit_best order choices gate place n p fits is no_fit = no_match_best vs order choices gate place n p (λ proper. fit_none p n _ proper (sym is ∙ no_fit))

@@ -5,6 +5,7 @@ pub mod Comparing
 pub mod Growing
 pub mod Levels
 pub mod Made
+pub mod Misfits
 pub mod Open
 pub mod Ordered
 pub mod Reaching

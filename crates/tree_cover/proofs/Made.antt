@@ -1,8 +1,8 @@
 -- The best choice at a vertex is the one that is taken, and costs the least.
-use Rattle.std.proofs.Common.{◌≡◌, ℕ, zero, suc, ◌+◌, ◌*◌, ◌^◌, ◌<◌, ◌≤◌, Some, List, [], ◌∷◌, ◌++◌, length, slice_get, Greater, refl, sym, ap, ◌∙◌, subst, inl, inr, ◌⊎◌, ◌↔◌, arith, length-append}
+use Rattle.std.proofs.Common.{◌≡◌, ℕ, ◌+◌, ◌*◌, ◌^◌, ◌<◌, ◌≤◌, Some, List, [], ◌∷◌, ◌++◌, length, slice_get, Greater, refl, sym, ap, ◌∙◌, subst, inl, inr, ◌↔◌, arith, length-append}
 use Rattle.std.specs.List.{AllByRecursion}
 use Rattle.std.specs.declared.cmp.Ordering.{Ordering}
-use Rattle.std.proofs.lemmas.Option.{slice_get_within, get_or_from_slice_get, same_Some, none-some}
+use Rattle.std.proofs.lemmas.Option.{slice_get_within, get_or_from_slice_get}
 use Rattle.subject_tree.specs.Trees.{Tree, Leaf, Inv, Nand, size_of}
 use Rattle.subject_tree.specs.Arenas.{trees, tree_at, built, vertex_at, IsOver, IsArena}
 use Rattle.subject_tree.specs.Tables.{trees_of}
@@ -16,7 +16,7 @@ use Rattle.tree_cover.specs.declared.choice.Choice.{Choice}
 use Rattle.tree_cover.specs.Covers.{Tile, tile_of, tiles, Cover, leaf_cover, Least, LeastOfAll, Stands, IsGiven, choice_cmp}
 use Rattle.tree_cover.specs.Candidates.{order_of, BestOf, Below, FromGates, IsUsable, IsLibrary, IsSmall, IsChoice, AreMade, cost_at}
 use Rattle.tree_cover.proofs.Choosing.{contains_get, given-least, at_most}
-use Rattle.tree_cover.proofs.Open.{get_map, get_some, get_all, all_gets}
+use Rattle.tree_cover.proofs.Open.{get_map, get_some, get_all, all_gets, pushed_at}
 use Rattle.tree_cover.proofs.Reaching.{Lists, some_lists, inverter_fits, nand_fits}
 use Rattle.tree_cover.proofs.Standing.{stands_from, from_stands, have_least}
 
@@ -150,14 +150,8 @@ pub made_more : (cmp : Tree ℕ → Tree ℕ → Ordering) (vs : List Vertex) (l
 made_more cmp vs library choices pushed n x are is e =
     subst (λ (cs : List Choice). AreMade cmp vs library cs (n + 1)) (sym e) (record { count = omega (arith, length-append choices (x ∷ []), are.count); made = made })
   where
-    pushed_at : (cs : List Choice) (m : ℕ) (y : Choice) → slice_get (cs ++ x ∷ []) m ≡ Some y → (slice_get cs m ≡ Some y) ⊎ ((m ≡ length cs) × (x ≡ y))
-    pushed_at [] zero y at = inr (refl, same_Some x y at)
-    pushed_at [] (suc m) y at = absurd (none-some y at)
-    pushed_at (c ∷ cs) zero y at = inl at
-    pushed_at (c ∷ cs) (suc m) y at = elim (pushed_at cs m y at) as (λ _. (slice_get cs m ≡ Some y) ⊎ ((suc m ≡ length (c ∷ cs)) × (x ≡ y))) [ inl old ↦ inl old | inr (e, f) ↦ inr (ap (λ (k : ℕ). suc k) e, f) ]
-
     made : (m : ℕ) (y : Choice) → slice_get (choices ++ x ∷ []) m ≡ Some y → IsChoice cmp vs library m y
-    made m y at = elim (pushed_at choices m y at) as (λ _. IsChoice cmp vs library m y) [
+    made m y at = elim (pushed_at choices x m y at) as (λ _. IsChoice cmp vs library m y) [
       | inl old ↦ are.made m y old
       | inr (e, f) ↦ subst (λ (k : ℕ). IsChoice cmp vs library k y) (sym (e ∙ are.count)) (subst (λ (z : Choice). IsChoice cmp vs library n z) f is)
     ]

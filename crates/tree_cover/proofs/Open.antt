@@ -128,6 +128,13 @@ from_get_map f [] i y at = absurd (none-some y at)
 from_get_map f (x ∷ xs) zero y at = (x, refl, same_Some (f x) y at)
 from_get_map f (x ∷ xs) (suc i) y at = from_get_map f xs i y at
 
+-- what is read behind one item more: it was there before, or is the new one
+pub pushed_at : {A : Type 0} (xs : List A) (x : A) (i : ℕ) (y : A) → slice_get (xs ++ x ∷ []) i ≡ Some y → (slice_get xs i ≡ Some y) ⊎ ((i ≡ length xs) × (x ≡ y))
+pushed_at [] x zero y at = inr (refl, same_Some x y at)
+pushed_at [] x (suc i) y at = absurd (none-some y at)
+pushed_at (z ∷ xs) x zero y at = inl at
+pushed_at (z ∷ xs) x (suc i) y at = elim (pushed_at xs x i y at) as (λ _. (slice_get xs i ≡ Some y) ⊎ ((suc i ≡ length (z ∷ xs)) × (x ≡ y))) [ inl old ↦ inl old | inr (e, f) ↦ inr (ap (λ (k : ℕ). suc k) e, f) ]
+
 pub get_some : {A : Type 0} (xs : List A) (i : ℕ) → i < length xs → (x : A) × (slice_get xs i ≡ Some x)
 get_some [] i lt = absurd (omega (arith, lt))
 get_some (x ∷ xs) zero lt = (x, refl)

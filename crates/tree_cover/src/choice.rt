@@ -1,13 +1,16 @@
 //! Choices of a gate at a tree, and which of two comes first.
 
-ghost use Rattle.std.specs.Prelude.{◌≡◌};
+ghost use Rattle.std.specs.Prelude.{◌≡◌, IfOk};
 ghost use Rattle.std.specs.Ordering.{ordering_then, nat_cmp};
 ghost use Rattle.std.specs.Cmp.Lexicographic.{slice_cmp};
 ghost use Rattle.subject_tree.specs.Order.{tree_cmp, place_cmp};
 ghost use Rattle.subject_tree.specs.Tables.{trees_of};
 ghost use Rattle.tree_cover.specs.Covers.{choice_cmp};
+ghost use Rattle.tree_cover.specs.Candidates.{order_of};
+ghost use Rattle.tree_cover.specs.Held.{choice_of};
 
-use sis_base::Sequence;
+use sis_base::{Sequence, Short};
+use std::alloc::{AllocError, Global};
 use std::cmp::Ordering;
 use subject_tree::{Arena, Leaves};
 
@@ -36,13 +39,75 @@ fn compare_pins(leaves: &Leaves, nodes: &Arena, one: &[usize], other: &[usize]) 
     one.len().cmp(&other.len())
 }
 
+// How two choices compare, by their costs, their gates and the trees at their pins.
+fn compare_parts(
+    leaves: &Leaves,
+    nodes: &Arena,
+    one: (u128, usize),
+    one_pins: &[usize],
+    other: (u128, usize),
+    other_pins: &[usize],
+) -> Ordering
+    ensures { result ≡ choice_cmp (tree_cmp (place_cmp leaves.now)) one.0 one.1 (trees_of nodes.now one_pins.now) other.0 other.1 (trees_of nodes.now other_pins.now) }
+{
+    match one.0.cmp(&other.0).then(one.1.cmp(&other.1)) {
+        Ordering::Less => Ordering::Less,
+        Ordering::Equal => compare_pins(leaves, nodes, one_pins, other_pins),
+        Ordering::Greater => Ordering::Greater,
+    }
+}
+
 /// How two choices compare, of which the lesser one is taken: by cost, then by the place of the gate in the library, then by
 /// the trees at the pins in order.
 pub fn compare(leaves: &Leaves, nodes: &Arena, one: &Choice, other: &Choice) -> Ordering
     ensures { result ≡ choice_cmp (tree_cmp (place_cmp leaves.now)) one.now.cost one.now.place (trees_of nodes.now one.now.pins) other.now.cost other.now.place (trees_of nodes.now other.now.pins) }
 {
-    one.cost
-        .cmp(&other.cost)
-        .then(one.place.cmp(&other.place))
-        .then(compare_pins(leaves, nodes, one.pins.as_slice(), other.pins.as_slice()))
+    compare_parts(
+        leaves,
+        nodes,
+        (one.cost, one.place),
+        one.pins.as_slice(),
+        (other.cost, other.place),
+        other.pins.as_slice(),
+    )
+}
+
+/// A choice that stands open, as long as it is not known to be the best. Gates of covers have at most six literals, so that the
+/// numbers at its pins take no memory of their own.
+#[derive(Drop)]
+pub(crate) struct Candidate {
+    pub cost: u128,
+    pub place: usize,
+    pub pins: Short<usize, 6>,
+}
+
+/// How two candidates compare, as the choices that they are.
+pub(crate) fn compare_candidates(
+    leaves: &Leaves,
+    nodes: &Arena,
+    one: &Candidate,
+    other: &Candidate,
+) -> Ordering
+    ensures { result ≡ order_of (tree_cmp (place_cmp leaves.now)) nodes.now (choice_of one.now) (choice_of other.now) }
+{
+    compare_parts(
+        leaves,
+        nodes,
+        (one.cost, one.place),
+        one.pins.as_slice(),
+        (other.cost, other.place),
+        other.pins.as_slice(),
+    )
+}
+
+/// The choice that a candidate is. An error only for want of memory.
+pub(crate) fn chosen(alloc: Global, candidate: &Candidate) -> Result<Choice, AllocError>
+    ensures { IfOk result (λ choice. choice ≡ choice_of candidate.now) }
+{
+    let pins = Vec::from_slice(alloc, candidate.pins.as_slice())?;
+    Ok(Choice {
+        cost: candidate.cost,
+        place: candidate.place,
+        pins: Sequence::from_vec(pins),
+    })
 }

@@ -8,14 +8,17 @@ ghost use Rattle.subject_tree.specs.Arenas.{tree_at};
 ghost use Rattle.tree_cover.specs.declared.choice.Choice.{Choice as TheChoice};
 ghost use Rattle.tree_cover.specs.Covers.{IsProper, tiles};
 ghost use Rattle.tree_cover.specs.Bindings.{PinsBelow};
+ghost use Rattle.tree_cover.specs.Held.{held};
+ghost use Rattle.tree_cover.specs.Outlines.{AreOutlines, TellMisfits};
 ghost use Rattle.tree_cover.specs.Candidates.{order_of, better_of as better_choice, bound_at as bound_there, BestOf, Binds, IsSmall, IsUsable, cost_at as cost_there, IsFrom, Below, FromBindings, FromPattern, FromPatterns, FromGates, IsLibrary, IsChoice, AreMade};
 
 use crate::binding::Binding;
-use crate::choice::{Choice, compare};
+use crate::choice::{Candidate, Choice, chosen, compare_candidates};
 use crate::fitting::may_fit;
 use crate::matching::matches;
+use crate::outlines::{Outlines, is_open, marks_of, outlines_of};
 use pattern_set::{Gate, Patterns};
-use sis_base::Sequence;
+use sis_base::{Sequence, Short};
 use std::alloc::{AllocError, Global};
 use std::cmp::Ordering;
 use subject_tree::{Arena, Leaves, Vertex};
@@ -24,16 +27,16 @@ use subject_tree::{Arena, Leaves, Vertex};
 fn better(
     leaves: &Leaves,
     nodes: &Arena,
-    one: Option<Choice>,
-    other: Option<Choice>,
-) -> Option<Choice>
-    ensures { result ≡ better_choice (order_of (tree_cmp (place_cmp leaves.now)) nodes.now) one other }
+    one: Option<Candidate>,
+    other: Option<Candidate>,
+) -> Option<Candidate>
+    ensures { held result ≡ better_choice (order_of (tree_cmp (place_cmp leaves.now)) nodes.now) (held one) (held other) }
 {
     match (one, other) {
         (None, other) => other,
         (Some(one), None) => Some(one),
         (Some(one), Some(other)) => {
-            if compare(leaves, nodes, &one, &other) == Ordering::Greater {
+            if compare_candidates(leaves, nodes, &one, &other) == Ordering::Greater {
                 return Some(other);
             }
             Some(one)
@@ -56,18 +59,18 @@ fn pins_of(
     alloc: Global,
     binding: &Binding,
     count: usize,
-) -> Result<Option<Sequence<usize>>, AllocError>
+) -> Result<Option<Short<usize, 6>>, AllocError>
     ensures some { IfOk result (λ made. (numbers : List ℕ) → made ≡ Some numbers → (length numbers ≡ count) × Binds binding.now numbers) }
     ensures none { IfOk result (λ made. (numbers : List ℕ) → made ≡ None → length numbers ≡ count → Binds binding.now numbers → ⊥) }
 {
-    let mut made = Vec::with_capacity(alloc, count)?;
+    let mut made = Short::new(alloc);
     for pin in 0..count {
         match bound_at(binding, pin) {
             None => return Ok(None),
             Some(number) => made.push(number)?,
         }
     }
-    Ok(Some(Sequence::from_vec(made)))
+    Ok(Some(made))
 }
 
 // What the tree of a number costs, by the choices made.
@@ -103,18 +106,18 @@ fn candidate(
     gate: &Gate,
     place: usize,
     binding: &Binding,
-) -> Result<Option<Choice>, AllocError>
+) -> Result<Option<Candidate>, AllocError>
     requires choices { AllByRecursion IsSmall choices.now }
     requires area { gate.now.area < 2 ^ 50 }
     requires pins { gate.now.pins ≤ 15 }
-    ensures some { IfOk result (λ made. (choice : TheChoice) → made ≡ Some choice → IsFrom choices.now gate.now place binding.now choice) }
-    ensures none { IfOk result (λ made. (choice : TheChoice) → made ≡ None → IsFrom choices.now gate.now place binding.now choice → ⊥) }
+    ensures some { IfOk result (λ made. (choice : TheChoice) → held made ≡ Some choice → IsFrom choices.now gate.now place binding.now choice) }
+    ensures none { IfOk result (λ made. (choice : TheChoice) → held made ≡ None → IsFrom choices.now gate.now place binding.now choice → ⊥) }
 {
     match pins_of(alloc, binding, gate.pins)? {
         None => Ok(None),
         Some(pins) => {
             let cost = gate.area + costs_of(choices, pins.as_slice());
-            Ok(Some(Choice { cost, place, pins }))
+            Ok(Some(Candidate { cost, place, pins }))
         }
     }
 }
@@ -128,11 +131,11 @@ fn best_bound(
     gate: &Gate,
     place: usize,
     bindings: &[Binding],
-) -> Result<Option<Choice>, AllocError>
+) -> Result<Option<Candidate>, AllocError>
     requires choices { AllByRecursion IsSmall choices.now }
     requires area { gate.now.area < 2 ^ 50 }
     requires pins { gate.now.pins ≤ 15 }
-    ensures { IfOk result (λ best. BestOf (order_of (tree_cmp (place_cmp leaves.now)) nodes.now) (Below (length bindings.now) (FromBindings choices.now gate.now place bindings.now)) best) }
+    ensures { IfOk result (λ best. BestOf (order_of (tree_cmp (place_cmp leaves.now)) nodes.now) (Below (length bindings.now) (FromBindings choices.now gate.now place bindings.now)) (held best)) }
 {
     let mut best = None;
     for binding in bindings {
@@ -153,14 +156,14 @@ fn best_match(
     place: usize,
     number: usize,
     pattern: usize,
-) -> Result<Option<Choice>, AllocError>
+) -> Result<Option<Candidate>, AllocError>
     requires number { number < length nodes.now }
     requires proper { IsProper (tree_at shapes.now pattern) }
     requires below { PinsBelow 15 (tree_at shapes.now pattern) }
     requires choices { AllByRecursion IsSmall choices.now }
     requires area { gate.now.area < 2 ^ 50 }
     requires pins { gate.now.pins ≤ 15 }
-    ensures { IfOk result (λ best. BestOf (order_of (tree_cmp (place_cmp leaves.now)) nodes.now) (FromPattern nodes.now choices.now gate.now place number (tree_at shapes.now pattern)) best) }
+    ensures { IfOk result (λ best. BestOf (order_of (tree_cmp (place_cmp leaves.now)) nodes.now) (FromPattern nodes.now choices.now gate.now place number (tree_at shapes.now pattern)) (held best)) }
 {
     let bindings = matches(alloc, nodes, shapes, pattern, number)?;
     let best = best_bound(
@@ -186,13 +189,13 @@ fn best_pattern(
     place: usize,
     number: usize,
     pattern: usize,
-) -> Result<Option<Choice>, AllocError>
+) -> Result<Option<Candidate>, AllocError>
     requires number { number < length nodes.now }
     requires below { PinsBelow 15 (tree_at shapes.now pattern) }
     requires choices { AllByRecursion IsSmall choices.now }
     requires area { gate.now.area < 2 ^ 50 }
     requires pins { gate.now.pins ≤ 15 }
-    ensures { IfOk result (λ best. BestOf (order_of (tree_cmp (place_cmp leaves.now)) nodes.now) (FromPattern nodes.now choices.now gate.now place number (tree_at shapes.now pattern)) best) }
+    ensures { IfOk result (λ best. BestOf (order_of (tree_cmp (place_cmp leaves.now)) nodes.now) (FromPattern nodes.now choices.now gate.now place number (tree_at shapes.now pattern)) (held best)) }
 {
     nodes.sound();
     if !may_fit(shapes, nodes, pattern, number) {
@@ -204,7 +207,7 @@ fn best_pattern(
     Ok(best)
 }
 
-// The best choice from a gate at the tree of a number.
+// The best choice from a gate at the tree of a number; only patterns are tried that are not told to be misfits.
 fn best_gate(
     alloc: Global,
     leaves: &Leaves,
@@ -214,14 +217,21 @@ fn best_gate(
     gate: &Gate,
     place: usize,
     number: usize,
-) -> Result<Option<Choice>, AllocError>
+    numbers: &[usize],
+    marks: &[bool],
+) -> Result<Option<Candidate>, AllocError>
     requires number { number < length nodes.now }
+    requires marks { TellMisfits shapes.now nodes.now number numbers.now marks.now }
     requires choices { AllByRecursion IsSmall choices.now }
     requires gate { IsUsable shapes.now gate.now }
-    ensures { IfOk result (λ best. BestOf (order_of (tree_cmp (place_cmp leaves.now)) nodes.now) (Below (length gate.now.patterns) (FromPatterns nodes.now shapes.now choices.now gate.now place number)) best) }
+    ensures { IfOk result (λ best. BestOf (order_of (tree_cmp (place_cmp leaves.now)) nodes.now) (Below (length gate.now.patterns) (FromPatterns nodes.now shapes.now choices.now gate.now place number)) (held best)) }
 {
+    nodes.sound();
     let mut best = None;
     for pattern in gate.patterns.as_slice() {
+        if !is_open(numbers, marks, *pattern) {
+            continue;
+        }
         let made = best_pattern(
             alloc, leaves, nodes, shapes, choices, gate, place, number, *pattern,
         )?;
@@ -239,11 +249,14 @@ fn best_choice(
     choices: &[Choice],
     gates: &[Gate],
     number: usize,
-) -> Result<Option<Choice>, AllocError>
+    numbers: &[usize],
+    marks: &[bool],
+) -> Result<Option<Candidate>, AllocError>
     requires number { number < length nodes.now }
+    requires marks { TellMisfits shapes.now nodes.now number numbers.now marks.now }
     requires choices { AllByRecursion IsSmall choices.now }
     requires gates { AllByRecursion (IsUsable shapes.now) gates.now }
-    ensures { IfOk result (λ best. BestOf (order_of (tree_cmp (place_cmp leaves.now)) nodes.now) (Below (length gates.now) (FromGates nodes.now shapes.now choices.now gates.now number)) best) }
+    ensures { IfOk result (λ best. BestOf (order_of (tree_cmp (place_cmp leaves.now)) nodes.now) (Below (length gates.now) (FromGates nodes.now shapes.now choices.now gates.now number)) (held best)) }
 {
     let mut best = None;
     for place in 0..gates.len() {
@@ -256,6 +269,8 @@ fn best_choice(
             &gates[place],
             place,
             number,
+            numbers,
+            marks,
         )?;
         best = better(leaves, nodes, best, made);
     }
@@ -270,9 +285,11 @@ fn choose_gate(
     shapes: &Arena,
     choices: &[Choice],
     gates: &[Gate],
+    lines: &Outlines,
     number: usize,
 ) -> Result<Choice, AllocError>
     requires number { number < length nodes.now }
+    requires lines { AreOutlines lines.now.arena shapes.now lines.now.numbers.items }
     requires inner { (place : ℕ) → tree_at nodes.now number ≡ TheLeaf place → ⊥ }
     requires library { IsLibrary shapes.now gates.now }
     requires small { AllByRecursion IsSmall choices.now }
@@ -280,8 +297,23 @@ fn choose_gate(
     ensures { IfOk result (λ choice. IsChoice (tree_cmp (place_cmp leaves.now)) nodes.now (tiles shapes.now gates.now) number choice) }
 {
     nodes.sound();
-    match best_choice(alloc, leaves, nodes, shapes, choices, gates, number)? {
-        Some(choice) => Ok(choice),
+    let marks = marks_of(alloc, &lines.arena, nodes, number)?;
+    let best = best_choice(
+        alloc,
+        leaves,
+        nodes,
+        shapes,
+        choices,
+        gates,
+        number,
+        lines.numbers.as_slice(),
+        marks.as_slice(),
+    )?;
+    match best {
+        Some(candidate) => {
+            let choice = chosen(alloc, &candidate)?;
+            Ok(choice)
+        }
         None => unreachable!(),
     }
 }
@@ -294,9 +326,11 @@ fn choose(
     shapes: &Arena,
     choices: &[Choice],
     gates: &[Gate],
+    lines: &Outlines,
     number: usize,
 ) -> Result<Choice, AllocError>
     requires number { number < length nodes.now }
+    requires lines { AreOutlines lines.now.arena shapes.now lines.now.numbers.items }
     requires library { IsLibrary shapes.now gates.now }
     requires small { AllByRecursion IsSmall choices.now }
     requires made { AreMade (tree_cmp (place_cmp leaves.now)) nodes.now (tiles shapes.now gates.now) choices.now number }
@@ -310,7 +344,7 @@ fn choose(
             pins: Sequence::new(alloc),
         });
     }
-    let choice = choose_gate(alloc, leaves, nodes, shapes, choices, gates, number)?;
+    let choice = choose_gate(alloc, leaves, nodes, shapes, choices, gates, lines, number)?;
     Ok(choice)
 }
 
@@ -326,6 +360,7 @@ pub fn best(
     requires sizes { (n : ℕ) → n < length nodes.now → size_of (tree_at nodes.now n) ≤ 2 ^ 20 }
     ensures { IfOk result (λ choices. AreMade (tree_cmp (place_cmp leaves.now)) nodes.now (tiles patterns.now.arena patterns.now.gates) choices.items (length nodes.now)) }
 {
+    let lines = outlines_of(alloc, &patterns.arena)?;
     let mut choices = Vec::with_capacity(alloc, nodes.len())?;
     for number in 0..nodes.len() {
         let choice = choose(
@@ -335,6 +370,7 @@ pub fn best(
             &patterns.arena,
             choices.as_slice(),
             patterns.gates.as_slice(),
+            &lines,
             number,
         )?;
         choices.push(choice)?;

@@ -1,4 +1,7 @@
+use Rattle.std.proofs.Common.{Some, sym, ap, ◌∙◌}
 use Rattle.subject_tree.specs.Order.{tree_cmp, place_cmp}
+use Rattle.tree_cover.specs.declared.choice.Choice.{Choice}
+use Rattle.tree_cover.specs.Held.{held}
 use Rattle.tree_cover.proofs.Made.{some_open, choice_made}
 use Rattle.tree_cover.proofs.covering.choose_gate.Goals as goal
 
@@ -6,9 +9,9 @@ pub unreachable-requires : goal.unreachable-requires
 unreachable-requires c =
     let (choice, there) = some_open (tree_cmp (place_cmp c.args.leaves.now)) c.args.nodes.now c.args.shapes.now c.args.gates.now c.args.choices.now c.args.number c.sound.ensures c.requires.number c.requires.library
     c.requires.made c.requires.inner in
-    c.in_ok-choice.ensures.none choice c.in-None.is there
+    c.in_ok-best.ensures.none choice (ap held c.in-None.is) there
 
 pub returns : goal.returns
 returns c =
     choice_made (tree_cmp (place_cmp c.args.leaves.now)) c.args.nodes.now c.args.shapes.now c.args.gates.now c.args.choices.now c.args.number c.sound.ensures c.requires.number c.requires.library c.requires.made
-    c.in_ok-choice.field-0 c.in-Some.choice c.requires.inner c.in_ok-choice.ensures c.in-Some.is
+    (held c.in_ok-best.best) c.in_ok-choice-in-Some.choice c.requires.inner c.in_ok-best.ensures (ap held c.in-Some.is ∙ ap (λ (choice : Choice). Some choice) (sym c.in_ok-choice-in-Some.ensures))
