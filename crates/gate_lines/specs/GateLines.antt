@@ -38,7 +38,7 @@ abbrev pub signals_of : List (List ℕ) → List (List ℕ)
 signals_of words = map signal_in words
 
 -- whether words are pairs that name each pin and the output once: as many pairs as there are pins and the output, and one
--- for each of these names
+-- for each of these names, which are different where the gate is sound
 unfoldable pub is_pairing : Gate → List (List ℕ) → Bool
 is_pairing gate words =
     length words == length gate.pins + 1 && (list_all is_pair words && (list_all (has (pins_of words)) gate.pins && has (pins_of words) gate.output))

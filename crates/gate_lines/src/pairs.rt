@@ -1,7 +1,7 @@
 //! Words `pin=signal`, as they stand in the text that is read.
 
-ghost use Rattle.std.specs.Prelude.{◌≡◌, ◌≤◌, ◌++◌, nat_lt, length, find, bytes_eq, option_copied, OnOk};
-ghost use Rattle.std.specs.List.{list_all, list_any};
+ghost use Rattle.std.specs.Prelude.{◌≡◌, ◌≤◌, ◌++◌, ◌∷◌, [], nat_lt, length, find, bytes_eq, option_copied, if◌then◌else◌, OnOk};
+ghost use Rattle.std.specs.List.{list_all, list_any, filter};
 ghost use Rattle.circuit_model.specs.Names.{has};
 ghost use Rattle.line_words.specs.LineWords.{texts, long_name};
 ghost use Rattle.genlib_format.specs.Words.{before};
@@ -99,13 +99,40 @@ pub fn signal_for<'a>(words: &[&'a [u8]], pin: &[u8]) -> &'a [u8]
     }
 }
 
-/// Puts the signals that words mention behind the last of some names, in the order of the words; an error only for want
-/// of memory.
-pub fn add_signals(alloc: Global, names: &mut Names, words: &[&[u8]]) -> Result<(), AllocError>
-    ensures { OnOk result (names.new ≡ names.old ++ signals_of (texts words.now)) }
+/// Whether a signal is among some names.
+fn is_among(names: &[Name], signal: &[u8]) -> bool
+    ensures { result ≡ has names.now signal.now }
+{
+    names.iter().any(|name| signal == name.as_slice())
+}
+
+/// Puts a signal behind the last of some names, where it stands among others; an error only for want of memory.
+fn add_signal(
+    alloc: Global,
+    names: &mut Names,
+    signal: &[u8],
+    among: &[Name],
+) -> Result<(), AllocError>
+    ensures { OnOk result (names.new ≡ (if has among.now signal.now then names.old ++ signal.now ∷ [] else names.old)) }
+{
+    if is_among(among, signal) {
+        names.push(name_of(alloc, signal)?)?;
+    }
+    Ok(())
+}
+
+/// Puts those signals that words mention and that stand among other names behind the last of some names, in the order of the
+/// words; an error only for want of memory.
+pub fn add_signals(
+    alloc: Global,
+    names: &mut Names,
+    words: &[&[u8]],
+    among: &[Name],
+) -> Result<(), AllocError>
+    ensures { OnOk result (names.new ≡ names.old ++ filter (has among.now) (signals_of (texts words.now))) }
 {
     for word in words {
-        names.push(name_of(alloc, signal_in(word))?)?;
+        add_signal(alloc, names, signal_in(word), among)?;
     }
     Ok(())
 }

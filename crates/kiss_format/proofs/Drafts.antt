@@ -1,5 +1,5 @@
--- What holds of a draft, line by line: its counts are small, its states are different words in the order in which rows
--- name them, and its rows are shaped.
+-- What holds of a draft, line by line: its counts are small, its states are different, in the order in which rows name
+-- them, and what holds of each word of the lines holds of them; its rows are shaped.
 use Rattle.std.proofs.Common.{◌≡◌, ℕ, ◌+◌, ◌-◌, ◌*◌, ◌<◌, ◌≤◌, ◌==◌, nat_lt, nat_le, Bool, true, false, not, ◌&&◌, ◌||◌, Option, Some, None, Result, Ok, Err, List, [], ◌∷◌, ◌++◌, map, flat_map, length, bytes_eq, cond, find, refl, sym, ◌∙◌, ap, subst, arith, length-append, if◌then◌else◌}
 use Rattle.std.specs.List.{AllByRecursion, list_all, fold, range_with_len}
 use Rattle.std.specs.Option.{option_map, option_or}
@@ -8,7 +8,6 @@ use Rattle.std.proofs.lemmas.Grind.{flat_map-append}
 use Rattle.std.proofs.lemmas.List.{append-nil, length-map}
 use Rattle.std.proofs.lemmas.List.Elements.{filter_map-append}
 use Rattle.std.proofs.lemmas.List.Quantifiers.{position-Some}
-use Rattle.sis_base.specs.Written.{is_word}
 use Rattle.circuit_model.specs.Names.{all_different}
 use Rattle.sis_text.specs.Words.{begins_with}
 use Rattle.sis_text.specs.Decimals.{is_digit, number_of}
@@ -36,9 +35,9 @@ abbrev pub IsCount : Option ℕ → Type 0
 IsCount None = Unit {0}
 IsCount (Some count) = (1 ≤ count) × (count ≤ 1000)
 
--- all are words
-abbrev pub AreWords : List (List ℕ) → Type 0
-AreWords words = AllByRecursion (λ word. is_word word ≡ true) words
+-- what holds of a word
+abbrev pub OfWords : Type 1
+OfWords = List ℕ → Type 0
 
 -- a row has as many characters as were told
 abbrev pub HasWidths : Option ℕ → Option ℕ → MachineRow → Type 0
@@ -48,10 +47,10 @@ HasWidths inputs outputs row = (inputs ≡ Some (length row.input)) × (outputs 
 abbrev pub IsShort : List ℕ → Type 0
 IsShort name = length name ≤ 1023
 
-pub record IsGood (draft : Draft) : Type 0 where
+pub record IsGood (W : OfWords) (draft : Draft) : Type 0 where
   pub inputs : IsCount draft.inputs
   pub outputs : IsCount draft.outputs
-  pub words : AreWords draft.states
+  pub words : AllByRecursion W draft.states
   pub once : all_different draft.states ≡ true
   pub named : AllByRecursion (λ state. is_any state ≡ false) draft.states
   pub in_order : first_mentions [] (flat_map mentioned_by draft.rows) ≡ range_with_len 0 (length draft.states)
@@ -197,15 +196,15 @@ option-or-none : {A : Type 0} (o : Option A) → option_or o None ≡ o
 option-or-none None = refl
 option-or-none (Some a) = refl
 
-good_row : (draft : Draft) (input current next output : List ℕ) → IsGood draft → is_word current ≡ true → is_word next ≡ true
+good_row : (W : OfWords) (draft : Draft) (input current next output : List ℕ) → IsGood W draft → W current → W next
     → is_row_of draft.inputs draft.outputs (input ∷ current ∷ next ∷ output ∷ []) ≡ true → length draft.rows < 32767
     → length (with_states draft.states (kept (current ∷ next ∷ []))) ≤ 4096 → AllByRecursion IsShort (current ∷ next ∷ [])
-    → IsGood (record draft {
+    → IsGood W (record draft {
       states = with_states draft.states (kept (current ∷ next ∷ []));
       rows = draft.rows ++ row_of (with_states draft.states (kept (current ∷ next ∷ []))) (input ∷ current ∷ next ∷ output ∷ []);
     })
 unfolding first_mentions
-good_row draft input current next output good one other is few limited short =
+good_row W draft input current next output good one other is few limited short =
     let after = with_states draft.states (kept (current ∷ next ∷ [])) in
     let row : MachineRow = record { input = map character_of input; current = state_of after current; next = state_of after next; output = map character_of output } in
     let cubes = and-parts (is_cube draft.inputs input) (is_cube draft.outputs output) is in
@@ -217,7 +216,7 @@ good_row draft input current next output good one other is few limited short =
     record {
       inputs = good.inputs;
       outputs = good.outputs;
-      words = with_keeps (λ word. is_word word ≡ true) draft.states (kept (current ∷ next ∷ [])) good.words (all_kept (λ word. is_word word ≡ true) (λ word. not (is_any word)) (current ∷ next ∷ []) (one, (other, tt)));
+      words = with_keeps W draft.states (kept (current ∷ next ∷ [])) good.words (all_kept W (λ word. not (is_any word)) (current ∷ next ∷ []) (one, (other, tt)));
       once = with_once draft.states (kept (current ∷ next ∷ [])) good.once;
       named = with_keeps (λ state. is_any state ≡ false) draft.states (kept (current ∷ next ∷ [])) good.named (kept_named (current ∷ next ∷ []));
       in_order = ap (first_mentions []) mentions
@@ -235,22 +234,22 @@ good_row draft input current next output good one other is few limited short =
       short = with_keeps IsShort draft.states (kept (current ∷ next ∷ [])) good.short (all_kept IsShort (λ word. not (is_any word)) (current ∷ next ∷ []) short);
     }
 
-good_words : (draft : Draft) (all : List (List ℕ)) → IsGood draft → AreWords all → is_row_of draft.inputs draft.outputs all ≡ true → length draft.rows < 32767
+good_words : (W : OfWords) (draft : Draft) (all : List (List ℕ)) → IsGood W draft → AllByRecursion W all → is_row_of draft.inputs draft.outputs all ≡ true → length draft.rows < 32767
     → length (with_states draft.states (named_states all)) ≤ 4096 → AllByRecursion IsShort (state_words all)
-    → IsGood (record draft { states = with_states draft.states (named_states all); rows = draft.rows ++ row_of (with_states draft.states (named_states all)) all })
+    → IsGood W (record draft { states = with_states draft.states (named_states all); rows = draft.rows ++ row_of (with_states draft.states (named_states all)) all })
 unfolding named_states
-good_words draft (input ∷ current ∷ next ∷ output ∷ []) good words is few limited short =
-    good_row draft input current next output good words.1.0 words.1.1.0 is few limited short
-good_words draft [] good words is few limited short = absurd (let no : false ≡ true = is in cc)
-good_words draft (a ∷ []) good words is few limited short = absurd (let no : false ≡ true = is in cc)
-good_words draft (a ∷ b ∷ []) good words is few limited short = absurd (let no : false ≡ true = is in cc)
-good_words draft (a ∷ b ∷ c ∷ []) good words is few limited short = absurd (let no : false ≡ true = is in cc)
-good_words draft (a ∷ b ∷ c ∷ d ∷ e ∷ more) good words is few limited short = absurd (let no : false ≡ true = is in cc)
+good_words W draft (input ∷ current ∷ next ∷ output ∷ []) good words is few limited short =
+    good_row W draft input current next output good words.1.0 words.1.1.0 is few limited short
+good_words W draft [] good words is few limited short = absurd (let no : false ≡ true = is in cc)
+good_words W draft (a ∷ []) good words is few limited short = absurd (let no : false ≡ true = is in cc)
+good_words W draft (a ∷ b ∷ []) good words is few limited short = absurd (let no : false ≡ true = is in cc)
+good_words W draft (a ∷ b ∷ c ∷ []) good words is few limited short = absurd (let no : false ≡ true = is in cc)
+good_words W draft (a ∷ b ∷ c ∷ d ∷ e ∷ more) good words is few limited short = absurd (let no : false ≡ true = is in cc)
 
 -- lines
 
-good_line : (kind : Keyword) (draft : Draft) (number : ℕ) (words all : List (List ℕ)) → IsGood draft → AreWords all → draft_fault kind draft number words all ≡ None → IsGood (with_line kind draft words all)
-good_line Inputs draft number words all good are e =
+good_line : (W : OfWords) (kind : Keyword) (draft : Draft) (number : ℕ) (words all : List (List ℕ)) → IsGood W draft → AllByRecursion W all → draft_fault kind draft number words all ≡ None → IsGood W (with_line kind draft words all)
+good_line W Inputs draft number words all good are e =
     record {
       inputs = counts_small words;
       outputs = good.outputs;
@@ -264,7 +263,7 @@ good_line Inputs draft number words all good are e =
       limited = good.limited;
       short = good.short;
     }
-good_line Outputs draft number words all good are e =
+good_line W Outputs draft number words all good are e =
     record {
       inputs = good.inputs;
       outputs = counts_small words;
@@ -278,9 +277,9 @@ good_line Outputs draft number words all good are e =
       limited = good.limited;
       short = good.short;
     }
-good_line Products draft number words all good are e = good
-good_line States draft number words all good are e = good
-good_line Reset draft number words all good are e =
+good_line W Products draft number words all good are e = good
+good_line W States draft number words all good are e = good
+good_line W Reset draft number words all good are e =
     record {
       inputs = good.inputs;
       outputs = good.outputs;
@@ -294,15 +293,15 @@ good_line Reset draft number words all good are e =
       limited = good.limited;
       short = good.short;
     }
-good_line End draft number words all good are e = good
-good_line Row draft number words all good are e =
-    good_words draft all good are (row-new draft.inputs draft.outputs draft.states (length draft.rows) number all e) (row-few draft.inputs draft.outputs draft.states (length draft.rows) number all e)
+good_line W End draft number words all good are e = good
+good_line W Row draft number words all good are e =
+    good_words W draft all good are (row-new draft.inputs draft.outputs draft.states (length draft.rows) number all e) (row-few draft.inputs draft.outputs draft.states (length draft.rows) number all e)
     (row-limited draft.inputs draft.outputs draft.states (length draft.rows) number all e) (row-short draft.inputs draft.outputs draft.states (length draft.rows) number all e)
-good_line Other draft number words all good are e = absurd (let no : Some (BadHeader number) ≡ None = e in cc)
+good_line W Other draft number words all good are e = absurd (let no : Some (BadHeader number) ≡ None = e in cc)
 
-pub good_nothing : IsGood no_lines
+pub good_nothing : (W : OfWords) → IsGood W no_lines
 unfolding all_different first_mentions
-good_nothing = record {
+good_nothing W = record {
   inputs = tt;
   outputs = tt;
   words = tt;
@@ -323,17 +322,17 @@ ok a = Ok a
 pub same-ok : {A : Type 0} (a b : A) → ok a ≡ ok b → a ≡ b
 same-ok a b e = cc
 
-pub good_all : (lines : List Entry) (draft last : Draft) → IsGood draft → AllByRecursion (λ (line : Entry). AreWords line.words) lines → take_entries draft lines ≡ Ok last → IsGood last
+pub good_all : (W : OfWords) (lines : List Entry) (draft last : Draft) → IsGood W draft → AllByRecursion (λ (line : Entry). AllByRecursion W line.words) lines → take_entries draft lines ≡ Ok last → IsGood W last
 unfolding take_entries
-good_all [] draft last good are e = subst IsGood (same-ok draft last e) good
-good_all (line ∷ lines) draft last good are e =
+good_all W [] draft last good are e = subst (IsGood W) (same-ok draft last e) good
+good_all W (line ∷ lines) draft last good are e =
     let next = with_line (kind_of line) draft (other_words line.words) line.words in
     by (draft_fault (kind_of line) draft line.number (other_words line.words) line.words) refl
-    (λ none rest. good_all lines next last (good_line (kind_of line) draft line.number (other_words line.words) line.words good are.0 none) are.1 rest)
+    (λ none rest. good_all W lines next last (good_line W (kind_of line) draft line.number (other_words line.words) line.words good are.0 none) are.1 rest)
   where
     by : (cause : Option KissFault) → draft_fault (kind_of line) draft line.number (other_words line.words) line.words ≡ cause
-        → (draft_fault (kind_of line) draft line.number (other_words line.words) line.words ≡ None → take_entries (with_line (kind_of line) draft (other_words line.words) line.words) lines ≡ Ok last → IsGood last)
-        → IsGood last
+        → (draft_fault (kind_of line) draft line.number (other_words line.words) line.words ≡ None → take_entries (with_line (kind_of line) draft (other_words line.words) line.words) lines ≡ Ok last → IsGood W last)
+        → IsGood W last
     by None c rec =
         rec c (sym (ap (λ (r : Result Draft KissFault). onward r (λ next. take_entries next lines)) (taken-by draft line None c)) ∙ e)
     by (Some fault) c rec =

@@ -11,3 +11,4 @@ pub mod Numerals
 pub mod NamedStates
 pub mod WrittenRows
 pub mod Trip
+pub mod HeaderLines

@@ -1,8 +1,8 @@
 -- Made names are words, and no two of them are the same.
-use Rattle.std.proofs.Common.{◌≡◌, ℕ, zero, suc, ◌+◌, ◌%◌, ◌^◌, ◌<◌, ◌≤◌, Bool, true, false, List, [], ◌∷◌, ◌++◌, map, bytes_eq, codes, decimal, refl, sym, ◌∙◌, ap, arith}
+use Rattle.std.proofs.Common.{◌≡◌, ℕ, zero, suc, ◌+◌, ◌%◌, ◌^◌, ◌<◌, ◌≤◌, Bool, true, false, List, [], ◌∷◌, ◌++◌, map, bytes_eq, codes, decimal, length, refl, sym, ◌∙◌, ap, arith, length-append}
 use Rattle.std.specs.List.{AllByRecursion, list_all, range_with_len}
 use Rattle.std.proofs.lemmas.Bool.Decides.{nat_tests}
-use Rattle.std.proofs.lemmas.Fmt.{decimal_by_steps, decimal_injective}
+use Rattle.std.proofs.lemmas.Fmt.{decimal_by_steps, decimal_injective, length-decimal-le_succ}
 use Rattle.std.proofs.lemmas.List.{append_cancel_left, append-nil}
 use Rattle.std.proofs.lemmas.List.Folds.{list_all-append, list_any-append}
 use Rattle.std.proofs.lemmas.Slice.Eq.{bytes_eq-Decides}
@@ -38,6 +38,12 @@ pub made_are_words : (prefix : List ℕ) (first count : ℕ) → is_word prefix 
 made_are_words prefix first zero w h = tt
 made_are_words prefix first (suc count) w h =
     (made_is_word prefix first w (omega (arith, h)), made_are_words prefix (first + 1) count w (omega (arith, h)))
+
+pub made_are_short : (prefix : List ℕ) (first count : ℕ) → length prefix ≤ 10 → first + count ≤ 1000 → AllByRecursion (λ (name : List ℕ). length name ≤ 1023) (made_from prefix first count)
+made_are_short prefix first zero p h = tt
+made_are_short prefix first (suc count) p h =
+    let digits = length-decimal-le_succ first (omega (arith, h)) in
+    (omega (arith, p, digits, length-append prefix (decimal first)), made_are_short prefix (first + 1) count p (omega (arith, h)))
 
 bytes_differ : (xs ys : List ℕ) → (xs ≡ ys → ⊥) → bytes_eq xs ys ≡ false
 bytes_differ xs ys apart = by (bytes_eq xs ys) refl

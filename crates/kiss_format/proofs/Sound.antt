@@ -8,13 +8,14 @@ use Rattle.sis_base.specs.Written.{is_word, is_word_byte, is_blank}
 use Rattle.sis_text.specs.Entries.{Entry}
 use Rattle.sis_text.specs.Order.{IsProper, IsWordOf, is_plain}
 use Rattle.machine_model.specs.Clashes.{first_clash}
-use Rattle.machine_model.specs.Soundness.{IsSound, IsShaped}
+use Rattle.machine_model.specs.Soundness.{IsSound, IsShaped, all_names}
 use Rattle.machine_model.specs.declared.machine.Clash.{Clash}
 use Rattle.machine_model.specs.declared.machine.Machine.{Machine}
 use Rattle.machine_model.specs.declared.machine.MachineRow.{MachineRow}
 use Rattle.kiss_format.specs.Keywords.{before_end, kind_of, is_end_kind}
 use Rattle.kiss_format.specs.Lines.{first_item}
 use Rattle.kiss_format.specs.Reader.{machine_with, reset_place, reset_name, by_clash, by_place, placed, at_place, read_lines, Reads}
+use Rattle.kiss_format.specs.Trips.{IsWithinLimits}
 use Rattle.kiss_format.specs.Steps.{take_entries, no_lines, finished, finish}
 use Rattle.kiss_format.specs.declared.draft.Draft.{Draft}
 use Rattle.kiss_format.specs.declared.fault.KissFault.{KissFault}
@@ -22,10 +23,10 @@ use Rattle.kiss_format.specs.declared.fault.KissFault.TheVariants.{RowClash, NoR
 use Rattle.kiss_format.specs.declared.fault.ReadFault.{ReadFault}
 use Rattle.kiss_format.specs.declared.fault.ReadFault.TheVariants.{Fault, Memory}
 use Rattle.kiss_format.proofs.Agreement.{all_agree}
-use Rattle.kiss_format.proofs.Drafts.{IsCount, AreWords, HasWidths, IsGood, good_nothing, good_all, ok, same-ok}
+use Rattle.kiss_format.proofs.Drafts.{IsCount, OfWords, HasWidths, IsGood, IsShort, good_nothing, good_all, ok, same-ok}
 use Rattle.kiss_format.proofs.Firsts.{currents}
 use Rattle.kiss_format.proofs.Mentions.{all_append}
-use Rattle.kiss_format.proofs.Ports.{made_are_words, ports_differ}
+use Rattle.kiss_format.proofs.Ports.{made_are_words, made_are_short, ports_differ}
 
 -- the parts of a machine that is read
 
@@ -72,7 +73,11 @@ rows_shaped machine inputs outputs (row ∷ rows) i o shaped = (
   rows_shaped machine inputs outputs rows i o shaped.1,
 )
 
-sound_at : (draft : Draft) (place : ℕ) → IsGood draft → placed draft.reset draft.states draft.rows ≡ Ok place → IsSound (machine_with draft.inputs draft.outputs draft.states draft.rows place)
+-- a word is one that a text can have
+abbrev pub IsText : List ℕ → Type 0
+IsText word = is_word word ≡ true
+
+sound_at : (draft : Draft) (place : ℕ) → IsGood IsText draft → placed draft.reset draft.states draft.rows ≡ Ok place → IsSound (machine_with draft.inputs draft.outputs draft.states draft.rows place)
 unfolding is_word
 sound_at draft place good e =
     let parts = placed_parts draft.reset draft.states draft.rows place e in
@@ -84,9 +89,8 @@ sound_at draft place good e =
     let outs : length machine.outputs ≡ outputs = length-map-range_with_len (λ k. codes "OUT_" ++ decimal k) 0 outputs in
     let in_words = made_are_words (codes "IN_") 0 inputs refl (omega (arith, counts.0.1)) in
     let out_words = made_are_words (codes "OUT_") 0 outputs refl (omega (arith, counts.1.1)) in
-    let word : List ℕ → Type 0 = λ name. is_word name ≡ true in
     record {
-      words = (refl, all_append word machine.inputs (machine.outputs ++ draft.states) in_words (all_append word machine.outputs draft.states out_words good.words));
+      words = (refl, all_append IsText machine.inputs (machine.outputs ++ draft.states) in_words (all_append IsText machine.outputs draft.states out_words good.words));
       ports_once = ports_differ inputs outputs counts.0.1 counts.1.1;
       some_inputs = omega (arith, ins, counts.0.0);
       few_inputs = omega (arith, ins, counts.0.1);
@@ -103,42 +107,74 @@ sound_at draft place good e =
     }
 
 -- what holds of the machine of each good draft
-abbrev pub OfDrafts : (Machine → Type 0) → Type 0
-OfDrafts P = (draft : Draft) (place : ℕ) → IsGood draft → placed draft.reset draft.states draft.rows ≡ Ok place → P (machine_with draft.inputs draft.outputs draft.states draft.rows place)
+abbrev pub OfDrafts : OfWords → (Machine → Type 0) → Type 0
+OfDrafts W P = (draft : Draft) (place : ℕ) → IsGood W draft → placed draft.reset draft.states draft.rows ≡ Ok place → P (machine_with draft.inputs draft.outputs draft.states draft.rows place)
 
 at_parts : (P : Machine → Type 0) (r : Result ℕ KissFault) (make : ℕ → Machine) (machine : Machine) → at_place r make ≡ Ok machine → ((place : ℕ) → r ≡ Ok place → P (make place)) → P machine
 at_parts P (Ok place) make machine e holds = subst P (same-ok (make place) machine e) (holds place refl)
 at_parts P (Err fault) make machine e holds = absurd (let no : Err fault ≡ ok machine = e in cc)
 
-draft_holds : (P : Machine → Type 0) (draft : Draft) (machine : Machine) → OfDrafts P → IsGood draft → finished draft ≡ Ok machine → P machine
+draft_holds : (W : OfWords) (P : Machine → Type 0) (draft : Draft) (machine : Machine) → OfDrafts W P → IsGood W draft → finished draft ≡ Ok machine → P machine
 unfolding finished
-draft_holds P draft machine holds good e =
+draft_holds W P draft machine holds good e =
     at_parts P (placed draft.reset draft.states draft.rows) (machine_with draft.inputs draft.outputs draft.states draft.rows) machine e (λ place at. holds draft place good at)
 
-finish_holds : (P : Machine → Type 0) (taken : Result Draft KissFault) (machine : Machine) → OfDrafts P → ((draft : Draft) → taken ≡ Ok draft → IsGood draft) → finish taken ≡ Ok machine → P machine
-finish_holds P (Ok draft) machine holds good e = draft_holds P draft machine holds (good draft refl) e
-finish_holds P (Err fault) machine holds good e = absurd (let no : Err fault ≡ ok machine = e in cc)
+finish_holds : (W : OfWords) (P : Machine → Type 0) (taken : Result Draft KissFault) (machine : Machine) → OfDrafts W P → ((draft : Draft) → taken ≡ Ok draft → IsGood W draft) → finish taken ≡ Ok machine → P machine
+finish_holds W P (Ok draft) machine holds good e = draft_holds W P draft machine holds (good draft refl) e
+finish_holds W P (Err fault) machine holds good e = absurd (let no : Err fault ≡ ok machine = e in cc)
 
 -- the words of lines
 
+abbrev pub AreOf : OfWords → List Entry → Type 0
+AreOf W lines = AllByRecursion (λ (line : Entry). AllByRecursion W line.words) lines
+
 abbrev pub AreOfWords : List Entry → Type 0
-AreOfWords lines = AllByRecursion (λ (line : Entry). AreWords line.words) lines
+AreOfWords lines = AreOf IsText lines
 
 all_taken : {A : Type 0} (P : A → Type 0) (count : ℕ) (xs : List A) → AllByRecursion P xs → AllByRecursion P (take count xs)
 all_taken P zero xs h = tt
 all_taken P (suc count) [] h = tt
 all_taken P (suc count) (x ∷ xs) h = (h.0, all_taken P count xs h.1)
 
-pub read_holds : (P : Machine → Type 0) (lines : List Entry) (machine : Machine) → OfDrafts P → AreOfWords lines → read_lines lines ≡ Ok machine → P machine
+pub read_holds : (W : OfWords) (P : Machine → Type 0) (lines : List Entry) (machine : Machine) → OfDrafts W P → AreOf W lines → read_lines lines ≡ Ok machine → P machine
 unfolding read_lines before_end
-read_holds P lines machine holds are e =
+read_holds W P lines machine holds are e =
     let front = before_end lines in
-    finish_holds P (take_entries no_lines front) machine holds
-    (λ draft taken. good_all front no_lines draft good_nothing (all_taken (λ (line : Entry). AreWords line.words) (prefix_len (λ line. not (is_end_kind (kind_of line))) lines) lines are) taken)
+    finish_holds W P (take_entries no_lines front) machine holds
+    (λ draft taken. good_all W front no_lines draft (good_nothing W) (all_taken (λ (line : Entry). AllByRecursion W line.words) (prefix_len (λ line. not (is_end_kind (kind_of line))) lines) lines are) taken)
     (all_agree front ∙ e)
 
+-- what holds of what is read, whatever the words
+
+abbrev IsAny : List ℕ → Type 0
+IsAny word = Unit {0}
+
+any_words : (words : List (List ℕ)) → AllByRecursion IsAny words
+any_words [] = tt
+any_words (word ∷ words) = (tt, any_words words)
+
+any_lines : (lines : List Entry) → AreOf IsAny lines
+any_lines [] = tt
+any_lines (line ∷ lines) = (any_words line.words, any_lines lines)
+
+pub read_limited : (lines : List Entry) (machine : Machine) → read_lines lines ≡ Ok machine → IsWithinLimits machine
+read_limited lines machine e =
+    read_holds IsAny IsWithinLimits lines machine (λ draft place good at. record { rows = good.few; states = good.limited; short = good.short }) (any_lines lines) e
+
+short_at : (draft : Draft) (place : ℕ) → IsGood IsAny draft → placed draft.reset draft.states draft.rows ≡ Ok place → AllByRecursion IsShort (all_names (machine_with draft.inputs draft.outputs draft.states draft.rows place))
+short_at draft place good e =
+    let parts = placed_parts draft.reset draft.states draft.rows place e in
+    let machine = machine_with draft.inputs draft.outputs draft.states draft.rows place in
+    let counts = first_widths draft.inputs draft.outputs draft.rows parts.0 good.shaped good.inputs good.outputs in
+    let ins = made_are_short (codes "IN_") 0 (unwrap_or draft.inputs 0) (omega arith) (omega (arith, counts.0.1)) in
+    let outs = made_are_short (codes "OUT_") 0 (unwrap_or draft.outputs 0) (omega arith) (omega (arith, counts.1.1)) in
+    (omega arith, all_append IsShort machine.inputs (machine.outputs ++ draft.states) ins (all_append IsShort machine.outputs draft.states outs good.short))
+
+pub read_short : (lines : List Entry) (machine : Machine) → read_lines lines ≡ Ok machine → AllByRecursion IsShort (all_names machine)
+read_short lines machine e = read_holds IsAny (λ (one : Machine). AllByRecursion IsShort (all_names one)) lines machine short_at (any_lines lines) e
+
 pub read_sound : (lines : List Entry) (machine : Machine) → AreOfWords lines → read_lines lines ≡ Ok machine → IsSound machine
-read_sound lines machine are e = read_holds IsSound lines machine sound_at are e
+read_sound lines machine are e = read_holds IsText IsSound lines machine sound_at are e
 
 pub all_weaker : {A : Type 0} (P Q : A → Type 0) (xs : List A) → ((x : A) → P x → Q x) → AllByRecursion P xs → AllByRecursion Q xs
 all_weaker P Q [] f h = tt
@@ -165,7 +201,7 @@ plain_word (byte ∷ bytes) p =
 
 pub proper_lines : (lines : List Entry) → All (IsProper is_plain) lines → AreOfWords lines
 proper_lines lines proper =
-    all_weaker (IsProper is_plain) (λ (line : Entry). AreWords line.words) lines
+    all_weaker (IsProper is_plain) (λ (line : Entry). AllByRecursion IsText line.words) lines
     (λ line p. all_weaker (IsWordOf is_plain) (λ word. is_word word ≡ true) line.words plain_word (recursion_from_All (IsWordOf is_plain) line.words p.each))
     (recursion_from_All (IsProper is_plain) lines proper)
 

@@ -30,7 +30,7 @@ use Rattle.kiss_format.proofs.Agreement.{all_agree}
 use Rattle.kiss_format.proofs.Mentions.{all_append}
 use Rattle.kiss_format.proofs.NamedStates.{AreNamed, row_stepped, place_back, state_has}
 use Rattle.kiss_format.proofs.Numerals.{count_back, decimal_is_word}
-use Rattle.kiss_format.proofs.Sound.{AreOfWords, read_holds, read_sound, proper_lines, all_weaker}
+use Rattle.kiss_format.proofs.Sound.{IsText, AreOfWords, read_holds, read_limited, read_sound, proper_lines, all_weaker}
 use Rattle.kiss_format.proofs.WrittenRows.{entry, row_kind, not_long, draft_at, taken, taken_first, rows_taken}
 
 -- the lines before the end
@@ -255,14 +255,10 @@ names_kept draft place =
     rw (ins, outs) refl
 
 read_plain : (lines : List Entry) (machine : Machine) → AreOfWords lines → read_lines lines ≡ Ok machine → plainly_named machine ≡ machine
-read_plain lines machine are e = read_holds (λ one. plainly_named one ≡ one) lines machine (λ draft place good at. names_kept draft place) are e
-
-read_limited : (lines : List Entry) (machine : Machine) → AreOfWords lines → read_lines lines ≡ Ok machine → IsWithinLimits machine
-read_limited lines machine are e =
-    read_holds IsWithinLimits lines machine (λ draft place good at. record { rows = good.few; states = good.limited; short = good.short }) are e
+read_plain lines machine are e = read_holds IsText (λ one. plainly_named one ≡ one) lines machine (λ draft place good at. names_kept draft place) are e
 
 pub read_again : (source : List ℕ) (machine : Machine) → read_lines (entries_of source) ≡ Ok machine → read_lines (entries_of (text_of machine)) ≡ Ok machine
 read_again source machine e =
     let lines = entries_of source in
     let are = proper_lines lines (lines_proper source) in
-    text_read machine (read_sound lines machine are e) (read_limited lines machine are e) ∙ ap (λ one. Ok one) (read_plain lines machine are e)
+    text_read machine (read_sound lines machine are e) (read_limited lines machine e) ∙ ap (λ one. Ok one) (read_plain lines machine are e)

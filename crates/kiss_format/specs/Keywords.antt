@@ -28,6 +28,16 @@ abbrev pub is_end_kind : Keyword → Bool
 is_end_kind End = true
 is_end_kind kind = false
 
+-- whether a kind is that of the number of inputs
+abbrev pub is_inputs_kind : Keyword → Bool
+is_inputs_kind Inputs = true
+is_inputs_kind kind = false
+
+-- whether a kind is that of the number of outputs
+abbrev pub is_outputs_kind : Keyword → Bool
+is_outputs_kind Outputs = true
+is_outputs_kind kind = false
+
 -- the lines that are read: those before the first end
 unfoldable pub before_end : List Entry → List Entry
 before_end lines = take_while (λ line. not (is_end_kind (kind_of line))) lines

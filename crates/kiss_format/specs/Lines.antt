@@ -129,7 +129,7 @@ abbrev pub long_fault : List (List ℕ) → Option KissFault
 long_fault names = option_map (λ len. Limit limit.Name len) (long_name names)
 
 -- what is wrong with the words behind the first of a line of a number, where told is what such a line told before, and
--- rows are those before it
+-- so many rows stand before it
 unfoldable pub count_fault : Option ℕ → ℕ → ℕ → List (List ℕ) → Option KissFault
 count_fault told rows number words =
     when (not (is_missing told) || not (rows == 0) || is_missing (count_in words)) (BadHeader number)
@@ -152,7 +152,7 @@ abbrev pub is_row_of : Option ℕ → Option ℕ → List (List ℕ) → Bool
 is_row_of inputs outputs (input ∷ current ∷ next ∷ output ∷ []) = is_cube inputs input && is_cube outputs output
 is_row_of inputs outputs words = false
 
--- what is wrong with the words of a row, by its form, where rows are those before it
+-- what is wrong with the words of a row, by its form, where so many rows stand before it
 unfoldable pub form_fault : Option ℕ → Option ℕ → ℕ → ℕ → List (List ℕ) → Option KissFault
 form_fault inputs outputs rows number whole = first_of
     (when (is_missing inputs || is_missing outputs) (BadHeader number)

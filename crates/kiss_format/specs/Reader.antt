@@ -1,7 +1,8 @@
 -- What the logical lines of a KISS2 table are read as: the first fault, or the machine that they say.
 -- Source: SIS report (UCB/ERL M92/41), KISS2 tables: states are those that rows name, in the order in which they come
 -- first; without `.r` the machine starts in the current state of the first row that names one.
-use Rattle.std.specs.Prelude.{◌≡◌, ℕ, ◌+◌, Option, Some, None, Result, Ok, Err, List, [], ◌∷◌, ◌++◌, map, position, bytes_eq, decimal, codes, unwrap_or, if◌then◌else◌}
+use Rattle.std.specs.Prelude.{◌≡◌, ℕ, ◌+◌, Bool, Option, Some, None, Result, Ok, Err, List, [], ◌∷◌, ◌++◌, map, find, position, bytes_eq, decimal, codes, unwrap_or, if◌then◌else◌}
+use Rattle.std.specs.Option.{option_map}
 use Rattle.std.specs.List.{filter_map, range_with_len}
 use Rattle.sis_text.specs.Entries.{Entry}
 use Rattle.line_words.specs.LineWords.{character_of}
@@ -10,8 +11,9 @@ use Rattle.machine_model.specs.Clashes.{first_clash}
 use Rattle.machine_model.specs.declared.machine.Clash.{Clash}
 use Rattle.machine_model.specs.declared.machine.Machine.{Machine}
 use Rattle.machine_model.specs.declared.machine.MachineRow.{MachineRow}
-use Rattle.kiss_format.specs.Keywords.{before_end}
+use Rattle.kiss_format.specs.Keywords.{kind_of, is_inputs_kind, is_outputs_kind, before_end}
 use Rattle.kiss_format.specs.Lines.{of_lines, row_words, first_item, inputs_in, outputs_in, reset_in, states_in, first_line_fault}
+use Rattle.kiss_format.specs.declared.keyword.Keyword.{Keyword}
 use Rattle.kiss_format.specs.declared.fault.KissFault.{KissFault}
 use Rattle.kiss_format.specs.declared.fault.KissFault.TheVariants.{RowClash, NoReset, NoRows}
 use Rattle.kiss_format.specs.declared.fault.ReadFault.{ReadFault}
@@ -106,6 +108,18 @@ read_all lines = unless (first_line_fault [] lines)
 -- what a table's logical lines are read as: the first fault of a line, then one of the whole, else the machine
 unfoldable pub read_lines : List Entry → Result Machine KissFault
 read_lines lines = read_all (before_end lines)
+
+-- the number of the first line of a kind among those that are read
+abbrev pub header_line : (Keyword → Bool) → List Entry → Option ℕ
+header_line is_kind lines = option_map (λ (line : Entry). line.number) (find (λ line. is_kind (kind_of line)) (before_end lines))
+
+-- the number of the line that tells the number of inputs
+unfoldable pub inputs_line : List Entry → Option ℕ
+inputs_line lines = header_line is_inputs_kind lines
+
+-- the number of the line that tells the number of outputs
+unfoldable pub outputs_line : List Entry → Option ℕ
+outputs_line lines = header_line is_outputs_kind lines
 
 -- what a reader answers, beside what it should; want of memory is free
 abbrev pub Reads : Result Machine ReadFault → Result Machine KissFault → Type 0

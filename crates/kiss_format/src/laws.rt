@@ -1,7 +1,7 @@
 //! Laws of reading and writing machines, each the contract of a call that does nothing.
 
 ghost use Rattle.std.specs.Prelude.{◌≡◌, ℕ, List, Ok};
-ghost use Rattle.sis_text.specs.Entries.{entries_of};
+ghost use Rattle.sis_text.specs.Entries.{Entry, entries_of};
 ghost use Rattle.machine_model.specs.declared.machine.Machine.{Machine as TheMachine};
 ghost use Rattle.machine_model.specs.Soundness.{IsSound};
 ghost use Rattle.machine_model.specs.Text.{text_of};
@@ -19,4 +19,9 @@ pub fn written_text_is_read()
 pub fn read_machine_is_read_again()
     ensures { (source : List ℕ) (machine : TheMachine) → read_lines (entries_of source) ≡ Ok machine
         → read_lines (entries_of (text_of machine)) ≡ Ok machine }
+{}
+
+/// A law, no work: what lines are read as keeps the limits on rows, states and names.
+pub fn read_machine_is_small()
+    ensures { (lines : List Entry) (machine : TheMachine) → read_lines lines ≡ Ok machine → IsWithinLimits machine }
 {}

@@ -9,6 +9,7 @@
 
 mod draft;
 mod fault;
+mod headers;
 mod keyword;
 pub mod laws;
 mod line_fault;
@@ -18,6 +19,7 @@ mod states;
 mod whole;
 
 pub use fault::{KissFault, LimitKind, ReadFault};
+pub use headers::{inputs_line, outputs_line};
 pub use keyword::Keyword;
 pub use kiss_write::machine_text;
 pub use reading::{read, read_lines};

@@ -28,15 +28,22 @@ fn is_end_kind(kind: Keyword) -> bool
     }
 }
 
-/// Whether a logical line of a text is an end.
+/// The kind of a logical line of a text.
 #[tactic(auto, unfolding(crate::specs::Keywords::kind_of))]
+pub fn kind_at(source: &[u8], line: &Line) -> Keyword
+    ensures { result ≡ kind_of (entry_at source.now line.now) }
+{
+    match line.words.as_slice() {
+        [] => keyword_of(b"".as_slice()),
+        [first, ..] => keyword_of(bytes_at(source, *first)),
+    }
+}
+
+/// Whether a logical line of a text is an end.
 fn is_end(source: &[u8], line: &Line) -> bool
     ensures { result ≡ is_end_kind (kind_of (entry_at source.now line.now)) }
 {
-    match line.words.as_slice() {
-        [] => is_end_kind(keyword_of(b"".as_slice())),
-        [first, ..] => is_end_kind(keyword_of(bytes_at(source, *first))),
-    }
+    is_end_kind(kind_at(source, line))
 }
 
 /// How many lines stand before the first end.
@@ -50,8 +57,7 @@ fn end_place(source: &[u8], lines: &[Line]) -> usize
 }
 
 /// The lines before the first end.
-
-fn before_end<'a>(source: &[u8], lines: &'a [Line]) -> &'a [Line]
+pub fn before_end<'a>(source: &[u8], lines: &'a [Line]) -> &'a [Line]
     ensures { map (entry_at source.now) result.now ≡ before_end_of (map (entry_at source.now) lines.now) }
 {
     &lines[..end_place(source, lines)]
