@@ -1,12 +1,4 @@
-pub mod Words
-pub mod Beside
-pub mod Faults
-pub mod Agreement
-pub mod Walk
-pub mod NameLists
-pub mod Passing
-pub mod ProperWords
-pub mod Named
-pub mod Small
-pub mod Told
+pub mod PartLines
+pub mod PartWords
+pub mod Ports
 pub mod WhatIsRead

@@ -1,63 +1,160 @@
--- What holds of each circuit that is read.
-use Rattle.std.specs.Prelude.{◌≡◌, true, Ok, List, [], ◌∷◌}
+-- What holds of what is read, by what holds of the model and of the table of its KISS2 part.
+use Rattle.std.proofs.Common.{◌≡◌, ℕ, ◌≤◌, true, Option, Some, None, Result, Ok, Err, List, [], ◌∷◌, length, IfOk, refl, sym, ◌∙◌, subst, arith}
 use Rattle.std.specs.List.{AllByRecursion}
-use Rattle.std.proofs.Common.{refl, subst, arith}
+use Rattle.std.specs.Option.{option_map, option_or}
 use Rattle.sis_base.specs.Written.{is_word}
+use Rattle.sis_text.specs.Entries.{Entry}
+use Rattle.genlib_format.specs.declared.gate.Gate.{Gate}
+use Rattle.circuit_model.specs.declared.circuit.Circuit.{Circuit}
 use Rattle.circuit_model.specs.Counts.{IsWithinLimits}
 use Rattle.circuit_model.specs.Soundness.{IsSound}
-use Rattle.circuit_model.specs.declared.circuit.Circuit.{Circuit}
-use Rattle.sis_text.specs.Entries.{Entry}
-use Rattle.blif_read.specs.Keyword.{kind_of, other_words}
-use Rattle.blif_read.specs.Limits.{HasShortNames}
-use Rattle.blif_read.specs.Steps.{take_entries, no_lines, kept_of, finish, HasApartTables}
-use Rattle.blif_read.specs.declared.draft.Draft.{Draft}
-use Rattle.blif_read.proofs.Passing.{kept_through, last_draft}
-use Rattle.blif_read.proofs.Named.{Named, named_kept, named_nothing, all_named, IsShort, short_mentioned, words_mentioned, others_have}
-use Rattle.blif_read.proofs.Small.{IsSmallDraft, small_kept, small_nothing, small_kept_all}
-use Rattle.blif_read.proofs.Told.{IsToldDraft, told_kept, told_nothing, tables_apart, sound_kept}
+use Rattle.machine_model.specs.Soundness.{IsSound as IsSoundMachine, IsShaped, all_names}
+use Rattle.machine_model.specs.declared.machine.Machine.{Machine}
+use Rattle.machine_model.specs.declared.machine.MachineRow.{MachineRow}
+use Rattle.machine_model.specs.declared.machine.Spec.{Spec}
+use Rattle.machine_model.specs.declared.machine.Spec.TheVariants as spec
+use Rattle.kiss_format.specs.Reader.{read_lines as read_table, inputs_line, outputs_line}
+use Rattle.kiss_format.specs.Trips.{IsWithinLimits as IsSmallMachine}
+use Rattle.kiss_format.specs.declared.fault.KissFault.{KissFault}
+use Rattle.kiss_format.proofs.Sound.{read_sound as table_sound, read_short as table_short, read_limited}
+use Rattle.blif_lines.specs.Libraries.{IsSoundLibrary}
+use Rattle.blif_lines.proofs.WhatIsRead.{sound_read, sound_head_read, small_read, short_read, short_head_read}
+use Rattle.blif_lines.specs.Heads.{IsSoundHead, HasShortHead}
+use Rattle.blif_lines.specs.Limits.{HasShortNames}
+use Rattle.blif_lines.specs.Lines.{first_of}
+use Rattle.blif_lines.specs.Reader.{read_lines as read_model, unless}
+use Rattle.blif_lines.specs.declared.content.Head.{Head}
+use Rattle.blif_lines.specs.declared.content.Content.{Content}
+use Rattle.blif_lines.specs.declared.content.Content.TheVariants as content
+use Rattle.blif_lines.specs.declared.fault.BlifFault.{BlifFault}
+use Rattle.blif_lines.specs.declared.fault.BlifFault.TheVariants.{BadKiss, NameTwice}
+use Rattle.blif_lines.specs.declared.fault.ReadFault.{ReadFault}
+use Rattle.blif_lines.specs.declared.fault.ReadFault.TheVariants.{Fault, Memory}
+use Rattle.blif_lines.proofs.NameLists.{all_kept}
+use Rattle.blif_read.specs.Limits.{IsSoundSpec, IsSmallSpec, HasShortSpec}
+use Rattle.blif_read.specs.Parts.{kiss_lines, lines_beside}
+use Rattle.blif_read.specs.Reader.{count_fault, made_again, made_twice, machine_fault, named, machine_with, spec_with, read_lines, Reads}
+use Rattle.blif_read.proofs.PartWords.{kiss_holds, model_holds}
+use Rattle.blif_read.proofs.Ports.{names_hold, same_count, ports_once}
 
-pub any_line : (lines : List Entry) → AllByRecursion (λ (line : Entry). Unit {0}) lines
-any_line [] = tt
-any_line (line ∷ lines) = (tt, any_line lines)
+-- a result without a fault
+abbrev ok : {A : Type 0} → A → Result A BlifFault
+ok a = Ok a
 
-abbrev pub AreWordLines : List Entry → Type 0
-AreWordLines lines = AllByRecursion (λ (line : Entry). AllByRecursion (λ word. is_word word ≡ true) line.words) lines
+same_ok : {A : Type 0} (a b : A) → ok a ≡ ok b → a ≡ b
+same_ok a b e = cc
 
-pub small_last : (lines : List Entry) (last : Draft) → take_entries no_lines lines ≡ Ok last → IsSmallDraft last
-small_last lines last e =
-    kept_through IsSmallDraft (λ (line : Entry). Unit {0}) lines no_lines last
-    (λ line one u f s. small_kept (kind_of line) one line.number (other_words line.words) line.words f s) (any_line lines) small_nothing e
+-- what holds of what is read, by what it is read from
 
-pub told_last : (lines : List Entry) (last : Draft) → take_entries no_lines lines ≡ Ok last → IsToldDraft last
-told_last lines last e =
-    kept_through IsToldDraft (λ (line : Entry). Unit {0}) lines no_lines last
-    (λ line one u f s. told_kept (kind_of line) one line.number (other_words line.words) line.words f s) (any_line lines) told_nothing e
+machine_holds : (P : Spec → Type 0) (head : Head) (part : List Entry) (table : Result Machine KissFault) (read : Spec) → machine_with head part table ≡ Ok read
+    → ((machine : Machine) → table ≡ Ok machine → machine_fault head part machine ≡ None → P (spec.Machine (named head machine))) → P read
+machine_holds P head part (Err fault) read e holds = absurd (let no : Err (BadKiss fault) ≡ ok read = e in cc)
+machine_holds P head part (Ok machine) read e holds = by (machine_fault head part machine) refl e
+  where
+    by : (fault : Option BlifFault) → machine_fault head part machine ≡ fault → unless fault (spec.Machine (named head machine)) ≡ Ok read → P read
+    by None none same = subst P (same_ok (spec.Machine (named head machine)) read same) (holds machine refl none)
+    by (Some fault) some same = absurd (let no : Err fault ≡ ok read = same in cc)
 
-pub short_last : (lines : List Entry) (last : Draft) → take_entries no_lines lines ≡ Ok last → Named IsShort last
-short_last lines last e =
-    kept_through (Named IsShort) (λ (line : Entry). Unit {0}) lines no_lines last
-    (λ line one u f s. named_kept IsShort (kind_of line) one line.number (other_words line.words) line.words (omega arith) (short_mentioned (kind_of line) one line.number (other_words line.words) line.words f) f s) (any_line lines) (named_nothing IsShort (omega arith)) e
+spec_holds : (P : Spec → Type 0) (part : List Entry) (model : Result Content BlifFault) (read : Spec) → spec_with part model ≡ Ok read
+    → ((circuit : Circuit) → model ≡ Ok (content.Circuit circuit) → P (spec.Circuit circuit))
+    → ((head : Head) (machine : Machine) → model ≡ Ok (content.Head head) → read_table part ≡ Ok machine → machine_fault head part machine ≡ None → P (spec.Machine (named head machine)))
+    → P read
+spec_holds P part (Err fault) read e circuits machines = absurd (let no : Err fault ≡ ok read = e in cc)
+spec_holds P part (Ok (content.Circuit circuit)) read e circuits machines = subst P (same_ok (spec.Circuit circuit) read e) (circuits circuit refl)
+spec_holds P part (Ok (content.Head head)) read e circuits machines =
+    machine_holds P head part (read_table part) read e (λ machine table none. machines head machine refl table none)
 
-pub words_last : (lines : List Entry) (last : Draft) → AreWordLines lines → take_entries no_lines lines ≡ Ok last → Named (λ name. is_word name ≡ true) last
-unfolding is_word
-words_last lines last a e =
-    kept_through (Named (λ name. is_word name ≡ true)) (λ (line : Entry). AllByRecursion (λ word. is_word word ≡ true) line.words) lines no_lines last
-    (λ line one words f s. named_kept (λ name. is_word name ≡ true) (kind_of line) one line.number (other_words line.words) line.words refl
-    (words_mentioned (λ name. is_word name ≡ true) one.has_part (kind_of line) (other_words line.words) (others_have (λ name. is_word name ≡ true) line.words words)) f s) a (named_nothing (λ name. is_word name ≡ true) refl) e
+read_holds : (P : Spec → Type 0) (library : Option (List Gate)) (lines : List Entry) (read : Spec) → read_lines library lines ≡ Ok read
+    → ((circuit : Circuit) → read_model library (lines_beside lines) ≡ Ok (content.Circuit circuit) → P (spec.Circuit circuit))
+    → ((head : Head) (machine : Machine) → read_model library (lines_beside lines) ≡ Ok (content.Head head) → read_table (kiss_lines lines) ≡ Ok machine
+    → machine_fault head (kiss_lines lines) machine ≡ None → P (spec.Machine (named head machine)))
+    → P read
+unfolding read_lines
+read_holds P library lines read e circuits machines = spec_holds P (kiss_lines lines) (read_model library (lines_beside lines)) read e circuits machines
 
-pub apart_last : (lines : List Entry) (last : Draft) → take_entries no_lines lines ≡ Ok last → HasApartTables (kept_of last)
-apart_last lines last e = tables_apart last (told_last lines last e)
+pub reads_hold : (P : Spec → Type 0) (result : Result Spec ReadFault) (should : Result Spec BlifFault) → Reads result should → ((read : Spec) → should ≡ Ok read → P read) → IfOk result P
+reads_hold P (Ok read) should reads holds = holds read reads
+reads_hold P (Err (Fault fault)) should reads holds = tt
+reads_hold P (Err Memory) should reads holds = tt
 
-pub small_read : (lines : List Entry) (circuit : Circuit) → finish (take_entries no_lines lines) ≡ Ok circuit → IsWithinLimits circuit
-small_read lines circuit e =
-    let last = last_draft lines circuit e in subst IsWithinLimits last.circuit_is (small_kept_all last.draft (small_last lines last.draft last.taken))
+-- a machine under the names of a head
 
-pub short_read : (lines : List Entry) (circuit : Circuit) → finish (take_entries no_lines lines) ≡ Ok circuit → HasShortNames circuit
-short_read lines circuit e =
-    let last = last_draft lines circuit e in subst HasShortNames last.circuit_is (record { names = all_named IsShort last.draft (short_last lines last.draft last.taken) })
+none_first : (cause : Option BlifFault) (causes : List (Option BlifFault)) → first_of (cause ∷ causes) ≡ None → (cause ≡ None) × (first_of causes ≡ None)
+unfolding first_of
+none_first None causes e = (refl, e)
+none_first (Some fault) causes e = absurd (let no : Some fault ≡ None = e in cc)
 
-pub sound_read : (lines : List Entry) (circuit : Circuit) → AreWordLines lines → finish (take_entries no_lines lines) ≡ Ok circuit → IsSound circuit
-sound_read lines circuit a e =
-    let last = last_draft lines circuit e in
-    subst IsSound last.circuit_is
-    (sound_kept last.draft (words_last lines last.draft a last.taken) (small_last lines last.draft last.taken) (told_last lines last.draft last.taken) last.whole)
+none_named : (name : Option (List ℕ)) → option_map (λ name. NameTwice name) name ≡ None → name ≡ None
+none_named None e = refl
+none_named (Some name) e = absurd (let no : Some (NameTwice name) ≡ None = e in cc)
+
+none_either : (one other : Option (List ℕ)) → option_or one other ≡ None → (one ≡ None) × (other ≡ None)
+none_either None other e = (refl, e)
+none_either (Some name) other e = absurd (let no : Some name ≡ None = e in cc)
+
+-- there is no fault: the numbers of ports agree, and no name is listed and made
+record HasNoFault (head : Head) (machine : Machine) : Type 0 where
+  inputs : length (named head machine).inputs ≡ length machine.inputs
+  outputs : length (named head machine).outputs ≡ length machine.outputs
+  input : made_again head.inputs head.outputs machine.outputs ≡ None
+  output : made_again head.outputs head.inputs machine.inputs ≡ None
+
+no_fault : (head : Head) (part : List Entry) (machine : Machine) → machine_fault head part machine ≡ None → HasNoFault head machine
+unfolding machine_fault
+no_fault head part machine e =
+    let names = option_map (λ name. NameTwice name) (made_twice head machine) in
+    let ins = none_first (count_fault head.inputs machine.inputs (inputs_line part)) (count_fault head.outputs machine.outputs (outputs_line part) ∷ names ∷ []) e in
+    let outs = none_first (count_fault head.outputs machine.outputs (outputs_line part)) (names ∷ []) ins.1 in
+    let last = none_first names [] outs.1 in
+    let apart = none_either (made_again head.inputs head.outputs machine.outputs) (made_again head.outputs head.inputs machine.inputs) (none_named (made_twice head machine) last.0) in
+    record {
+      inputs = same_count head.inputs machine.inputs (inputs_line part) ins.0;
+      outputs = same_count head.outputs machine.outputs (outputs_line part) outs.0;
+      input = apart.0;
+      output = apart.1;
+    }
+
+named_sound : (head : Head) (machine : Machine) → HasNoFault head machine → IsSoundHead head → IsSoundMachine machine → IsSoundMachine (named head machine)
+named_sound head machine none listed sound = record {
+  words = names_hold (λ name. is_word name ≡ true) head machine listed.words sound.words;
+  ports_once = ports_once head.inputs head.outputs machine.inputs machine.outputs listed.once sound.ports_once none.input none.output;
+  some_inputs = subst (λ n. 1 ≤ n) (sym none.inputs) sound.some_inputs;
+  few_inputs = subst (λ n. n ≤ 1000) (sym none.inputs) sound.few_inputs;
+  some_outputs = subst (λ n. 1 ≤ n) (sym none.outputs) sound.some_outputs;
+  few_outputs = subst (λ n. n ≤ 1000) (sym none.outputs) sound.few_outputs;
+  some_rows = sound.some_rows;
+  few_rows = sound.few_rows;
+  states_once = sound.states_once;
+  states_named = sound.states_named;
+  in_order = sound.in_order;
+  reset = sound.reset;
+  shaped = all_kept (IsShaped machine) (IsShaped (named head machine)) machine.rows
+      (λ row is. record { input = is.input ∙ sym none.inputs; output = is.output ∙ sym none.outputs }) sound.shaped;
+  apart = sound.apart;
+}
+
+named_small : (head : Head) (machine : Machine) → IsSmallMachine machine → IsSmallMachine (named head machine)
+named_small head machine small = record { rows = small.rows; states = small.states; short = small.short }
+
+-- what is read is sound and small, since the model and the table are
+
+abbrev AreWords : List Entry → Type 0
+AreWords lines = AllByRecursion (λ (line : Entry). AllByRecursion (λ word. is_word word ≡ true) line.words) lines
+
+pub spec_sound : (library : Option (List Gate)) (lines : List Entry) (read : Spec) → AreWords lines → read_lines library lines ≡ Ok read → IsSoundSpec read
+spec_sound library lines read words e =
+    let of_model = model_holds (λ (line : Entry). AllByRecursion (λ word. is_word word ≡ true) line.words) lines words in
+    read_holds IsSoundSpec library lines read e (λ circuit model. sound_read library (lines_beside lines) circuit of_model model)
+    (λ head machine model table none. named_sound head machine (no_fault head (kiss_lines lines) machine none) (sound_head_read library (lines_beside lines) head of_model model)
+    (table_sound (kiss_lines lines) machine (kiss_holds (λ (line : Entry). AllByRecursion (λ word. is_word word ≡ true) line.words) lines words) table))
+
+pub spec_small : (library : Option (List Gate)) (lines : List Entry) (read : Spec) → IsSoundLibrary library → read_lines library lines ≡ Ok read → IsSmallSpec read
+spec_small library lines read known e =
+    read_holds IsSmallSpec library lines read e (λ circuit model. small_read library (lines_beside lines) circuit known model)
+    (λ head machine model table none. named_small head machine (read_limited (kiss_lines lines) machine table))
+
+pub spec_short : (library : Option (List Gate)) (lines : List Entry) (read : Spec) → read_lines library lines ≡ Ok read → HasShortSpec read
+spec_short library lines read e =
+    read_holds HasShortSpec library lines read e (λ circuit model. short_read library (lines_beside lines) circuit model)
+    (λ head machine model table none.
+    names_hold (λ (name : List ℕ). length name ≤ 1023) head machine (short_head_read library (lines_beside lines) head model).names (table_short (kiss_lines lines) machine table))

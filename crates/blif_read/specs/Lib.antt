@@ -1,5 +1,3 @@
-pub mod Keyword
-pub mod Lines
+pub mod Parts
 pub mod Reader
-pub mod Steps
 pub mod Limits

@@ -1,330 +1,75 @@
--- What a file's logical lines are read as: the first fault, or the circuit that they say.
--- Source: BLIF appendix of the SIS report (UCB/ERL M92/41): a model is its ports, clocks, latches and tables; several port
--- lines add up, and ports without a line are found; tables may stand in any order; each signal has one driver, tables form
--- no cycle, and all latches share one clock; tables behind `.exdc` are the don't-care part.
-use Rattle.std.specs.Prelude.{◌≡◌, ℕ, ◌-◌, Bool, true, false, not, ◌&&◌, ◌==◌, Option, Some, None, Result, Ok, Err, List, [], ◌∷◌, ◌++◌, map, length, take, drop, find, flat_map, take_while, bytes_eq, codes, slice_index, if◌then◌else◌}
-use Rattle.std.specs.List.{filter, list_any}
+-- What a file's logical lines are read as: the first fault, or the circuit or the machine that they say.
+-- Source: BLIF appendix of the SIS report (UCB/ERL M92/41): a model with a state table and without a table, a latch or a gate of its
+-- own is that machine, under the model's names of ports. The made names of ports that no line lists, and the order of the causes, are
+-- the project's own.
+use Rattle.std.specs.Prelude.{◌≡◌, ℕ, not, ◌==◌, Option, Some, None, Result, Ok, Err, List, [], ◌∷◌, length, find, unwrap_or}
 use Rattle.std.specs.Option.{option_map, option_or}
 use Rattle.circuit_model.specs.Names.{has}
-use Rattle.circuit_model.specs.Soundness.{control_of}
-use Rattle.circuit_model.specs.declared.circuit.Kind.{Kind}
-use Rattle.circuit_model.specs.declared.circuit.Kind.TheVariants.{Fe, Re, Ah, Al}
-use Rattle.circuit_model.specs.declared.circuit.Timing.{Timing}
-use Rattle.circuit_model.specs.declared.circuit.Tri.{Tri}
-use Rattle.circuit_model.specs.declared.circuit.Tri.TheVariants.{Zero, One, Free}
-use Rattle.circuit_model.specs.declared.circuit.Table.{Table}
-use Rattle.circuit_model.specs.declared.circuit.Latch.{Latch as TheLatch}
-use Rattle.circuit_model.specs.declared.circuit.Circuit.{Circuit}
-use Rattle.circuit_checks.specs.NameChecks.{first_again, first_missing, first_listed_twice}
-use Rattle.circuit_checks.specs.Cycles.{first_on_cycle}
-use Rattle.circuit_checks.specs.PartChecks.{first_bad_part_name}
-use Rattle.table_fold.specs.Folding.{each_once, folded}
 use Rattle.sis_text.specs.Entries.{Entry}
-use Rattle.blif_read.specs.Keyword.{other_words, kind_of, is_row}
-use Rattle.blif_read.specs.Lines.{input_words, last_word, joined, output_character, first_of, begins_part, line_fault}
-use Rattle.blif_read.specs.declared.keyword.Keyword.{Keyword}
-use Rattle.blif_read.specs.declared.keyword.Keyword.TheVariants.{Model, Inputs, Outputs, Clock, Names, Latch}
-use Rattle.blif_read.specs.declared.fault.BlifFault.{BlifFault}
-use Rattle.blif_read.specs.declared.fault.ReadFault.{ReadFault}
-use Rattle.blif_read.specs.declared.fault.ReadFault.TheVariants as read_fault
-use Rattle.blif_read.specs.declared.fault.BlifFault.TheVariants.{NameTwice, MixedClock, GatedClock, TwoDrivers, Undriven, BadExdc, Cycle}
+use Rattle.genlib_format.specs.declared.gate.Gate.{Gate}
+use Rattle.machine_model.specs.declared.machine.Machine.{Machine}
+use Rattle.machine_model.specs.declared.machine.Spec.{Spec}
+use Rattle.machine_model.specs.declared.machine.Spec.TheVariants as spec
+use Rattle.kiss_format.specs.declared.fault.KissFault.{KissFault}
+use Rattle.kiss_format.specs.declared.fault.KissFault.TheVariants.{BadHeader}
+use Rattle.kiss_format.specs.Reader.{read_lines as read_table, inputs_line, outputs_line}
+use Rattle.blif_lines.specs.Lines.{when, first_of}
+use Rattle.blif_lines.specs.Reader.{read_lines as read_model, unless}
+use Rattle.blif_lines.specs.declared.content.Head.{Head}
+use Rattle.blif_lines.specs.declared.content.Content.{Content}
+use Rattle.blif_lines.specs.declared.content.Content.TheVariants as content
+use Rattle.blif_lines.specs.declared.fault.BlifFault.{BlifFault}
+use Rattle.blif_lines.specs.declared.fault.BlifFault.TheVariants.{BadKiss, NameTwice}
+use Rattle.blif_lines.specs.declared.fault.ReadFault.{ReadFault}
+use Rattle.blif_lines.specs.declared.fault.ReadFault.TheVariants as read_fault
+use Rattle.blif_read.specs.Parts.{kiss_lines, lines_beside}
 
--- the first fault of a line, in file order
-unfoldable pub first_line_fault : List Entry → List Entry → Option BlifFault
-first_line_fault back [] = None
-first_line_fault back (line ∷ lines) = option_or (line_fault back line) (first_line_fault (line ∷ back) lines)
+-- what is wrong where a line tells another number of ports than are listed: its line is a bad header. A state table that is
+-- read has such a line.
+abbrev pub count_fault : Option (List (List ℕ)) → List (List ℕ) → Option ℕ → Option BlifFault
+count_fault None made line = None
+count_fault (Some listed) made line = when (not (length listed == length made)) (BadKiss (BadHeader (unwrap_or line 0)))
 
--- the words of all lines, each line by its kind and its words behind the first
-abbrev pub of_lines : {A : Type 0} → (Keyword → List (List ℕ) → List A) → List Entry → List A
-of_lines words_of lines = flat_map (λ line. words_of (kind_of line) (other_words line.words)) lines
+-- the first of the names that are listed for one kind of ports that is one of the made names of the other kind
+abbrev pub made_again : Option (List (List ℕ)) → Option (List (List ℕ)) → List (List ℕ) → Option (List ℕ)
+made_again (Some listed) None made = find (has made) listed
+made_again listed other made = None
 
--- the lines of the model itself: those before the don't-care part
-unfoldable pub model_lines : List Entry → List Entry
-model_lines lines = take_while (λ line. not (begins_part (kind_of line))) lines
+-- the first name that is listed and made
+abbrev pub made_twice : Head → Machine → Option (List ℕ)
+made_twice head machine = option_or (made_again head.inputs head.outputs machine.outputs) (made_again head.outputs head.inputs machine.inputs)
 
--- the lines of the don't-care part: the one that begins it, and those behind it
-unfoldable pub part_lines : List Entry → List Entry
-part_lines lines = drop (length (model_lines lines)) lines
+-- what is wrong with a state table beside the head of its machine
+unfoldable pub machine_fault : Head → List Entry → Machine → Option BlifFault
+machine_fault head part machine = first_of
+    (count_fault head.inputs machine.inputs (inputs_line part) ∷ count_fault head.outputs machine.outputs (outputs_line part)
+    ∷ option_map (λ name. NameTwice name) (made_twice head machine) ∷ [])
 
--- the inputs that a line lists
-abbrev pub listed_inputs : Keyword → List (List ℕ) → List (List ℕ)
-listed_inputs Inputs words = words
-listed_inputs kind words = []
-
--- the outputs that a line lists
-abbrev pub listed_outputs : Keyword → List (List ℕ) → List (List ℕ)
-listed_outputs Outputs words = words
-listed_outputs kind words = []
-
--- the ports that a line lists
-abbrev pub listed_ports : Keyword → List (List ℕ) → List (List ℕ)
-listed_ports Inputs words = words
-listed_ports Outputs words = words
-listed_ports kind words = []
-
--- the clocks that a line lists
-abbrev pub listed_clocks : Keyword → List (List ℕ) → List (List ℕ)
-listed_clocks Clock words = words
-listed_clocks kind words = []
-
--- the input of a `.latch` line
-abbrev pub latch_input : List (List ℕ) → List (List ℕ)
-latch_input words = take 1 words
-
--- the output of a `.latch` line
-abbrev pub latch_output : List (List ℕ) → List (List ℕ)
-latch_output [] = []
-latch_output (input ∷ words) = take 1 words
-
--- the signal that a line drives
-abbrev pub driven_by : Keyword → List (List ℕ) → List (List ℕ)
-driven_by Names words = last_word words ∷ []
-driven_by Latch words = latch_output words
-driven_by kind words = []
-
--- the signals that a table or a latch reads
-abbrev pub read_within : Keyword → List (List ℕ) → List (List ℕ)
-read_within Names words = input_words words
-read_within Latch words = latch_input words
-read_within kind words = []
-
--- the signals that a line reads: that of a table, a latch or of outputs
-abbrev pub read_by : Keyword → List (List ℕ) → List (List ℕ)
-read_by Outputs words = words
-read_by kind words = read_within kind words
-
--- the signals that lines drive, in file order
-unfoldable pub drives_in : List Entry → List (List ℕ)
-drives_in lines = of_lines driven_by lines
-
--- the signals that tables and latches read, in file order
-unfoldable pub reads_within : List Entry → List (List ℕ)
-reads_within lines = of_lines read_within lines
-
--- the signals that lines read, in file order
-unfoldable pub reads_in : List Entry → List (List ℕ)
-reads_in lines = of_lines read_by lines
-
--- whether a kind is that of lines of inputs
-abbrev pub is_inputs_kind : Keyword → Bool
-is_inputs_kind Inputs = true
-is_inputs_kind kind = false
-
--- whether a kind is that of lines of outputs
-abbrev pub is_outputs_kind : Keyword → Bool
-is_outputs_kind Outputs = true
-is_outputs_kind kind = false
-
--- whether a line of inputs is among lines
-unfoldable pub lists_inputs : List Entry → Bool
-lists_inputs lines = list_any (λ line. is_inputs_kind (kind_of line)) lines
-
--- whether a line of outputs is among lines
-unfoldable pub lists_outputs : List Entry → Bool
-lists_outputs lines = list_any (λ line. is_outputs_kind (kind_of line)) lines
-
--- the names that are not among others, each once, where it comes first
-unfoldable pub names_beside : List (List ℕ) → List (List ℕ) → List (List ℕ)
-names_beside others names = each_once (filter (λ name. not (has others name)) names)
-
--- the inputs: those that lines list; without such a line the signals that tables and latches read and nothing drives
-unfoldable pub inputs_in : List Entry → List (List ℕ)
-inputs_in lines = if lists_inputs lines then of_lines listed_inputs lines else names_beside (drives_in lines) (reads_within lines)
-
--- the outputs: those that lines list; without such a line the signals that are driven and that no table or latch reads
-unfoldable pub outputs_in : List Entry → List (List ℕ)
-outputs_in lines = if lists_outputs lines then of_lines listed_outputs lines else names_beside (reads_within lines) (drives_in lines)
-
--- the ports that lines list, in file order
-unfoldable pub ports_in : List Entry → List (List ℕ)
-ports_in lines = of_lines listed_ports lines
-
--- the clocks that lines list, in file order
-unfoldable pub clocks_in : List Entry → List (List ℕ)
-clocks_in lines = of_lines listed_clocks lines
-
--- the start value of a latch, by the words behind its output: the last of one or three, and 3, which is not known, where
--- none is written
-abbrev pub init_of : List (List ℕ) → ℕ
-init_of (init ∷ []) = slice_index init 0 - 48
-init_of (kind ∷ control ∷ init ∷ words) = slice_index init 0 - 48
-init_of words = 3
-
--- the latch of the words of a line, if there are two or more
-abbrev pub latch_of : List (List ℕ) → List TheLatch
-latch_of (input ∷ output ∷ rest) = record { input = input; output = output; init = init_of rest } ∷ []
-latch_of words = []
-
--- the latch that a line says, if it is one of a latch
-abbrev pub latches_by : Keyword → List (List ℕ) → List TheLatch
-latches_by Latch words = latch_of words
-latches_by kind words = []
-
--- the latches that lines say, in file order
-unfoldable pub latches_in : List Entry → List TheLatch
-latches_in lines = of_lines latches_by lines
-
--- the kind of a latch by its word
-abbrev pub kind_by : List ℕ → Kind
-kind_by word =
-    if bytes_eq word (codes "fe") then Fe
-    else (if bytes_eq word (codes "re") then Re
-    else (if bytes_eq word (codes "ah") then Ah else Al))
-
--- the control of a latch by its word; `NIL` is none
-abbrev pub control_by : List ℕ → Option (List ℕ)
-control_by word = if bytes_eq word (codes "NIL") then None else Some word
-
--- the kind and the control of a latch's words, where they are written
-abbrev pub timing_of : List (List ℕ) → Option Timing
-timing_of (input ∷ output ∷ kind ∷ control ∷ words) = Some (record { kind = kind_by kind; control = control_by control })
-timing_of words = None
-
--- whether a kind is that of latches
-abbrev pub is_latch_line : Keyword → Bool
-is_latch_line Latch = true
-is_latch_line kind = false
-
--- the lines of latches
-abbrev pub latch_lines : List Entry → List Entry
-latch_lines lines = filter (λ line. is_latch_line (kind_of line)) lines
-
--- the timing of a line's latch
-abbrev pub timing_at : Entry → Option Timing
-timing_at line = timing_of (other_words line.words)
-
--- the timing of the first of some lines
-abbrev pub first_timing : List Entry → Option Timing
-first_timing [] = None
-first_timing (line ∷ lines) = timing_at line
-
--- the timing that all latches share: that of the first
-unfoldable pub timing_in : List Entry → Option Timing
-timing_in lines = first_timing (latch_lines lines)
-
--- whether two kinds are the same
-abbrev pub same_kind : Kind → Kind → Bool
-same_kind Fe Fe = true
-same_kind Re Re = true
-same_kind Ah Ah = true
-same_kind Al Al = true
-same_kind kind other = false
-
--- whether two controls are the same
-abbrev pub same_control : Option (List ℕ) → Option (List ℕ) → Bool
-same_control None None = true
-same_control (Some name) (Some other) = bytes_eq name other
-same_control control other = false
-
--- whether two timings are the same; none is one of them
-abbrev pub same_timing : Option Timing → Option Timing → Bool
-same_timing None None = true
-same_timing (Some timing) (Some other) = same_kind timing.kind other.kind && same_control timing.control other.control
-same_timing timing other = false
-
--- the number of the first latch's line whose timing is not that of the first latch
-unfoldable pub mixed_clock : List Entry → Option ℕ
-mixed_clock lines =
-    option_map (λ (line : Entry). line.number) (find (λ line. not (same_timing (timing_in lines) (timing_at line))) (latch_lines lines))
-
--- the control, where a table or a latch drives it
-unfoldable pub gated_clock : List Entry → Option (List ℕ)
-gated_clock lines = find (has (drives_in lines)) (control_of (timing_in lines))
-
--- the character of a byte of a row
-abbrev pub character_of : ℕ → Tri
-character_of byte = if byte == 48 then Zero else (if byte == 49 then One else Free)
-
--- the characters of a row
-abbrev pub row_of : ℕ → List ℕ → List Tri
-row_of width bytes = map character_of (take width bytes)
-
--- the phase that all rows of a table share: that of the first; 1 without rows
-abbrev pub phase_by : ℕ → List (List ℕ) → Bool
-phase_by width [] = true
-phase_by width (row ∷ rows) = output_character width row == 49
-
--- the table of a `.names` line's words and its rows
-unfoldable pub table_of : List (List ℕ) → List (List ℕ) → Table
-table_of words rows = record {
-  inputs = input_words words;
-  output = last_word words;
-  rows = map (row_of (length words - 1)) rows;
-  phase = phase_by (length words - 1) rows;
+-- a machine under the names of a head; ports that are not listed keep their made names
+abbrev pub named : Head → Machine → Machine
+named head machine = record machine {
+  name = head.name;
+  inputs = unwrap_or head.inputs machine.inputs;
+  outputs = unwrap_or head.outputs machine.outputs;
 }
 
--- whether a kind is that of tables
-abbrev pub is_table_kind : Keyword → Bool
-is_table_kind Names = true
-is_table_kind kind = false
+-- what a head and the state table of the part are read as
+abbrev pub machine_with : Head → List Entry → Result Machine KissFault → Result Spec BlifFault
+machine_with head part (Err fault) = Err (BadKiss fault)
+machine_with head part (Ok machine) = unless (machine_fault head part machine) (spec.Machine (named head machine))
 
--- each `.names` line's table as it is written, with the rows that follow it
-unfoldable pub tables_in : List Entry → List Table
-tables_in [] = []
-tables_in (line ∷ lines) =
-    if is_table_kind (kind_of line)
-    then table_of (other_words line.words) (map (λ (row : Entry). joined row.words) (take_while is_row lines)) ∷ tables_in lines
-    else tables_in lines
+-- what the content of a model and the lines of its KISS2 part are read as: a circuit stands for itself, and the part is read past
+abbrev pub spec_with : List Entry → Result Content BlifFault → Result Spec BlifFault
+spec_with part (Err fault) = Err fault
+spec_with part (Ok (content.Circuit circuit)) = Ok (spec.Circuit circuit)
+spec_with part (Ok (content.Head head)) = machine_with head part (read_table part)
 
--- the name of the model: that of a `.model` line, `top` without one
-abbrev pub named_by : Keyword → List (List ℕ) → List ℕ
-named_by Model (word ∷ words) = word
-named_by kind words = codes "top"
-
--- the name of the model, by the first line
-unfoldable pub model_name : List Entry → List ℕ
-model_name [] = codes "top"
-model_name (line ∷ lines) = named_by (kind_of line) (other_words line.words)
-
--- the circuit that the lines say: each table of its own has each of its inputs once, those of the don't-care part stand as
--- they are written
-unfoldable pub circuit_of : List Entry → Circuit
-circuit_of lines = record {
-  name = model_name lines;
-  inputs = inputs_in (model_lines lines);
-  outputs = outputs_in (model_lines lines);
-  clocks = clocks_in (model_lines lines);
-  timing = timing_in (model_lines lines);
-  latches = latches_in (model_lines lines);
-  tables = map folded (tables_in (model_lines lines));
-  dont_care = tables_in (part_lines lines);
-}
-
--- what is wrong with the model itself, of its lines, but for cycles: a port listed twice, a latch that is timed otherwise
--- than the first one, a control that is driven, a signal driven twice, one that is read and not driven
-unfoldable pub model_names_fault : List Entry → Option BlifFault
-model_names_fault lines = first_of
-    (option_map (λ name. NameTwice name) (first_listed_twice (of_lines listed_inputs lines) (of_lines listed_outputs lines) (ports_in lines))
-    ∷ option_map (λ number. MixedClock number) (mixed_clock lines)
-    ∷ option_map (λ name. GatedClock name) (gated_clock lines)
-    ∷ option_map (λ name. TwoDrivers name) (first_again (inputs_in lines) (drives_in lines))
-    ∷ option_map (λ name. Undriven name) (first_missing (inputs_in lines ++ drives_in lines) (reads_in lines))
-    ∷ [])
-
--- the leaves of the model of some lines
-abbrev pub leaves_in : List Entry → List (List ℕ)
-leaves_in lines = inputs_in lines ++ map (λ (latch : TheLatch). latch.output) (latches_in lines)
-
--- what is wrong with the whole file: with the model's names, with its don't-care part, and last a table that is reached
--- from itself
-unfoldable pub whole_fault : List Entry → Option BlifFault
-whole_fault lines = first_of
-    (model_names_fault (model_lines lines)
-    ∷ option_map (λ name. BadExdc name) (first_bad_part_name (leaves_in (model_lines lines)) (tables_in (part_lines lines)))
-    ∷ option_map (λ name. Cycle name) (first_on_cycle (tables_in (model_lines lines)))
-    ∷ [])
-
--- a fault, or the circuit where there is none
-abbrev pub unless : Option BlifFault → Circuit → Result Circuit BlifFault
-unless None circuit = Ok circuit
-unless (Some fault) circuit = Err fault
-
--- what a file's logical lines are read as: the first fault of a line, then one of the whole file, else the circuit
-unfoldable pub read_lines : List Entry → Result Circuit BlifFault
-read_lines lines = unless (option_or (first_line_fault [] lines) (whole_fault lines)) (circuit_of lines)
+-- what a file's logical lines are read as, with a library where there is one
+unfoldable pub read_lines : Option (List Gate) → List Entry → Result Spec BlifFault
+read_lines library lines = spec_with (kiss_lines lines) (read_model library (lines_beside lines))
 
 -- what a reader answers, beside what it should; want of memory is free
-abbrev pub Reads : Result Circuit ReadFault → Result Circuit BlifFault → Type 0
-Reads (Ok circuit) should = should ≡ Ok circuit
+abbrev pub Reads : Result Spec ReadFault → Result Spec BlifFault → Type 0
+Reads (Ok read) should = should ≡ Ok read
 Reads (Err (read_fault.Fault fault)) should = should ≡ Err fault
 Reads (Err read_fault.Memory) should = Unit {0}

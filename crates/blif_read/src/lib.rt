@@ -1,26 +1,16 @@
-//! Reads a text in the Berkeley Logic Interchange Format (appendix of the SIS report, UCB/ERL M92/41) as a circuit:
-//! one model of ports, clocks, latches and tables in any order, and its don't-care part.
+//! Reads a text in the Berkeley Logic Interchange Format (appendix of the SIS report, UCB/ERL M92/41) as a circuit or as a machine.
 //!
-//! `specs/Lines` says what is wrong with a line, given the lines before it; `specs/Reader` what must hold of the
-//! whole file, and the circuit that the lines say. `read` answers that circuit or the first fault, exactly; what it
-//! answers is sound, keeps the limits of circuits, and has no name longer than `specs/Limits` says. The code takes line
-//! by line into a draft (`specs/Steps`); that its steps come to the definition is proved once, for all lists of lines.
+//! A KISS2 part stands between `.start_kiss` and `.end_kiss` (`specs/Parts`); the lines beside it are those of a model, which
+//! `blif_lines` reads, and those in it those of a table, which `kiss_format` reads. A model with a part and without a table, a latch
+//! or a gate is that machine, under the model's names of ports; any other one is its circuit, and the part is read past
+//! (`specs/Reader`). `read` answers what the text says, or the first fault, exactly; what it answers is sound, and keeps the limits
+//! (`specs/Limits`). `reading_laws` has the same for lists of lines.
 #![tactic(auto)]
 
-mod draft;
-mod fault;
-mod file_fault;
-mod keyword;
-mod latch_words;
-mod line_fault;
-mod part;
-mod ports;
+mod machine;
+mod parts;
 mod reading;
 pub mod reading_laws;
-mod row;
-mod settling;
-mod word_list;
 
-pub use fault::{BlifFault, LimitKind, ReadFault};
-pub use keyword::Keyword;
+pub use blif_lines::{BlifFault, LimitKind, ReadFault};
 pub use reading::read;

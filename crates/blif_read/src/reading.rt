@@ -1,78 +1,53 @@
-//! Reads a text as a circuit.
+//! Reads a text as a circuit or as a machine.
 
-ghost use Rattle.std.specs.Prelude.{◌≡◌, map, IfOk};
-ghost use Rattle.circuit_model.specs.Counts.{IsWithinLimits};
-ghost use Rattle.circuit_model.specs.Soundness.{IsSound};
+ghost use Rattle.std.specs.Prelude.{◌≡◌, map, option_copied, IfOk};
 ghost use Rattle.sis_text.specs.Entries.{entry_at, entries_of};
+ghost use Rattle.blif_lines.specs.Libraries.{IsSoundLibrary};
+ghost use Rattle.blif_read.specs.Limits.{IsSoundSpec, IsSmallSpec, HasShortSpec};
 ghost use Rattle.blif_read.specs.Reader.{read_lines, Reads};
-ghost use Rattle.blif_read.specs.Limits.{HasShortNames};
-ghost use Rattle.blif_read.specs.Steps.{take_entry, take_entries, no_lines, kept_of, finished, finish as finish_by, HasApartTables, Takes};
 
-use crate::draft::Draft;
-use crate::fault::ReadFault;
-use crate::file_fault::{listed_fault, settled_fault};
-use crate::settling::{circuit_of, settle};
-use circuit_model::Circuit;
-use sis_text::{Line, logical_lines, texts_at};
+use crate::machine::read_machine;
+use crate::parts::{front_lines, kiss_lines, rest_lines};
+use blif_lines::{Content, ReadFault};
+use genlib_format::Library;
+use machine_model::Spec;
+use sis_text::{Line, logical_lines};
 use std::alloc::Global;
 
-/// Takes one logical line of a text.
-fn take_line(alloc: Global, source: &[u8], line: &Line, draft: &mut Draft) -> Result<(), ReadFault>
-    ensures { Takes result draft.new (take_entry draft.old (entry_at source.now line.now)) }
-{
-    let words = texts_at(alloc, source, line.words.as_slice())?;
-    draft.take(alloc, line.number, words.as_slice())
-}
-
-/// Takes the logical lines of a text, up to the first that has a fault.
-fn take_lines(
+/// Reads the logical lines of a text. An error says the first fault, or that memory was wanting.
+#[tactic(auto, unfolding(crate::specs::Parts::lines_beside, crate::specs::Reader::read_lines))]
+fn read_lines(
     alloc: Global,
     source: &[u8],
     lines: &[Line],
-    draft: &mut Draft,
-) -> Result<(), ReadFault>
-    ensures { Takes result draft.new (take_entries draft.old (map (entry_at source.now) lines.now)) }
+    library: Option<&Library>,
+) -> Result<Spec, ReadFault>
+    ensures { Reads result (read_lines (option_copied library.entry) (map (entry_at source.now) lines.now)) }
 {
-    for line in lines {
-        take_line(alloc, source, line, draft)?;
+    let front = front_lines(source, lines);
+    let back = rest_lines(source, lines);
+    match blif_lines::read_lines(alloc, source, front, back, library) {
+        Ok(Content::Circuit(circuit)) => Ok(Spec::Circuit(circuit)),
+        Ok(Content::Head(head)) => read_machine(alloc, head, source, kiss_lines(source, lines)),
+        Err(fault) => Err(fault),
     }
-    Ok(())
 }
 
-/// What is read of a draft behind the last line: its circuit, if nothing is wrong with the whole.
-#[tactic(auto, unfolding(crate::specs::Steps::read_kept, crate::specs::Steps::kept_fault, crate::specs::Steps::settled, crate::specs::Steps::settled_fault, crate::specs::Lines::first_of))]
-fn finish(alloc: Global, draft: Draft) -> Result<Circuit, ReadFault>
-    requires { HasApartTables (kept_of draft) }
-    ensures { Reads result (finished draft) }
-{
-    let mut draft = draft;
-    if let Some(fault) = listed_fault(alloc, &draft)? {
-        return Err(ReadFault::Fault(fault));
-    }
-    settle(alloc, &mut draft)?;
-    if let Some(fault) = settled_fault(alloc, &draft)? {
-        return Err(ReadFault::Fault(fault));
-    }
-    Ok(circuit_of(alloc, draft)?)
-}
-
-/// Reads a text line by line.
-fn read_by_steps(alloc: Global, bytes: &[u8]) -> Result<Circuit, ReadFault>
-    ensures { Reads result (finish_by (take_entries no_lines (entries_of bytes.now))) }
+/// Reads a text. An error says the first fault, or that memory was wanting.
+fn read_text(alloc: Global, bytes: &[u8], library: Option<&Library>) -> Result<Spec, ReadFault>
+    ensures { Reads result (read_lines (option_copied library.entry) (entries_of bytes.now)) }
 {
     let lines = logical_lines(alloc, bytes)?;
-    let mut draft = Draft::new(alloc)?;
-    take_lines(alloc, bytes, lines.as_slice(), &mut draft)?;
-    finish(alloc, draft)
+    read_lines(alloc, bytes, lines.as_slice(), library)
 }
 
-/// Reads a text as a circuit. An error says the first fault of a line, in file order, else the first of the whole file;
-/// or that memory was wanting.
-pub fn read(alloc: Global, bytes: &[u8]) -> Result<Circuit, ReadFault>
-    ensures reads { Reads result (read_lines (entries_of bytes.now)) }
-    ensures limits { IfOk result IsWithinLimits }
-    ensures short { IfOk result HasShortNames }
-    ensures sound { IfOk result IsSound }
+/// Reads a text as a circuit or as a machine, with a library of gates where there is one. An error says the first fault of a line of
+/// the model, in file order, else the first of the model as a whole, else the first of its KISS2 part; or that memory was wanting.
+pub fn read(alloc: Global, bytes: &[u8], library: Option<&Library>) -> Result<Spec, ReadFault>
+    ensures reads { Reads result (read_lines (option_copied library.entry) (entries_of bytes.now)) }
+    ensures sound { IfOk result IsSoundSpec }
+    ensures limits { IsSoundLibrary (option_copied library.entry) → IfOk result IsSmallSpec }
+    ensures short { IfOk result HasShortSpec }
 {
-    read_by_steps(alloc, bytes)
+    read_text(alloc, bytes, library)
 }

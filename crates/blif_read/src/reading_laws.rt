@@ -1,22 +1,22 @@
 //! Laws of what is read, each the contract of a call that does nothing.
 
-ghost use Rattle.std.specs.Prelude.{◌≡◌, List, Ok, true};
+ghost use Rattle.std.specs.Prelude.{◌≡◌, List, Option, Ok, true};
 ghost use Rattle.std.specs.List.{AllByRecursion};
 ghost use Rattle.sis_base.specs.Written.{is_word};
-ghost use Rattle.circuit_model.specs.Counts.{IsWithinLimits};
-ghost use Rattle.circuit_model.specs.Soundness.{IsSound};
-ghost use Rattle.circuit_model.specs.declared.circuit.Circuit.{Circuit as TheCircuit};
 ghost use Rattle.sis_text.specs.Entries.{Entry};
-ghost use Rattle.blif_read.specs.Limits.{HasShortNames};
+ghost use Rattle.genlib_format.specs.declared.gate.Gate.{Gate as TheGate};
+ghost use Rattle.machine_model.specs.declared.machine.Spec.{Spec as TheSpec};
+ghost use Rattle.blif_lines.specs.Libraries.{IsSoundLibrary};
+ghost use Rattle.blif_read.specs.Limits.{IsSoundSpec, IsSmallSpec, HasShortSpec};
 ghost use Rattle.blif_read.specs.Reader.{read_lines};
 
-/// What lines of words are read as is a sound circuit.
+/// What lines of words are read as is sound.
 pub fn what_is_read_is_sound()
-    ensures { (lines : List Entry) (circuit : TheCircuit) → AllByRecursion (λ line. AllByRecursion (λ word. is_word word ≡ true) line.words) lines → read_lines lines ≡ Ok circuit → IsSound circuit }
+    ensures { (library : Option (List TheGate)) (lines : List Entry) (read : TheSpec) → AllByRecursion (λ line. AllByRecursion (λ word. is_word word ≡ true) line.words) lines → read_lines library lines ≡ Ok read → IsSoundSpec read }
 {}
 
-/// What lines are read as is a circuit within the limits, with short names.
+/// What lines are read as keeps the limits, with a sound library or without one; names are short.
 pub fn what_is_read_is_small()
-    ensures limits { (lines : List Entry) (circuit : TheCircuit) → read_lines lines ≡ Ok circuit → IsWithinLimits circuit }
-    ensures short { (lines : List Entry) (circuit : TheCircuit) → read_lines lines ≡ Ok circuit → HasShortNames circuit }
+    ensures limits { (library : Option (List TheGate)) (lines : List Entry) (read : TheSpec) → IsSoundLibrary library → read_lines library lines ≡ Ok read → IsSmallSpec read }
+    ensures short { (library : Option (List TheGate)) (lines : List Entry) (read : TheSpec) → read_lines library lines ≡ Ok read → HasShortSpec read }
 {}

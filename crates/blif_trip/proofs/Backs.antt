@@ -4,11 +4,11 @@ use Rattle.std.proofs.Common.{◌≡◌, refl, ℕ, suc, ◌+◌, ◌≤◌, Boo
 use Rattle.std.proofs.lemmas.List.{reverse-append, map-append}
 use Rattle.std.proofs.lemmas.List.Sums.{take_while-cons, sum_by-cons}
 use Rattle.sis_text.specs.Entries.{Entry}
-use Rattle.blif_read.specs.Keyword.{kind_of, is_row, is_row_kind}
-use Rattle.blif_read.specs.Lines.{is_end_kind, is_ended, begins_part, has_part, part_behind, is_node_kind, nodes_in, joined, heading, rows_behind}
-use Rattle.blif_read.specs.declared.part.Part.TheVariants as part
-use Rattle.blif_read.specs.declared.keyword.Keyword.{Keyword}
-use Rattle.blif_read.specs.declared.keyword.Keyword.TheVariants.{Names, Row}
+use Rattle.blif_lines.specs.Keyword.{kind_of, is_row, is_row_kind}
+use Rattle.blif_lines.specs.Lines.{is_end_kind, is_ended, begins_part, has_part, part_behind, is_node_kind, nodes_in, joined, heading, rows_behind}
+use Rattle.blif_lines.specs.declared.part.Part.TheVariants as part
+use Rattle.blif_lines.specs.declared.keyword.Keyword.{Keyword}
+use Rattle.blif_lines.specs.declared.keyword.Keyword.TheVariants.{Names, Row}
 
 -- the model has not ended, its don't-care part has begun or not, and so many tables and latches may still come
 pub record Goes (had : Bool) (room : ℕ) (back : List Entry) : Type 0 where

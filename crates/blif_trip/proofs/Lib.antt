@@ -4,5 +4,6 @@ pub mod RowTexts
 pub mod Backs
 pub mod NoFaults
 pub mod Said
+pub mod NoKiss
 pub mod Trip
 pub mod Again

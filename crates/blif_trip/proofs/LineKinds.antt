@@ -5,8 +5,8 @@ use Rattle.sis_text.specs.Entries.{Entry}
 use Rattle.circuit_model.specs.declared.circuit.Tri.{Tri}
 use Rattle.circuit_model.specs.declared.circuit.Tri.TheVariants.{Zero, One, Free}
 use Rattle.circuit_model.specs.Text.{character, digit_of_phase, row_line}
-use Rattle.blif_read.specs.Keyword.{keyword_of, skipped_words}
-use Rattle.blif_read.specs.declared.keyword.Keyword.TheVariants.{Row}
+use Rattle.blif_lines.specs.Keyword.{keyword_of, skipped_words}
+use Rattle.blif_lines.specs.declared.keyword.Keyword.TheVariants.{Row}
 
 -- a written line as an entry
 abbrev pub entry : ℕ → Written → Entry

@@ -8,8 +8,9 @@ use Rattle.circuit_model.specs.declared.circuit.Tri.TheVariants.{Zero, One, Free
 use Rattle.circuit_model.specs.declared.circuit.Table.{Table}
 use Rattle.circuit_model.specs.Text.{character, digit_of_phase, row_line}
 use Rattle.circuit_model.specs.Soundness.{IsShaped}
-use Rattle.blif_read.specs.Lines.{is_character, is_output_character, joined, is_row_of, output_character, has_phase_of, input_words, last_word}
-use Rattle.blif_read.specs.Reader.{character_of, row_of, phase_by, table_of}
+use Rattle.line_words.specs.LineWords.{is_character, character_of}
+use Rattle.blif_lines.specs.Lines.{is_output_character, joined, is_row_of, output_character, has_phase_of, input_words, last_word}
+use Rattle.blif_lines.specs.Reader.{row_of, phase_by, table_of}
 
 -- the byte of a phase, and the characters of a row with its phase behind
 abbrev pub phase_byte : Bool → ℕ

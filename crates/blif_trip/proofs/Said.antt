@@ -6,6 +6,7 @@ use Rattle.std.proofs.lemmas.Grind.{flat_map-append}
 use Rattle.std.proofs.lemmas.List.{append_assoc, append-nil}
 use Rattle.std.proofs.lemmas.List.Sums.{take_while-cons}
 use Rattle.sis_base.specs.Written.{Written}
+use Rattle.genlib_format.specs.declared.gate.Gate.{Gate as TheGate}
 use Rattle.sis_text.specs.Entries.{Entry}
 use Rattle.sis_text.specs.Written.{numbered}
 use Rattle.circuit_model.specs.declared.circuit.Tri.{Tri}
@@ -20,13 +21,14 @@ use Rattle.circuit_model.specs.Text.{dotted, kind_word, control_word, timing_wor
 use Rattle.circuit_model.specs.Runs.{latch_outputs}
 use Rattle.circuit_model.specs.Soundness.{IsShaped, control_of, outputs_of, latch_inputs, table_inputs}
 use Rattle.table_fold.proofs.Once.{itself, bytes_eq-sym}
-use Rattle.blif_read.specs.Keyword.{other_words, keyword_of, kind_of, is_row, is_row_kind}
-use Rattle.blif_read.specs.Lines.{joined, begins_part}
-use Rattle.blif_read.specs.Reader.{of_lines, model_lines, part_lines, listed_inputs, listed_outputs, listed_ports, listed_clocks, lists_inputs, lists_outputs, names_beside, driven_by, read_by, latches_by, init_of, inputs_in, outputs_in, ports_in, clocks_in, drives_in, reads_within, reads_in, latches_in, kind_by, control_by, timing_of, is_latch_line, latch_lines, timing_at, first_timing, timing_in, same_kind, same_control, same_timing, mixed_clock, tables_in, table_of, is_table_kind, model_name}
-use Rattle.blif_read.specs.declared.keyword.Keyword.{Keyword}
-use Rattle.blif_read.specs.declared.keyword.Keyword.TheVariants.{Model, Inputs, Outputs, Clock, Names, Latch, Gate, DontCare, End, Skipped, Row, Other}
-use Rattle.blif_read.proofs.NameLists.{all_append}
-use Rattle.blif_read.proofs.Agreement.{own_more, own_ends, part_later, part_here}
+use Rattle.line_words.specs.LineWords.{other_words}
+use Rattle.blif_lines.specs.Keyword.{keyword_of, kind_of, is_row, is_row_kind}
+use Rattle.blif_lines.specs.Lines.{joined, begins_part}
+use Rattle.blif_lines.specs.Reader.{of_lines, model_lines, part_lines, listed_inputs, listed_outputs, listed_ports, listed_clocks, lists_inputs, lists_outputs, names_beside, driven_by, read_by, latches_by, init_of, inputs_in, outputs_in, ports_in, clocks_in, drives_in, reads_within, reads_in, latches_in, kind_by, control_by, timing_of, is_latch_line, latch_lines, timing_at, first_timing, timing_in, same_kind, same_control, same_timing, mixed_clock, tables_by, tables_in, table_of, model_name}
+use Rattle.blif_lines.specs.declared.keyword.Keyword.{Keyword}
+use Rattle.blif_lines.specs.declared.keyword.Keyword.TheVariants.{Model, Inputs, Outputs, Clock, Names, Latch, Gate, StartKiss, DontCare, End, Skipped, Row, Other}
+use Rattle.blif_lines.proofs.NameLists.{all_append}
+use Rattle.blif_lines.proofs.Agreement.{own_more, own_ends, part_later, part_here}
 use Rattle.blif_trip.proofs.Words.{end_lines, stop_lines, part_written, own_lines, lines_split}
 use Rattle.blif_trip.proofs.LineKinds.{entry, row_kind}
 use Rattle.blif_trip.proofs.RowTexts.{row_text, row_joined, names_words, inputs_back, output_back, table_back}
@@ -146,15 +148,15 @@ outputs_listed : (circuit : Circuit) → lists_outputs (own_of circuit) ≡ true
 unfolding lists_outputs own_lines numbered kind_of keyword_of
 outputs_listed circuit = refl
 
-pub inputs_said : (circuit : Circuit) → inputs_in (own_of circuit) ≡ circuit.inputs
+pub inputs_said : (library : Option (List TheGate)) (circuit : Circuit) → inputs_in library (own_of circuit) ≡ circuit.inputs
 unfolding inputs_in
-inputs_said circuit =
-    ap (λ (b : Bool). if b then of_lines listed_inputs (own_of circuit) else names_beside (drives_in (own_of circuit)) (reads_within (own_of circuit))) (inputs_listed circuit) ∙ listed_inputs_said circuit
+inputs_said library circuit =
+    ap (λ (b : Bool). if b then of_lines listed_inputs (own_of circuit) else names_beside (drives_in library (own_of circuit)) (reads_within library (own_of circuit))) (inputs_listed circuit) ∙ listed_inputs_said circuit
 
-pub outputs_said : (circuit : Circuit) → outputs_in (own_of circuit) ≡ circuit.outputs
+pub outputs_said : (library : Option (List TheGate)) (circuit : Circuit) → outputs_in library (own_of circuit) ≡ circuit.outputs
 unfolding outputs_in
-outputs_said circuit =
-    ap (λ (b : Bool). if b then of_lines listed_outputs (own_of circuit) else names_beside (reads_within (own_of circuit)) (drives_in (own_of circuit))) (outputs_listed circuit) ∙ listed_outputs_said circuit
+outputs_said library circuit =
+    ap (λ (b : Bool). if b then of_lines listed_outputs (own_of circuit) else names_beside (reads_within library (own_of circuit)) (drives_in library (own_of circuit))) (outputs_listed circuit) ∙ listed_outputs_said circuit
 
 pub ports_said : (circuit : Circuit) → ports_in (own_of circuit) ≡ circuit.inputs ++ circuit.outputs
 unfolding ports_in
@@ -173,33 +175,33 @@ clocks_said circuit =
     parts_are listed_clocks circuit circuit.clocks [] [] (λ words. refl) (clocks_back circuit.clocks) (no_latches (listed_clocks Latch) circuit.timing circuit.latches (λ latch. refl)) (no_tables (listed_clocks Names) circuit.tables (λ table. refl)) refl
     ∙ append-nil circuit.clocks
 
-latches_drive : (timing : Option Timing) (latches : List TheLatch) → flat_map (λ (latch : TheLatch). driven_by Latch (latch_words timing latch)) latches ≡ map (λ (latch : TheLatch). latch.output) latches
-latches_drive timing [] = refl
-latches_drive timing (latch ∷ latches) = ap (λ more. latch.output ∷ more) (latches_drive timing latches)
+latches_drive : (library : Option (List TheGate)) (timing : Option Timing) (latches : List TheLatch) → flat_map (λ (latch : TheLatch). driven_by library Latch (latch_words timing latch)) latches ≡ map (λ (latch : TheLatch). latch.output) latches
+latches_drive library timing [] = refl
+latches_drive library timing (latch ∷ latches) = ap (λ more. latch.output ∷ more) (latches_drive library timing latches)
 
-tables_drive : (tables : List Table) → flat_map (λ (table : Table). driven_by Names (names_words table)) tables ≡ outputs_of tables
-tables_drive [] = refl
-tables_drive (table ∷ tables) =
-    ap (λ name. name ∷ flat_map (λ (table : Table). driven_by Names (names_words table)) tables) (output_back table) ∙ ap (λ more. table.output ∷ more) (tables_drive tables)
+tables_drive : (library : Option (List TheGate)) (tables : List Table) → flat_map (λ (table : Table). driven_by library Names (names_words table)) tables ≡ outputs_of tables
+tables_drive library [] = refl
+tables_drive library (table ∷ tables) =
+    ap (λ name. name ∷ flat_map (λ (table : Table). driven_by library Names (names_words table)) tables) (output_back table) ∙ ap (λ more. table.output ∷ more) (tables_drive library tables)
 
-pub drives_said : (circuit : Circuit) → drives_in (own_of circuit) ≡ latch_outputs circuit ++ outputs_of circuit.tables
+pub drives_said : (library : Option (List TheGate)) (circuit : Circuit) → drives_in library (own_of circuit) ≡ latch_outputs circuit ++ outputs_of circuit.tables
 unfolding drives_in
-drives_said circuit =
-    parts_are driven_by circuit [] (latch_outputs circuit) (outputs_of circuit.tables) (λ words. refl) (no_clocks driven_by circuit.clocks (λ words. refl)) (latches_drive circuit.timing circuit.latches) (tables_drive circuit.tables) refl
+drives_said library circuit =
+    parts_are (driven_by library) circuit [] (latch_outputs circuit) (outputs_of circuit.tables) (λ words. refl) (no_clocks (driven_by library) circuit.clocks (λ words. refl)) (latches_drive library circuit.timing circuit.latches) (tables_drive library circuit.tables) refl
 
-latches_read : (timing : Option Timing) (latches : List TheLatch) → flat_map (λ (latch : TheLatch). read_by Latch (latch_words timing latch)) latches ≡ map (λ (latch : TheLatch). latch.input) latches
-latches_read timing [] = refl
-latches_read timing (latch ∷ latches) = ap (λ more. latch.input ∷ more) (latches_read timing latches)
+latches_read : (library : Option (List TheGate)) (timing : Option Timing) (latches : List TheLatch) → flat_map (λ (latch : TheLatch). read_by library Latch (latch_words timing latch)) latches ≡ map (λ (latch : TheLatch). latch.input) latches
+latches_read library timing [] = refl
+latches_read library timing (latch ∷ latches) = ap (λ more. latch.input ∷ more) (latches_read library timing latches)
 
-tables_read : (tables : List Table) → flat_map (λ (table : Table). read_by Names (names_words table)) tables ≡ table_inputs tables
-tables_read [] = refl
-tables_read (table ∷ tables) =
-    ap (λ names. names ++ flat_map (λ (table : Table). read_by Names (names_words table)) tables) (inputs_back table) ∙ ap (λ more. table.inputs ++ more) (tables_read tables)
+tables_read : (library : Option (List TheGate)) (tables : List Table) → flat_map (λ (table : Table). read_by library Names (names_words table)) tables ≡ table_inputs tables
+tables_read library [] = refl
+tables_read library (table ∷ tables) =
+    ap (λ names. names ++ flat_map (λ (table : Table). read_by library Names (names_words table)) tables) (inputs_back table) ∙ ap (λ more. table.inputs ++ more) (tables_read library tables)
 
-pub reads_said : (circuit : Circuit) → reads_in (own_of circuit) ≡ circuit.outputs ++ (latch_inputs circuit ++ table_inputs circuit.tables)
+pub reads_said : (library : Option (List TheGate)) (circuit : Circuit) → reads_in library (own_of circuit) ≡ circuit.outputs ++ (latch_inputs circuit ++ table_inputs circuit.tables)
 unfolding reads_in
-reads_said circuit =
-    parts_are read_by circuit [] (latch_inputs circuit) (table_inputs circuit.tables) (λ words. refl) (no_clocks read_by circuit.clocks (λ words. refl)) (latches_read circuit.timing circuit.latches) (tables_read circuit.tables) refl
+reads_said library circuit =
+    parts_are (read_by library) circuit [] (latch_inputs circuit) (table_inputs circuit.tables) (λ words. refl) (no_clocks (read_by library) circuit.clocks (λ words. refl)) (latches_read library circuit.timing circuit.latches) (tables_read library circuit.tables) refl
 
 init_back : (init : ℕ) → init ≤ 3 → slice_index (init_word init) 0 - 48 ≡ init
 init_back zero h = refl
@@ -312,6 +314,7 @@ untimed (line ∷ lines) e = by (kind_of line) e (untimed lines)
     by Clock f rec = rec f
     by Names f rec = rec f
     by Gate f rec = rec f
+    by StartKiss f rec = rec f
     by DontCare f rec = rec f
     by End f rec = rec f
     by Skipped f rec = rec f
@@ -358,33 +361,33 @@ unfolding circuit_lines numbered kind_of keyword_of model_name
 name_said circuit = refl
 
 -- lines that have these tables, whatever their numbers; and lines that begin with no row
-abbrev HasTables : List Written → List Table → Type 0
-HasTables lines tables = (number : ℕ) → tables_in (numbered number lines) ≡ tables
+abbrev HasTables : (library : Option (List TheGate)) → List Written → List Table → Type 0
+HasTables library lines tables = (number : ℕ) → tables_in library (numbered number lines) ≡ tables
 
 abbrev BeginsAnew : List Written → Type 0
 BeginsAnew lines = (number : ℕ) → take_while is_row (numbered number lines) ≡ []
 
-other_line : (kind : Keyword) (line : Written) (rest : List Written) (tables : List Table) → keyword_of line.first ≡ kind → is_table_kind kind ≡ false → HasTables rest tables → HasTables (line ∷ rest) tables
+other_line : (library : Option (List TheGate)) (kind : Keyword) (line : Written) (rest : List Written) (tables : List Table) → keyword_of line.first ≡ kind → ((words rows : List (List ℕ)) → tables_by library kind words rows ≡ []) → HasTables library rest tables → HasTables library (line ∷ rest) tables
 unfolding tables_in numbered kind_of
-other_line kind line rest tables e no_table h number =
+other_line library kind line rest tables e none h number =
     let behind = numbered (number + 1) rest in
-    let table = table_of line.others (map (λ (row : Entry). joined row.words) (take_while is_row behind)) in
-    ap (λ (kind : Keyword). cond (is_table_kind kind) (table ∷ tables_in behind) (tables_in behind)) e
-    ∙ ap (λ b. cond b (table ∷ tables_in behind) (tables_in behind)) no_table ∙ h (number + 1)
+    let rows = map (λ (row : Entry). joined row.words) (take_while is_row behind) in
+    ap (λ (kind : Keyword). tables_by library kind line.others rows ++ tables_in library behind) e
+    ∙ ap (λ (first : List Table). first ++ tables_in library behind) (none line.others rows) ∙ h (number + 1)
 
-rows_passed : (phase : Bool) (rows : List (List Tri)) (rest : List Written) (tables : List Table) → HasTables rest tables → HasTables (map (row_line phase) rows ++ rest) tables
-rows_passed phase [] rest tables h = h
-rows_passed phase (row ∷ rows) rest tables h = other_line Row (row_line phase row) (map (row_line phase) rows ++ rest) tables (row_kind phase row) refl (rows_passed phase rows rest tables h)
+rows_passed : (library : Option (List TheGate)) (phase : Bool) (rows : List (List Tri)) (rest : List Written) (tables : List Table) → HasTables library rest tables → HasTables library (map (row_line phase) rows ++ rest) tables
+rows_passed library phase [] rest tables h = h
+rows_passed library phase (row ∷ rows) rest tables h = other_line library Row (row_line phase row) (map (row_line phase) rows ++ rest) tables (row_kind phase row) (λ words others. refl) (rows_passed library phase rows rest tables h)
 
-latches_passed : (timing : Option Timing) (latches : List TheLatch) (rest : List Written) (tables : List Table) → HasTables rest tables → HasTables (map (latch_line timing) latches ++ rest) tables
+latches_passed : (library : Option (List TheGate)) (timing : Option Timing) (latches : List TheLatch) (rest : List Written) (tables : List Table) → HasTables library rest tables → HasTables library (map (latch_line timing) latches ++ rest) tables
 unfolding keyword_of latch_line
-latches_passed timing [] rest tables h = h
-latches_passed timing (latch ∷ latches) rest tables h = other_line Latch (latch_line timing latch) (map (latch_line timing) latches ++ rest) tables refl refl (latches_passed timing latches rest tables h)
+latches_passed library timing [] rest tables h = h
+latches_passed library timing (latch ∷ latches) rest tables h = other_line library Latch (latch_line timing latch) (map (latch_line timing) latches ++ rest) tables refl (λ words rows. refl) (latches_passed library timing latches rest tables h)
 
-clocks_passed : (clocks : List (List ℕ)) (rest : List Written) (tables : List Table) → HasTables rest tables → HasTables (clock_lines clocks ++ rest) tables
+clocks_passed : (library : Option (List TheGate)) (clocks : List (List ℕ)) (rest : List Written) (tables : List Table) → HasTables library rest tables → HasTables library (clock_lines clocks ++ rest) tables
 unfolding keyword_of clock_lines
-clocks_passed [] rest tables h = h
-clocks_passed (clock ∷ clocks) rest tables h = other_line Clock (dotted (codes ".clock") (clock ∷ clocks)) rest tables refl refl h
+clocks_passed library [] rest tables h = h
+clocks_passed library (clock ∷ clocks) rest tables h = other_line library Clock (dotted (codes ".clock") (clock ∷ clocks)) rest tables refl (λ words rows. refl) h
 
 rows_behind_it : (phase : Bool) (rows : List (List Tri)) (rest : List Written) (number : ℕ) → BeginsAnew rest → map (λ (row : Entry). joined row.words) (take_while is_row (numbered number (map (row_line phase) rows ++ rest))) ≡ map (row_text phase) rows
 unfolding numbered kind_of
@@ -396,13 +399,13 @@ rows_behind_it phase (row ∷ rows) rest number h =
     ∙ ap (λ (text : List ℕ). text ∷ map (λ (row : Entry). joined row.words) (take_while is_row behind)) (row_joined phase row)
     ∙ ap (λ more. row_text phase row ∷ more) (rows_behind_it phase rows rest (number + 1) h)
 
-table_added : (table : Table) (rest : List Written) (tables : List Table) → IsShaped table → BeginsAnew rest → HasTables rest tables → HasTables (table_lines table ++ rest) (table ∷ tables)
+table_added : (library : Option (List TheGate)) (table : Table) (rest : List Written) (tables : List Table) → IsShaped table → BeginsAnew rest → HasTables library rest tables → HasTables library (table_lines table ++ rest) (table ∷ tables)
 unfolding table_lines tables_in numbered kind_of keyword_of
-table_added table rest tables shaped anew h number =
+table_added library table rest tables shaped anew h number =
     let behind = numbered (number + 1) (map (row_line table.phase) table.rows ++ rest) in
-    ap (λ (rows : List (List ℕ)). table_of (names_words table) rows ∷ tables_in behind) (rows_behind_it table.phase table.rows rest (number + 1) anew)
-    ∙ ap (λ (first : Table). first ∷ tables_in behind) (table_back table shaped)
-    ∙ ap (λ (more : List Table). table ∷ more) (rows_passed table.phase table.rows rest tables h (number + 1))
+    ap (λ (rows : List (List ℕ)). table_of (names_words table) rows ∷ tables_in library behind) (rows_behind_it table.phase table.rows rest (number + 1) anew)
+    ∙ ap (λ (first : Table). first ∷ tables_in library behind) (table_back table shaped)
+    ∙ ap (λ (more : List Table). table ∷ more) (rows_passed library table.phase table.rows rest tables h (number + 1))
 
 ends_anew : (tables : List Table) (rest : List Written) → BeginsAnew rest → BeginsAnew (flat_map table_lines tables ++ rest)
 unfolding table_lines numbered kind_of keyword_of
@@ -410,44 +413,63 @@ ends_anew [] rest anew number = anew number
 ends_anew (table ∷ tables) rest anew number =
     take_while-cons is_row (entry number (dotted (codes ".names") (names_words table))) (numbered (number + 1) ((map (row_line table.phase) table.rows ++ flat_map table_lines tables) ++ rest))
 
-tables_have : (tables : List Table) (rest : List Written) → AllByRecursion IsShaped tables → BeginsAnew rest → HasTables rest [] → HasTables (flat_map table_lines tables ++ rest) tables
-tables_have [] rest h anew none number = none number
-tables_have (table ∷ tables) rest h anew none number =
-    ap (λ (lines : List Written). tables_in (numbered number lines)) (append_assoc (table_lines table) (flat_map table_lines tables) rest)
-    ∙ table_added table (flat_map table_lines tables ++ rest) tables h.0 (ends_anew tables rest anew) (tables_have tables rest h.1 anew none) number
+tables_have : (library : Option (List TheGate)) (tables : List Table) (rest : List Written) → AllByRecursion IsShaped tables → BeginsAnew rest → HasTables library rest [] → HasTables library (flat_map table_lines tables ++ rest) tables
+tables_have library [] rest h anew none number = none number
+tables_have library (table ∷ tables) rest h anew none number =
+    ap (λ (lines : List Written). tables_in library (numbered number lines)) (append_assoc (table_lines table) (flat_map table_lines tables) rest)
+    ∙ table_added library table (flat_map table_lines tables ++ rest) tables h.0 (ends_anew tables rest anew) (tables_have library tables rest h.1 anew none) number
 
 end_anew : BeginsAnew end_lines
 unfolding numbered kind_of keyword_of
 end_anew number = take_while-cons is_row (entry number (dotted (codes ".end") [])) []
 
-end_has : HasTables end_lines []
+end_has : (library : Option (List TheGate)) → HasTables library end_lines []
 unfolding keyword_of tables_in numbered
-end_has number = other_line End (dotted (codes ".end") []) [] [] refl refl (λ place. refl) number
+end_has library number = other_line library End (dotted (codes ".end") []) [] [] refl (λ words rows. refl) (λ place. refl) number
 
 stop_anew : (part : List Table) → BeginsAnew (stop_lines part)
 unfolding numbered
 stop_anew [] = end_anew
 stop_anew (table ∷ part) = λ number. refl
 
-stop_has : (part : List Table) → HasTables (stop_lines part) []
+stop_has : (library : Option (List TheGate)) (part : List Table) → HasTables library (stop_lines part) []
 unfolding numbered tables_in
-stop_has [] = end_has
-stop_has (table ∷ part) = λ number. refl
+stop_has library [] = end_has library
+stop_has library (table ∷ part) = λ number. refl
 
-pub tables_said_back : (circuit : Circuit) → AllByRecursion IsShaped circuit.tables → tables_in (own_of circuit) ≡ circuit.tables
+pub tables_said_back : (library : Option (List TheGate)) (circuit : Circuit) → AllByRecursion IsShaped circuit.tables → tables_in library (own_of circuit) ≡ circuit.tables
 unfolding own_lines keyword_of
-tables_said_back circuit h =
+tables_said_back library circuit h =
     let stop = stop_lines circuit.dont_care in
     let rest = clock_lines circuit.clocks ++ (map (latch_line circuit.timing) circuit.latches ++ (flat_map table_lines circuit.tables ++ stop)) in
-    let of_rest : HasTables rest circuit.tables = clocks_passed circuit.clocks (map (latch_line circuit.timing) circuit.latches ++ (flat_map table_lines circuit.tables ++ stop)) circuit.tables
-    (latches_passed circuit.timing circuit.latches (flat_map table_lines circuit.tables ++ stop) circuit.tables (tables_have circuit.tables stop h (stop_anew circuit.dont_care) (stop_has circuit.dont_care))) in
-    other_line Model (dotted (codes ".model") (circuit.name ∷ [])) (dotted (codes ".inputs") circuit.inputs ∷ dotted (codes ".outputs") circuit.outputs ∷ rest) circuit.tables refl refl
-    (other_line Inputs (dotted (codes ".inputs") circuit.inputs) (dotted (codes ".outputs") circuit.outputs ∷ rest) circuit.tables refl refl
-    (other_line Outputs (dotted (codes ".outputs") circuit.outputs) rest circuit.tables refl refl of_rest)) 1
+    let of_rest : HasTables library rest circuit.tables = clocks_passed library circuit.clocks (map (latch_line circuit.timing) circuit.latches ++ (flat_map table_lines circuit.tables ++ stop)) circuit.tables
+    (latches_passed library circuit.timing circuit.latches (flat_map table_lines circuit.tables ++ stop) circuit.tables (tables_have library circuit.tables stop h (stop_anew circuit.dont_care) (stop_has library circuit.dont_care))) in
+    other_line library Model (dotted (codes ".model") (circuit.name ∷ [])) (dotted (codes ".inputs") circuit.inputs ∷ dotted (codes ".outputs") circuit.outputs ∷ rest) circuit.tables refl (λ words rows. refl)
+    (other_line library Inputs (dotted (codes ".inputs") circuit.inputs) (dotted (codes ".outputs") circuit.outputs ∷ rest) circuit.tables refl (λ words rows. refl)
+    (other_line library Outputs (dotted (codes ".outputs") circuit.outputs) rest circuit.tables refl (λ words rows. refl) of_rest)) 1
 
 -- the lines of the model are these, and those of the part are the others
+abbrev pub IsNot : (Keyword → Bool) → Written → Type 0
+IsNot test line = test (keyword_of line.first) ≡ false
+
 abbrev IsOwn : Written → Type 0
-IsOwn line = begins_part (keyword_of line.first) ≡ false
+IsOwn = IsNot begins_part
+
+-- the kinds of the lines that are written in the model
+abbrev is_own_kind : Keyword → Bool
+is_own_kind Model = true
+is_own_kind Inputs = true
+is_own_kind Outputs = true
+is_own_kind Clock = true
+is_own_kind Names = true
+is_own_kind Latch = true
+is_own_kind End = true
+is_own_kind Row = true
+is_own_kind kind = false
+
+-- a test that no such kind passes
+abbrev pub OnNone : (Keyword → Bool) → Type 0
+OnNone test = (kind : Keyword) → is_own_kind kind ≡ true → test kind ≡ false
 
 own_read : (own rest : List Written) → AllByRecursion IsOwn own → ((number : ℕ) → model_lines (numbered number rest) ≡ []) → (number : ℕ) → model_lines (numbered number (own ++ rest)) ≡ numbered number own
 unfolding numbered kind_of
@@ -455,71 +477,87 @@ own_read [] rest h stop number = stop number
 own_read (line ∷ own) rest h stop number =
     own_more (entry number line) (numbered (number + 1) (own ++ rest)) h.0 ∙ ap (λ lines. entry number line ∷ lines) (own_read own rest h.1 stop (number + 1))
 
-part_read : (own rest : List Written) (tables : List Table) → AllByRecursion IsOwn own → ((number : ℕ) → tables_in (part_lines (numbered number rest)) ≡ tables) → (number : ℕ) → tables_in (part_lines (numbered number (own ++ rest))) ≡ tables
+part_read : (library : Option (List TheGate)) (own rest : List Written) (tables : List Table) → AllByRecursion IsOwn own → ((number : ℕ) → tables_in library (part_lines (numbered number rest)) ≡ tables) → (number : ℕ) → tables_in library (part_lines (numbered number (own ++ rest))) ≡ tables
 unfolding numbered kind_of
-part_read [] rest tables h there number = there number
-part_read (line ∷ own) rest tables h there number =
-    ap tables_in (part_later (entry number line) (numbered (number + 1) (own ++ rest)) h.0) ∙ part_read own rest tables h.1 there (number + 1)
+part_read library [] rest tables h there number = there number
+part_read library (line ∷ own) rest tables h there number =
+    ap (tables_in library) (part_later (entry number line) (numbered (number + 1) (own ++ rest)) h.0) ∙ part_read library own rest tables h.1 there (number + 1)
 
-own_rows : (phase : Bool) (rows : List (List Tri)) → AllByRecursion IsOwn (map (row_line phase) rows)
-own_rows phase [] = tt
-own_rows phase (row ∷ rows) = (ap begins_part (row_kind phase row), own_rows phase rows)
+own_rows : (test : Keyword → Bool) → OnNone test → (phase : Bool) (rows : List (List Tri)) → AllByRecursion (IsNot test) (map (row_line phase) rows)
+own_rows test none phase [] = tt
+own_rows test none phase (row ∷ rows) = (ap test (row_kind phase row) ∙ none Row refl, own_rows test none phase rows)
 
-own_tables : (tables : List Table) → AllByRecursion IsOwn (flat_map table_lines tables)
+pub own_tables : (test : Keyword → Bool) → OnNone test → (tables : List Table) → AllByRecursion (IsNot test) (flat_map table_lines tables)
 unfolding table_lines keyword_of
-own_tables [] = tt
-own_tables (table ∷ tables) = all_append IsOwn (table_lines table) (flat_map table_lines tables) (refl, own_rows table.phase table.rows) (own_tables tables)
+own_tables test none [] = tt
+own_tables test none (table ∷ tables) =
+    all_append (IsNot test) (table_lines table) (flat_map table_lines tables) (none Names refl, own_rows test none table.phase table.rows) (own_tables test none tables)
 
-own_latches : (timing : Option Timing) (latches : List TheLatch) → AllByRecursion IsOwn (map (latch_line timing) latches)
+own_latches : (test : Keyword → Bool) → OnNone test → (timing : Option Timing) (latches : List TheLatch) → AllByRecursion (IsNot test) (map (latch_line timing) latches)
 unfolding latch_line keyword_of
-own_latches timing [] = tt
-own_latches timing (latch ∷ latches) = (refl, own_latches timing latches)
+own_latches test none timing [] = tt
+own_latches test none timing (latch ∷ latches) = (none Latch refl, own_latches test none timing latches)
 
-own_clocks : (clocks : List (List ℕ)) → AllByRecursion IsOwn (clock_lines clocks)
+own_clocks : (test : Keyword → Bool) → OnNone test → (clocks : List (List ℕ)) → AllByRecursion (IsNot test) (clock_lines clocks)
 unfolding clock_lines keyword_of
-own_clocks [] = tt
-own_clocks (clock ∷ clocks) = (refl, tt)
+own_clocks test none [] = tt
+own_clocks test none (clock ∷ clocks) = (none Clock refl, tt)
 
-own_stop : (part : List Table) → AllByRecursion IsOwn (stop_lines part)
+own_stop : (test : Keyword → Bool) → OnNone test → (part : List Table) → AllByRecursion (IsNot test) (stop_lines part)
 unfolding keyword_of
-own_stop [] = (refl, tt)
-own_stop (table ∷ part) = tt
+own_stop test none [] = (none End refl, tt)
+own_stop test none (table ∷ part) = tt
 
-all_own : (circuit : Circuit) → AllByRecursion IsOwn (own_lines circuit)
+pub all_own : (test : Keyword → Bool) → OnNone test → (circuit : Circuit) → AllByRecursion (IsNot test) (own_lines circuit)
 unfolding own_lines keyword_of
-all_own circuit =
+all_own test none circuit =
     let stop = stop_lines circuit.dont_care in
     let tables = flat_map table_lines circuit.tables in
     let latches = map (latch_line circuit.timing) circuit.latches in (
-      refl,
+      none Model refl,
       (
-        refl,
+        none Inputs refl,
         (
-          refl,
-          all_append IsOwn (clock_lines circuit.clocks) (latches ++ (tables ++ stop)) (own_clocks circuit.clocks)
-              (all_append IsOwn latches (tables ++ stop) (own_latches circuit.timing circuit.latches) (all_append IsOwn tables stop (own_tables circuit.tables) (own_stop circuit.dont_care))),
+          none Outputs refl,
+          all_append (IsNot test) (clock_lines circuit.clocks) (latches ++ (tables ++ stop)) (own_clocks test none circuit.clocks)
+              (all_append (IsNot test) latches (tables ++ stop) (own_latches test none circuit.timing circuit.latches) (all_append (IsNot test) tables stop (own_tables test none circuit.tables) (own_stop test none circuit.dont_care))),
         ),
       ),
     )
+
+begins_none : OnNone begins_part
+begins_none Model e = refl
+begins_none Inputs e = refl
+begins_none Outputs e = refl
+begins_none Clock e = refl
+begins_none Names e = refl
+begins_none Latch e = refl
+begins_none Gate e = refl
+begins_none StartKiss e = refl
+begins_none DontCare e = absurd (cc)
+begins_none End e = refl
+begins_none Skipped e = refl
+begins_none Row e = refl
+begins_none Other e = refl
 
 stops : (part : List Table) (number : ℕ) → model_lines (numbered number (part_written part)) ≡ []
 unfolding numbered kind_of keyword_of model_lines
 stops [] number = refl
 stops (table ∷ part) number = own_ends (entry number (dotted (codes ".exdc") [])) (numbered (number + 1) (flat_map table_lines (table ∷ part) ++ end_lines)) refl
 
-part_back : (part : List Table) → AllByRecursion IsShaped part → (number : ℕ) → tables_in (part_lines (numbered number (part_written part))) ≡ part
+part_back : (library : Option (List TheGate)) (part : List Table) → AllByRecursion IsShaped part → (number : ℕ) → tables_in library (part_lines (numbered number (part_written part))) ≡ part
 unfolding numbered kind_of keyword_of part_lines model_lines tables_in
-part_back [] h number = refl
-part_back (table ∷ part) h number =
-    ap tables_in (part_here (entry number (dotted (codes ".exdc") [])) (numbered (number + 1) (flat_map table_lines (table ∷ part) ++ end_lines)) refl)
-    ∙ other_line DontCare (dotted (codes ".exdc") []) (flat_map table_lines (table ∷ part) ++ end_lines) (table ∷ part) refl refl (tables_have (table ∷ part) end_lines h end_anew end_has) number
+part_back library [] h number = refl
+part_back library (table ∷ part) h number =
+    ap (tables_in library) (part_here (entry number (dotted (codes ".exdc") [])) (numbered (number + 1) (flat_map table_lines (table ∷ part) ++ end_lines)) refl)
+    ∙ other_line library DontCare (dotted (codes ".exdc") []) (flat_map table_lines (table ∷ part) ++ end_lines) (table ∷ part) refl (λ words rows. refl) (tables_have library (table ∷ part) end_lines h end_anew (end_has library)) number
 
 pub model_said : (circuit : Circuit) → model_lines (lines_of circuit) ≡ own_of circuit
 model_said circuit =
     ap (λ (lines : List Written). model_lines (numbered 1 lines)) (lines_split circuit)
-    ∙ own_read (own_lines circuit) (part_written circuit.dont_care) (all_own circuit) (stops circuit.dont_care) 1
+    ∙ own_read (own_lines circuit) (part_written circuit.dont_care) (all_own begins_part begins_none circuit) (stops circuit.dont_care) 1
 
-pub part_said : (circuit : Circuit) → AllByRecursion IsShaped circuit.dont_care → tables_in (part_lines (lines_of circuit)) ≡ circuit.dont_care
-part_said circuit h =
-    ap (λ (lines : List Written). tables_in (part_lines (numbered 1 lines))) (lines_split circuit)
-    ∙ part_read (own_lines circuit) (part_written circuit.dont_care) circuit.dont_care (all_own circuit) (part_back circuit.dont_care h) 1
+pub part_said : (library : Option (List TheGate)) (circuit : Circuit) → AllByRecursion IsShaped circuit.dont_care → tables_in library (part_lines (lines_of circuit)) ≡ circuit.dont_care
+part_said library circuit h =
+    ap (λ (lines : List Written). tables_in library (part_lines (numbered 1 lines))) (lines_split circuit)
+    ∙ part_read library (own_lines circuit) (part_written circuit.dont_care) circuit.dont_care (all_own begins_part begins_none circuit) (part_back library circuit.dont_care h) 1

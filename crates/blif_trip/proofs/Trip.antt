@@ -1,8 +1,9 @@
 -- The text of a circuit is read as that circuit.
-use Rattle.std.proofs.Common.{◌≡◌, ℕ, Bool, true, false, cond, Option, Some, None, Ok, List, [], ◌∷◌, ◌++◌, refl, ap, ◌∙◌, map, find, option_map}
+use Rattle.std.proofs.Common.{◌≡◌, ℕ, Bool, true, false, not, ◌&&◌, cond, Option, Some, None, Ok, List, [], ◌∷◌, ◌++◌, refl, ap, ◌∙◌, map, find, option_map}
 use Rattle.std.specs.List.{AllByRecursion}
 use Rattle.std.specs.Option.{option_or}
 use Rattle.sis_base.specs.Written.{is_word}
+use Rattle.genlib_format.specs.declared.gate.Gate.{Gate as TheGate}
 use Rattle.sis_text.specs.Entries.{Entry, entries_of}
 use Rattle.sis_text.proofs.Readback.{read_back}
 use Rattle.circuit_model.specs.declared.circuit.Table.{Table}
@@ -21,12 +22,17 @@ use Rattle.circuit_checks.proofs.Bridges.{again_from_different, missing_from_kno
 use Rattle.circuit_checks.proofs.Parts.{part_passes}
 use Rattle.table_fold.specs.Folding.{folded}
 use Rattle.table_fold.proofs.Folded.{folded_same}
-use Rattle.blif_read.specs.Lines.{first_of}
-use Rattle.blif_read.specs.Reader.{first_line_fault, of_lines, model_lines, part_lines, listed_inputs, listed_outputs, inputs_in, outputs_in, ports_in, clocks_in, timing_in, mixed_clock, gated_clock, drives_in, reads_in, latches_in, tables_in, model_name, circuit_of, model_names_fault, leaves_in, whole_fault, unless, read_lines}
-use Rattle.blif_read.specs.declared.fault.BlifFault.{BlifFault}
-use Rattle.blif_read.specs.declared.fault.BlifFault.TheVariants.{NameTwice, MixedClock, GatedClock, TwoDrivers, Undriven, BadExdc, Cycle}
-use Rattle.blif_read.specs.Limits.{HasShortNames}
-use Rattle.blif_read.proofs.NameLists.{all_front, all_back, all_append}
+use Rattle.blif_lines.specs.Lines.{first_of}
+use Rattle.blif_lines.specs.Reader.{first_line_fault, of_lines, model_lines, part_lines, listed_inputs, listed_outputs, inputs_in, outputs_in, ports_in, clocks_in, timing_in, mixed_clock, gated_clock, drives_in, reads_in, latches_in, tables_in, model_name, circuit_of, model_names_fault, leaves_in, whole_fault, unless, has_nodes, is_machine, first_fault, read_whole, read_lines as read_model}
+use Rattle.blif_lines.specs.declared.fault.BlifFault.{BlifFault}
+use Rattle.blif_lines.specs.declared.fault.BlifFault.TheVariants.{NameTwice, MixedClock, GatedClock, TwoDrivers, Undriven, BadExdc, Cycle}
+use Rattle.blif_lines.specs.Limits.{HasShortNames}
+use Rattle.blif_lines.proofs.NameLists.{all_front, all_back, all_append}
+use Rattle.blif_lines.specs.declared.content.Content.TheVariants as content
+use Rattle.machine_model.specs.declared.machine.Spec.TheVariants as spec
+use Rattle.blif_read.specs.Parts.{kiss_lines}
+use Rattle.blif_read.specs.Reader.{spec_with, read_lines}
+use Rattle.blif_trip.proofs.NoKiss.{no_kiss, no_part}
 use Rattle.blif_trip.proofs.Words.{of_names, lines_written}
 use Rattle.blif_trip.proofs.NoFaults.{IsShort, none_of, no_line_fault}
 use Rattle.blif_trip.proofs.Said.{lines_of, own_of, listed_inputs_said, listed_outputs_said, inputs_said, outputs_said, ports_said, clocks_said, drives_said, reads_said, latches_said_back, timing_said, unmixed, name_said, tables_said_back, model_said, part_said}
@@ -52,59 +58,59 @@ none_has : (names controls : List (List ℕ)) → AllByRecursion (λ name. has n
 none_has names [] h = refl
 none_has names (control ∷ controls) h = ap (λ (b : Bool). cond b (Some control) (find (has names) controls)) h.0 ∙ none_has names controls h.1
 
-gated_of : (circuit : Circuit) → IsSound circuit → gated_clock (own_of circuit) ≡ None
+gated_of : (library : Option (List TheGate)) (circuit : Circuit) → IsSound circuit → gated_clock library (own_of circuit) ≡ None
 unfolding gated_clock
-gated_of circuit sound =
-    ap (λ (drives : List (List ℕ)). find (has drives) (control_of (timing_in (own_of circuit)))) (drives_said circuit)
+gated_of library circuit sound =
+    ap (λ (drives : List (List ℕ)). find (has drives) (control_of (timing_in (own_of circuit)))) (drives_said library circuit)
     ∙ ap (λ (timing : Option Timing). find (has (latch_outputs circuit ++ outputs_of circuit.tables)) (control_of timing)) (timing_of circuit sound)
     ∙ none_has (latch_outputs circuit ++ outputs_of circuit.tables) (control_of circuit.timing) sound.control_undriven
 
-again_of : (circuit : Circuit) → IsSound circuit → first_again (inputs_in (own_of circuit)) (drives_in (own_of circuit)) ≡ None
+again_of : (library : Option (List TheGate)) (circuit : Circuit) → IsSound circuit → first_again (inputs_in library (own_of circuit)) (drives_in library (own_of circuit)) ≡ None
 unfolding given
-again_of circuit sound =
-    rw (inputs_said circuit, drives_said circuit) (again_from_different circuit.inputs (latch_outputs circuit ++ outputs_of circuit.tables) sound.one_driver)
+again_of library circuit sound =
+    rw (inputs_said library circuit, drives_said library circuit) (again_from_different circuit.inputs (latch_outputs circuit ++ outputs_of circuit.tables) sound.one_driver)
 
-missing_of : (circuit : Circuit) → IsSound circuit → first_missing (inputs_in (own_of circuit) ++ drives_in (own_of circuit)) (reads_in (own_of circuit)) ≡ None
+missing_of : (library : Option (List TheGate)) (circuit : Circuit) → IsSound circuit → first_missing (inputs_in library (own_of circuit) ++ drives_in library (own_of circuit)) (reads_in library (own_of circuit)) ≡ None
 unfolding given
-missing_of circuit sound =
-    rw (inputs_said circuit, drives_said circuit, reads_said circuit) (missing_from_known (circuit.inputs ++ (latch_outputs circuit ++ outputs_of circuit.tables)) (circuit.outputs ++ (latch_inputs circuit ++ table_inputs circuit.tables)) (all_read circuit sound))
+missing_of library circuit sound =
+    rw (inputs_said library circuit, drives_said library circuit, reads_said library circuit) (missing_from_known (circuit.inputs ++ (latch_outputs circuit ++ outputs_of circuit.tables)) (circuit.outputs ++ (latch_inputs circuit ++ table_inputs circuit.tables)) (all_read circuit sound))
 
-part_of : (circuit : Circuit) → IsSound circuit → first_bad_part_name (leaves_in (own_of circuit)) (tables_in (part_lines (lines_of circuit))) ≡ None
-part_of circuit sound =
-    rw (inputs_said circuit, latches_said_back circuit sound.inits, part_said circuit sound.dont_care_shaped)
+part_of : (library : Option (List TheGate)) (circuit : Circuit) → IsSound circuit → first_bad_part_name (leaves_in library (own_of circuit)) (tables_in library (part_lines (lines_of circuit))) ≡ None
+part_of library circuit sound =
+    rw (inputs_said library circuit, latches_said_back circuit sound.inits, part_said library circuit sound.dont_care_shaped)
     (part_passes (leaf_names circuit) circuit.dont_care sound.dont_care_once sound.dont_care_known sound.dont_care_acyclic)
 
-cycle_of : (circuit : Circuit) → IsSound circuit → first_on_cycle (tables_in (own_of circuit)) ≡ None
-cycle_of circuit sound = ap first_on_cycle (tables_said_back circuit sound.shaped) ∙ none_from_acyclic circuit.tables sound.acyclic
+cycle_of : (library : Option (List TheGate)) (circuit : Circuit) → IsSound circuit → first_on_cycle (tables_in library (own_of circuit)) ≡ None
+cycle_of library circuit sound = ap first_on_cycle (tables_said_back library circuit sound.shaped) ∙ none_from_acyclic circuit.tables sound.acyclic
 
-no_names_fault : (circuit : Circuit) → IsSound circuit → model_names_fault (own_of circuit) ≡ None
+no_names_fault : (library : Option (List TheGate)) (circuit : Circuit) → IsSound circuit → model_names_fault library (own_of circuit) ≡ None
 unfolding model_names_fault
-no_names_fault circuit sound =
+no_names_fault library circuit sound =
     let lines = own_of circuit in
     none_of (option_map (λ (name : List ℕ). NameTwice name) (first_listed_twice (of_lines listed_inputs lines) (of_lines listed_outputs lines) (ports_in lines))
     ∷ option_map (λ (number : ℕ). MixedClock number) (mixed_clock lines)
-    ∷ option_map (λ (name : List ℕ). GatedClock name) (gated_clock lines)
-    ∷ option_map (λ (name : List ℕ). TwoDrivers name) (first_again (inputs_in lines) (drives_in lines))
-    ∷ option_map (λ (name : List ℕ). Undriven name) (first_missing (inputs_in lines ++ drives_in lines) (reads_in lines)) ∷ []) (
+    ∷ option_map (λ (name : List ℕ). GatedClock name) (gated_clock library lines)
+    ∷ option_map (λ (name : List ℕ). TwoDrivers name) (first_again (inputs_in library lines) (drives_in library lines))
+    ∷ option_map (λ (name : List ℕ). Undriven name) (first_missing (inputs_in library lines ++ drives_in library lines) (reads_in library lines)) ∷ []) (
       ap (option_map (λ (name : List ℕ). NameTwice name)) (twice_of circuit sound),
       (
         ap (option_map (λ (number : ℕ). MixedClock number)) (unmixed circuit sound.control_not_nil (timing_of circuit sound)),
         (
-          ap (option_map (λ (name : List ℕ). GatedClock name)) (gated_of circuit sound),
-          (ap (option_map (λ (name : List ℕ). TwoDrivers name)) (again_of circuit sound), (ap (option_map (λ (name : List ℕ). Undriven name)) (missing_of circuit sound), tt)),
+          ap (option_map (λ (name : List ℕ). GatedClock name)) (gated_of library circuit sound),
+          (ap (option_map (λ (name : List ℕ). TwoDrivers name)) (again_of library circuit sound), (ap (option_map (λ (name : List ℕ). Undriven name)) (missing_of library circuit sound), tt)),
         ),
       ),
     )
 
-no_whole_fault : (circuit : Circuit) → IsSound circuit → whole_fault (lines_of circuit) ≡ None
+no_whole_fault : (library : Option (List TheGate)) (circuit : Circuit) → IsSound circuit → whole_fault library (lines_of circuit) ≡ None
 unfolding whole_fault
-no_whole_fault circuit sound =
+no_whole_fault library circuit sound =
     let own = own_of circuit in
-    let part = tables_in (part_lines (lines_of circuit)) in
-    ap (λ (lines : List Entry). first_of (model_names_fault lines ∷ option_map (λ (name : List ℕ). BadExdc name) (first_bad_part_name (leaves_in lines) part) ∷ option_map (λ (name : List ℕ). Cycle name) (first_on_cycle (tables_in lines)) ∷ [])) (model_said circuit)
-    ∙ none_of (model_names_fault own ∷ option_map (λ (name : List ℕ). BadExdc name) (first_bad_part_name (leaves_in own) part) ∷ option_map (λ (name : List ℕ). Cycle name) (first_on_cycle (tables_in own)) ∷ []) (
-      no_names_fault circuit sound,
-      (ap (option_map (λ (name : List ℕ). BadExdc name)) (part_of circuit sound), (ap (option_map (λ (name : List ℕ). Cycle name)) (cycle_of circuit sound), tt)),
+    let part = tables_in library (part_lines (lines_of circuit)) in
+    ap (λ (lines : List Entry). first_of (model_names_fault library lines ∷ option_map (λ (name : List ℕ). BadExdc name) (first_bad_part_name (leaves_in library lines) part) ∷ option_map (λ (name : List ℕ). Cycle name) (first_on_cycle (tables_in library lines)) ∷ [])) (model_said circuit)
+    ∙ none_of (model_names_fault library own ∷ option_map (λ (name : List ℕ). BadExdc name) (first_bad_part_name (leaves_in library own) part) ∷ option_map (λ (name : List ℕ). Cycle name) (first_on_cycle (tables_in library own)) ∷ []) (
+      no_names_fault library circuit sound,
+      (ap (option_map (λ (name : List ℕ). BadExdc name)) (part_of library circuit sound), (ap (option_map (λ (name : List ℕ). Cycle name)) (cycle_of library circuit sound), tt)),
     )
 
 -- the circuit that the lines say
@@ -113,8 +119,8 @@ all_folded_same [] e = refl
 all_folded_same (table ∷ tables) e =
     ap (λ (first : Table). first ∷ map folded tables) (folded_same table e.0) ∙ ap (λ (more : List Table). table ∷ more) (all_folded_same tables e.1)
 
-tables_of : (circuit : Circuit) → IsSound circuit → map folded (tables_in (own_of circuit)) ≡ circuit.tables
-tables_of circuit sound = ap (map folded) (tables_said_back circuit sound.shaped) ∙ all_folded_same circuit.tables sound.table_inputs_once
+tables_of : (library : Option (List TheGate)) (circuit : Circuit) → IsSound circuit → map folded (tables_in library (own_of circuit)) ≡ circuit.tables
+tables_of library circuit sound = ap (map folded) (tables_said_back library circuit sound.shaped) ∙ all_folded_same circuit.tables sound.table_inputs_once
 
 abbrev circuit_with : List ℕ → List (List ℕ) → List (List ℕ) → List (List ℕ) → Option Timing → List TheLatch → List Table → List Table → Circuit
 circuit_with name inputs outputs clocks timing latches tables dont_care =
@@ -125,31 +131,36 @@ circuit_same : (name : List ℕ) (inputs outputs clocks : List (List ℕ)) (timi
     → circuit_with name inputs outputs clocks timing latches tables dont_care ≡ circuit
 circuit_same name inputs outputs clocks timing latches tables dont_care circuit a b c d e f g h = rw (a, b, c, d, e, f, g, h) refl
 
-circuit_back : (circuit : Circuit) → IsSound circuit → circuit_of (lines_of circuit) ≡ circuit
+circuit_back : (library : Option (List TheGate)) (circuit : Circuit) → IsSound circuit → circuit_of library (lines_of circuit) ≡ circuit
 unfolding circuit_of
-circuit_back circuit sound =
+circuit_back library circuit sound =
     let lines = model_lines (lines_of circuit) in
-    circuit_same (model_name (lines_of circuit)) (inputs_in lines) (outputs_in lines) (clocks_in lines) (timing_in lines) (latches_in lines) (map folded (tables_in lines)) (tables_in (part_lines (lines_of circuit))) circuit
-    (name_said circuit) (ap inputs_in (model_said circuit) ∙ inputs_said circuit) (ap outputs_in (model_said circuit) ∙ outputs_said circuit) (ap clocks_in (model_said circuit) ∙ clocks_said circuit)
+    circuit_same (model_name (lines_of circuit)) (inputs_in library lines) (outputs_in library lines) (clocks_in lines) (timing_in lines) (latches_in lines) (map folded (tables_in library lines)) (tables_in library (part_lines (lines_of circuit))) circuit
+    (name_said circuit) (ap (inputs_in library) (model_said circuit) ∙ inputs_said library circuit) (ap (outputs_in library) (model_said circuit) ∙ outputs_said library circuit) (ap clocks_in (model_said circuit) ∙ clocks_said circuit)
     (ap timing_in (model_said circuit) ∙ timing_of circuit sound) (ap latches_in (model_said circuit) ∙ latches_said_back circuit sound.inits)
-    (ap (λ (own : List Entry). map folded (tables_in own)) (model_said circuit) ∙ tables_of circuit sound) (part_said circuit sound.dont_care_shaped)
+    (ap (λ (own : List Entry). map folded (tables_in library own)) (model_said circuit) ∙ tables_of library circuit sound) (part_said library circuit sound.dont_care_shaped)
 
 -- both
-no_line_fault_of : (circuit : Circuit) → IsSound circuit → IsWithinLimits circuit → HasShortNames circuit → first_line_fault [] (lines_of circuit) ≡ None
-no_line_fault_of circuit sound limits short =
-    no_line_fault circuit (of_names IsShort circuit short.names) limits.tables limits.dont_care sound.shaped sound.dont_care_shaped limits.nodes
+no_line_fault_of : (library : Option (List TheGate)) (circuit : Circuit) → IsSound circuit → IsWithinLimits circuit → HasShortNames circuit → first_line_fault library [] (lines_of circuit) ≡ None
+no_line_fault_of library circuit sound limits short =
+    (no_line_fault library) circuit (of_names IsShort circuit short.names) limits.tables limits.dont_care sound.shaped sound.dont_care_shaped limits.nodes
 
-lines_read : (circuit : Circuit) → IsSound circuit → IsWithinLimits circuit → HasShortNames circuit → read_lines (lines_of circuit) ≡ Ok circuit
-unfolding read_lines
-lines_read circuit sound limits short =
+lines_read : (library : Option (List TheGate)) (circuit : Circuit) → IsSound circuit → IsWithinLimits circuit → HasShortNames circuit → read_model library (lines_of circuit) ≡ Ok (content.Circuit circuit)
+unfolding read_model is_machine
+lines_read library circuit sound limits short =
     let lines = lines_of circuit in
-    ap (λ (fault : Option BlifFault). unless (option_or fault (whole_fault lines)) (circuit_of lines)) (no_line_fault_of circuit sound limits short)
-    ∙ ap (λ (fault : Option BlifFault). unless fault (circuit_of lines)) (no_whole_fault circuit sound)
-    ∙ ap (λ (read : Circuit). unless None read) (circuit_back circuit sound)
+    ap (λ (fault : Option BlifFault). first_fault fault (read_whole library (is_machine lines) lines)) (no_line_fault_of library circuit sound limits short)
+    ∙ ap (λ (b : Bool). read_whole library (b && not (has_nodes (model_lines lines))) lines) (no_kiss circuit)
+    ∙ ap (λ (fault : Option BlifFault). unless fault (content.Circuit (circuit_of library lines))) (no_whole_fault library circuit sound)
+    ∙ ap (λ (read : Circuit). Ok (content.Circuit read)) (circuit_back library circuit sound)
 
 text_lines : (circuit : Circuit) → IsSound circuit → entries_of (text_of circuit) ≡ lines_of circuit
 unfolding text_of
 text_lines circuit sound = read_back (circuit_lines circuit) (lines_written circuit (of_names (λ (name : List ℕ). is_word name ≡ true) circuit sound.words))
 
-pub text_read : (circuit : Circuit) → IsSound circuit → IsWithinLimits circuit → HasShortNames circuit → read_lines (entries_of (text_of circuit)) ≡ Ok circuit
-text_read circuit sound limits short = ap read_lines (text_lines circuit sound) ∙ lines_read circuit sound limits short
+pub text_read : (library : Option (List TheGate)) (circuit : Circuit) → IsSound circuit → IsWithinLimits circuit → HasShortNames circuit → read_lines library (entries_of (text_of circuit)) ≡ Ok (spec.Circuit circuit)
+unfolding read_lines
+text_read library circuit sound limits short =
+    ap (read_lines library) (text_lines circuit sound)
+    ∙ ap (λ (lines : List Entry). spec_with (kiss_lines (lines_of circuit)) (read_model library lines)) (no_part circuit)
+    ∙ ap (spec_with (kiss_lines (lines_of circuit))) (lines_read library circuit sound limits short)

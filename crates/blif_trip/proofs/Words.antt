@@ -17,7 +17,7 @@ use Rattle.circuit_model.specs.declared.circuit.Circuit.{Circuit}
 use Rattle.circuit_model.specs.Runs.{latch_outputs}
 use Rattle.circuit_model.specs.Soundness.{all_names, control_of, latch_inputs, names_of}
 use Rattle.circuit_model.specs.Text.{dotted, character, digit_of_phase, row_line, table_lines, init_word, kind_word, control_word, timing_words, latch_line, clock_lines, dont_care_lines, circuit_lines}
-use Rattle.blif_read.proofs.NameLists.{all_front, all_back, all_append}
+use Rattle.blif_lines.proofs.NameLists.{all_front, all_back, all_append}
 
 -- a fact of each name of a circuit, part by part
 abbrev pub OfLatch : (List ℕ → Type 0) → Latch → Type 0

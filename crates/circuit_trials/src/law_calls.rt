@@ -13,7 +13,6 @@ pub fn answer(alloc: Global, case: &Case<'_>) -> Result<Vec<u8>, CaseFault> {
         "circuit_checks" => check_laws(),
         "tables" => table_laws(),
         "circuit_laws" => circuit_laws_end(),
-        "blif" => blif_laws(),
         _ => return Err(CaseFault::Bad),
     }
     Ok(line(alloc, "called")?)
@@ -50,14 +49,6 @@ fn table_laws() {
     table_tidy::laws::tidied_is_tidy();
     table_tidy::laws::tidied_is_shaped();
     table_order::laws::acyclic_tables_are_ordered();
-}
-
-/// The laws of blif_read and blif_trip.
-fn blif_laws() {
-    blif_read::reading_laws::what_is_read_is_sound();
-    blif_read::reading_laws::what_is_read_is_small();
-    blif_trip::written_text_is_read();
-    blif_trip::read_circuit_is_read_again();
 }
 
 /// The laws of circuit_laws.

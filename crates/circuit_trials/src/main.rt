@@ -1,4 +1,4 @@
-//! Answers cases about circuits: what they are, how they are read and written, and what a change of them stands on.
+//! Answers cases about circuits: what they are, and what a change of them stands on.
 //!
 //! The first line of a case is a crate and one of its public calls, with short arguments; circuits, tables and graphs
 //! stand below it, in the forms of `parts`, and texts in those of trial_cases. What is in `stdin` and `stdout` is worked
@@ -8,7 +8,6 @@
 mod aliases;
 mod base;
 mod checks;
-mod files;
 mod graphs;
 mod law_calls;
 mod model;
@@ -41,7 +40,6 @@ fn answer(alloc: Global, case: &Case<'_>) -> Result<Vec<u8>, CaseFault> {
         "input_readers" => readers::answer(alloc, case),
         "net_needed" => needed::answer(alloc, case),
         "net_wires" => aliases::answer(alloc, case),
-        "files" => files::answer(alloc, case),
         _ => lower_answer(alloc, case),
     }
 }

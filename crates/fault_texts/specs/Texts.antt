@@ -1,10 +1,10 @@
 -- What is wrong with a file, as a text.
 -- Source: the wording is the project's own; the faults are those of the readers of BLIF, KISS2 and genlib.
 use Rattle.std.specs.Prelude.{ℕ, List, ◌++◌, codes, decimal}
-use Rattle.blif_read.specs.declared.fault.BlifFault.{BlifFault}
-use Rattle.blif_read.specs.declared.fault.BlifFault.TheVariants as blif
-use Rattle.blif_read.specs.declared.fault.LimitKind.{LimitKind as BlifLimit}
-use Rattle.blif_read.specs.declared.fault.LimitKind.TheVariants as blif_limit
+use Rattle.blif_lines.specs.declared.fault.BlifFault.{BlifFault}
+use Rattle.blif_lines.specs.declared.fault.BlifFault.TheVariants as blif
+use Rattle.blif_lines.specs.declared.fault.LimitKind.{LimitKind as BlifLimit}
+use Rattle.blif_lines.specs.declared.fault.LimitKind.TheVariants as blif_limit
 use Rattle.kiss_format.specs.declared.fault.KissFault.{KissFault}
 use Rattle.kiss_format.specs.declared.fault.KissFault.TheVariants as kiss
 use Rattle.kiss_format.specs.declared.fault.LimitKind.{LimitKind as KissLimit}
@@ -42,24 +42,6 @@ library_limit_word library_limit.Depth = codes "depth"
 library_limit_word library_limit.Pins = codes "pins"
 library_limit_word library_limit.Gates = codes "gates"
 
--- a fault of a file of a circuit
-unfoldable pub blif_text : BlifFault → List ℕ
-blif_text (blif.UnknownWord line) = line_text line (codes "unknown word")
-blif_text (blif.BadArity line) = line_text line (codes "bad arity")
-blif_text (blif.BadRow line) = line_text line (codes "bad row")
-blif_text (blif.MixedPhase line) = line_text line (codes "mixed phase")
-blif_text (blif.BadLatch line) = line_text line (codes "bad latch")
-blif_text (blif.SecondModel line) = line_text line (codes "second model")
-blif_text (blif.NoLibrary line) = line_text line (codes "no library")
-blif_text (blif.Limit kind reached) = limit_text (blif_limit_word kind) reached
-blif_text (blif.NameTwice name) = name ++ codes " listed twice"
-blif_text (blif.MixedClock line) = line_text line (codes "mixed clock")
-blif_text (blif.GatedClock name) = codes "gated clock " ++ name
-blif_text (blif.TwoDrivers name) = codes "two drivers of " ++ name
-blif_text (blif.Undriven name) = codes "undriven " ++ name
-blif_text (blif.BadExdc name) = codes "bad don't-care " ++ name
-blif_text (blif.Cycle name) = codes "cycle through " ++ name
-
 -- a fault of a table of a machine
 unfoldable pub kiss_text : KissFault → List ℕ
 kiss_text (kiss.BadHeader line) = line_text line (codes "bad header")
@@ -68,6 +50,27 @@ kiss_text (kiss.RowClash earlier later) = codes "rows " ++ (decimal earlier ++ (
 kiss_text (kiss.NoReset name) = codes "no reset " ++ name
 kiss_text kiss.NoRows = codes "no rows"
 kiss_text (kiss.Limit kind reached) = limit_text (kiss_limit_word kind) reached
+
+-- a fault of a file of a circuit, or of one that says a machine
+unfoldable pub blif_text : BlifFault → List ℕ
+blif_text (blif.UnknownWord line) = line_text line (codes "unknown word")
+blif_text (blif.BadArity line) = line_text line (codes "bad arity")
+blif_text (blif.BadRow line) = line_text line (codes "bad row")
+blif_text (blif.MixedPhase line) = line_text line (codes "mixed phase")
+blif_text (blif.BadLatch line) = line_text line (codes "bad latch")
+blif_text (blif.SecondModel line) = line_text line (codes "second model")
+blif_text (blif.NoLibrary line) = line_text line (codes "no library")
+blif_text (blif.UnknownGate line) = line_text line (codes "unknown gate")
+blif_text (blif.BadPins line) = line_text line (codes "bad pins")
+blif_text (blif.Limit kind reached) = limit_text (blif_limit_word kind) reached
+blif_text (blif.NameTwice name) = name ++ codes " listed twice"
+blif_text (blif.BadKiss fault) = kiss_text fault
+blif_text (blif.MixedClock line) = line_text line (codes "mixed clock")
+blif_text (blif.GatedClock name) = codes "gated clock " ++ name
+blif_text (blif.TwoDrivers name) = codes "two drivers of " ++ name
+blif_text (blif.Undriven name) = codes "undriven " ++ name
+blif_text (blif.BadExdc name) = codes "bad don't-care " ++ name
+blif_text (blif.Cycle name) = codes "cycle through " ++ name
 
 -- a fault of a file of gates
 unfoldable pub library_text : LibFault → List ℕ

@@ -3,8 +3,9 @@
 ghost use Rattle.std.specs.Prelude.{◌≡◌, ◌++◌, OnOk};
 ghost use Rattle.fault_texts.specs.Texts.{blif_limit_word, blif_text};
 
+use crate::kiss::put_kiss_fault;
 use crate::putting::{put_limit, put_line, put_two};
-use blif_read::{BlifFault, LimitKind};
+use blif_lines::{BlifFault, LimitKind};
 use std::alloc::{AllocError, Global};
 
 /// The word for what a limit is on.
@@ -32,8 +33,11 @@ pub fn put_blif_fault(out: &mut Vec<u8>, alloc: Global, fault: &BlifFault) -> Re
         BlifFault::BadLatch(line) => put_line(out, alloc, *line, b"bad latch"),
         BlifFault::SecondModel(line) => put_line(out, alloc, *line, b"second model"),
         BlifFault::NoLibrary(line) => put_line(out, alloc, *line, b"no library"),
+        BlifFault::UnknownGate(line) => put_line(out, alloc, *line, b"unknown gate"),
+        BlifFault::BadPins(line) => put_line(out, alloc, *line, b"bad pins"),
         BlifFault::Limit(kind, reached) => put_limit(out, alloc, limit_word(*kind), *reached),
         BlifFault::NameTwice(name) => put_two(out, name.as_slice(), b" listed twice"),
+        BlifFault::BadKiss(fault) => put_kiss_fault(out, alloc, fault),
         BlifFault::MixedClock(line) => put_line(out, alloc, *line, b"mixed clock"),
         BlifFault::GatedClock(name) => put_two(out, b"gated clock ", name.as_slice()),
         BlifFault::TwoDrivers(name) => put_two(out, b"two drivers of ", name.as_slice()),

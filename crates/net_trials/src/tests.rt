@@ -9,6 +9,7 @@ use blif_read::read;
 use blif_write::{latches_text, tables_text};
 use circuit_model::{Bits, Circuit, Name, Names, Table};
 use cube_cover::PlainRow;
+use machine_model::Spec;
 use net_core::Network;
 use net_sweep::{SweepFault, Swept, sweep};
 use sis_base::Sequence;
@@ -45,8 +46,9 @@ pub(crate) fn circuit(alloc: Global, text: &str) -> Result<Circuit, AllocError>
     ensures sound { IfOk result (λ circuit. IsSound circuit) }
     ensures limits { IfOk result (λ circuit. IsWithinLimits circuit) }
 {
-    match read(alloc, text.as_bytes()) {
-        Ok(circuit) => Ok(circuit),
+    match read(alloc, text.as_bytes(), None) {
+        Ok(Spec::Circuit(circuit)) => Ok(circuit),
+        Ok(Spec::Machine(_)) => Err(AllocError),
         Err(_) => Err(AllocError),
     }
 }

@@ -15,11 +15,11 @@ use Rattle.circuit_model.specs.Runs.{of_circuit, Refines}
 use Rattle.circuit_model.specs.Soundness.{IsSound}
 use Rattle.circuit_model.specs.Text.{text_of}
 use Rattle.circuit_model.specs.declared.circuit.Circuit.{Circuit}
-use Rattle.blif_read.proofs.Agreement.{all_agree}
-use Rattle.blif_read.proofs.ProperWords.{proper_words}
-use Rattle.blif_read.proofs.WhatIsRead.{sound_read}
+use Rattle.blif_lines.proofs.ProperWords.{proper_words}
+use Rattle.blif_lines.specs.declared.fault.BlifFault.{BlifFault}
+use Rattle.blif_read.proofs.WhatIsRead.{spec_sound}
+use Rattle.blif_read.specs.Limits.{IsSoundSpec}
 use Rattle.blif_read.specs.Reader.{read_lines}
-use Rattle.blif_read.specs.declared.fault.BlifFault.{BlifFault}
 use Rattle.machine_model.specs.Behaviors.{of_machine, of_spec}
 use Rattle.machine_model.specs.Soundness.{IsSound as IsSoundMachine}
 use Rattle.machine_model.specs.Text.{text_of as machine_text_of}
@@ -40,11 +40,11 @@ use Rattle.sis_script.specs.declared.command.Change.{Change}
 use Rattle.sis_script.specs.declared.command.Change.TheVariants.{Sweep, Eliminate, Collapse}
 use Rattle.sis_script.specs.declared.command.Op.{Op}
 use Rattle.sis_script.specs.declared.command.Op.TheVariants.{Echo, Quit, ReadBlif, ReadKiss, ReadLibrary, WriteBlif, WriteKiss, PrintStats, Print, PrintLatch, PrintFactor, PrintKernel, Change as ChangeOp, Undo, Source, Bad}
-use Rattle.sis_session.specs.Commands.{Changes, ChangePlans, Plans, Prints, changed_by, circuit_read, commands_in, last_read, latches_told, library_read, machine_read, machine_told, read_as, sends, stats_told, stays, tables_told, text_told, told_of, undo_plan}
+use Rattle.sis_session.specs.Commands.{Changes, ChangePlans, Plans, Prints, changed_by, spec_read, commands_in, last_read, latches_told, library_read, machine_read, machine_told, read_as, sends, stats_told, stays, tables_told, text_told, told_of, undo_plan}
 use Rattle.sis_session.specs.Keeping.{RefinesRead, RefinesSpec, MachineRefines, IsRefined, Holds, HasText, IsWriting, WritesTo}
 use Rattle.sis_session.specs.Plan.{MAX_DEPTH, Asked, Nothing, OnStore, OnOut, OnInput, Comes, ComesLoaded, ComesSaved, ComesPut, Done, Ending, Goes, Loads, Outcome, Does, Refuses, Plan, Quiet, Puts, Saves, Takes, Steps, by_plan, no_memory}
 use Rattle.sis_session.specs.Replies.{echo_line}
-use Rattle.sis_session.specs.State.{Held, Library, Written, CircuitWritten, MachineWritten, NetlistWritten, nothing_held, with_read, with_machine, with_library, with_exchanged}
+use Rattle.sis_session.specs.State.{Held, Library, Written, CircuitWritten, MachineWritten, NetlistWritten, nothing_held, with_read, with_spec, with_machine, with_library, with_exchanged}
 use Rattle.sis_session.specs.declared.refusal.Next.{Next}
 use Rattle.sis_session.specs.declared.refusal.Next.TheVariants.{Go, Script}
 use Rattle.sis_session.specs.declared.refusal.Next.TheVariants as onward
@@ -120,8 +120,8 @@ sends_leads is held None (Err why) holds = quiet_leads is (Refuses why) tt
 sends_leads is held (Some name) (Err why) holds = quiet_leads is (Refuses why) tt
 
 -- what is read is sound
-sound_circuit : (bytes : List ℕ) (circuit : Circuit) → read_lines (entries_of bytes) ≡ Ok circuit → IsSound circuit
-sound_circuit bytes circuit reads = sound_read (entries_of bytes) circuit (proper_words bytes) (all_agree (entries_of bytes) ∙ reads)
+sound_spec : (library : Option Library) (bytes : List ℕ) (read : Spec) → read_lines library (entries_of bytes) ≡ Ok read → IsSoundSpec read
+sound_spec library bytes read reads = spec_sound library (entries_of bytes) read (proper_words bytes) reads
 
 -- and so is a machine
 sound_machine : (bytes : List ℕ) (machine : Machine) → machine_lines_read (entries_of bytes) ≡ Ok machine → IsSoundMachine machine
@@ -152,22 +152,30 @@ machine_refines machine sound other same =
 no_machine_refines : (read : Option Spec) → MachineRefines read None
 no_machine_refines read machine is = cc
 
-circuit_leaves : (held : Held) (name bytes : List ℕ) (read : Option Spec) (answer : Result Circuit BlifFault) → read_lines (entries_of bytes) ≡ answer
-    → Leaves (λ h. IsRefined (last_read (ReadBlif name) h read) h) (read_as (with_read held) (λ fault. refusal.Blif name fault) answer)
-circuit_leaves held name bytes read (Ok circuit) reads = record {
-  network = refines_read circuit (sound_circuit bytes circuit reads);
+-- what is held behind a file that was read
+circuit_held : (held : Held) (circuit : Circuit) → IsSound circuit → IsRefined (Some (asked.Circuit circuit)) (with_read held circuit)
+circuit_held held circuit sound = record {
+  network = refines_read circuit sound;
   previous = none_refines (Some (asked.Circuit circuit));
   machine = no_machine_refines (Some (asked.Circuit circuit));
 }
-circuit_leaves held name bytes read (Err fault) reads = tt
+
+machine_held : (held : Held) (machine : Machine) → IsSoundMachine machine → IsRefined (Some (asked.Machine machine)) (with_machine held machine)
+machine_held held machine sound = record {
+  network = none_refines (Some (asked.Machine machine));
+  previous = none_refines (Some (asked.Machine machine));
+  machine = machine_refines machine sound;
+}
+
+spec_leaves : (held : Held) (name bytes : List ℕ) (read : Option Spec) (answer : Result Spec BlifFault) → read_lines held.library (entries_of bytes) ≡ answer
+    → Leaves (λ h. IsRefined (last_read (ReadBlif name) h read) h) (read_as (with_spec held) (λ fault. refusal.Blif name fault) answer)
+spec_leaves held name bytes read (Ok (asked.Circuit circuit)) reads = circuit_held held circuit (sound_spec held.library bytes (asked.Circuit circuit) reads)
+spec_leaves held name bytes read (Ok (asked.Machine machine)) reads = machine_held held machine (sound_spec held.library bytes (asked.Machine machine) reads)
+spec_leaves held name bytes read (Err fault) reads = tt
 
 machine_leaves : (held : Held) (name bytes : List ℕ) (read : Option Spec) (answer : Result Machine KissFault) → machine_lines_read (entries_of bytes) ≡ answer
     → Leaves (λ h. IsRefined (last_read (ReadKiss name) h read) h) (read_as (with_machine held) (λ fault. refusal.Kiss name fault) answer)
-machine_leaves held name bytes read (Ok machine) reads = record {
-  network = none_refines (Some (asked.Machine machine));
-  previous = none_refines (Some (asked.Machine machine));
-  machine = machine_refines machine (sound_machine bytes machine reads);
-}
+machine_leaves held name bytes read (Ok machine) reads = machine_held held machine (sound_machine bytes machine reads)
 machine_leaves held name bytes read (Err fault) reads = tt
 
 library_leaves : (held : Held) (name : List ℕ) (read : Option Spec) (answer : Result Library LibFault) → IsRefined read held
@@ -226,7 +234,7 @@ plan_leads depth spec held (Echo words) plan refined is = subst (Leads (λ h. Is
 plan_leads depth spec held Quit plan refined is = subst (Leads (λ h. IsRefined spec h)) (sym is) (quiet_leads (λ h. IsRefined spec h) (Does held onward.Quit) refined)
 plan_leads depth spec held (ReadBlif name) plan refined is =
     subst (Leads (λ h. IsRefined (last_read (ReadBlif name) h spec) h)) (sym is)
-    (loads_leads (λ h. IsRefined (last_read (ReadBlif name) h spec) h) name (circuit_read held name) (λ bytes. circuit_leaves held name bytes spec (read_lines (entries_of bytes)) refl))
+    (loads_leads (λ h. IsRefined (last_read (ReadBlif name) h spec) h) name (spec_read held name) (λ bytes. spec_leaves held name bytes spec (read_lines held.library (entries_of bytes)) refl))
 plan_leads depth spec held (ReadKiss name) plan refined is =
     subst (Leads (λ h. IsRefined (last_read (ReadKiss name) h spec) h)) (sym is)
     (loads_leads (λ h. IsRefined (last_read (ReadKiss name) h spec) h) name (machine_read held name) (λ bytes. machine_leaves held name bytes spec (machine_lines_read (entries_of bytes)) refl))

@@ -8,10 +8,10 @@ use Rattle.sis_outside.specs.Calls.{StoreCall, Follows}
 use Rattle.circuit_model.specs.declared.circuit.Circuit.{Circuit}
 use Rattle.blif_read.specs.Reader.{read_lines}
 use Rattle.sis_script.specs.declared.command.Change.{Change}
-use Rattle.sis_session.specs.Commands.{ChangePlans, circuit_read, commands_in, read_as, source_plan, undo_plan}
+use Rattle.sis_session.specs.Commands.{ChangePlans, spec_read, commands_in, read_as, source_plan, undo_plan}
 use Rattle.sis_session.specs.Methods.{HasLoaded, HasRead, IsChanged, Undoes}
 use Rattle.sis_session.specs.Plan.{MAX_DEPTH, Outcome, Does, Refuses, Quiet, Loads, Ending, Done, Refused, Cut, Comes, Did, AskedNone, faulted}
-use Rattle.sis_session.specs.State.{Held, with_read, with_changed, with_exchanged}
+use Rattle.sis_session.specs.State.{Held, with_spec, with_changed, with_exchanged}
 use Rattle.sis_session.specs.declared.refusal.Failed.TheVariants as failed
 use Rattle.sis_session.specs.declared.refusal.Next.TheVariants.{Go, Script}
 use Rattle.sis_session.specs.declared.refusal.Refusal.{Refusal}
@@ -61,8 +61,8 @@ pub misread_comes : {A F : Type 0} (held_with : A → Held) (refusal_of : F → 
 misread_comes held_with refusal_of read fault why reads is =
     subst (λ r. Comes (read_as held_with refusal_of r) (Refused why)) (sym reads) (inl (ap (λ w. Refused w) is))
 
-pub circuit_comes : (held held' : Held) (name bytes : List ℕ) → HasRead bytes held (Ok tt) held' → Comes (circuit_read held name bytes) (Done held' Go)
-circuit_comes held held' name bytes (circuit, reads, is) = read_comes (with_read held) (λ fault. refusal.Blif name fault) (read_lines (entries_of bytes)) circuit held' reads is
+pub spec_comes : (held held' : Held) (name bytes : List ℕ) → HasRead bytes held (Ok tt) held' → Comes (spec_read held name bytes) (Done held' Go)
+spec_comes held held' name bytes (read, reads, is) = read_comes (with_spec held) (λ fault. refusal.Blif name fault) (read_lines held.library (entries_of bytes)) read held' reads is
 
 -- a file was loaded, where its name and its bytes are lent as text and slice
 pub used_did : {S : Type 0} (goes : S → StoreCall → S → Type 0) (used : List ℕ → Outcome) (name text shown : List ℕ) (old new : S) (bytes : Vec ℕ) (ending : Ending)

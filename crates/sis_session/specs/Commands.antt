@@ -2,7 +2,7 @@
 -- Source: the SIS manual (UCB/ERL M92/41), the commands; the order of refusals is the project's own: a command's words, then
 -- how deep scripts are nested, then the parts that it needs, then names, then the file that it loads, then what is read of it,
 -- then the command's own limits.
-use Rattle.std.specs.Prelude.{◌≡◌, ℕ, Option, Some, None, Result, Ok, Err, List, nat_lt, flat_map, map, option_map, if◌then◌else◌}
+use Rattle.std.specs.Prelude.{◌≡◌, ℕ, Option, Some, None, Result, Ok, Err, List, nat_lt, flat_map, map, if◌then◌else◌}
 use Rattle.sis_base.specs.Written.{lines_text}
 use Rattle.sis_text.specs.Entries.{entries_of, script_entries_of}
 use Rattle.circuit_model.specs.Text.{text_of, table_lines, latch_line}
@@ -12,7 +12,6 @@ use Rattle.circuit_model.specs.declared.circuit.Table.{Table}
 use Rattle.machine_model.specs.Text.{text_of as machine_text_of}
 use Rattle.machine_model.specs.declared.machine.Machine.{Machine}
 use Rattle.machine_model.specs.declared.machine.Spec.{Spec}
-use Rattle.machine_model.specs.declared.machine.Spec.TheVariants as spec
 use Rattle.blif_read.specs.Reader.{read_lines}
 use Rattle.kiss_format.specs.Reader.{read_lines as machine_lines_read}
 use Rattle.genlib_format.specs.Reader.{library_of}
@@ -31,7 +30,7 @@ use Rattle.sis_script.specs.declared.command.Op.{Op}
 use Rattle.sis_script.specs.declared.command.Op.TheVariants.{Echo, Quit, ReadBlif, ReadKiss, ReadLibrary, WriteBlif, WriteKiss, PrintStats, Print, PrintLatch, PrintFactor, PrintKernel, Change as ChangeOp, Undo, Source, Bad}
 use Rattle.sis_session.specs.Plan.{MAX_DEPTH, Outcome, Does, Refuses, Plan, Quiet, Loads, Saves, replies}
 use Rattle.sis_session.specs.Replies.{stats_line, echo_line}
-use Rattle.sis_session.specs.State.{Held, with_read, with_machine, with_library, with_changed, with_exchanged}
+use Rattle.sis_session.specs.State.{Held, with_spec, with_machine, held_spec, with_library, with_changed, with_exchanged}
 use Rattle.sis_session.specs.declared.refusal.Next.TheVariants as next
 use Rattle.sis_session.specs.declared.refusal.Refusal.{Refusal}
 use Rattle.sis_session.specs.declared.refusal.Refusal.TheVariants as refusal
@@ -49,9 +48,9 @@ abbrev pub read_as : {A F : Type 0} → (A → Held) → (F → Refusal) → Res
 read_as held_with refusal_of (Ok one) = Does (held_with one) next.Go
 read_as held_with refusal_of (Err fault) = Refuses (refusal_of fault)
 
--- what comes of the bytes of a file that is read as a circuit, as a machine, as a library
-abbrev pub circuit_read : Held → List ℕ → List ℕ → Outcome
-circuit_read held name bytes = read_as (with_read held) (λ fault. refusal.Blif name fault) (read_lines (entries_of bytes))
+-- what comes of the bytes of a file that is read as a circuit or a machine, by the library that is held; as a machine; as a library
+abbrev pub spec_read : Held → List ℕ → List ℕ → Outcome
+spec_read held name bytes = read_as (with_spec held) (λ fault. refusal.Blif name fault) (read_lines held.library (entries_of bytes))
 
 abbrev pub machine_read : Held → List ℕ → List ℕ → Outcome
 machine_read held name bytes = read_as (with_machine held) (λ fault. refusal.Kiss name fault) (machine_lines_read (entries_of bytes))
@@ -171,7 +170,7 @@ source_plan depth held name =
 abbrev pub Plans : ℕ → Held → Op → Plan → Type 0
 Plans depth held (Echo words) plan = plan ≡ sends held None (Ok (echo_line words))
 Plans depth held Quit plan = plan ≡ Quiet (Does held next.Quit)
-Plans depth held (ReadBlif name) plan = plan ≡ Loads name (circuit_read held name)
+Plans depth held (ReadBlif name) plan = plan ≡ Loads name (spec_read held name)
 Plans depth held (ReadKiss name) plan = plan ≡ Loads name (machine_read held name)
 Plans depth held (ReadLibrary name) plan = plan ≡ Loads name (library_read held name)
 Plans depth held (WriteBlif file) plan = plan ≡ sends held file (told_of text_told held.network)
@@ -188,6 +187,6 @@ Plans depth held (Bad fault) plan = plan ≡ Quiet (Refuses (refusal.Script faul
 
 -- what was read last, behind a command that is done and after which this is held
 abbrev pub last_read : Op → Held → Option Spec → Option Spec
-last_read (ReadBlif name) held read = option_map spec.Circuit held.network
-last_read (ReadKiss name) held read = option_map spec.Machine held.machine
+last_read (ReadBlif name) held read = held_spec held.network held.machine
+last_read (ReadKiss name) held read = held_spec held.network held.machine
 last_read op held read = read

@@ -128,24 +128,24 @@ HasNeeds depth held (Source name) = depth < MAX_DEPTH
 HasNeeds depth held (Bad fault) = ⊥
 
 -- what a command needs of the bytes that it loads: a circuit, a machine or a library is read without a fault
-abbrev pub HasBytes : Op → List ℕ → Type 0
-HasBytes (ReadBlif name) bytes = (circuit : Circuit) × (read_lines (entries_of bytes) ≡ Ok circuit)
-HasBytes (ReadKiss name) bytes = (machine : Machine) × (machine_lines_read (entries_of bytes) ≡ Ok machine)
-HasBytes (ReadLibrary name) bytes = (library : Library) × (library_of bytes ≡ Ok library)
-HasBytes op bytes = Unit {0}
+abbrev pub HasBytes : Held → Op → List ℕ → Type 0
+HasBytes held (ReadBlif name) bytes = (read : Spec) × (read_lines held.library (entries_of bytes) ≡ Ok read)
+HasBytes held (ReadKiss name) bytes = (machine : Machine) × (machine_lines_read (entries_of bytes) ≡ Ok machine)
+HasBytes held (ReadLibrary name) bytes = (library : Library) × (library_of bytes ≡ Ok library)
+HasBytes held op bytes = Unit {0}
 
 -- each call was answered with what was asked
-abbrev pub IsAnswered : Op → Asked → Type 0
-IsAnswered op Nothing = Unit {0}
-IsAnswered op (OnStore (Load name max (Ok bytes))) = HasBytes op bytes
-IsAnswered op (OnStore (Load name max (Err fault))) = ⊥
-IsAnswered op (OnStore (Save name bytes answer)) = answer ≡ Ok tt
-IsAnswered op (OnOut call) = call.answer ≡ Ok tt
-IsAnswered op (OnInput calls) = Unit {0}
+abbrev pub IsAnswered : Held → Op → Asked → Type 0
+IsAnswered held op Nothing = Unit {0}
+IsAnswered held op (OnStore (Load name max (Ok bytes))) = HasBytes held op bytes
+IsAnswered held op (OnStore (Load name max (Err fault))) = ⊥
+IsAnswered held op (OnStore (Save name bytes answer)) = answer ≡ Ok tt
+IsAnswered held op (OnOut call) = call.answer ≡ Ok tt
+IsAnswered held op (OnInput calls) = Unit {0}
 
 -- a command has what it needs so that it is done
 abbrev pub IsServed : ℕ → Held → Op → Asked → Type 0
-IsServed depth held op asked = HasNeeds depth held op × IsAnswered op asked
+IsServed depth held op asked = HasNeeds depth held op × IsAnswered held op asked
 
 -- a change makes one thing of each network
 abbrev pub ChangesOnce : Change → Type 0

@@ -9,13 +9,14 @@ use Rattle.sis_outside.specs.declared.store.LoadFault.TheVariants as load
 use Rattle.sis_outside.specs.declared.store.SaveFault.TheVariants as save
 use Rattle.sis_outside.specs.declared.sink.PutFault.TheVariants as put
 use Rattle.circuit_model.specs.declared.circuit.Circuit.{Circuit}
+use Rattle.machine_model.specs.declared.machine.Spec.{Spec}
 use Rattle.blif_read.specs.Reader.{read_lines}
-use Rattle.blif_read.specs.declared.fault.ReadFault.{ReadFault}
-use Rattle.blif_read.specs.declared.fault.ReadFault.TheVariants as reading
+use Rattle.blif_lines.specs.declared.fault.ReadFault.{ReadFault}
+use Rattle.blif_lines.specs.declared.fault.ReadFault.TheVariants as reading
 use Rattle.sis_script.specs.declared.command.Change.{Change}
 use Rattle.sis_session.specs.Commands.{Changes}
 use Rattle.sis_session.specs.Plan.{MAX_BYTES}
-use Rattle.sis_session.specs.State.{Held, with_read, with_exchanged}
+use Rattle.sis_session.specs.State.{Held, with_spec, with_exchanged}
 use Rattle.sis_session.specs.declared.refusal.Next.{Next}
 use Rattle.sis_session.specs.declared.refusal.Next.TheVariants.{Go}
 use Rattle.sis_session.specs.declared.refusal.Refusal.{Refusal}
@@ -65,10 +66,10 @@ abbrev pub HasToldPut : {S : Type 0} → (S → PutCall → S → Type 0) → Re
 HasToldPut goes (Ok text) old answer new = HasPut goes text.items old answer new
 HasToldPut goes (Err why) old answer new = (answer ≡ Err why) × (new ≡ old)
 
--- what reading a circuit from bytes leaves
+-- what reading a circuit or a machine from bytes leaves, by the library that is held
 abbrev pub HasRead : List ℕ → Held → Result (Unit {0}) ReadFault → Held → Type 0
-HasRead bytes old (Ok done) new = (circuit : Circuit) × (read_lines (entries_of bytes) ≡ Ok circuit) × (new ≡ with_read old circuit)
-HasRead bytes old (Err (reading.Fault why)) new = (read_lines (entries_of bytes) ≡ Err why) × (new ≡ old)
+HasRead bytes old (Ok done) new = (read : Spec) × (read_lines old.library (entries_of bytes) ≡ Ok read) × (new ≡ with_spec old read)
+HasRead bytes old (Err (reading.Fault why)) new = (read_lines old.library (entries_of bytes) ≡ Err why) × (new ≡ old)
 HasRead bytes old (Err reading.Memory) new = new ≡ old
 
 -- what a change makes of a network: the new one, or the refusal; or memory was wanting

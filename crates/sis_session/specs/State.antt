@@ -4,6 +4,8 @@
 use Rattle.std.specs.Prelude.{Option, Some, None, List}
 use Rattle.circuit_model.specs.declared.circuit.Circuit.{Circuit}
 use Rattle.machine_model.specs.declared.machine.Machine.{Machine}
+use Rattle.machine_model.specs.declared.machine.Spec.{Spec}
+use Rattle.machine_model.specs.declared.machine.Spec.TheVariants as spec
 use Rattle.genlib_format.specs.declared.gate.Gate.{Gate}
 
 -- a library: its gates, in order
@@ -38,6 +40,17 @@ with_read held circuit = record held { network = Some circuit; previous = None; 
 -- a machine that was read is held; but for the library nothing else is, and there is nothing to take back
 abbrev pub with_machine : Held → Machine → Held
 with_machine held machine = record held { network = None; previous = None; machine = Some machine; netlist = None; previous_netlist = None }
+
+-- what a file of a circuit or a machine says is held
+abbrev pub with_spec : Held → Spec → Held
+with_spec held (spec.Circuit circuit) = with_read held circuit
+with_spec held (spec.Machine machine) = with_machine held machine
+
+-- what is held of what was read: the network, or else the machine
+abbrev pub held_spec : Option Circuit → Option Machine → Option Spec
+held_spec (Some circuit) machine = Some (spec.Circuit circuit)
+held_spec None None = None
+held_spec None (Some machine) = Some (spec.Machine machine)
 
 -- a library that was read is held, and no netlist over the one before
 abbrev pub with_library : Held → Library → Held

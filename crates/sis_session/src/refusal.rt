@@ -1,6 +1,6 @@
 //! How a step ends: what comes next, or why it was not done.
 
-use blif_read::BlifFault;
+use blif_lines::BlifFault;
 use genlib_format::LibFault;
 use kiss_format::KissFault;
 use sis_script::{Commands, RawWord, ScriptFault};

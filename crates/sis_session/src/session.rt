@@ -3,13 +3,15 @@
 //! Only `Ok` changes what is held. What a command makes is made first and told to the outside next; it is moved in last,
 //! when nothing can fail any more.
 
-ghost use Rattle.std.specs.Prelude.{◌≡◌, ◌<◌, IfOk, IfSome, OnErr, option_map};
+ghost use Rattle.std.specs.Prelude.{◌≡◌, ◌<◌, IfOk, IfSome, OnOk, OnErr, option_map};
 ghost use Rattle.sis_outside.specs.Calls.{Follows};
-ghost use Rattle.sis_session.specs.Commands.{ChangePlans, Plans, circuit_read, library_read, machine_read, undo_plan};
+ghost use Rattle.sis_session.specs.Commands.{ChangePlans, Plans, spec_read, library_read, machine_read, undo_plan};
 ghost use Rattle.sis_session.specs.Methods.{HasRead, Undoes};
 ghost use Rattle.sis_session.specs.Plan.{AskedNone, Comes, Did, Loads, NestsBelow, ended};
 ghost use Rattle.sis_session.specs.Replies.{stats_of};
-ghost use Rattle.sis_session.specs.State.{nothing_held};
+ghost use Rattle.sis_session.specs.State.{nothing_held, with_read, with_machine};
+ghost use Rattle.circuit_model.specs.Counts.{IsWithinLimits};
+ghost use Rattle.circuit_model.specs.Soundness.{IsSound};
 
 use crate::algebra::{print_factor, print_kernel};
 use crate::changing::changed;
@@ -20,14 +22,15 @@ use crate::printing::{
 use crate::refusal::{Next, Refusal, StepFault};
 use crate::texts::Stats;
 use blif_read::{ReadFault, read};
+use circuit_model::Circuit;
 use cube_cover::PlainRow;
 use genlib_format::Library;
-use machine_model::Machine;
+use machine_model::{Machine, Spec};
 use net_core::Network;
 use sis_outside::{Sink, Store};
 use sis_script::{Change, Command, Op};
 use sis_text::Word;
-use std::alloc::Global;
+use std::alloc::{AllocError, Global};
 use std::marker::Model;
 use std::mem;
 
@@ -38,7 +41,7 @@ pub const MAX_BYTES: usize = 67_108_864;
 pub const MAX_DEPTH: u32 = 16;
 
 /// What is held between two commands: the network, and the one before its last change, which both keep the bounds in which
-/// literals are counted; the machine and the library.
+/// literals are counted; the machine and the library, which is sound.
 #[derive(Drop)]
 pub struct Session {
     network: Option<Network<PlainRow>>,
@@ -49,6 +52,7 @@ pub struct Session {
 
 impl Model for Session {
     ghost use Rattle.std.specs.Prelude.{IfSome};
+    ghost use Rattle.blif_lines.specs.Libraries.{IsSoundLibrary};
     ghost use Rattle.net_core.specs.Reads.{HasBounds};
     ghost use Rattle.sis_session.specs.State.{Held, parts_held};
 
@@ -56,7 +60,7 @@ impl Model for Session {
 
     ghost view = { λ s. parts_held s.network s.previous s.machine s.library };
 
-    ghost invariant = { λ s. IfSome s.network HasBounds × IfSome s.previous HasBounds };
+    ghost invariant = { λ s. IfSome s.network HasBounds × (IfSome s.previous HasBounds × IsSoundLibrary s.library) };
 }
 
 impl Session {
@@ -72,15 +76,37 @@ impl Session {
         }
     }
 
-    /// Reads bytes as the network; after an error the session is as before.
+    /// Holds a circuit that was read as the network.
     #[tactic(auto, using(net_core::proofs::Bounds::bounds_read))]
-    pub fn read(&mut self, alloc: Global, bytes: &[u8]) -> Result<(), ReadFault>
-        ensures { HasRead bytes.now self.old result self.new }
+    fn hold_circuit(&mut self, alloc: Global, circuit: Circuit) -> Result<(), AllocError>
+        requires sound { IsSound circuit }
+        requires limits { IsWithinLimits circuit }
+        ensures ok { OnOk result (self.new ≡ with_read self.old circuit) }
+        ensures err { OnErr result (self.new ≡ self.old) }
     {
-        let circuit = read(alloc, bytes)?;
         self.network = Some(Network::from_circuit(alloc, circuit)?);
         self.previous = None;
         self.machine = None;
+        Ok(())
+    }
+
+    /// Holds a machine that was read.
+    fn hold_machine(&mut self, machine: Machine)
+        ensures { self.new ≡ with_machine self.old machine }
+    {
+        self.network = None;
+        self.previous = None;
+        self.machine = Some(machine);
+    }
+
+    /// Reads bytes as the network or the machine, by the library that is held; after an error the session is as before.
+    pub fn read(&mut self, alloc: Global, bytes: &[u8]) -> Result<(), ReadFault>
+        ensures { HasRead bytes.now self.old result self.new }
+    {
+        match read(alloc, bytes, self.library.as_ref())? {
+            Spec::Circuit(circuit) => self.hold_circuit(alloc, circuit)?,
+            Spec::Machine(machine) => self.hold_machine(machine),
+        }
         Ok(())
     }
 
@@ -105,9 +131,9 @@ impl Session {
         true
     }
 
-    /// Reads the bytes of a file as the network.
-    fn take_circuit(&mut self, alloc: Global, name: &Word, bytes: &[u8]) -> Result<Next, StepFault>
-        ensures came { Comes (circuit_read self.old name.now bytes.now) (ended result self.new) }
+    /// Reads the bytes of a file as the network or the machine.
+    fn take_spec(&mut self, alloc: Global, name: &Word, bytes: &[u8]) -> Result<Next, StepFault>
+        ensures came { Comes (spec_read self.old name.now bytes.now) (ended result self.new) }
         ensures err { OnErr result (self.new ≡ self.old) }
     {
         match self.read(alloc, bytes) {
@@ -127,9 +153,7 @@ impl Session {
     {
         match kiss_format::read(alloc, bytes) {
             Ok(machine) => {
-                self.network = None;
-                self.previous = None;
-                self.machine = Some(machine);
+                self.hold_machine(machine);
                 Ok(Next::Go)
             }
             Err(kiss_format::ReadFault::Fault(fault)) => Err(StepFault::Refused(Refusal::Kiss(
@@ -158,18 +182,18 @@ impl Session {
         }
     }
 
-    /// Reads a file as the network.
+    /// Reads a file as the network or the machine.
     fn read_blif<S: Store>(
         &mut self,
         alloc: Global,
         name: &Word,
         store: &mut S,
     ) -> Result<Next, StepFault>
-        ensures did { Did (λ plan. plan ≡ Loads name.now (circuit_read self.old name.now)) (Follows S.calls store.old store.new) AskedNone (ended result self.new) }
+        ensures did { Did (λ plan. plan ≡ Loads name.now (spec_read self.old name.now)) (Follows S.calls store.old store.new) AskedNone (ended result self.new) }
         ensures err { OnErr result (self.new ≡ self.old) }
     {
         let bytes = load(alloc, name.text(), store)?;
-        self.take_circuit(alloc, name, bytes.as_slice())
+        self.take_spec(alloc, name, bytes.as_slice())
     }
 
     /// Reads a file as the machine.

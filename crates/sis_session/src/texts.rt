@@ -14,7 +14,7 @@ ghost use Rattle.sis_session.specs.Replies.{
 };
 
 use crate::refusal::Refusal;
-use blif_read::BlifFault;
+use blif_lines::BlifFault;
 use fault_texts::{put_blif_fault, put_kiss_fault, put_library_fault, put_three, put_two};
 use genlib_format::LibFault;
 use kiss_format::KissFault;

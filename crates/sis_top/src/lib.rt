@@ -15,12 +15,8 @@ mod beginning;
 mod halt;
 mod input;
 mod laws;
-#[cfg(test)]
-mod refused_files;
 mod running;
 mod status;
-#[cfg(test)]
-mod tests;
 mod top;
 
 pub use laws::{runs_are_one, runs_keep_refinement, served_runs_refuse_nothing};

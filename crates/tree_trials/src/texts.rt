@@ -7,6 +7,7 @@ ghost use Rattle.genlib_format.specs.Soundness.{IsSound as IsSoundLibrary};
 use blif_read::ReadFault as CircuitFault;
 use circuit_model::Circuit;
 use genlib_format::{Library, ReadFault as LibraryFault};
+use machine_model::Spec;
 use sis_text::Decimal;
 use std::alloc::{AllocError, Global};
 use trial_cases::{CaseFault, put_line, put_number, text_of};
@@ -46,8 +47,9 @@ pub fn library(alloc: Global, lines: &[&str]) -> Result<Library, CaseFault>
 fn circuit_of(alloc: Global, text: &[u8]) -> Result<Circuit, CaseFault>
     ensures { IfOk result IsSoundCircuit }
 {
-    match blif_read::read(alloc, text) {
-        Ok(circuit) => Ok(circuit),
+    match blif_read::read(alloc, text, None) {
+        Ok(Spec::Circuit(circuit)) => Ok(circuit),
+        Ok(Spec::Machine(_)) => Err(CaseFault::Bad),
         Err(CircuitFault::Fault(_)) => Err(CaseFault::Bad),
         Err(CircuitFault::Memory) => Err(CaseFault::Memory),
     }

@@ -1,0 +1,1219 @@
+-- The reader's steps, taken one after the other, come to what the form of a file says.
+
+use Rattle.std.specs.Prelude.{◌≡◌, ℕ, ◌+◌, ◌-◌, ◌==◌, nat_eq, length, drop, Bool, true, false, not, ◌&&◌, ◌||◌, cond, find, Option, Some, None, Result, List, [], ◌∷◌, ◌++◌, map, reverse, take_while, codes, if◌then◌else◌}
+use Rattle.std.specs.Option.{option_or, option_map}
+use Rattle.std.proofs.Common.{refl, sym, ◌∙◌, ap, arith, eq-eqb, append_assoc, zero-add}
+use Rattle.std.proofs.lemmas.List.{length-take-le, length-map, map-append, append-nil, reverse-append}
+use Rattle.std.proofs.lemmas.List.Sums.{take_while-cons, sum_by-cons}
+use Rattle.circuit_model.specs.Soundness.{outputs_of}
+use Rattle.circuit_model.specs.declared.circuit.Timing.{Timing}
+use Rattle.circuit_model.specs.declared.circuit.Table.{Table}
+use Rattle.circuit_model.specs.declared.circuit.Latch.{Latch as TheLatch}
+use Rattle.sis_text.specs.Entries.{Entry}
+use Rattle.line_words.specs.LineWords.{other_words}
+use Rattle.genlib_format.specs.declared.gate.Gate.{Gate as TheGate}
+use Rattle.blif_lines.specs.Keyword.{kind_of, is_row, is_row_kind}
+use Rattle.blif_lines.specs.Lines.{when, first_of, input_words, last_word, is_none, is_end_kind, is_ended, begins_part, has_part, begins_kiss, has_kiss, part_behind, is_behind, is_latch, is_node_kind, nodes_in, joined, output_character, has_phase_of, table_row_fault, heading, rows_behind, row_fault_under, row_fault, model_fault, ports_fault, clock_fault, names_fault, latch_fault, gate_fault, start_fault, place_fault, fault_as, line_fault}
+use Rattle.blif_lines.specs.Reader.{first_line_fault, of_lines, model_lines, part_lines, listed_inputs, listed_outputs, listed_ports, listed_clocks, is_inputs_kind, is_outputs_kind, lists_inputs, lists_outputs, names_beside, inputs_in, outputs_in, ports_in, clocks_in, latch_input, latch_output, gate_tables, gate_inputs, driven_by, read_within, read_by, drives_in, reads_within, reads_in, latch_of, latches_by, latches_in, timing_of, is_latch_line, latch_lines, timing_at, first_timing, timing_in, same_timing, mixed_clock, gated_clock, row_of, phase_by, table_of, tables_by, tables_in, named_by, model_name, circuit_of, model_names_fault, whole_fault, has_nodes, is_machine, head_of, head_fault, unless, read_whole, first_fault, read_lines}
+use Rattle.blif_lines.specs.Steps.{mark_for, width_of, reading_fault, fault_behind, next_fault, with_row, row_behind, tables_with, closed, place_at, place_of, draft_fault, with_more, timing_with, mixed_with, with_line, take_as, take_entry, take_entries, no_lines, model_of, part_of, listed_or, Kept, kept_of, timing_fault, drivers_fault, tables_fault, listed_fault, kept_fault, read_kept_as, read_kept, finished, finish}
+use Rattle.blif_lines.specs.declared.content.Content.{Content}
+use Rattle.blif_lines.specs.declared.content.Content.TheVariants as content
+use Rattle.blif_lines.specs.declared.keyword.Keyword.{Keyword}
+use Rattle.blif_lines.specs.declared.keyword.Keyword.TheVariants.{Model, Inputs, Outputs, Clock, Names, Latch, Gate, StartKiss, DontCare, End, Skipped, Row, Other}
+use Rattle.blif_lines.specs.declared.fault.BlifFault.{BlifFault}
+use Rattle.blif_lines.specs.declared.fault.BlifFault.TheVariants.{UnknownWord}
+use Rattle.blif_lines.specs.declared.draft.Reading.{Reading}
+use Rattle.blif_lines.specs.declared.draft.Draft.{Draft}
+use Rattle.blif_lines.proofs.Faults.{begins, own_clock, own_latch, own_gate, own_start, own_place, unbegun, right_latch, right_gate}
+use Rattle.blif_lines.proofs.Gates.{one_gate}
+
+-- tests
+pub same_number : (n : ℕ) → nat_eq n n ≡ true
+same_number n = eq-eqb n n refl
+
+-- whether a kind is that of tables with rows of their own
+abbrev pub is_table_kind : Keyword → Bool
+is_table_kind Names = true
+is_table_kind kind = false
+
+-- the table that is read behind some lines
+abbrev pub mark_by : ℕ → List (List ℕ) → ℕ
+mark_by width [] = 0
+mark_by width (row ∷ rows) = output_character width row
+
+abbrev pub read_with : List (List ℕ) → List (List ℕ) → Reading
+read_with words rows = record { table = table_of words rows; mark = mark_by (length words - 1) rows }
+
+abbrev pub read_if : Bool → List (List ℕ) → List (List ℕ) → Option Reading
+read_if true words rows = Some (read_with words rows)
+read_if false words rows = None
+
+abbrev pub reading_from : Option Entry → List (List ℕ) → Option Reading
+reading_from None rows = None
+reading_from (Some line) rows = read_if (is_table_kind (kind_of line)) (other_words line.words) rows
+
+abbrev pub reading_of : List Entry → Option Reading
+reading_of back = reading_from (heading back) (rows_behind back)
+
+pub inputs_long : (words : List (List ℕ)) → length (input_words words) ≡ length words - 1
+inputs_long words = length-take-le (length words - 1) words (omega arith)
+
+pub width_is : (words rows : List (List ℕ)) → width_of (read_with words rows) ≡ length words - 1
+unfolding table_of
+width_is words rows = inputs_long words
+
+-- the output character that a further row must have
+pub mark_is : (width : ℕ) (rows : List (List ℕ)) (bytes : List ℕ) → mark_for (map (row_of width) rows) (mark_by width rows) (output_character width bytes) ≡ mark_by width (rows ++ bytes ∷ [])
+unfolding mark_for
+mark_is width [] bytes = refl
+mark_is width (row ∷ rows) bytes = refl
+
+pub phase_is : (width : ℕ) (rows : List (List ℕ)) (bytes : List ℕ) → phase_by width (rows ++ bytes ∷ []) ≡ (mark_by width (rows ++ bytes ∷ []) == 49)
+phase_is width [] bytes = refl
+phase_is width (row ∷ rows) bytes = refl
+
+pub has_mark : (width : ℕ) (rows : List (List ℕ)) (bytes : List ℕ) → nat_eq (output_character width bytes) (mark_by width (rows ++ bytes ∷ [])) ≡ has_phase_of width rows bytes
+has_mark width [] bytes = same_number (output_character width bytes)
+has_mark width (row ∷ rows) bytes = refl
+
+pub fault_read : (width : ℕ) (words rows : List (List ℕ)) (number : ℕ) (bytes : List ℕ) → width ≡ length words - 1 → reading_fault (read_with words rows) number bytes ≡ table_row_fault width rows number bytes
+unfolding reading_fault table_row_fault table_of
+fault_read width words rows number bytes e =
+    rw (width_is words rows, sym e, mark_is width rows bytes, has_mark width rows bytes, length-map rows (row_of width)) refl
+
+pub row_read : (words rows : List (List ℕ)) (bytes : List ℕ) → with_row (read_with words rows) bytes ≡ read_with words (rows ++ bytes ∷ [])
+unfolding with_row table_of
+row_read words rows bytes =
+    rw (width_is words rows, mark_is (length words - 1) rows bytes, map-append (row_of (length words - 1)) rows (bytes ∷ []), phase_is (length words - 1) rows bytes) refl
+
+pub row_behind_is : (head : Option Entry) (rows : List (List ℕ)) (bytes : List ℕ) → row_behind (reading_from head rows) bytes ≡ reading_from head (rows ++ bytes ∷ [])
+row_behind_is None rows bytes = refl
+row_behind_is (Some line) rows bytes = by (is_table_kind (kind_of line))
+  where
+    by : (b : Bool) → row_behind (read_if b (other_words line.words) rows) bytes ≡ read_if b (other_words line.words) (rows ++ bytes ∷ [])
+    by true = ap Some (row_read (other_words line.words) rows bytes)
+    by false = refl
+
+-- the same lines are wrong
+pub row_fault_is : (head : Option Entry) (rows : List (List ℕ)) (number : ℕ) (bytes : List ℕ) → fault_behind (reading_from head rows) number bytes ≡ row_fault head rows number bytes
+row_fault_is None rows number bytes = refl
+row_fault_is (Some line) rows number bytes = by (kind_of line)
+  where
+    by : (k : Keyword) → fault_behind (read_if (is_table_kind k) (other_words line.words) rows) number bytes ≡ row_fault_under k (other_words line.words) rows number bytes
+    by Model = refl
+    by Inputs = refl
+    by Outputs = refl
+    by Clock = refl
+    by Names = fault_read (length (other_words line.words) - 1) (other_words line.words) rows number bytes refl
+    by Latch = refl
+    by Gate = refl
+    by StartKiss = refl
+    by DontCare = refl
+    by End = refl
+    by Skipped = refl
+    by Row = refl
+    by Other = refl
+
+-- what a draft has of the lines before
+pub record Tells (back : List Entry) (draft : Draft) : Type 0 where
+  pub begun : draft.begun ≡ not (is_none back)
+  pub unnamed : draft.begun ≡ false → draft.name ≡ codes "top"
+  pub ended : draft.ended ≡ is_ended back
+  pub part : draft.has_part ≡ has_part back
+  pub kiss : draft.has_kiss ≡ has_kiss back
+  pub nodes : draft.nodes ≡ nodes_in back
+  pub reading : draft.reading ≡ reading_of back
+
+pub place_is : (back : List Entry) (draft : Draft) → Tells back draft → place_of draft ≡ part_behind back
+unfolding place_at part_behind
+place_is back draft t = rw (t.ended, t.part) refl
+
+pub fault_agrees : (library : Option (List TheGate)) (kind : Keyword) (back : List Entry) (draft : Draft) (number : ℕ) (words whole : List (List ℕ)) → Tells back draft → draft_fault library kind draft number words whole ≡ fault_as library kind back number words whole
+unfolding next_fault
+fault_agrees library Model back draft number words whole t =
+    ap (λ b. model_fault (place_of draft) b number words) t.begun ∙ ap (λ place. model_fault place (not (is_none back)) number words) (place_is back draft t)
+fault_agrees library Inputs back draft number words whole t = ap (λ place. ports_fault place number words) (place_is back draft t)
+fault_agrees library Outputs back draft number words whole t = ap (λ place. ports_fault place number words) (place_is back draft t)
+fault_agrees library Clock back draft number words whole t = ap (λ place. clock_fault place number words) (place_is back draft t)
+fault_agrees library Names back draft number words whole t =
+    ap (λ nodes. names_fault (place_of draft) nodes number words) t.nodes ∙ ap (λ place. names_fault place (nodes_in back) number words) (place_is back draft t)
+fault_agrees library Latch back draft number words whole t =
+    ap (λ nodes. latch_fault (place_of draft) nodes number words) t.nodes ∙ ap (λ place. latch_fault place (nodes_in back) number words) (place_is back draft t)
+fault_agrees library Gate back draft number words whole t =
+    ap (λ nodes. gate_fault library (place_of draft) nodes number words) t.nodes ∙ ap (λ place. gate_fault library place (nodes_in back) number words) (place_is back draft t)
+fault_agrees library StartKiss back draft number words whole t =
+    ap (λ had. start_fault (place_of draft) had number) t.kiss ∙ ap (λ place. start_fault place (has_kiss back) number) (place_is back draft t)
+fault_agrees library DontCare back draft number words whole t = ap (λ place. place_fault place number) (place_is back draft t)
+fault_agrees library End back draft number words whole t = refl
+fault_agrees library Skipped back draft number words whole t = ap (λ place. place_fault place number) (place_is back draft t)
+fault_agrees library Row back draft number words whole t =
+    ap (λ reading. next_fault (place_of draft) reading number (joined whole)) t.reading
+    ∙ ap (λ place. next_fault place (reading_of back) number (joined whole)) (place_is back draft t)
+    ∙ ap (λ fault. first_of (when (is_behind (part_behind back)) (UnknownWord number) ∷ fault ∷ [])) (row_fault_is (heading back) (rows_behind back) number (joined whole))
+fault_agrees library Other back draft number words whole t = refl
+
+-- what is told of one line more
+pub row_is : (line : Entry) (kind : Keyword) → kind_of line ≡ kind → is_row line ≡ is_row_kind kind
+row_is line kind e = ap is_row_kind e
+
+pub table_is : (line : Entry) (kind : Keyword) → kind_of line ≡ kind → is_table_kind (kind_of line) ≡ is_table_kind kind
+table_is line kind e = ap is_table_kind e
+
+pub heading_other : (line : Entry) (back : List Entry) → is_row line ≡ false → heading (line ∷ back) ≡ Some line
+heading_other line back e = rw e refl
+
+pub rows_other : (line : Entry) (back : List Entry) → is_row line ≡ false → rows_behind (line ∷ back) ≡ []
+rows_other line back e = rw (take_while-cons is_row line back, e) refl
+
+pub heading_row : (line : Entry) (back : List Entry) → is_row line ≡ true → heading (line ∷ back) ≡ heading back
+heading_row line back e = rw e refl
+
+pub rows_row : (line : Entry) (back : List Entry) → is_row line ≡ true → rows_behind (line ∷ back) ≡ rows_behind back ++ joined line.words ∷ []
+rows_row line back e =
+    rw (take_while-cons is_row line back, e, reverse-append (line ∷ []) (take_while is_row back), map-append (λ (l : Entry). joined l.words) (reverse (take_while is_row back)) (line ∷ [])) refl
+
+pub reading_other : (line : Entry) (back : List Entry) → is_row line ≡ false → reading_of (line ∷ back) ≡ read_if (is_table_kind (kind_of line)) (other_words line.words) []
+reading_other line back e = rw (heading_other line back e, rows_other line back e) refl
+
+pub reading_row : (line : Entry) (back : List Entry) → is_row line ≡ true → reading_of (line ∷ back) ≡ row_behind (reading_of back) (joined line.words)
+reading_row line back e =
+    rw (heading_row line back e, rows_row line back e) (sym (row_behind_is (heading back) (rows_behind back) (joined line.words)))
+
+pub more_of : {A : Type 0} (words_of : Keyword → List (List ℕ) → List A) (line : Entry) (lines : List Entry) (kind : Keyword) → kind_of line ≡ kind → of_lines words_of (line ∷ lines) ≡ words_of kind (other_words line.words) ++ of_lines words_of lines
+more_of words_of line lines kind e = ap (λ k. words_of k (other_words line.words) ++ of_lines words_of lines) e
+
+pub ended_more : (line : Entry) (back : List Entry) (kind : Keyword) → kind_of line ≡ kind → is_ended (line ∷ back) ≡ (is_end_kind kind || is_ended back)
+unfolding is_ended
+ended_more line back kind e = ap (λ k. is_end_kind k || is_ended back) e
+
+pub part_more : (line : Entry) (back : List Entry) (kind : Keyword) → kind_of line ≡ kind → has_part (line ∷ back) ≡ (begins_part kind || has_part back)
+unfolding has_part
+part_more line back kind e = ap (λ k. begins_part k || has_part back) e
+
+pub kiss_more : (line : Entry) (lines : List Entry) (kind : Keyword) → kind_of line ≡ kind → has_kiss (line ∷ lines) ≡ (begins_kiss kind || has_kiss lines)
+unfolding has_kiss
+kiss_more line lines kind e = ap (λ k. begins_kiss k || has_kiss lines) e
+
+pub nodes_more : (line : Entry) (back : List Entry) (kind : Keyword) → kind_of line ≡ kind → nodes_in (line ∷ back) ≡ cond (is_node_kind kind) 1 0 + nodes_in back
+unfolding nodes_in
+nodes_more line back kind e = sum_by-cons (λ (l : Entry). cond (is_node_kind (kind_of l)) 1 0) line back ∙ ap (λ k. cond (is_node_kind k) 1 0 + nodes_in back) e
+
+pub reading_after : (kind : Keyword) (line : Entry) (back : List Entry) → kind_of line ≡ kind → is_row_kind kind ≡ false → reading_of (line ∷ back) ≡ read_if (is_table_kind kind) (other_words line.words) []
+reading_after kind line back e other =
+    reading_other line back (row_is line kind e ∙ other) ∙ ap (λ b. read_if b (other_words line.words) []) (table_is line kind e)
+
+pub same_nodes : (kind : Keyword) (line : Entry) (back : List Entry) → kind_of line ≡ kind → is_node_kind kind ≡ false → nodes_in back ≡ nodes_in (line ∷ back)
+same_nodes kind line back e none =
+    sym (nodes_more line back kind e ∙ (ap (λ (b : Bool). cond {A = ℕ} b 1 0 + nodes_in back) none ∙ zero-add (nodes_in back)))
+
+pub one_node_more : (kind : Keyword) (line : Entry) (back : List Entry) → kind_of line ≡ kind → is_node_kind kind ≡ true → nodes_in back + 1 ≡ nodes_in (line ∷ back)
+one_node_more kind line back e is =
+    let more : nodes_in (line ∷ back) ≡ 1 + nodes_in back = nodes_more line back kind e ∙ ap (λ (b : Bool). cond {A = ℕ} b 1 0 + nodes_in back) is in omega (arith, more)
+
+pub tells_kept : (library : Option (List TheGate)) (kind : Keyword) (line : Entry) (back : List Entry) (draft : Draft) → kind_of line ≡ kind → Tells back draft → draft_fault library kind draft line.number (other_words line.words) line.words ≡ None → Tells (line ∷ back) (with_line library kind draft line.number (other_words line.words) line.words)
+unfolding closed
+tells_kept library Model line back draft e t f = record {
+  begun = refl;
+  unnamed = λ h. absurd (cc);
+  ended = t.ended ∙ sym (ended_more line back Model e);
+  part = t.part ∙ sym (part_more line back Model e);
+  kiss = t.kiss ∙ sym (kiss_more line back Model e);
+  nodes = t.nodes ∙ same_nodes Model line back e refl;
+  reading = sym (reading_after Model line back e refl);
+}
+tells_kept library Inputs line back draft e t f = record {
+  begun = refl;
+  unnamed = λ h. absurd (cc);
+  ended = t.ended ∙ sym (ended_more line back Inputs e);
+  part = t.part ∙ sym (part_more line back Inputs e);
+  kiss = t.kiss ∙ sym (kiss_more line back Inputs e);
+  nodes = t.nodes ∙ same_nodes Inputs line back e refl;
+  reading = sym (reading_after Inputs line back e refl);
+}
+tells_kept library Outputs line back draft e t f = record {
+  begun = refl;
+  unnamed = λ h. absurd (cc);
+  ended = t.ended ∙ sym (ended_more line back Outputs e);
+  part = t.part ∙ sym (part_more line back Outputs e);
+  kiss = t.kiss ∙ sym (kiss_more line back Outputs e);
+  nodes = t.nodes ∙ same_nodes Outputs line back e refl;
+  reading = sym (reading_after Outputs line back e refl);
+}
+tells_kept library Clock line back draft e t f = record {
+  begun = refl;
+  unnamed = λ h. absurd (cc);
+  ended = t.ended ∙ sym (ended_more line back Clock e);
+  part = t.part ∙ sym (part_more line back Clock e);
+  kiss = t.kiss ∙ sym (kiss_more line back Clock e);
+  nodes = t.nodes ∙ same_nodes Clock line back e refl;
+  reading = sym (reading_after Clock line back e refl);
+}
+tells_kept library Names line back draft e t f = record {
+  begun = refl;
+  unnamed = λ h. absurd (cc);
+  ended = t.ended ∙ sym (ended_more line back Names e);
+  part = t.part ∙ sym (part_more line back Names e);
+  kiss = t.kiss ∙ sym (kiss_more line back Names e);
+  nodes = ap (λ n. n + 1) t.nodes ∙ one_node_more Names line back e refl;
+  reading = sym (reading_after Names line back e refl);
+}
+tells_kept library Latch line back draft e t f = record {
+  begun = refl;
+  unnamed = λ h. absurd (cc);
+  ended = t.ended ∙ sym (ended_more line back Latch e);
+  part = t.part ∙ sym (part_more line back Latch e);
+  kiss = t.kiss ∙ sym (kiss_more line back Latch e);
+  nodes = ap (λ n. n + 1) t.nodes ∙ one_node_more Latch line back e refl;
+  reading = sym (reading_after Latch line back e refl);
+}
+tells_kept library Gate line back draft e t f = record {
+  begun = refl;
+  unnamed = λ h. absurd (cc);
+  ended = t.ended ∙ sym (ended_more line back Gate e);
+  part = t.part ∙ sym (part_more line back Gate e);
+  kiss = t.kiss ∙ sym (kiss_more line back Gate e);
+  nodes = ap (λ n. n + 1) t.nodes ∙ one_node_more Gate line back e refl;
+  reading = sym (reading_after Gate line back e refl);
+}
+tells_kept library StartKiss line back draft e t f = record {
+  begun = refl;
+  unnamed = λ h. absurd (cc);
+  ended = t.ended ∙ sym (ended_more line back StartKiss e);
+  part = t.part ∙ sym (part_more line back StartKiss e);
+  kiss = sym (kiss_more line back StartKiss e);
+  nodes = t.nodes ∙ same_nodes StartKiss line back e refl;
+  reading = sym (reading_after StartKiss line back e refl);
+}
+tells_kept library DontCare line back draft e t f = record {
+  begun = refl;
+  unnamed = λ h. absurd (cc);
+  ended = t.ended ∙ sym (ended_more line back DontCare e);
+  part = sym (part_more line back DontCare e);
+  kiss = t.kiss ∙ sym (kiss_more line back DontCare e);
+  nodes = t.nodes ∙ same_nodes DontCare line back e refl;
+  reading = sym (reading_after DontCare line back e refl);
+}
+tells_kept library End line back draft e t f = record {
+  begun = refl;
+  unnamed = λ h. absurd (cc);
+  ended = sym (ended_more line back End e);
+  part = t.part ∙ sym (part_more line back End e);
+  kiss = t.kiss ∙ sym (kiss_more line back End e);
+  nodes = t.nodes ∙ same_nodes End line back e refl;
+  reading = sym (reading_after End line back e refl);
+}
+tells_kept library Skipped line back draft e t f = record {
+  begun = refl;
+  unnamed = λ h. absurd (cc);
+  ended = t.ended ∙ sym (ended_more line back Skipped e);
+  part = t.part ∙ sym (part_more line back Skipped e);
+  kiss = t.kiss ∙ sym (kiss_more line back Skipped e);
+  nodes = t.nodes ∙ same_nodes Skipped line back e refl;
+  reading = sym (reading_after Skipped line back e refl);
+}
+tells_kept library Row line back draft e t f = record {
+  begun = refl;
+  unnamed = λ h. absurd (cc);
+  ended = t.ended ∙ sym (ended_more line back Row e);
+  part = t.part ∙ sym (part_more line back Row e);
+  kiss = t.kiss ∙ sym (kiss_more line back Row e);
+  nodes = t.nodes ∙ same_nodes Row line back e refl;
+  reading = ap (λ reading. row_behind reading (joined line.words)) t.reading ∙ sym (reading_row line back (row_is line Row e));
+}
+tells_kept library Other line back draft e t f = absurd (cc)
+
+-- what is read in the end of a draft and the lines that follow
+pub with_rows : Reading → List (List ℕ) → Table
+with_rows reading [] = reading.table
+with_rows reading (row ∷ rows) = with_rows (with_row reading row) rows
+
+pub with_rows_read : (words before rows : List (List ℕ)) → with_rows (read_with words before) rows ≡ table_of words (before ++ rows)
+unfolding with_rows
+with_rows_read words before [] = sym (ap (table_of words) (append-nil before))
+with_rows_read words before (row ∷ rows) =
+    ap (λ reading. with_rows reading rows) (row_read words before row)
+    ∙ with_rows_read words (before ++ row ∷ []) rows
+    ∙ ap (table_of words) (append_assoc before (row ∷ []) rows)
+
+abbrev pub rows_in : List Entry → List (List ℕ)
+rows_in lines = map (λ (row : Entry). joined row.words) (take_while is_row lines)
+
+abbrev pub tables_after : Option (List TheGate) → Option Reading → List Entry → List Table
+tables_after library None lines = tables_in library lines
+tables_after library (Some reading) lines = with_rows reading (rows_in lines) ∷ tables_in library lines
+
+abbrev pub name_after : Bool → List ℕ → List Entry → List ℕ
+name_after true name lines = name
+name_after false name lines = model_name lines
+
+-- the names that tables, latches and gates read before a line of inputs
+abbrev pub inner_by : Option (List TheGate) → Keyword → List (List ℕ) → List (List ℕ) → List (List ℕ)
+inner_by library Inputs words rest = []
+inner_by library kind words rest = read_within library kind words ++ rest
+
+unfoldable pub inner_in : Option (List TheGate) → List Entry → List (List ℕ)
+inner_in library [] = []
+inner_in library (line ∷ lines) = inner_by library (kind_of line) (other_words line.words) (inner_in library lines)
+
+abbrev pub inner_after : Option (List TheGate) → Bool → List (List ℕ) → List Entry → List (List ℕ)
+inner_after library true inner lines = inner
+inner_after library false inner lines = inner ++ inner_in library lines
+
+-- the timing of the first latch, and the line of the first that is timed otherwise, where these lines of latches follow
+abbrev pub timing_after : List TheLatch → Option Timing → List Entry → Option Timing
+timing_after [] timing [] = timing
+timing_after [] timing (line ∷ lines) = timing_at line
+timing_after (latch ∷ latches) timing lines = timing
+
+abbrev pub mixed_after : Option ℕ → Option Timing → List Entry → Option ℕ
+mixed_after None timing lines = option_map (λ (line : Entry). line.number) (find (λ line. not (same_timing timing (timing_at line))) lines)
+mixed_after (Some number) timing lines = Some number
+
+-- what is kept in the end of a draft in the model, where these lines of the model and these tables of the part follow
+abbrev pub kept_from : Option (List TheGate) → Draft → List Entry → List Entry → List Table → Kept
+kept_from library draft lines own part = record {
+  has_kiss = draft.has_kiss || has_kiss lines;
+  name = name_after draft.begun draft.name lines;
+  lists_inputs = draft.lists_inputs || lists_inputs own;
+  inputs = draft.inputs ++ of_lines listed_inputs own;
+  lists_outputs = draft.lists_outputs || lists_outputs own;
+  outputs = draft.outputs ++ of_lines listed_outputs own;
+  ports = draft.ports ++ of_lines listed_ports own;
+  clocks = draft.clocks ++ of_lines listed_clocks own;
+  drives = draft.drives ++ of_lines (driven_by library) own;
+  reads = draft.reads ++ of_lines (read_by library) own;
+  inner = inner_after library draft.lists_inputs draft.inner own;
+  timing = timing_after draft.latches draft.timing (latch_lines own);
+  mixed = mixed_after draft.mixed (timing_after draft.latches draft.timing (latch_lines own)) (latch_lines own);
+  latches = draft.latches ++ of_lines latches_by own;
+  tables = draft.tables ++ tables_after library draft.reading own;
+  dont_care = part;
+}
+
+-- what is kept in the end of a draft in the don't-care part, where these lines follow
+abbrev pub kept_part : Option (List TheGate) → Draft → List Entry → Kept
+kept_part library draft lines = record {
+  has_kiss = draft.has_kiss || has_kiss lines;
+  name = name_after draft.begun draft.name lines;
+  lists_inputs = draft.lists_inputs;
+  inputs = draft.inputs;
+  lists_outputs = draft.lists_outputs;
+  outputs = draft.outputs;
+  ports = draft.ports;
+  clocks = draft.clocks;
+  drives = draft.drives;
+  reads = draft.reads;
+  inner = draft.inner;
+  timing = draft.timing;
+  mixed = draft.mixed;
+  latches = draft.latches;
+  tables = draft.model_tables;
+  dont_care = draft.tables ++ tables_after library draft.reading lines;
+}
+
+abbrev pub kept_by : Option (List TheGate) → Bool → Draft → List Entry → Kept
+kept_by library true draft lines = kept_part library draft lines
+kept_by library false draft lines = kept_from library draft lines (model_lines lines) (tables_in library (part_lines lines))
+
+abbrev pub finished_by : Option (List TheGate) → Draft → List Entry → Result Content BlifFault
+finished_by library draft lines = read_kept (kept_by library draft.has_part draft lines)
+
+abbrev kept_with : Bool → List ℕ → Bool → List (List ℕ) → Bool → List (List ℕ) → List (List ℕ) → List (List ℕ) → List (List ℕ) → List (List ℕ) → List (List ℕ) → Option Timing → Option ℕ → List TheLatch → List Table → List Table → Kept
+kept_with kiss name li inputs lo outputs ports clocks drives reads inner timing mixed latches tables dont_care = record {
+  has_kiss = kiss;
+  name = name;
+  lists_inputs = li;
+  inputs = inputs;
+  lists_outputs = lo;
+  outputs = outputs;
+  ports = ports;
+  clocks = clocks;
+  drives = drives;
+  reads = reads;
+  inner = inner;
+  timing = timing;
+  mixed = mixed;
+  latches = latches;
+  tables = tables;
+  dont_care = dont_care;
+}
+
+pub kept_same : (k l : Kept) → k.has_kiss ≡ l.has_kiss → k.name ≡ l.name → k.lists_inputs ≡ l.lists_inputs → k.inputs ≡ l.inputs → k.lists_outputs ≡ l.lists_outputs → k.outputs ≡ l.outputs → k.ports ≡ l.ports → k.clocks ≡ l.clocks
+    → k.drives ≡ l.drives → k.reads ≡ l.reads → k.inner ≡ l.inner → k.timing ≡ l.timing → k.mixed ≡ l.mixed → k.latches ≡ l.latches → k.tables ≡ l.tables → k.dont_care ≡ l.dont_care → k ≡ l
+kept_same k l z a b c d e f g h i j m n o p q = same k.has_kiss k.name k.lists_inputs k.inputs k.lists_outputs k.outputs k.ports k.clocks k.drives k.reads k.inner k.timing k.mixed k.latches k.tables k.dont_care z a b c d e f g h i j m n o p q
+  where
+    same : (kiss : Bool) (name : List ℕ) (li : Bool) (inputs : List (List ℕ)) (lo : Bool) (outputs ports clocks drives reads inner : List (List ℕ)) (timing : Option Timing) (mixed : Option ℕ) (latches : List TheLatch) (tables dont_care : List Table)
+        → kiss ≡ l.has_kiss → name ≡ l.name → li ≡ l.lists_inputs → inputs ≡ l.inputs → lo ≡ l.lists_outputs → outputs ≡ l.outputs → ports ≡ l.ports → clocks ≡ l.clocks → drives ≡ l.drives → reads ≡ l.reads → inner ≡ l.inner → timing ≡ l.timing → mixed ≡ l.mixed → latches ≡ l.latches → tables ≡ l.tables → dont_care ≡ l.dont_care
+        → kept_with kiss name li inputs lo outputs ports clocks drives reads inner timing mixed latches tables dont_care ≡ l
+    same kiss name li inputs lo outputs ports clocks drives reads inner timing mixed latches tables dont_care z a b c d e f g h i j m n o p q = rw (z, a, b, c, d, e, f, g, h, i, j, m, n, o, p, q) refl
+
+-- a field of the draft with what a line puts behind it, and the lines that follow
+pub put_more : {A : Type 0} (words_of : Keyword → List (List ℕ) → List A) (before : List A) (kind : Keyword) (line : Entry) (lines : List Entry) → kind_of line ≡ kind → (before ++ words_of kind (other_words line.words)) ++ of_lines words_of lines ≡ before ++ of_lines words_of (line ∷ lines)
+put_more words_of before kind line lines e =
+    append_assoc before (words_of kind (other_words line.words)) (of_lines words_of lines) ∙ ap (λ rest. before ++ rest) (sym (more_of words_of line lines kind e))
+
+pub put_none : {A : Type 0} (words_of : Keyword → List (List ℕ) → List A) (before : List A) (kind : Keyword) (line : Entry) (lines : List Entry) → kind_of line ≡ kind → words_of kind (other_words line.words) ≡ [] → before ++ of_lines words_of lines ≡ before ++ of_lines words_of (line ∷ lines)
+put_none words_of before kind line lines e none =
+    ap (λ rest. before ++ rest) (sym (more_of words_of line lines kind e ∙ ap (λ more. more ++ of_lines words_of lines) none))
+
+-- the same where a list grows in the model alone
+pub put_grown : (words_of : Keyword → List (List ℕ) → List (List ℕ)) (had : Bool) (before : List (List ℕ)) (kind : Keyword) (line : Entry) (lines : List Entry) → kind_of line ≡ kind → had ≡ false → with_more had before (words_of kind (other_words line.words)) ++ of_lines words_of lines ≡ before ++ of_lines words_of (line ∷ lines)
+put_grown words_of true before kind line lines e h = absurd (cc)
+put_grown words_of false before kind line lines e h = put_more words_of before kind line lines e
+
+pub not_grown : (had : Bool) (before more : List (List ℕ)) → had ≡ true → with_more had before more ≡ before
+not_grown true before more h = refl
+not_grown false before more h = absurd (cc)
+
+pub inputs_listed_more : (line : Entry) (lines : List Entry) (kind : Keyword) → kind_of line ≡ kind → lists_inputs (line ∷ lines) ≡ (is_inputs_kind kind || lists_inputs lines)
+unfolding lists_inputs
+inputs_listed_more line lines kind e = ap (λ k. is_inputs_kind k || lists_inputs lines) e
+
+pub outputs_listed_more : (line : Entry) (lines : List Entry) (kind : Keyword) → kind_of line ≡ kind → lists_outputs (line ∷ lines) ≡ (is_outputs_kind kind || lists_outputs lines)
+unfolding lists_outputs
+outputs_listed_more line lines kind e = ap (λ k. is_outputs_kind k || lists_outputs lines) e
+
+pub no_inputs_listed : (before : Bool) (kind : Keyword) (line : Entry) (lines : List Entry) → kind_of line ≡ kind → is_inputs_kind kind ≡ false → (before || lists_inputs lines) ≡ (before || lists_inputs (line ∷ lines))
+no_inputs_listed before kind line lines e unlike = ap (λ b. before || b) (sym (inputs_listed_more line lines kind e ∙ ap (λ b. b || lists_inputs lines) unlike))
+
+pub no_outputs_listed : (before : Bool) (kind : Keyword) (line : Entry) (lines : List Entry) → kind_of line ≡ kind → is_outputs_kind kind ≡ false → (before || lists_outputs lines) ≡ (before || lists_outputs (line ∷ lines))
+no_outputs_listed before kind line lines e unlike = ap (λ b. before || b) (sym (outputs_listed_more line lines kind e ∙ ap (λ b. b || lists_outputs lines) unlike))
+
+pub no_kiss : (before : Bool) (kind : Keyword) (line : Entry) (lines : List Entry) → kind_of line ≡ kind → begins_kiss kind ≡ false → (before || has_kiss lines) ≡ (before || has_kiss (line ∷ lines))
+no_kiss before kind line lines e unlike = ap (λ b. before || b) (sym (kiss_more line lines kind e ∙ ap (λ b. b || has_kiss lines) unlike))
+
+pub either : (a b : Bool) → b ≡ true → (a || b) ≡ true
+either true b e = refl
+either false b e = e
+
+pub now_listed : (had before rest : Bool) → had ≡ false → ((not had || before) || rest) ≡ (before || (true || rest))
+now_listed true before rest h = absurd (cc)
+now_listed false true rest h = refl
+now_listed false false rest h = refl
+
+pub still_listed : (had before : Bool) → had ≡ true → (not had || before) ≡ before
+still_listed true before h = refl
+still_listed false before h = absurd (cc)
+
+pub inner_line : (library : Option (List TheGate)) (line : Entry) (lines : List Entry) (kind : Keyword) → kind_of line ≡ kind → inner_in library (line ∷ lines) ≡ inner_by library kind (other_words line.words) (inner_in library lines)
+unfolding inner_in
+inner_line library line lines kind e = ap (λ k. inner_by library k (other_words line.words) (inner_in library lines)) e
+
+pub inner_other : (library : Option (List TheGate)) (lists : Bool) (inner : List (List ℕ)) (kind : Keyword) (line : Entry) (lines : List Entry) → kind_of line ≡ kind → inner_by library kind (other_words line.words) (inner_in library lines) ≡ inner_in library lines → inner_after library lists inner lines ≡ inner_after library lists inner (line ∷ lines)
+inner_other library true inner kind line lines e unlike = refl
+inner_other library false inner kind line lines e unlike = ap (λ rest. inner ++ rest) (sym (inner_line library line lines kind e ∙ unlike))
+
+pub inner_more : (library : Option (List TheGate)) (had lists : Bool) (inner more : List (List ℕ)) (kind : Keyword) (line : Entry) (lines : List Entry) → kind_of line ≡ kind → had ≡ false → inner_by library kind (other_words line.words) (inner_in library lines) ≡ more ++ inner_in library lines → inner_after library lists (with_more (had || lists) inner more) lines ≡ inner_after library lists inner (line ∷ lines)
+inner_more library true lists inner more kind line lines e h by = absurd (cc)
+inner_more library false true inner more kind line lines e h by = refl
+inner_more library false false inner more kind line lines e h by = append_assoc inner more (inner_in library lines) ∙ ap (λ rest. inner ++ rest) (sym (inner_line library line lines kind e ∙ by))
+
+pub inner_ended : (library : Option (List TheGate)) (had lists : Bool) (inner : List (List ℕ)) (line : Entry) (lines : List Entry) → kind_of line ≡ Inputs → had ≡ false → inner_after library (not had || lists) inner lines ≡ inner_after library lists inner (line ∷ lines)
+inner_ended library true lists inner line lines e h = absurd (cc)
+inner_ended library false true inner line lines e h = refl
+inner_ended library false false inner line lines e h = sym (ap (λ rest. inner ++ rest) (inner_line library line lines Inputs e) ∙ append-nil inner)
+
+pub latches_other : (kind : Keyword) (line : Entry) (lines : List Entry) → kind_of line ≡ kind → is_latch_line kind ≡ false → latch_lines lines ≡ latch_lines (line ∷ lines)
+latches_other kind line lines e unlike = let is : is_latch_line (kind_of line) ≡ false = ap is_latch_line e ∙ unlike in rw is refl
+
+pub latches_one : (line : Entry) (lines : List Entry) → kind_of line ≡ Latch → line ∷ latch_lines lines ≡ latch_lines (line ∷ lines)
+latches_one line lines e = let is : is_latch_line (kind_of line) ≡ true = ap is_latch_line e in rw is refl
+
+pub timing_latch : (latches : List TheLatch) (timing : Option Timing) (words : List (List ℕ)) (line : Entry) (lines : List Entry) → other_words line.words ≡ words → is_latch words ≡ true → timing_after (latches ++ latch_of words) (timing_with latches timing (timing_of words)) lines ≡ timing_after latches timing (line ∷ lines)
+unfolding timing_with
+timing_latch (latch ∷ latches) timing words line lines e is = refl
+timing_latch [] timing [] line lines e is = absurd (cc)
+timing_latch [] timing (input ∷ []) line lines e is = absurd (cc)
+timing_latch [] timing (input ∷ output ∷ words) line lines e is = sym (ap timing_of e)
+
+pub shared_timing : (latches : List TheLatch) (timing : Option Timing) (line : Entry) (lines : List Entry) → timing_with latches timing (timing_at line) ≡ timing_after latches timing (line ∷ lines)
+unfolding timing_with
+shared_timing [] timing line lines = refl
+shared_timing (latch ∷ latches) timing line lines = refl
+
+pub mixed_latch : (mixed : Option ℕ) (timing : Option Timing) (line : Entry) (lines : List Entry) → mixed_after (mixed_with mixed timing line.number (timing_at line)) timing lines ≡ mixed_after mixed timing (line ∷ lines)
+unfolding mixed_with
+mixed_latch (Some number) timing line lines = refl
+mixed_latch None timing line lines = by (same_timing timing (timing_at line))
+  where
+    by : (b : Bool) → mixed_after (if b then None else Some line.number) timing lines ≡ option_map (λ (one : Entry). one.number) (cond (not b) (Some line) (find (λ one. not (same_timing timing (timing_at one))) lines))
+    by true = refl
+    by false = refl
+
+pub name_other : (line : Entry) (lines : List Entry) → named_by (kind_of line) (other_words line.words) ≡ codes "top" → (begun : Bool) (name : List ℕ) → (begun ≡ false → name ≡ codes "top") → name ≡ name_after begun name (line ∷ lines)
+unfolding model_name
+name_other line lines e true name h = refl
+name_other line lines e false name h = h refl ∙ sym e
+
+pub model_named : (line : Entry) (lines : List Entry) (begun : Bool) (name : List ℕ) → kind_of line ≡ Model → begun ≡ false → named_by Model (other_words line.words) ≡ name_after begun name (line ∷ lines)
+unfolding model_name
+model_named line lines begun name e none = rw none (sym (ap (λ k. named_by k (other_words line.words)) e))
+
+pub tables_more : (library : Option (List TheGate)) (kind : Keyword) (line : Entry) (lines : List Entry) → kind_of line ≡ kind → tables_in library (line ∷ lines) ≡ tables_by library kind (other_words line.words) (rows_in lines) ++ tables_in library lines
+unfolding tables_in
+tables_more library kind line lines e = ap (λ k. tables_by library k (other_words line.words) (rows_in lines) ++ tables_in library lines) e
+
+pub tables_other : (library : Option (List TheGate)) (kind : Keyword) (line : Entry) (lines : List Entry) → kind_of line ≡ kind → tables_by library kind (other_words line.words) (rows_in lines) ≡ [] → tables_in library (line ∷ lines) ≡ tables_in library lines
+tables_other library kind line lines e none = tables_more library kind line lines e ∙ ap (λ tables. tables ++ tables_in library lines) none
+
+pub no_rows_in : (line : Entry) (lines : List Entry) → is_row line ≡ false → rows_in (line ∷ lines) ≡ []
+no_rows_in line lines e = rw (take_while-cons is_row line lines, e) refl
+
+pub one_row_in : (line : Entry) (lines : List Entry) → is_row line ≡ true → rows_in (line ∷ lines) ≡ joined line.words ∷ rows_in lines
+one_row_in line lines e = rw (take_while-cons is_row line lines, e) refl
+
+pub closed_tables : (library : Option (List TheGate)) (tables : List Table) (reading : Option Reading) (line : Entry) (lines : List Entry) → is_row line ≡ false → tables_with tables reading ++ tables_in library (line ∷ lines) ≡ tables ++ tables_after library reading (line ∷ lines)
+unfolding tables_with with_rows
+closed_tables library tables None line lines e = refl
+closed_tables library tables (Some reading) line lines e =
+    append_assoc tables (reading.table ∷ []) (tables_in library (line ∷ lines))
+    ∙ ap (λ rows. tables ++ with_rows reading rows ∷ tables_in library (line ∷ lines)) (sym (no_rows_in line lines e))
+
+pub closed_other : (library : Option (List TheGate)) (tables : List Table) (reading : Option Reading) (kind : Keyword) (line : Entry) (lines : List Entry) → kind_of line ≡ kind → is_row_kind kind ≡ false → tables_by library kind (other_words line.words) (rows_in lines) ≡ []
+    → tables_with tables reading ++ tables_in library lines ≡ tables ++ tables_after library reading (line ∷ lines)
+closed_other library tables reading kind line lines e other none =
+    ap (λ rest. tables_with tables reading ++ rest) (sym (tables_other library kind line lines e none)) ∙ closed_tables library tables reading line lines (row_is line kind e ∙ other)
+
+pub closed_table : (library : Option (List TheGate)) (tables : List Table) (reading : Option Reading) (line : Entry) (lines : List Entry) → kind_of line ≡ Names → tables_with tables reading ++ with_rows (read_with (other_words line.words) []) (rows_in lines) ∷ tables_in library lines ≡ tables ++ tables_after library reading (line ∷ lines)
+closed_table library tables reading line lines e =
+    ap (λ table. tables_with tables reading ++ table ∷ tables_in library lines) (with_rows_read (other_words line.words) [] (rows_in lines))
+    ∙ ap (λ rest. tables_with tables reading ++ rest) (sym (tables_more library Names line lines e))
+    ∙ closed_tables library tables reading line lines (row_is line Names e)
+
+pub closed_gate : (library : Option (List TheGate)) (tables : List Table) (reading : Option Reading) (line : Entry) (lines : List Entry) → kind_of line ≡ Gate → (tables_with tables reading ++ gate_tables library (other_words line.words)) ++ tables_in library lines ≡ tables ++ tables_after library reading (line ∷ lines)
+closed_gate library tables reading line lines e =
+    append_assoc (tables_with tables reading) (gate_tables library (other_words line.words)) (tables_in library lines)
+    ∙ ap (λ rest. tables_with tables reading ++ rest) (sym (tables_more library Gate line lines e))
+    ∙ closed_tables library tables reading line lines (row_is line Gate e)
+
+pub row_tables : (library : Option (List TheGate)) (reading : Option Reading) (line : Entry) (lines : List Entry) → kind_of line ≡ Row → tables_after library (row_behind reading (joined line.words)) lines ≡ tables_after library reading (line ∷ lines)
+unfolding with_rows
+row_tables library None line lines e = sym (tables_other library Row line lines e refl)
+row_tables library (Some reading) line lines e =
+    rw (one_row_in line lines (row_is line Row e), tables_other library Row line lines e refl) refl
+
+-- one line more in the model
+pub own_step : (library : Option (List TheGate)) (kind : Keyword) (line : Entry) (lines own : List Entry) (part : List Table) (back : List Entry) (draft : Draft) → kind_of line ≡ kind → Tells back draft → draft_fault library kind draft line.number (other_words line.words) line.words ≡ None → draft.has_part ≡ false → begins_part kind ≡ false
+    → kept_from library (with_line library kind draft line.number (other_words line.words) line.words) lines own part ≡ kept_from library draft (line ∷ lines) (line ∷ own) part
+unfolding closed
+own_step library Model line lines own part back draft e t f h unlike =
+    kept_same _ _
+    (no_kiss draft.has_kiss Model line lines e refl)
+    (model_named line lines draft.begun draft.name e (begins (place_of draft) draft.begun line.number (other_words line.words) f))
+    (no_inputs_listed draft.lists_inputs Model line own e refl)
+    (put_none listed_inputs draft.inputs Model line own e refl)
+    (no_outputs_listed draft.lists_outputs Model line own e refl)
+    (put_none listed_outputs draft.outputs Model line own e refl)
+    (put_none listed_ports draft.ports Model line own e refl)
+    (put_none listed_clocks draft.clocks Model line own e refl)
+    (put_none (driven_by library) draft.drives Model line own e refl)
+    (put_none (read_by library) draft.reads Model line own e refl)
+    (inner_other library draft.lists_inputs draft.inner Model line own e refl)
+    (ap (timing_after draft.latches draft.timing) (latches_other Model line own e refl))
+    (ap (λ ls. mixed_after draft.mixed (timing_after draft.latches draft.timing ls) ls) (latches_other Model line own e refl))
+    (put_none latches_by draft.latches Model line own e refl)
+    (closed_other library draft.tables draft.reading Model line own e refl refl)
+    refl
+own_step library Inputs line lines own part back draft e t f h unlike =
+    kept_same _ _
+    (no_kiss draft.has_kiss Inputs line lines e refl)
+    (name_other line lines (ap (λ k. named_by k (other_words line.words)) e) draft.begun draft.name t.unnamed)
+    (now_listed draft.has_part draft.lists_inputs (lists_inputs own) h ∙ ap (λ b. draft.lists_inputs || b) (sym (inputs_listed_more line own Inputs e)))
+    (put_grown listed_inputs draft.has_part draft.inputs Inputs line own e h)
+    (no_outputs_listed draft.lists_outputs Inputs line own e refl)
+    (put_none listed_outputs draft.outputs Inputs line own e refl)
+    (put_grown listed_ports draft.has_part draft.ports Inputs line own e h)
+    (put_none listed_clocks draft.clocks Inputs line own e refl)
+    (put_none (driven_by library) draft.drives Inputs line own e refl)
+    (put_none (read_by library) draft.reads Inputs line own e refl)
+    (inner_ended library draft.has_part draft.lists_inputs draft.inner line own e h)
+    (ap (timing_after draft.latches draft.timing) (latches_other Inputs line own e refl))
+    (ap (λ ls. mixed_after draft.mixed (timing_after draft.latches draft.timing ls) ls) (latches_other Inputs line own e refl))
+    (put_none latches_by draft.latches Inputs line own e refl)
+    (closed_other library draft.tables draft.reading Inputs line own e refl refl)
+    refl
+own_step library Outputs line lines own part back draft e t f h unlike =
+    kept_same _ _
+    (no_kiss draft.has_kiss Outputs line lines e refl)
+    (name_other line lines (ap (λ k. named_by k (other_words line.words)) e) draft.begun draft.name t.unnamed)
+    (no_inputs_listed draft.lists_inputs Outputs line own e refl)
+    (put_none listed_inputs draft.inputs Outputs line own e refl)
+    (now_listed draft.has_part draft.lists_outputs (lists_outputs own) h ∙ ap (λ b. draft.lists_outputs || b) (sym (outputs_listed_more line own Outputs e)))
+    (put_grown listed_outputs draft.has_part draft.outputs Outputs line own e h)
+    (put_grown listed_ports draft.has_part draft.ports Outputs line own e h)
+    (put_none listed_clocks draft.clocks Outputs line own e refl)
+    (put_none (driven_by library) draft.drives Outputs line own e refl)
+    (put_grown (read_by library) draft.has_part draft.reads Outputs line own e h)
+    (inner_other library draft.lists_inputs draft.inner Outputs line own e refl)
+    (ap (timing_after draft.latches draft.timing) (latches_other Outputs line own e refl))
+    (ap (λ ls. mixed_after draft.mixed (timing_after draft.latches draft.timing ls) ls) (latches_other Outputs line own e refl))
+    (put_none latches_by draft.latches Outputs line own e refl)
+    (closed_other library draft.tables draft.reading Outputs line own e refl refl)
+    refl
+own_step library Clock line lines own part back draft e t f h unlike =
+    kept_same _ _
+    (no_kiss draft.has_kiss Clock line lines e refl)
+    (name_other line lines (ap (λ k. named_by k (other_words line.words)) e) draft.begun draft.name t.unnamed)
+    (no_inputs_listed draft.lists_inputs Clock line own e refl)
+    (put_none listed_inputs draft.inputs Clock line own e refl)
+    (no_outputs_listed draft.lists_outputs Clock line own e refl)
+    (put_none listed_outputs draft.outputs Clock line own e refl)
+    (put_none listed_ports draft.ports Clock line own e refl)
+    (put_more listed_clocks draft.clocks Clock line own e)
+    (put_none (driven_by library) draft.drives Clock line own e refl)
+    (put_none (read_by library) draft.reads Clock line own e refl)
+    (inner_other library draft.lists_inputs draft.inner Clock line own e refl)
+    (ap (timing_after draft.latches draft.timing) (latches_other Clock line own e refl))
+    (ap (λ ls. mixed_after draft.mixed (timing_after draft.latches draft.timing ls) ls) (latches_other Clock line own e refl))
+    (put_none latches_by draft.latches Clock line own e refl)
+    (closed_other library draft.tables draft.reading Clock line own e refl refl)
+    refl
+own_step library Names line lines own part back draft e t f h unlike =
+    kept_same _ _
+    (no_kiss draft.has_kiss Names line lines e refl)
+    (name_other line lines (ap (λ k. named_by k (other_words line.words)) e) draft.begun draft.name t.unnamed)
+    (no_inputs_listed draft.lists_inputs Names line own e refl)
+    (put_none listed_inputs draft.inputs Names line own e refl)
+    (no_outputs_listed draft.lists_outputs Names line own e refl)
+    (put_none listed_outputs draft.outputs Names line own e refl)
+    (put_none listed_ports draft.ports Names line own e refl)
+    (put_none listed_clocks draft.clocks Names line own e refl)
+    (put_grown (driven_by library) draft.has_part draft.drives Names line own e h)
+    (put_grown (read_by library) draft.has_part draft.reads Names line own e h)
+    (inner_more library draft.has_part draft.lists_inputs draft.inner (input_words (other_words line.words)) Names line own e h refl)
+    (ap (timing_after draft.latches draft.timing) (latches_other Names line own e refl))
+    (ap (λ ls. mixed_after draft.mixed (timing_after draft.latches draft.timing ls) ls) (latches_other Names line own e refl))
+    (put_none latches_by draft.latches Names line own e refl)
+    (closed_table library draft.tables draft.reading line own e)
+    refl
+own_step library Latch line lines own part back draft e t f h unlike =
+    kept_same _ _
+    (no_kiss draft.has_kiss Latch line lines e refl)
+    (name_other line lines (ap (λ k. named_by k (other_words line.words)) e) draft.begun draft.name t.unnamed)
+    (no_inputs_listed draft.lists_inputs Latch line own e refl)
+    (put_none listed_inputs draft.inputs Latch line own e refl)
+    (no_outputs_listed draft.lists_outputs Latch line own e refl)
+    (put_none listed_outputs draft.outputs Latch line own e refl)
+    (put_none listed_ports draft.ports Latch line own e refl)
+    (put_none listed_clocks draft.clocks Latch line own e refl)
+    (put_more (driven_by library) draft.drives Latch line own e)
+    (put_more (read_by library) draft.reads Latch line own e)
+    (inner_more library false draft.lists_inputs draft.inner (latch_input (other_words line.words)) Latch line own e refl refl)
+    (timing_latch draft.latches draft.timing (other_words line.words) line (latch_lines own) refl (right_latch (place_of draft) draft.nodes line.number (other_words line.words) f) ∙ ap (timing_after draft.latches draft.timing) (latches_one line own e))
+    (ap (λ timing. mixed_after (mixed_with draft.mixed (timing_with draft.latches draft.timing (timing_at line)) line.number (timing_at line)) timing (latch_lines own)) (timing_latch draft.latches draft.timing (other_words line.words) line (latch_lines own) refl (right_latch (place_of draft) draft.nodes line.number (other_words line.words) f))
+    ∙ ap (λ timing. mixed_after (mixed_with draft.mixed timing line.number (timing_at line)) (timing_after draft.latches draft.timing (line ∷ latch_lines own)) (latch_lines own)) (shared_timing draft.latches draft.timing line (latch_lines own))
+    ∙ mixed_latch draft.mixed (timing_after draft.latches draft.timing (line ∷ latch_lines own)) line (latch_lines own)
+    ∙ ap (λ ls. mixed_after draft.mixed (timing_after draft.latches draft.timing ls) ls) (latches_one line own e))
+    (put_more latches_by draft.latches Latch line own e)
+    (closed_other library draft.tables draft.reading Latch line own e refl refl)
+    refl
+own_step library Gate line lines own part back draft e t f h unlike =
+    kept_same _ _
+    (no_kiss draft.has_kiss Gate line lines e refl)
+    (name_other line lines (ap (λ k. named_by k (other_words line.words)) e) draft.begun draft.name t.unnamed)
+    (no_inputs_listed draft.lists_inputs Gate line own e refl)
+    (put_none listed_inputs draft.inputs Gate line own e refl)
+    (no_outputs_listed draft.lists_outputs Gate line own e refl)
+    (put_none listed_outputs draft.outputs Gate line own e refl)
+    (put_none listed_ports draft.ports Gate line own e refl)
+    (put_none listed_clocks draft.clocks Gate line own e refl)
+    (put_more (driven_by library) draft.drives Gate line own e)
+    (put_more (read_by library) draft.reads Gate line own e)
+    (inner_more library false draft.lists_inputs draft.inner (gate_inputs library (other_words line.words)) Gate line own e refl refl)
+    (ap (timing_after draft.latches draft.timing) (latches_other Gate line own e refl))
+    (ap (λ ls. mixed_after draft.mixed (timing_after draft.latches draft.timing ls) ls) (latches_other Gate line own e refl))
+    (put_none latches_by draft.latches Gate line own e refl)
+    (closed_gate library draft.tables draft.reading line own e)
+    refl
+own_step library StartKiss line lines own part back draft e t f h unlike =
+    kept_same _ _
+    (sym (ap (λ b. draft.has_kiss || b) (kiss_more line lines StartKiss e) ∙ either draft.has_kiss true refl))
+    (name_other line lines (ap (λ k. named_by k (other_words line.words)) e) draft.begun draft.name t.unnamed)
+    (no_inputs_listed draft.lists_inputs StartKiss line own e refl)
+    (put_none listed_inputs draft.inputs StartKiss line own e refl)
+    (no_outputs_listed draft.lists_outputs StartKiss line own e refl)
+    (put_none listed_outputs draft.outputs StartKiss line own e refl)
+    (put_none listed_ports draft.ports StartKiss line own e refl)
+    (put_none listed_clocks draft.clocks StartKiss line own e refl)
+    (put_none (driven_by library) draft.drives StartKiss line own e refl)
+    (put_none (read_by library) draft.reads StartKiss line own e refl)
+    (inner_other library draft.lists_inputs draft.inner StartKiss line own e refl)
+    (ap (timing_after draft.latches draft.timing) (latches_other StartKiss line own e refl))
+    (ap (λ ls. mixed_after draft.mixed (timing_after draft.latches draft.timing ls) ls) (latches_other StartKiss line own e refl))
+    (put_none latches_by draft.latches StartKiss line own e refl)
+    (closed_other library draft.tables draft.reading StartKiss line own e refl refl)
+    refl
+own_step library DontCare line lines own part back draft e t f h unlike = absurd (cc)
+own_step library End line lines own part back draft e t f h unlike =
+    kept_same _ _
+    (no_kiss draft.has_kiss End line lines e refl)
+    (name_other line lines (ap (λ k. named_by k (other_words line.words)) e) draft.begun draft.name t.unnamed)
+    (no_inputs_listed draft.lists_inputs End line own e refl)
+    (put_none listed_inputs draft.inputs End line own e refl)
+    (no_outputs_listed draft.lists_outputs End line own e refl)
+    (put_none listed_outputs draft.outputs End line own e refl)
+    (put_none listed_ports draft.ports End line own e refl)
+    (put_none listed_clocks draft.clocks End line own e refl)
+    (put_none (driven_by library) draft.drives End line own e refl)
+    (put_none (read_by library) draft.reads End line own e refl)
+    (inner_other library draft.lists_inputs draft.inner End line own e refl)
+    (ap (timing_after draft.latches draft.timing) (latches_other End line own e refl))
+    (ap (λ ls. mixed_after draft.mixed (timing_after draft.latches draft.timing ls) ls) (latches_other End line own e refl))
+    (put_none latches_by draft.latches End line own e refl)
+    (closed_other library draft.tables draft.reading End line own e refl refl)
+    refl
+own_step library Skipped line lines own part back draft e t f h unlike =
+    kept_same _ _
+    (no_kiss draft.has_kiss Skipped line lines e refl)
+    (name_other line lines (ap (λ k. named_by k (other_words line.words)) e) draft.begun draft.name t.unnamed)
+    (no_inputs_listed draft.lists_inputs Skipped line own e refl)
+    (put_none listed_inputs draft.inputs Skipped line own e refl)
+    (no_outputs_listed draft.lists_outputs Skipped line own e refl)
+    (put_none listed_outputs draft.outputs Skipped line own e refl)
+    (put_none listed_ports draft.ports Skipped line own e refl)
+    (put_none listed_clocks draft.clocks Skipped line own e refl)
+    (put_none (driven_by library) draft.drives Skipped line own e refl)
+    (put_none (read_by library) draft.reads Skipped line own e refl)
+    (inner_other library draft.lists_inputs draft.inner Skipped line own e refl)
+    (ap (timing_after draft.latches draft.timing) (latches_other Skipped line own e refl))
+    (ap (λ ls. mixed_after draft.mixed (timing_after draft.latches draft.timing ls) ls) (latches_other Skipped line own e refl))
+    (put_none latches_by draft.latches Skipped line own e refl)
+    (closed_other library draft.tables draft.reading Skipped line own e refl refl)
+    refl
+own_step library Row line lines own part back draft e t f h unlike =
+    kept_same _ _
+    (no_kiss draft.has_kiss Row line lines e refl)
+    (name_other line lines (ap (λ k. named_by k (other_words line.words)) e) draft.begun draft.name t.unnamed)
+    (no_inputs_listed draft.lists_inputs Row line own e refl)
+    (put_none listed_inputs draft.inputs Row line own e refl)
+    (no_outputs_listed draft.lists_outputs Row line own e refl)
+    (put_none listed_outputs draft.outputs Row line own e refl)
+    (put_none listed_ports draft.ports Row line own e refl)
+    (put_none listed_clocks draft.clocks Row line own e refl)
+    (put_none (driven_by library) draft.drives Row line own e refl)
+    (put_none (read_by library) draft.reads Row line own e refl)
+    (inner_other library draft.lists_inputs draft.inner Row line own e refl)
+    (ap (timing_after draft.latches draft.timing) (latches_other Row line own e refl))
+    (ap (λ ls. mixed_after draft.mixed (timing_after draft.latches draft.timing ls) ls) (latches_other Row line own e refl))
+    (put_none latches_by draft.latches Row line own e refl)
+    (ap (λ rest. draft.tables ++ rest) (row_tables library draft.reading line own e))
+    refl
+own_step library Other line lines own part back draft e t f h unlike = absurd (cc)
+
+-- one line more in the don't-care part
+pub part_step : (library : Option (List TheGate)) (kind : Keyword) (line : Entry) (lines back : List Entry) (draft : Draft) → kind_of line ≡ kind → Tells back draft → draft_fault library kind draft line.number (other_words line.words) line.words ≡ None → draft.has_part ≡ true
+    → kept_part library (with_line library kind draft line.number (other_words line.words) line.words) lines ≡ kept_part library draft (line ∷ lines)
+unfolding closed
+part_step library Model line lines back draft e t f h = absurd (unbegun back draft.has_part h t.part (begins (place_of draft) draft.begun line.number (other_words line.words) f) t.begun)
+part_step library Inputs line lines back draft e t f h =
+    kept_same _ _
+    (no_kiss draft.has_kiss Inputs line lines e refl)
+    (name_other line lines (ap (λ k. named_by k (other_words line.words)) e) draft.begun draft.name t.unnamed)
+    (still_listed draft.has_part draft.lists_inputs h)
+    (not_grown draft.has_part draft.inputs (other_words line.words) h)
+    refl refl
+    (not_grown draft.has_part draft.ports (other_words line.words) h)
+    refl refl refl refl refl refl refl refl
+    (closed_other library draft.tables draft.reading Inputs line lines e refl refl)
+part_step library Outputs line lines back draft e t f h =
+    kept_same _ _
+    (no_kiss draft.has_kiss Outputs line lines e refl)
+    (name_other line lines (ap (λ k. named_by k (other_words line.words)) e) draft.begun draft.name t.unnamed)
+    refl refl
+    (still_listed draft.has_part draft.lists_outputs h)
+    (not_grown draft.has_part draft.outputs (other_words line.words) h)
+    (not_grown draft.has_part draft.ports (other_words line.words) h)
+    refl refl
+    (not_grown draft.has_part draft.reads (other_words line.words) h)
+    refl refl refl refl refl
+    (closed_other library draft.tables draft.reading Outputs line lines e refl refl)
+part_step library Clock line lines back draft e t f h = absurd (own_clock draft.ended draft.has_part line.number (other_words line.words) h f)
+part_step library Names line lines back draft e t f h =
+    kept_same _ _
+    (no_kiss draft.has_kiss Names line lines e refl)
+    (name_other line lines (ap (λ k. named_by k (other_words line.words)) e) draft.begun draft.name t.unnamed)
+    refl refl refl refl refl refl
+    (not_grown draft.has_part draft.drives (last_word (other_words line.words) ∷ []) h)
+    (not_grown draft.has_part draft.reads (input_words (other_words line.words)) h)
+    (not_grown (draft.has_part || draft.lists_inputs) draft.inner (input_words (other_words line.words)) (ap (λ b. b || draft.lists_inputs) h))
+    refl refl refl refl
+    (closed_table library draft.tables draft.reading line lines e)
+part_step library Latch line lines back draft e t f h = absurd (own_latch draft.ended draft.has_part draft.nodes line.number (other_words line.words) h f)
+part_step library Gate line lines back draft e t f h = absurd (own_gate library draft.ended draft.has_part draft.nodes line.number (other_words line.words) h f)
+part_step library StartKiss line lines back draft e t f h = absurd (own_start draft.ended draft.has_part draft.has_kiss line.number h f)
+part_step library DontCare line lines back draft e t f h = absurd (own_place draft.ended draft.has_part line.number h f)
+part_step library End line lines back draft e t f h =
+    kept_same _ _
+    (no_kiss draft.has_kiss End line lines e refl)
+    (name_other line lines (ap (λ k. named_by k (other_words line.words)) e) draft.begun draft.name t.unnamed)
+    refl refl refl refl refl refl refl refl refl refl refl refl refl
+    (closed_other library draft.tables draft.reading End line lines e refl refl)
+part_step library Skipped line lines back draft e t f h = absurd (own_place draft.ended draft.has_part line.number h f)
+part_step library Row line lines back draft e t f h =
+    kept_same _ _
+    (no_kiss draft.has_kiss Row line lines e refl)
+    (name_other line lines (ap (λ k. named_by k (other_words line.words)) e) draft.begun draft.name t.unnamed)
+    refl refl refl refl refl refl refl refl refl refl refl refl refl
+    (ap (λ rest. draft.tables ++ rest) (row_tables library draft.reading line lines e))
+part_step library Other line lines back draft e t f h = absurd (cc)
+
+-- the lines of the model and of the part, with one more
+pub own_more : (line : Entry) (lines : List Entry) → begins_part (kind_of line) ≡ false → model_lines (line ∷ lines) ≡ line ∷ model_lines lines
+unfolding model_lines
+own_more line lines unlike = rw (take_while-cons (λ line. not (begins_part (kind_of line))) line lines, unlike) refl
+
+pub own_ends : (line : Entry) (lines : List Entry) → begins_part (kind_of line) ≡ true → model_lines (line ∷ lines) ≡ []
+unfolding model_lines
+own_ends line lines is = rw (take_while-cons (λ line. not (begins_part (kind_of line))) line lines, is) refl
+
+pub part_later : (line : Entry) (lines : List Entry) → begins_part (kind_of line) ≡ false → part_lines (line ∷ lines) ≡ part_lines lines
+unfolding part_lines
+part_later line lines unlike = ap (λ (own : List Entry). drop (length own) (line ∷ lines)) (own_more line lines unlike)
+
+pub part_here : (line : Entry) (lines : List Entry) → begins_part (kind_of line) ≡ true → part_lines (line ∷ lines) ≡ line ∷ lines
+unfolding part_lines
+part_here line lines is = ap (λ (own : List Entry). drop (length own) (line ∷ lines)) (own_ends line lines is)
+
+pub or_nothing : (b : Bool) → b ≡ (b || false)
+or_nothing true = refl
+or_nothing false = refl
+
+pub inner_ends : (library : Option (List TheGate)) (lists : Bool) (inner : List (List ℕ)) → inner ≡ inner_after library lists inner []
+unfolding inner_in
+inner_ends library true inner = refl
+inner_ends library false inner = sym (append-nil inner)
+
+pub timing_ends : (latches : List TheLatch) (timing : Option Timing) → timing ≡ timing_after latches timing []
+timing_ends [] timing = refl
+timing_ends (latch ∷ latches) timing = refl
+
+pub mixed_ends : (mixed : Option ℕ) (timing : Option Timing) → mixed ≡ mixed_after mixed timing []
+mixed_ends None timing = refl
+mixed_ends (Some number) timing = refl
+
+-- behind the last line
+pub named_end : (begun : Bool) (name : List ℕ) → (begun ≡ false → name ≡ codes "top") → name ≡ name_after begun name []
+unfolding model_name
+named_end true name h = refl
+named_end false name h = h refl
+
+pub tables_end : (library : Option (List TheGate)) (tables : List Table) (reading : Option Reading) → tables_with tables reading ≡ tables ++ tables_after library reading []
+unfolding tables_with tables_in with_rows
+tables_end library tables None = sym (append-nil tables)
+tables_end library tables (Some reading) = refl
+
+-- the model ends
+pub own_end : (library : Option (List TheGate)) (line : Entry) (lines back : List Entry) (draft : Draft) → kind_of line ≡ DontCare → Tells back draft → kept_part library (with_line library DontCare draft line.number (other_words line.words) line.words) lines ≡ kept_from library draft (line ∷ lines) [] (tables_in library (line ∷ lines))
+unfolding closed lists_inputs lists_outputs
+own_end library line lines back draft e t =
+    kept_same _ _
+    (no_kiss draft.has_kiss DontCare line lines e refl)
+    (name_other line lines (ap (λ k. named_by k (other_words line.words)) e) draft.begun draft.name t.unnamed)
+    (or_nothing draft.lists_inputs)
+    (sym (append-nil draft.inputs))
+    (or_nothing draft.lists_outputs)
+    (sym (append-nil draft.outputs))
+    (sym (append-nil draft.ports))
+    (sym (append-nil draft.clocks))
+    (sym (append-nil draft.drives))
+    (sym (append-nil draft.reads))
+    (inner_ends library draft.lists_inputs draft.inner)
+    (timing_ends draft.latches draft.timing)
+    (mixed_ends draft.mixed (timing_after draft.latches draft.timing []))
+    (sym (append-nil draft.latches))
+    (tables_end library draft.tables draft.reading)
+    (sym (tables_other library DontCare line lines e refl))
+
+pub part_begun : (library : Option (List TheGate)) (line : Entry) (lines back : List Entry) (draft : Draft) → kind_of line ≡ DontCare → Tells back draft → kept_part library (with_line library DontCare draft line.number (other_words line.words) line.words) lines ≡ kept_by library false draft (line ∷ lines)
+part_begun library line lines back draft e t =
+    own_end library line lines back draft e t
+    ∙ sym (ap (λ own. kept_from library draft (line ∷ lines) own (tables_in library (part_lines (line ∷ lines)))) (own_ends line lines (ap begins_part e))
+    ∙ ap (λ rest. kept_from library draft (line ∷ lines) [] (tables_in library rest)) (part_here line lines (ap begins_part e)))
+
+pub own_kept : (library : Option (List TheGate)) (kind : Keyword) (line : Entry) (lines back : List Entry) (draft : Draft) → kind_of line ≡ kind → Tells back draft → draft_fault library kind draft line.number (other_words line.words) line.words ≡ None → draft.has_part ≡ false → begins_part kind ≡ false
+    → kept_by library false (with_line library kind draft line.number (other_words line.words) line.words) lines ≡ kept_by library false draft (line ∷ lines)
+own_kept library kind line lines back draft e t f h unlike =
+    own_step library kind line lines (model_lines lines) (tables_in library (part_lines lines)) back draft e t f h unlike
+    ∙ sym (ap (λ own. kept_from library draft (line ∷ lines) own (tables_in library (part_lines (line ∷ lines)))) (own_more line lines (ap begins_part e ∙ unlike))
+    ∙ ap (λ rest. kept_from library draft (line ∷ lines) (line ∷ model_lines lines) (tables_in library rest)) (part_later line lines (ap begins_part e ∙ unlike)))
+
+-- the part goes on, and begins with its line alone
+pub same_part : (library : Option (List TheGate)) (kind : Keyword) (draft : Draft) (number : ℕ) (words whole : List (List ℕ)) → (with_line library kind draft number words whole).has_part ≡ (begins_part kind || draft.has_part)
+unfolding closed
+same_part library Model draft number words whole = refl
+same_part library Inputs draft number words whole = refl
+same_part library Outputs draft number words whole = refl
+same_part library Clock draft number words whole = refl
+same_part library Names draft number words whole = refl
+same_part library Latch draft number words whole = refl
+same_part library Gate draft number words whole = refl
+same_part library StartKiss draft number words whole = refl
+same_part library DontCare draft number words whole = refl
+same_part library End draft number words whole = refl
+same_part library Skipped draft number words whole = refl
+same_part library Row draft number words whole = refl
+same_part library Other draft number words whole = refl
+
+pub finish_kept : (library : Option (List TheGate)) (kind : Keyword) (line : Entry) (lines back : List Entry) (draft : Draft) → kind_of line ≡ kind → Tells back draft → draft_fault library kind draft line.number (other_words line.words) line.words ≡ None → finished_by library (with_line library kind draft line.number (other_words line.words) line.words) lines ≡ finished_by library draft (line ∷ lines)
+finish_kept library kind line lines back draft e t f = ap read_kept (by draft.has_part (begins_part kind) refl refl)
+  where
+    next : Draft
+    next = with_line library kind draft line.number (other_words line.words) line.words
+
+    by : (had begin : Bool) → draft.has_part ≡ had → begins_part kind ≡ begin → kept_by library next.has_part next lines ≡ kept_by library draft.has_part draft (line ∷ lines)
+    by true begin h unlike =
+        ap (λ b. kept_by library b next lines) (same_part library kind draft line.number (other_words line.words) line.words ∙ either (begins_part kind) draft.has_part h)
+        ∙ part_step library kind line lines back draft e t f h
+        ∙ sym (ap (λ b. kept_by library b draft (line ∷ lines)) h)
+    by false true h is =
+        ap (λ b. kept_by library b next lines) (same_part library kind draft line.number (other_words line.words) line.words ∙ ap (λ b. b || draft.has_part) is)
+        ∙ begun kind e is
+        ∙ sym (ap (λ b. kept_by library b draft (line ∷ lines)) h)
+      where
+        begun : (k : Keyword) → kind_of line ≡ k → begins_part k ≡ true → kept_part library (with_line library k draft line.number (other_words line.words) line.words) lines ≡ kept_by library false draft (line ∷ lines)
+        begun DontCare e is = part_begun library line lines back draft e t
+        begun Model e is = absurd (cc)
+        begun Inputs e is = absurd (cc)
+        begun Outputs e is = absurd (cc)
+        begun Clock e is = absurd (cc)
+        begun Names e is = absurd (cc)
+        begun Latch e is = absurd (cc)
+        begun Gate e is = absurd (cc)
+        begun StartKiss e is = absurd (cc)
+        begun End e is = absurd (cc)
+        begun Skipped e is = absurd (cc)
+        begun Row e is = absurd (cc)
+        begun Other e is = absurd (cc)
+    by false false h unlike =
+        ap (λ b. kept_by library b next lines) (same_part library kind draft line.number (other_words line.words) line.words ∙ ap (λ b. b || draft.has_part) unlike ∙ h)
+        ∙ own_kept library kind line lines back draft e t f h unlike
+        ∙ sym (ap (λ b. kept_by library b draft (line ∷ lines)) h)
+
+pub kept_end : (library : Option (List TheGate)) (back : List Entry) (draft : Draft) → Tells back draft → (had : Bool) → draft.has_part ≡ had → kept_of draft ≡ kept_by library had draft []
+unfolding has_kiss lists_inputs lists_outputs model_lines part_lines tables_in
+kept_end library back draft t true h =
+    kept_same _ _ (or_nothing draft.has_kiss) (named_end draft.begun draft.name t.unnamed) refl refl refl refl refl refl refl refl refl refl refl refl
+    (ap (λ b. model_of b draft.model_tables (tables_with draft.tables draft.reading)) h)
+    (ap (λ b. part_of b (tables_with draft.tables draft.reading)) h ∙ tables_end library draft.tables draft.reading)
+kept_end library back draft t false h =
+    kept_same _ _
+    (or_nothing draft.has_kiss)
+    (named_end draft.begun draft.name t.unnamed)
+    (or_nothing draft.lists_inputs)
+    (sym (append-nil draft.inputs))
+    (or_nothing draft.lists_outputs)
+    (sym (append-nil draft.outputs))
+    (sym (append-nil draft.ports))
+    (sym (append-nil draft.clocks))
+    (sym (append-nil draft.drives))
+    (sym (append-nil draft.reads))
+    (inner_ends library draft.lists_inputs draft.inner)
+    (timing_ends draft.latches draft.timing)
+    (mixed_ends draft.mixed (timing_after draft.latches draft.timing []))
+    (sym (append-nil draft.latches))
+    (ap (λ b. model_of b draft.model_tables (tables_with draft.tables draft.reading)) h ∙ tables_end library draft.tables draft.reading)
+    (ap (λ b. part_of b (tables_with draft.tables draft.reading)) h)
+
+pub finish_end : (library : Option (List TheGate)) (back : List Entry) (draft : Draft) → Tells back draft → finished draft ≡ finished_by library draft []
+finish_end library back draft t = ap read_kept (kept_end library back draft t draft.has_part refl)
+
+-- the kind and the fault of a line, beside those of the draft
+abbrev pub fault_at : Option (List TheGate) → Draft → Entry → Option BlifFault
+fault_at library draft line = draft_fault library (kind_of line) draft line.number (other_words line.words) line.words
+
+abbrev pub next_at : Option (List TheGate) → Draft → Entry → Draft
+next_at library draft line = with_line library (kind_of line) draft line.number (other_words line.words) line.words
+
+pub taken_entry : (library : Option (List TheGate)) (draft : Draft) (line : Entry) (fault : Option BlifFault) → fault_at library draft line ≡ fault → take_entry library draft line ≡ unless fault (next_at library draft line)
+unfolding take_entry take_as kind_of
+taken_entry library draft line fault f = ap (λ one. unless one (next_at library draft line)) f
+
+pub fault_of_line : (library : Option (List TheGate)) (line : Entry) (back : List Entry) (draft : Draft) (fault : Option BlifFault) → fault_at library draft line ≡ fault → Tells back draft → line_fault library back line ≡ fault
+unfolding line_fault
+fault_of_line library line back draft fault f t =
+    sym (fault_agrees library (kind_of line) back draft line.number (other_words line.words) line.words t) ∙ f
+
+-- the steps from a draft on come to what the form says of the lines from there on
+pub agree : (library : Option (List TheGate)) (lines back : List Entry) (draft : Draft) → Tells back draft → finish (take_entries library draft lines) ≡ first_fault (first_line_fault library back lines) (finished_by library draft lines)
+unfolding take_entries first_line_fault
+agree library [] back draft t = finish_end library back draft t
+agree library (line ∷ lines) back draft t =
+    step (fault_at library draft line) refl
+    (λ f. agree library lines (line ∷ back) (next_at library draft line) (tells_kept library (kind_of line) line back draft refl t f))
+  where
+    step : (fault : Option BlifFault) → fault_at library draft line ≡ fault
+        → (fault_at library draft line ≡ None
+        → finish (take_entries library (next_at library draft line) lines) ≡ first_fault (first_line_fault library (line ∷ back) lines) (finished_by library (next_at library draft line) lines))
+        → finish (take_entries library draft (line ∷ lines)) ≡ first_fault (first_line_fault library back (line ∷ lines)) (finished_by library draft (line ∷ lines))
+    step None f rec =
+        rw (taken_entry library draft line None f, fault_of_line library line back draft None f t)
+        (rec f ∙ ap (first_fault (first_line_fault library (line ∷ back) lines)) (finish_kept library (kind_of line) line lines back draft refl t f))
+    step (Some fault) f rec =
+        rw (taken_entry library draft line (Some fault) f, fault_of_line library line back draft (Some fault) f t) refl
+
+pub nothing_told : Tells [] no_lines
+unfolding is_ended has_part has_kiss nodes_in
+nothing_told = record {
+  begun = refl;
+  unnamed = λ h. refl;
+  ended = refl;
+  part = refl;
+  kiss = refl;
+  nodes = refl;
+  reading = refl;
+}
+
+-- what is kept of all lines is what the form says of them
+pub or_left : (a b : Bool) → (a || b) ≡ false → a ≡ false
+or_left true b e = e
+or_left false b e = refl
+
+pub or_right : (a b : Bool) → (a || b) ≡ false → b ≡ false
+or_right true b e = absurd (cc)
+or_right false b e = e
+
+pub inner_all : (library : Option (List TheGate)) (lines : List Entry) → lists_inputs lines ≡ false → inner_in library lines ≡ reads_within library lines
+unfolding inner_in lists_inputs reads_within
+inner_all library [] e = refl
+inner_all library (line ∷ lines) e =
+    by (kind_of line) (or_left (is_inputs_kind (kind_of line)) (lists_inputs lines) e) (inner_all library lines (or_right (is_inputs_kind (kind_of line)) (lists_inputs lines) e))
+  where
+    by : (k : Keyword) → is_inputs_kind k ≡ false → inner_in library lines ≡ reads_within library lines → inner_by library k (other_words line.words) (inner_in library lines) ≡ read_within library k (other_words line.words) ++ reads_within library lines
+    by Inputs unlike rest = absurd (cc)
+    by Model unlike rest = ap (λ names. read_within library Model (other_words line.words) ++ names) rest
+    by Outputs unlike rest = ap (λ names. read_within library Outputs (other_words line.words) ++ names) rest
+    by Clock unlike rest = ap (λ names. read_within library Clock (other_words line.words) ++ names) rest
+    by Names unlike rest = ap (λ names. read_within library Names (other_words line.words) ++ names) rest
+    by Latch unlike rest = ap (λ names. read_within library Latch (other_words line.words) ++ names) rest
+    by Gate unlike rest = ap (λ names. read_within library Gate (other_words line.words) ++ names) rest
+    by StartKiss unlike rest = ap (λ names. read_within library StartKiss (other_words line.words) ++ names) rest
+    by DontCare unlike rest = ap (λ names. read_within library DontCare (other_words line.words) ++ names) rest
+    by End unlike rest = ap (λ names. read_within library End (other_words line.words) ++ names) rest
+    by Skipped unlike rest = ap (λ names. read_within library Skipped (other_words line.words) ++ names) rest
+    by Row unlike rest = ap (λ names. read_within library Row (other_words line.words) ++ names) rest
+    by Other unlike rest = ap (λ names. read_within library Other (other_words line.words) ++ names) rest
+
+pub reads_all : (library : Option (List TheGate)) (lines : List Entry) → lists_outputs lines ≡ false → reads_in library lines ≡ reads_within library lines
+unfolding lists_outputs reads_in reads_within
+reads_all library [] e = refl
+reads_all library (line ∷ lines) e =
+    by (kind_of line) (or_left (is_outputs_kind (kind_of line)) (lists_outputs lines) e) (reads_all library lines (or_right (is_outputs_kind (kind_of line)) (lists_outputs lines) e))
+  where
+    by : (k : Keyword) → is_outputs_kind k ≡ false → reads_in library lines ≡ reads_within library lines → read_by library k (other_words line.words) ++ reads_in library lines ≡ read_within library k (other_words line.words) ++ reads_within library lines
+    by Outputs unlike rest = absurd (cc)
+    by Model unlike rest = ap (λ names. read_within library Model (other_words line.words) ++ names) rest
+    by Inputs unlike rest = ap (λ names. read_within library Inputs (other_words line.words) ++ names) rest
+    by Clock unlike rest = ap (λ names. read_within library Clock (other_words line.words) ++ names) rest
+    by Names unlike rest = ap (λ names. read_within library Names (other_words line.words) ++ names) rest
+    by Latch unlike rest = ap (λ names. read_within library Latch (other_words line.words) ++ names) rest
+    by Gate unlike rest = ap (λ names. read_within library Gate (other_words line.words) ++ names) rest
+    by StartKiss unlike rest = ap (λ names. read_within library StartKiss (other_words line.words) ++ names) rest
+    by DontCare unlike rest = ap (λ names. read_within library DontCare (other_words line.words) ++ names) rest
+    by End unlike rest = ap (λ names. read_within library End (other_words line.words) ++ names) rest
+    by Skipped unlike rest = ap (λ names. read_within library Skipped (other_words line.words) ++ names) rest
+    by Row unlike rest = ap (λ names. read_within library Row (other_words line.words) ++ names) rest
+    by Other unlike rest = ap (λ names. read_within library Other (other_words line.words) ++ names) rest
+
+pub inputs_all : (library : Option (List TheGate)) (lines : List Entry) → listed_or (lists_inputs lines) (of_lines listed_inputs lines) (names_beside (drives_in library lines) (inner_in library lines)) ≡ inputs_in library lines
+unfolding inputs_in
+inputs_all library lines = by (lists_inputs lines) refl
+  where
+    by : (b : Bool) → lists_inputs lines ≡ b → listed_or b (of_lines listed_inputs lines) (names_beside (drives_in library lines) (inner_in library lines)) ≡ (if b then of_lines listed_inputs lines else names_beside (drives_in library lines) (reads_within library lines))
+    by true e = refl
+    by false e = ap (names_beside (drives_in library lines)) (inner_all library lines e)
+
+pub outputs_all : (library : Option (List TheGate)) (lines : List Entry) → listed_or (lists_outputs lines) (of_lines listed_outputs lines) (names_beside (reads_in library lines) (drives_in library lines)) ≡ outputs_in library lines
+unfolding outputs_in
+outputs_all library lines = by (lists_outputs lines) refl
+  where
+    by : (b : Bool) → lists_outputs lines ≡ b → listed_or b (of_lines listed_outputs lines) (names_beside (reads_in library lines) (drives_in library lines)) ≡ (if b then of_lines listed_outputs lines else names_beside (reads_within library lines) (drives_in library lines))
+    by true e = refl
+    by false e = ap (λ names. names_beside names (drives_in library lines)) (reads_all library lines e)
+
+pub timing_all : (lines : List Entry) → timing_after [] None lines ≡ first_timing lines
+timing_all [] = refl
+timing_all (line ∷ lines) = refl
+
+-- the first cause is the same, however the causes are grouped
+pub grouped : (a b c d e f g : Option BlifFault) → first_of (first_of (a ∷ first_of (b ∷ c ∷ []) ∷ []) ∷ first_of (d ∷ e ∷ []) ∷ first_of (f ∷ g ∷ []) ∷ []) ≡ first_of (first_of (a ∷ b ∷ c ∷ d ∷ e ∷ []) ∷ f ∷ g ∷ [])
+unfolding first_of
+grouped (Some x) b c d e f g = refl
+grouped None (Some x) c d e f g = refl
+grouped None None (Some x) d e f g = refl
+grouped None None None (Some x) e f g = refl
+grouped None None None None (Some x) f g = refl
+grouped None None None None None (Some x) g = refl
+grouped None None None None None None (Some x) = refl
+grouped None None None None None None None = refl
+
+-- a line without a fault, and the lines behind it
+pub none_or : (one other : Option BlifFault) → option_or one other ≡ None → (one ≡ None) × (other ≡ None)
+none_or None other e = (refl, e)
+none_or (Some fault) other e = absurd (cc)
+
+-- a latch and a gate without a fault drive a signal
+pub latch_drives : (words : List (List ℕ)) (rest : List (List ℕ)) → is_latch words ≡ true → is_none (latch_output words ++ rest) ≡ false
+latch_drives [] rest is = absurd (cc)
+latch_drives (input ∷ []) rest is = absurd (cc)
+latch_drives (input ∷ output ∷ words) rest is = refl
+
+-- nothing is driven just where no table, latch or gate stands in the model
+pub undriven_is : (library : Option (List TheGate)) (lines back : List Entry) → first_line_fault library back lines ≡ None → is_none (drives_in library (model_lines lines)) ≡ not (has_nodes (model_lines lines))
+unfolding first_line_fault line_fault drives_in has_nodes model_lines
+undriven_is library [] back e = refl
+undriven_is library (line ∷ lines) back e =
+    by (kind_of line) refl (none_or (line_fault library back line) (first_line_fault library (line ∷ back) lines) e).0
+    (undriven_is library lines (line ∷ back) (none_or (line_fault library back line) (first_line_fault library (line ∷ back) lines) e).1)
+  where
+    goes_on : (k : Keyword) → kind_of line ≡ k → begins_part k ≡ false
+        → is_none (driven_by library k (other_words line.words) ++ drives_in library (model_lines lines)) ≡ not (is_node_kind k || has_nodes (model_lines lines))
+        → is_none (drives_in library (model_lines (line ∷ lines))) ≡ not (has_nodes (model_lines (line ∷ lines)))
+    goes_on k is unlike h = rw (own_more line lines (ap begins_part is ∙ unlike), is) h
+
+    by : (k : Keyword) → kind_of line ≡ k → fault_as library k back line.number (other_words line.words) line.words ≡ None → is_none (drives_in library (model_lines lines)) ≡ not (has_nodes (model_lines lines))
+        → is_none (drives_in library (model_lines (line ∷ lines))) ≡ not (has_nodes (model_lines (line ∷ lines)))
+    by Model is f rec = goes_on Model is refl rec
+    by Inputs is f rec = goes_on Inputs is refl rec
+    by Outputs is f rec = goes_on Outputs is refl rec
+    by Clock is f rec = goes_on Clock is refl rec
+    by Names is f rec = goes_on Names is refl refl
+    by Latch is f rec = goes_on Latch is refl (latch_drives (other_words line.words) (drives_in library (model_lines lines)) (right_latch (part_behind back) (nodes_in back) line.number (other_words line.words) f))
+    by Gate is f rec = goes_on Gate is refl (one_gate library line.number (other_words line.words) (λ tables. is_none (outputs_of tables ++ drives_in library (model_lines lines)) ≡ false)
+        (right_gate library (part_behind back) (nodes_in back) line.number (other_words line.words) f).cell (λ gates table g r. refl))
+    by StartKiss is f rec = goes_on StartKiss is refl rec
+    by DontCare is f rec = rw (own_ends line lines (ap begins_part is)) refl
+    by End is f rec = goes_on End is refl rec
+    by Skipped is f rec = goes_on Skipped is refl rec
+    by Row is f rec = goes_on Row is refl rec
+    by Other is f rec = absurd (cc)
+
+-- what is kept of all lines as a circuit, and as the head of a machine
+pub circuit_kept : (library : Option (List TheGate)) (lines : List Entry) → read_kept_as false (kept_by library false no_lines lines) ≡ read_whole library false lines
+unfolding kept_fault listed_fault timing_fault drivers_fault tables_fault whole_fault model_names_fault circuit_of ports_in clocks_in drives_in reads_in latches_in timing_in mixed_clock gated_clock
+circuit_kept library lines = rw (inputs_all library (model_lines lines), outputs_all library (model_lines lines), timing_all (latch_lines (model_lines lines))) (
+    ap (λ (fault : Option BlifFault). unless fault (content.Circuit (circuit_of library lines))) (grouped _ _ _ _ _ _ _)
+    )
+
+pub head_kept : (library : Option (List TheGate)) (lines : List Entry) → read_kept_as true (kept_by library false no_lines lines) ≡ read_whole library true lines
+unfolding head_fault head_of ports_in
+head_kept library lines = refl
+
+-- what is kept of all lines, where none has a fault
+pub whole_kept : (library : Option (List TheGate)) (lines : List Entry) → first_line_fault library [] lines ≡ None → finished_by library no_lines lines ≡ read_whole library (is_machine lines) lines
+unfolding read_kept is_machine drives_in
+whole_kept library lines e =
+    ap (λ b. read_kept_as (has_kiss lines && b) (kept_by library false no_lines lines)) (undriven_is library lines [] e)
+    ∙ by (has_kiss lines && not (has_nodes (model_lines lines)))
+  where
+    by : (machine : Bool) → read_kept_as machine (kept_by library false no_lines lines) ≡ read_whole library machine lines
+    by true = head_kept library lines
+    by false = circuit_kept library lines
+
+-- the steps over all lines come to what the form says of them
+pub all_agree : (library : Option (List TheGate)) (lines : List Entry) → finish (take_entries library no_lines lines) ≡ read_lines library lines
+unfolding read_lines
+all_agree library lines = agree library lines [] no_lines nothing_told ∙ by (first_line_fault library [] lines) refl
+  where
+    by : (fault : Option BlifFault) → first_line_fault library [] lines ≡ fault → first_fault fault (finished_by library no_lines lines) ≡ first_fault fault (read_whole library (is_machine lines) lines)
+    by None e = whole_kept library lines e
+    by (Some fault) e = refl

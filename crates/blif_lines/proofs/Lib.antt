@@ -1,0 +1,13 @@
+pub mod Words
+pub mod Beside
+pub mod Faults
+pub mod Gates
+pub mod Agreement
+pub mod Walk
+pub mod NameLists
+pub mod Passing
+pub mod ProperWords
+pub mod Named
+pub mod Small
+pub mod Told
+pub mod WhatIsRead

@@ -1,0 +1,418 @@
+-- The reader's own steps: what it keeps of the lines that it has taken, and what one more line makes of that.
+-- Source: BLIF appendix of the SIS report (UCB/ERL M92/41). What a file says is defined in Lines and Reader; these are
+-- the steps of the code, which goes through the lines once. A law says that both come to the same.
+-- Clauses of private functions alone cite this module; no public clause needs it.
+use Rattle.std.specs.Prelude.{◌≡◌, ℕ, ◌+◌, Bool, true, false, not, ◌&&◌, ◌||◌, ◌==◌, nat_le, Option, Some, None, Result, Ok, Err, List, [], ◌∷◌, ◌++◌, map, find, length, codes, if◌then◌else◌}
+use Rattle.std.specs.Option.{option_map}
+use Rattle.circuit_model.specs.Names.{has, all_different}
+use Rattle.circuit_model.specs.Soundness.{outputs_of, control_of}
+use Rattle.circuit_model.specs.declared.circuit.Tri.{Tri}
+use Rattle.circuit_model.specs.declared.circuit.Timing.{Timing}
+use Rattle.circuit_model.specs.declared.circuit.Table.{Table}
+use Rattle.circuit_model.specs.declared.circuit.Latch.{Latch as TheLatch}
+use Rattle.circuit_model.specs.declared.circuit.Circuit.{Circuit}
+use Rattle.sis_text.specs.Entries.{Entry}
+use Rattle.circuit_checks.specs.NameChecks.{first_again, first_missing, first_listed_twice}
+use Rattle.circuit_checks.specs.Cycles.{first_on_cycle}
+use Rattle.circuit_checks.specs.PartChecks.{first_bad_part_name}
+use Rattle.table_fold.specs.Folding.{folded}
+use Rattle.line_words.specs.LineWords.{first_word, other_words}
+use Rattle.genlib_format.specs.declared.gate.Gate.{Gate as TheGate}
+use Rattle.blif_lines.specs.Keyword.{keyword_of}
+use Rattle.blif_lines.specs.Lines.{when, first_of, input_words, last_word, joined, is_row_of, output_character, is_behind, model_fault, ports_fault, clock_fault, names_fault, latch_fault, gate_fault, start_fault, place_fault, is_none}
+use Rattle.blif_lines.specs.Reader.{row_of, named_by, table_of, latch_of, latch_input, latch_output, timing_of, same_timing, names_beside, gate_tables, gate_inputs, listed_where, unless}
+use Rattle.blif_lines.specs.declared.keyword.Keyword.{Keyword}
+use Rattle.blif_lines.specs.declared.keyword.Keyword.TheVariants.{Model, Inputs, Outputs, Clock, Names, Latch, Gate, StartKiss, DontCare, End, Skipped, Row, Other}
+use Rattle.blif_lines.specs.declared.part.Part.{Part}
+use Rattle.blif_lines.specs.declared.part.Part.TheVariants as part
+use Rattle.blif_lines.specs.declared.fault.LimitKind.TheVariants as limit
+use Rattle.blif_lines.specs.declared.fault.BlifFault.{BlifFault}
+use Rattle.blif_lines.specs.declared.fault.BlifFault.TheVariants.{UnknownWord, BadRow, MixedPhase, Limit, NameTwice, MixedClock, GatedClock, TwoDrivers, Undriven, BadExdc, Cycle}
+use Rattle.blif_lines.specs.declared.fault.ReadFault.{ReadFault}
+use Rattle.blif_lines.specs.declared.fault.ReadFault.TheVariants as read_fault
+use Rattle.blif_lines.specs.declared.content.Head.{Head}
+use Rattle.blif_lines.specs.declared.content.Content.{Content}
+use Rattle.blif_lines.specs.declared.content.Content.TheVariants as content
+use Rattle.blif_lines.specs.declared.draft.Reading.{Reading}
+use Rattle.blif_lines.specs.declared.draft.Draft.{Draft}
+
+-- the output character that all rows of a table have: that of its first row
+unfoldable pub mark_for : List (List Tri) → ℕ → ℕ → ℕ
+mark_for [] mark byte = byte
+mark_for (row ∷ rows) mark byte = mark
+
+-- the number of inputs of the table that is being read
+abbrev pub width_of : Reading → ℕ
+width_of reading = length reading.table.inputs
+
+-- the output character of the table that is being read, where these bytes are its next row
+abbrev pub mark_with : Reading → List ℕ → ℕ
+mark_with reading bytes = mark_for reading.table.rows reading.mark (output_character (width_of reading) bytes)
+
+-- what is wrong with bytes as one more row of the table that is being read
+unfoldable pub reading_fault : Reading → ℕ → List ℕ → Option BlifFault
+reading_fault reading number bytes = first_of
+    (when (not (is_row_of (width_of reading) bytes)) (BadRow number)
+    ∷ when (not (output_character (width_of reading) bytes == mark_with reading bytes)) (MixedPhase number)
+    ∷ when (nat_le 32767 (length reading.table.rows)) (Limit limit.Rows 32768)
+    ∷ [])
+
+-- what is wrong with bytes as a row, where a table is being read or none is
+abbrev pub fault_behind : Option Reading → ℕ → List ℕ → Option BlifFault
+fault_behind None number bytes = Some (BadRow number)
+fault_behind (Some reading) number bytes = reading_fault reading number bytes
+
+-- what is wrong with a row, by its place and the table that is being read
+unfoldable pub next_fault : Part → Option Reading → ℕ → List ℕ → Option BlifFault
+next_fault place reading number bytes = first_of (when (is_behind place) (UnknownWord number) ∷ fault_behind reading number bytes ∷ [])
+
+-- the table that is being read, with one more row
+unfoldable pub with_row : Reading → List ℕ → Reading
+with_row reading bytes = record {
+  table = record {
+    inputs = reading.table.inputs;
+    output = reading.table.output;
+    rows = reading.table.rows ++ row_of (width_of reading) bytes ∷ [];
+    phase = mark_with reading bytes == 49;
+  };
+  mark = mark_with reading bytes;
+}
+
+-- the table that is being read with one more row
+abbrev pub row_behind : Option Reading → List ℕ → Option Reading
+row_behind None bytes = None
+row_behind (Some reading) bytes = Some (with_row reading bytes)
+
+-- the tables, with the one that was being read behind them
+unfoldable pub tables_with : List Table → Option Reading → List Table
+tables_with tables None = tables
+tables_with tables (Some reading) = tables ++ reading.table ∷ []
+
+-- the draft with the table that was being read behind the others
+unfoldable pub closed : Draft → Draft
+closed draft = record draft { begun = true; tables = tables_with draft.tables draft.reading; reading = None }
+
+-- where the next line stands, by whether there was an end and whether the don't-care part has begun
+unfoldable pub place_at : Bool → Bool → Part
+place_at ended has_part = if ended then part.Behind else (if has_part then part.DontCare else part.Model)
+
+-- where the next line stands
+abbrev pub place_of : Draft → Part
+place_of draft = place_at draft.ended draft.has_part
+
+-- what is wrong with a line that follows: its kind, its number, its words behind the first, all its words
+abbrev pub draft_fault : Option (List TheGate) → Keyword → Draft → ℕ → List (List ℕ) → List (List ℕ) → Option BlifFault
+draft_fault library Model draft number words whole = model_fault (place_of draft) draft.begun number words
+draft_fault library Inputs draft number words whole = ports_fault (place_of draft) number words
+draft_fault library Outputs draft number words whole = ports_fault (place_of draft) number words
+draft_fault library Clock draft number words whole = clock_fault (place_of draft) number words
+draft_fault library Names draft number words whole = names_fault (place_of draft) draft.nodes number words
+draft_fault library Latch draft number words whole = latch_fault (place_of draft) draft.nodes number words
+draft_fault library Gate draft number words whole = gate_fault library (place_of draft) draft.nodes number words
+draft_fault library StartKiss draft number words whole = start_fault (place_of draft) draft.has_kiss number
+draft_fault library DontCare draft number words whole = place_fault (place_of draft) number
+draft_fault library End draft number words whole = None
+draft_fault library Skipped draft number words whole = place_fault (place_of draft) number
+draft_fault library Row draft number words whole = next_fault (place_of draft) draft.reading number (joined whole)
+draft_fault library Other draft number words whole = Some (UnknownWord number)
+
+-- the names with more behind them, where the lists of the model still grow
+abbrev pub with_more : Bool → List (List ℕ) → List (List ℕ) → List (List ℕ)
+with_more true names more = names
+with_more false names more = names ++ more
+
+-- the timing of the first latch, where one more latch has its own
+unfoldable pub timing_with : List TheLatch → Option Timing → Option Timing → Option Timing
+timing_with [] timing own = own
+timing_with (latch ∷ latches) timing own = timing
+
+-- the line of the first latch that is timed otherwise than the first one, where one more latch with its own timing stands in
+-- a line of this number
+unfoldable pub mixed_with : Option ℕ → Option Timing → ℕ → Option Timing → Option ℕ
+mixed_with None timing number own = if same_timing timing own then None else Some number
+mixed_with (Some line) timing number own = Some line
+
+-- what a line makes of the draft
+abbrev pub with_line : Option (List TheGate) → Keyword → Draft → ℕ → List (List ℕ) → List (List ℕ) → Draft
+with_line library Model draft number words whole = record (closed draft) { name = named_by Model words }
+with_line library Inputs draft number words whole = record (closed draft) {
+  lists_inputs = not draft.has_part || draft.lists_inputs;
+  inputs = with_more draft.has_part draft.inputs words;
+  ports = with_more draft.has_part draft.ports words;
+}
+with_line library Outputs draft number words whole = record (closed draft) {
+  lists_outputs = not draft.has_part || draft.lists_outputs;
+  outputs = with_more draft.has_part draft.outputs words;
+  ports = with_more draft.has_part draft.ports words;
+  reads = with_more draft.has_part draft.reads words;
+}
+with_line library Clock draft number words whole = record (closed draft) { clocks = draft.clocks ++ words }
+with_line library Names draft number words whole = record (closed draft) {
+  drives = with_more draft.has_part draft.drives (last_word words ∷ []);
+  reads = with_more draft.has_part draft.reads (input_words words);
+  inner = with_more (draft.has_part || draft.lists_inputs) draft.inner (input_words words);
+  reading = Some (record { table = table_of words []; mark = 0 });
+  nodes = draft.nodes + 1;
+}
+with_line library Latch draft number words whole = record (closed draft) {
+  drives = draft.drives ++ latch_output words;
+  reads = draft.reads ++ latch_input words;
+  inner = with_more draft.lists_inputs draft.inner (latch_input words);
+  timing = timing_with draft.latches draft.timing (timing_of words);
+  mixed = mixed_with draft.mixed (timing_with draft.latches draft.timing (timing_of words)) number (timing_of words);
+  latches = draft.latches ++ latch_of words;
+  nodes = draft.nodes + 1;
+}
+with_line library Gate draft number words whole = record (closed draft) {
+  drives = draft.drives ++ outputs_of (gate_tables library words);
+  reads = draft.reads ++ gate_inputs library words;
+  inner = with_more draft.lists_inputs draft.inner (gate_inputs library words);
+  tables = tables_with draft.tables draft.reading ++ gate_tables library words;
+  nodes = draft.nodes + 1;
+}
+with_line library StartKiss draft number words whole = record (closed draft) { has_kiss = true }
+with_line library DontCare draft number words whole = record (closed draft) {
+  has_part = true;
+  model_tables = tables_with draft.tables draft.reading;
+  tables = [];
+}
+with_line library End draft number words whole = record (closed draft) { ended = true }
+with_line library Skipped draft number words whole = closed draft
+with_line library Row draft number words whole = record draft { begun = true; reading = row_behind draft.reading (joined whole) }
+with_line library Other draft number words whole = draft
+
+-- a line of a kind taken into what is kept, or its fault
+unfoldable pub take_as : Option (List TheGate) → Keyword → Draft → ℕ → List (List ℕ) → List (List ℕ) → Result Draft BlifFault
+take_as library kind draft number words whole = unless (draft_fault library kind draft number words whole) (with_line library kind draft number words whole)
+
+-- the draft with one more line
+unfoldable pub take_entry : Option (List TheGate) → Draft → Entry → Result Draft BlifFault
+take_entry library draft line = take_as library (keyword_of (first_word line.words)) draft line.number (other_words line.words) line.words
+
+-- the next step behind one without a fault; a fault stays
+abbrev pub onward : Result Draft BlifFault → (Draft → Result Draft BlifFault) → Result Draft BlifFault
+onward (Ok draft) next = next draft
+onward (Err fault) next = Err fault
+
+-- the draft with all of some lines
+unfoldable pub take_entries : Option (List TheGate) → Draft → List Entry → Result Draft BlifFault
+take_entries library draft [] = Ok draft
+take_entries library draft (line ∷ lines) = onward (take_entry library draft line) (λ next. take_entries library next lines)
+
+-- the draft before the first line
+abbrev pub no_lines : Draft
+no_lines = record {
+  begun = false;
+  ended = false;
+  has_part = false;
+  has_kiss = false;
+  name = codes "top";
+  lists_inputs = false;
+  inputs = [];
+  lists_outputs = false;
+  outputs = [];
+  ports = [];
+  clocks = [];
+  drives = [];
+  reads = [];
+  inner = [];
+  timing = None;
+  mixed = None;
+  latches = [];
+  model_tables = [];
+  tables = [];
+  reading = None;
+  nodes = 0;
+}
+
+-- the tables of the model, given the last ones that were read
+abbrev pub model_of : Bool → List Table → List Table → List Table
+model_of true model tables = model
+model_of false model tables = tables
+
+-- the tables of the don't-care part, given the last ones that were read
+abbrev pub part_of : Bool → List Table → List Table
+part_of true tables = tables
+part_of false tables = []
+
+-- the ports that are listed, or those that are found where no line lists any
+abbrev pub listed_or : Bool → List (List ℕ) → List (List ℕ) → List (List ℕ)
+listed_or true listed found = listed
+listed_or false listed found = found
+
+-- what is kept of a model's lines: whether a KISS2 part begins, the name, whether lines list inputs and outputs, the listed
+-- ones, all ports in order, clocks, the signals that are driven, those that are read, those that tables, latches and gates
+-- read before a line lists inputs, the latches with their timing and the line of the first that is timed otherwise, the
+-- tables, those of the don't-care part
+pub record Kept : Type 0 where
+  pub has_kiss : Bool
+  pub name : List ℕ
+  pub lists_inputs : Bool
+  pub inputs : List (List ℕ)
+  pub lists_outputs : Bool
+  pub outputs : List (List ℕ)
+  pub ports : List (List ℕ)
+  pub clocks : List (List ℕ)
+  pub drives : List (List ℕ)
+  pub reads : List (List ℕ)
+  pub inner : List (List ℕ)
+  pub timing : Option Timing
+  pub mixed : Option ℕ
+  pub latches : List TheLatch
+  pub tables : List Table
+  pub dont_care : List Table
+
+-- what is kept behind the last line
+abbrev pub kept_of : Draft → Kept
+kept_of draft = record {
+  has_kiss = draft.has_kiss;
+  name = draft.name;
+  lists_inputs = draft.lists_inputs;
+  inputs = draft.inputs;
+  lists_outputs = draft.lists_outputs;
+  outputs = draft.outputs;
+  ports = draft.ports;
+  clocks = draft.clocks;
+  drives = draft.drives;
+  reads = draft.reads;
+  inner = draft.inner;
+  timing = draft.timing;
+  mixed = draft.mixed;
+  latches = draft.latches;
+  tables = model_of draft.has_part draft.model_tables (tables_with draft.tables draft.reading);
+  dont_care = part_of draft.has_part (tables_with draft.tables draft.reading);
+}
+
+-- the inputs: those that are listed, else those that are read within and not driven
+abbrev pub kept_inputs : Kept → List (List ℕ)
+kept_inputs kept = listed_or kept.lists_inputs kept.inputs (names_beside kept.drives kept.inner)
+
+-- the outputs: those that are listed, else those that are driven and not read
+abbrev pub kept_outputs : Kept → List (List ℕ)
+kept_outputs kept = listed_or kept.lists_outputs kept.outputs (names_beside kept.reads kept.drives)
+
+-- the leaves: inputs and what latches drive
+abbrev pub kept_leaves : Kept → List (List ℕ)
+kept_leaves kept = kept_inputs kept ++ map (λ (latch : TheLatch). latch.output) kept.latches
+
+-- what is wrong with the latches' timing, by the line of the first that is timed otherwise and what is driven
+unfoldable pub timing_fault : Option ℕ → Option Timing → List (List ℕ) → Option BlifFault
+timing_fault mixed timing drives = first_of
+    (option_map (λ number. MixedClock number) mixed ∷ option_map (λ name. GatedClock name) (find (has drives) (control_of timing)) ∷ [])
+
+-- what is wrong with the drivers, of inputs, driven and read signals
+unfoldable pub drivers_fault : List (List ℕ) → List (List ℕ) → List (List ℕ) → Option BlifFault
+drivers_fault inputs drives reads = first_of
+    (option_map (λ name. TwoDrivers name) (first_again inputs drives)
+    ∷ option_map (λ name. Undriven name) (first_missing (inputs ++ drives) reads) ∷ [])
+
+-- what is wrong with the tables, of the leaves, the don't-care part and the model's tables
+unfoldable pub tables_fault : List (List ℕ) → List Table → List Table → Option BlifFault
+tables_fault leaves dont_care tables = first_of
+    (option_map (λ name. BadExdc name) (first_bad_part_name leaves dont_care)
+    ∷ option_map (λ name. Cycle name) (first_on_cycle tables) ∷ [])
+
+-- what is wrong with what is listed: a port that stands twice, the timing of the latches
+unfoldable pub listed_fault : List (List ℕ) → List (List ℕ) → List (List ℕ) → Option ℕ → Option Timing → List (List ℕ) → Option BlifFault
+listed_fault inputs outputs ports mixed timing drives = first_of
+    (option_map (λ name. NameTwice name) (first_listed_twice inputs outputs ports) ∷ timing_fault mixed timing drives ∷ [])
+
+-- what is wrong with what is kept
+unfoldable pub kept_fault : Kept → Option BlifFault
+kept_fault kept = first_of
+    (listed_fault kept.inputs kept.outputs kept.ports kept.mixed kept.timing kept.drives
+    ∷ drivers_fault (kept_inputs kept) kept.drives kept.reads
+    ∷ tables_fault (kept_leaves kept) kept.dont_care kept.tables ∷ [])
+
+-- the circuit of what is kept: each table of the model has each of its inputs once
+abbrev pub kept_circuit : Kept → Circuit
+kept_circuit kept = record {
+  name = kept.name;
+  inputs = kept_inputs kept;
+  outputs = kept_outputs kept;
+  clocks = kept.clocks;
+  timing = kept.timing;
+  latches = kept.latches;
+  tables = map folded kept.tables;
+  dont_care = kept.dont_care;
+}
+
+-- whether what is kept is a machine's: a KISS2 part begins, and nothing is driven
+abbrev pub is_kept_machine : Kept → Bool
+is_kept_machine kept = kept.has_kiss && is_none kept.drives
+
+-- the head of the machine of what is kept
+abbrev pub kept_head : Kept → Head
+kept_head kept = record {
+  name = kept.name;
+  inputs = listed_where kept.lists_inputs kept.inputs;
+  outputs = listed_where kept.lists_outputs kept.outputs;
+}
+
+-- what is wrong with the listed ports of a machine
+abbrev pub kept_head_fault : Kept → Option BlifFault
+kept_head_fault kept = option_map (λ name. NameTwice name) (first_listed_twice kept.ports [] kept.ports)
+
+-- what is read of what is kept
+abbrev pub read_kept_as : Bool → Kept → Result Content BlifFault
+read_kept_as true kept = unless (kept_head_fault kept) (content.Head (kept_head kept))
+read_kept_as false kept = unless (kept_fault kept) (content.Circuit (kept_circuit kept))
+
+unfoldable pub read_kept : Kept → Result Content BlifFault
+read_kept kept = read_kept_as (is_kept_machine kept) kept
+
+-- the draft behind the last line, with its ports and with the tables of the model and of the part
+unfoldable pub settled : Draft → Draft
+settled draft = record draft {
+  inputs = kept_inputs (kept_of draft);
+  outputs = kept_outputs (kept_of draft);
+  model_tables = model_of draft.has_part draft.model_tables (tables_with draft.tables draft.reading);
+  tables = part_of draft.has_part (tables_with draft.tables draft.reading);
+  reading = None;
+}
+
+-- the circuit of a draft that is settled
+abbrev pub settled_circuit : Draft → Circuit
+settled_circuit draft = record {
+  name = draft.name;
+  inputs = draft.inputs;
+  outputs = draft.outputs;
+  clocks = draft.clocks;
+  timing = draft.timing;
+  latches = draft.latches;
+  tables = map folded draft.model_tables;
+  dont_care = draft.tables;
+}
+
+-- what is wrong with a draft that is settled
+unfoldable pub settled_fault : Draft → Option BlifFault
+settled_fault draft = first_of
+    (drivers_fault draft.inputs draft.drives draft.reads
+    ∷ tables_fault (draft.inputs ++ map (λ (latch : TheLatch). latch.output) draft.latches) draft.tables draft.model_tables ∷ [])
+
+-- the tables drive different signals where no port stands twice and no signal is driven twice
+abbrev pub HasApartTables : Kept → Type 0
+HasApartTables kept =
+    first_listed_twice kept.inputs kept.outputs kept.ports ≡ None → first_again (kept_inputs kept) kept.drives ≡ None
+    → all_different (outputs_of kept.tables) ≡ true
+
+-- what is read of a draft behind the last line
+abbrev pub finished : Draft → Result Content BlifFault
+finished draft = read_kept (kept_of draft)
+
+-- what is read behind the last line, if no line had a fault
+abbrev pub finish : Result Draft BlifFault → Result Content BlifFault
+finish (Ok draft) = finished draft
+finish (Err fault) = Err fault
+
+-- what a step answers and leaves, beside what it should come to; want of memory is free
+abbrev pub Takes : Result (Unit {0}) ReadFault → Draft → Result Draft BlifFault → Type 0
+Takes (Ok done) draft should = should ≡ Ok draft
+Takes (Err (read_fault.Fault fault)) draft should = should ≡ Err fault
+Takes (Err read_fault.Memory) draft should = Unit {0}
+
+-- what is answered for a line of a gate, beside the fault and the tables that it should say; want of memory is free
+abbrev pub IsTable : Result Table ReadFault → Option BlifFault → List Table → Type 0
+IsTable (Ok table) fault tables = (fault ≡ None) × (tables ≡ table ∷ [])
+IsTable (Err (read_fault.Fault one)) fault tables = fault ≡ Some one
+IsTable (Err read_fault.Memory) fault tables = Unit {0}

@@ -1,0 +1,451 @@
+//! What is kept of the lines that are read, and what each kind of line makes of it.
+
+ghost use Rattle.std.specs.Prelude.{◌≡◌, ℕ, Option, List, ◌<◌, [], length, option_copied, IfOk, OnOk, IfSome};
+ghost use Rattle.sis_text.specs.Entries.{Entry};
+ghost use Rattle.line_words.specs.LineWords.{texts};
+ghost use Rattle.genlib_format.specs.declared.gate.Gate.{Gate as TheGate};
+ghost use Rattle.blif_lines.specs.declared.keyword.Keyword.{Keyword};
+ghost use Rattle.blif_lines.specs.Reader.{named_by, table_of};
+ghost use Rattle.blif_lines.specs.Steps.{with_row, row_behind as behind, tables_with, closed, place_at as place_by, take_as, take_entry, no_lines, is_kept_machine, kept_of, Takes};
+
+use crate::fault::{BlifFault, ReadFault};
+use crate::gate_words::{add_gate_signals, gate_table};
+use crate::keyword::Keyword;
+use crate::latch_words::{add_latch, keep_timing, mixed_at, shared, timing_of};
+use crate::line_fault::{
+    clock_fault, latch_fault, model_fault, names_fault, place_fault, ports_fault, row_fault,
+    start_fault,
+};
+use crate::part::Part;
+use crate::row::{appended, mark_of};
+use crate::word_list::{
+    add_more, first_words, front_words, joined, keyword_of, last_word, latch_output,
+};
+use circuit_model::{Latches, Name, Names, Table, Tables, Timing};
+use genlib_format::Library;
+use line_words::{add_names, characters, first_word, name_of, other_words};
+use sis_base::{Copied, Sequence};
+use std::alloc::{AllocError, AllocFailed, Global};
+use std::mem;
+
+/// The table whose rows are read, and the output character of its rows, once there is one.
+#[derive(Drop)]
+pub struct Reading {
+    pub table: Table,
+    pub mark: u8,
+}
+
+/// What the lines so far say: whether there was one, an end, the line that begins the don't-care part, and the one that begins
+/// a KISS2 part. Of the model's own lines: the name, the ports that are listed and whether a line lists some, all ports in order,
+/// clocks, the signals that are driven, those that are read, those that nodes read before a line lists inputs; latches, the timing
+/// of the first, the line of the first that is timed otherwise; and the model's tables, once the part has begun. The tables
+/// that were read last, without the one whose rows are read; and how many tables, latches and gates there are.
+#[derive(Drop)]
+pub struct Draft {
+    pub begun: bool,
+    pub ended: bool,
+    pub has_part: bool,
+    pub has_kiss: bool,
+    pub name: Name,
+    pub lists_inputs: bool,
+    pub inputs: Names,
+    pub lists_outputs: bool,
+    pub outputs: Names,
+    pub ports: Names,
+    pub clocks: Names,
+    pub drives: Names,
+    pub reads: Names,
+    pub inner: Names,
+    pub timing: Option<Timing>,
+    pub mixed: Option<usize>,
+    pub latches: Latches,
+    pub model_tables: Tables,
+    pub tables: Tables,
+    pub reading: Option<Reading>,
+    pub nodes: usize,
+}
+
+impl Reading {
+    /// The table with one more row; an error only for want of memory.
+    #[tactic(auto, unfolding(crate::specs::Steps::with_row))]
+    fn with(self, alloc: Global, bytes: &[u8]) -> Result<Self, AllocError>
+        requires { length self.table.inputs < length bytes.now }
+        ensures { IfOk result (λ reading. reading ≡ with_row self bytes.now) }
+    {
+        let Reading { table, mark } = self;
+        let Table {
+            inputs,
+            output,
+            rows,
+            phase: _,
+        } = table;
+        let width = inputs.len();
+        let mark = mark_of(rows.as_slice(), mark, bytes[width]);
+        let row = characters(alloc, &bytes[..width])?;
+        let rows = appended(rows, row)?;
+        let phase = mark == b'1';
+        Ok(Reading {
+            table: Table {
+                inputs,
+                output,
+                rows,
+                phase,
+            },
+            mark,
+        })
+    }
+}
+
+/// What is read of a table after one more row; an error only for want of memory.
+fn row_behind(
+    alloc: Global,
+    reading: Option<Reading>,
+    bytes: &[u8],
+) -> Result<Option<Reading>, AllocError>
+    requires { IfSome reading (λ one. length one.table.inputs < length bytes.now) }
+    ensures { IfOk result (λ next. next ≡ behind reading bytes.now) }
+{
+    match reading {
+        None => Ok(None),
+        Some(reading) => Ok(Some(reading.with(alloc, bytes)?)),
+    }
+}
+
+/// The table of a `.names` line, without rows; an error only for want of memory.
+#[tactic(auto, unfolding(crate::specs::Reader::table_of))]
+fn new_table(alloc: Global, words: &[&[u8]]) -> Result<Table, AllocError>
+    ensures { IfOk result (λ table. table ≡ table_of (texts words.now) []) }
+{
+    let mut inputs = Sequence::new(alloc);
+    add_names(alloc, &mut inputs, front_words(words))?;
+    let output = name_of(alloc, last_word(words))?;
+    Ok(Table {
+        inputs,
+        output,
+        rows: Sequence::new(alloc),
+        phase: true,
+    })
+}
+
+/// The name of a model, by the words of its line; an error only for want of memory.
+fn model_name(alloc: Global, words: &[&[u8]]) -> Result<Name, AllocError>
+    ensures { IfOk result (λ name. name ≡ named_by Keyword.Model (texts words.now)) }
+{
+    match words {
+        [] => name_of(alloc, b"top".as_slice()),
+        [name, ..] => name_of(alloc, name),
+    }
+}
+
+/// Tables with the one that was read behind them; an error only for want of memory.
+#[tactic(auto, unfolding(crate::specs::Steps::tables_with))]
+pub fn with_reading(tables: &mut Tables, reading: Option<Reading>) -> Result<(), AllocFailed<Table>>
+    ensures { OnOk result (tables.new ≡ tables_with tables.old reading) }
+{
+    match reading {
+        None => Ok(()),
+        Some(reading) => {
+            let Reading { table, mark: _ } = reading;
+            tables.push(table)
+        }
+    }
+}
+
+/// Where the next line stands.
+#[tactic(auto, unfolding(crate::specs::Steps::place_at))]
+fn place_at(ended: bool, has_part: bool) -> Part
+    ensures { result ≡ place_by ended has_part }
+{
+    if ended {
+        Part::Behind
+    } else if has_part {
+        Part::DontCare
+    } else {
+        Part::Model
+    }
+}
+
+impl Draft {
+    /// The draft before the first line; an error only for want of memory.
+    pub fn new(alloc: Global) -> Result<Self, AllocError>
+        ensures { IfOk result (λ draft. draft ≡ no_lines) }
+    {
+        Ok(Draft {
+            begun: false,
+            ended: false,
+            has_part: false,
+            has_kiss: false,
+            name: name_of(alloc, b"top".as_slice())?,
+            lists_inputs: false,
+            inputs: Sequence::new(alloc),
+            lists_outputs: false,
+            outputs: Sequence::new(alloc),
+            ports: Sequence::new(alloc),
+            clocks: Sequence::new(alloc),
+            drives: Sequence::new(alloc),
+            reads: Sequence::new(alloc),
+            inner: Sequence::new(alloc),
+            timing: None,
+            mixed: None,
+            latches: Sequence::new(alloc),
+            model_tables: Sequence::new(alloc),
+            tables: Sequence::new(alloc),
+            reading: None,
+            nodes: 0,
+        })
+    }
+
+    /// Ends the table whose rows were read; an error only for want of memory.
+    #[tactic(auto, unfolding(crate::specs::Steps::closed))]
+    fn close(&mut self) -> Result<(), AllocFailed<Table>>
+        ensures { OnOk result (self.new ≡ closed self.old) }
+    {
+        let reading = self.reading.take();
+        with_reading(&mut self.tables, reading)?;
+        self.begun = true;
+        Ok(())
+    }
+
+    /// Takes a `.model` line.
+    #[tactic(auto, unfolding(crate::specs::Steps::take_as, crate::specs::Steps::closed))]
+    fn take_model(&mut self, alloc: Global, number: usize, words: &[&[u8]]) -> Result<(), ReadFault>
+        ensures { (library : Option (List TheGate)) (whole : List (List ℕ)) → Takes result self.new (take_as library Keyword.Model self.old number (texts words.now) whole) }
+    {
+        let place = place_at(self.ended, self.has_part);
+        if let Some(fault) = model_fault(place, self.begun, number, words) {
+            return Err(ReadFault::Fault(fault));
+        }
+        self.close()?;
+        self.name = model_name(alloc, words)?;
+        Ok(())
+    }
+
+    /// Takes an `.inputs` line.
+    #[tactic(auto, unfolding(crate::specs::Steps::take_as, crate::specs::Steps::closed))]
+    fn take_inputs(
+        &mut self,
+        alloc: Global,
+        number: usize,
+        words: &[&[u8]],
+    ) -> Result<(), ReadFault>
+        ensures { (library : Option (List TheGate)) (whole : List (List ℕ)) → Takes result self.new (take_as library Keyword.Inputs self.old number (texts words.now) whole) }
+    {
+        let place = place_at(self.ended, self.has_part);
+        if let Some(fault) = ports_fault(place, number, words) {
+            return Err(ReadFault::Fault(fault));
+        }
+        self.close()?;
+        self.lists_inputs = !self.has_part || self.lists_inputs;
+        add_more(alloc, self.has_part, &mut self.inputs, words)?;
+        add_more(alloc, self.has_part, &mut self.ports, words)?;
+        Ok(())
+    }
+
+    /// Takes an `.outputs` line.
+    #[tactic(auto, unfolding(crate::specs::Steps::take_as, crate::specs::Steps::closed))]
+    fn take_outputs(
+        &mut self,
+        alloc: Global,
+        number: usize,
+        words: &[&[u8]],
+    ) -> Result<(), ReadFault>
+        ensures { (library : Option (List TheGate)) (whole : List (List ℕ)) → Takes result self.new (take_as library Keyword.Outputs self.old number (texts words.now) whole) }
+    {
+        let place = place_at(self.ended, self.has_part);
+        if let Some(fault) = ports_fault(place, number, words) {
+            return Err(ReadFault::Fault(fault));
+        }
+        self.close()?;
+        self.lists_outputs = !self.has_part || self.lists_outputs;
+        add_more(alloc, self.has_part, &mut self.outputs, words)?;
+        add_more(alloc, self.has_part, &mut self.ports, words)?;
+        add_more(alloc, self.has_part, &mut self.reads, words)?;
+        Ok(())
+    }
+
+    /// Takes a `.clock` line.
+    #[tactic(auto, unfolding(crate::specs::Steps::take_as, crate::specs::Steps::closed))]
+    fn take_clock(&mut self, alloc: Global, number: usize, words: &[&[u8]]) -> Result<(), ReadFault>
+        ensures { (library : Option (List TheGate)) (whole : List (List ℕ)) → Takes result self.new (take_as library Keyword.Clock self.old number (texts words.now) whole) }
+    {
+        let place = place_at(self.ended, self.has_part);
+        if let Some(fault) = clock_fault(place, number, words) {
+            return Err(ReadFault::Fault(fault));
+        }
+        self.close()?;
+        add_names(alloc, &mut self.clocks, words)?;
+        Ok(())
+    }
+
+    /// Takes a `.names` line.
+    #[tactic(auto, unfolding(crate::specs::Steps::take_as, crate::specs::Steps::closed))]
+    fn take_names(&mut self, alloc: Global, number: usize, words: &[&[u8]]) -> Result<(), ReadFault>
+        ensures { (library : Option (List TheGate)) (whole : List (List ℕ)) → Takes result self.new (take_as library Keyword.Names self.old number (texts words.now) whole) }
+    {
+        let place = place_at(self.ended, self.has_part);
+        if let Some(fault) = names_fault(place, self.nodes, number, words) {
+            return Err(ReadFault::Fault(fault));
+        }
+        self.close()?;
+        let inputs = front_words(words);
+        let kept = self.has_part || self.lists_inputs;
+        let output = [last_word(words)];
+        add_more(alloc, self.has_part, &mut self.drives, output.as_slice())?;
+        add_more(alloc, self.has_part, &mut self.reads, inputs)?;
+        add_more(alloc, kept, &mut self.inner, inputs)?;
+        let table = new_table(alloc, words)?;
+        self.reading = Some(Reading { table, mark: 0 });
+        self.nodes += 1;
+        Ok(())
+    }
+
+    /// Takes a `.latch` line.
+    #[tactic(auto, unfolding(crate::specs::Steps::take_as, crate::specs::Steps::closed))]
+    fn take_latch(&mut self, alloc: Global, number: usize, words: &[&[u8]]) -> Result<(), ReadFault>
+        ensures { (library : Option (List TheGate)) (whole : List (List ℕ)) → Takes result self.new (take_as library Keyword.Latch self.old number (texts words.now) whole) }
+    {
+        let place = place_at(self.ended, self.has_part);
+        if let Some(fault) = latch_fault(place, self.nodes, number, words) {
+            return Err(ReadFault::Fault(fault));
+        }
+        self.close()?;
+        add_names(alloc, &mut self.drives, latch_output(words))?;
+        let input = first_words(words, 1);
+        add_names(alloc, &mut self.reads, input)?;
+        add_more(alloc, self.lists_inputs, &mut self.inner, input)?;
+        let own = timing_of(alloc, words)?;
+        let timing = shared(self.latches.as_slice(), &self.timing, &own);
+        self.mixed = mixed_at(self.mixed, timing, number, &own);
+        keep_timing(self.latches.as_slice(), &mut self.timing, own);
+        add_latch(alloc, &mut self.latches, words)?;
+        self.nodes += 1;
+        Ok(())
+    }
+
+    /// Takes the line that begins the don't-care part.
+    #[tactic(auto, unfolding(crate::specs::Steps::take_as, crate::specs::Steps::closed))]
+    fn take_part(&mut self, alloc: Global, number: usize) -> Result<(), ReadFault>
+        ensures { (library : Option (List TheGate)) (words whole : List (List ℕ)) → Takes result self.new (take_as library Keyword.DontCare self.old number words whole) }
+    {
+        let place = place_at(self.ended, self.has_part);
+        if let Some(fault) = place_fault(place, number) {
+            return Err(ReadFault::Fault(fault));
+        }
+        self.close()?;
+        self.has_part = true;
+        self.model_tables = mem::replace(&mut self.tables, Sequence::new(alloc));
+        Ok(())
+    }
+
+    /// Takes an `.end` line.
+    #[tactic(auto, unfolding(crate::specs::Steps::take_as, crate::specs::Steps::closed))]
+    fn take_end(&mut self) -> Result<(), ReadFault>
+        ensures { (library : Option (List TheGate)) (number : ℕ) (words whole : List (List ℕ)) → Takes result self.new (take_as library Keyword.End self.old number words whole) }
+    {
+        self.close()?;
+        self.ended = true;
+        Ok(())
+    }
+
+    /// Takes a line that is read past.
+    #[tactic(auto, unfolding(crate::specs::Steps::take_as, crate::specs::Steps::closed))]
+    fn take_skipped(&mut self, number: usize) -> Result<(), ReadFault>
+        ensures { (library : Option (List TheGate)) (words whole : List (List ℕ)) → Takes result self.new (take_as library Keyword.Skipped self.old number words whole) }
+    {
+        let place = place_at(self.ended, self.has_part);
+        if let Some(fault) = place_fault(place, number) {
+            return Err(ReadFault::Fault(fault));
+        }
+        self.close()?;
+        Ok(())
+    }
+
+    /// Takes a row.
+    #[tactic(auto, unfolding(crate::specs::Steps::take_as))]
+    fn take_row(&mut self, alloc: Global, number: usize, whole: &[&[u8]]) -> Result<(), ReadFault>
+        ensures { (library : Option (List TheGate)) (words : List (List ℕ)) → Takes result self.new (take_as library Keyword.Row self.old number words (texts whole.now)) }
+    {
+        let bytes = joined(alloc, whole)?;
+        let place = place_at(self.ended, self.has_part);
+        if let Some(fault) = row_fault(place, &self.reading, number, bytes.as_slice()) {
+            return Err(ReadFault::Fault(fault));
+        }
+        let reading = self.reading.take();
+        self.reading = row_behind(alloc, reading, bytes.as_slice())?;
+        self.begun = true;
+        Ok(())
+    }
+
+    /// Takes a `.gate` line, by a library that may be missing.
+    #[tactic(auto, unfolding(crate::specs::Steps::take_as, crate::specs::Steps::closed))]
+    fn take_gate(
+        &mut self,
+        alloc: Global,
+        library: Option<&Library>,
+        number: usize,
+        words: &[&[u8]],
+    ) -> Result<(), ReadFault>
+        ensures { (whole : List (List ℕ)) → Takes result self.new (take_as (option_copied library.entry) Keyword.Gate self.old number (texts words.now) whole) }
+    {
+        let place = place_at(self.ended, self.has_part);
+        let table = gate_table(alloc, library, place, self.nodes, number, words)?;
+        self.close()?;
+        let inputs = table.inputs.as_slice();
+        self.drives.push(table.output.copy(alloc)?)?;
+        add_gate_signals(alloc, false, &mut self.reads, words, inputs)?;
+        add_gate_signals(alloc, self.lists_inputs, &mut self.inner, words, inputs)?;
+        self.tables.push(table)?;
+        self.nodes += 1;
+        Ok(())
+    }
+
+    /// Takes the line that begins a KISS2 part.
+    #[tactic(auto, unfolding(crate::specs::Steps::take_as, crate::specs::Steps::closed))]
+    fn take_kiss(&mut self, number: usize) -> Result<(), ReadFault>
+        ensures { (library : Option (List TheGate)) (words whole : List (List ℕ)) → Takes result self.new (take_as library Keyword.StartKiss self.old number words whole) }
+    {
+        let place = place_at(self.ended, self.has_part);
+        if let Some(fault) = start_fault(place, self.has_kiss, number) {
+            return Err(ReadFault::Fault(fault));
+        }
+        self.close()?;
+        self.has_kiss = true;
+        Ok(())
+    }
+
+    /// Takes one line, by its number and its words, with a library or without one. After an error the draft stands for nothing.
+    #[tactic(auto, unfolding(crate::specs::Steps::take_entry))]
+    pub fn take(
+        &mut self,
+        alloc: Global,
+        library: Option<&Library>,
+        number: usize,
+        words: &[&[u8]],
+    ) -> Result<(), ReadFault>
+        ensures { Takes result self.new (take_entry (option_copied library.entry) self.old (record { number = number; words = texts words.now })) }
+    {
+        let others = other_words(words);
+        match keyword_of(first_word(words)) {
+            Keyword::Model => self.take_model(alloc, number, others),
+            Keyword::Inputs => self.take_inputs(alloc, number, others),
+            Keyword::Outputs => self.take_outputs(alloc, number, others),
+            Keyword::Clock => self.take_clock(alloc, number, others),
+            Keyword::Names => self.take_names(alloc, number, others),
+            Keyword::Latch => self.take_latch(alloc, number, others),
+            Keyword::Gate => self.take_gate(alloc, library, number, others),
+            Keyword::StartKiss => self.take_kiss(number),
+            Keyword::DontCare => self.take_part(alloc, number),
+            Keyword::End => self.take_end(),
+            Keyword::Skipped => self.take_skipped(number),
+            Keyword::Row => self.take_row(alloc, number, words),
+            Keyword::Other => Err(ReadFault::Fault(BlifFault::UnknownWord(number))),
+        }
+    }
+
+    /// Whether the lines say a machine: a KISS2 part begins, and nothing is driven.
+    pub fn is_machine(&self) -> bool
+        ensures { result ≡ is_kept_machine (kept_of self.now) }
+    {
+        self.has_kiss && self.drives.is_empty()
+    }
+}

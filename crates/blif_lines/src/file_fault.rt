@@ -1,0 +1,183 @@
+//! What is wrong with a whole file whose lines are right.
+
+ghost use Rattle.std.specs.Prelude.{◌≡◌, ◌++◌, true, None, [], map, find, option_copied, IfOk, OnOk};
+ghost use Rattle.std.specs.Option.{option_map};
+ghost use Rattle.circuit_model.specs.Names.{has, all_different};
+ghost use Rattle.circuit_model.specs.Soundness.{outputs_of, control_of};
+ghost use Rattle.circuit_model.specs.declared.circuit.Latch.{Latch as TheLatch};
+ghost use Rattle.circuit_checks.specs.NameChecks.{first_again as again_in, first_listed_twice as listed_twice_in};
+ghost use Rattle.blif_lines.specs.declared.fault.BlifFault.TheVariants.{NameTwice};
+ghost use Rattle.blif_lines.specs.Steps.{listed_fault as listed_fault_by, timing_fault as timing_fault_by, drivers_fault as drivers_fault_by, tables_fault as tables_fault_by, settled_fault as settled_fault_by};
+
+use crate::draft::Draft;
+use crate::fault::BlifFault;
+use circuit_checks::{
+    first_again, first_bad_part_name, first_listed_twice, first_missing, first_on_cycle,
+};
+use circuit_model::{Latch, Name, Names, Table, Timing};
+use sis_base::{Copied, Sequence};
+use std::alloc::{AllocError, Global};
+
+/// Puts copies of some names behind others; an error only for want of memory.
+fn add_copies(alloc: Global, names: &mut Names, others: &[Name]) -> Result<(), AllocError>
+    ensures { OnOk result (names.new ≡ names.old ++ others.now) }
+{
+    for name in others {
+        names.push(name.copy(alloc)?)?;
+    }
+    Ok(())
+}
+
+/// Puts copies of what latches drive behind names; an error only for want of memory.
+fn add_states(alloc: Global, names: &mut Names, latches: &[Latch]) -> Result<(), AllocError>
+    ensures { OnOk result (names.new ≡ names.old ++ map (λ (latch : TheLatch). latch.output) latches.now) }
+{
+    for latch in latches {
+        names.push(latch.output.copy(alloc)?)?;
+    }
+    Ok(())
+}
+
+/// Whether a name is among some.
+fn has_name(names: &[Name], name: &Name) -> bool
+    ensures { result ≡ has names.now name.now }
+{
+    names
+        .iter()
+        .any(|other| name.as_slice() == other.as_slice())
+}
+
+/// The control, where it is among the driven signals.
+fn driven_control<'a>(timing: &'a Option<Timing>, drives: &[Name]) -> Option<&'a Name>
+    ensures { option_copied result ≡ find (has drives.now) (control_of timing.now) }
+{
+    match timing {
+        None => None,
+        Some(timing) => match &timing.control {
+            None => None,
+            Some(control) => {
+                if has_name(drives, control) {
+                    Some(control)
+                } else {
+                    None
+                }
+            }
+        },
+    }
+}
+
+/// What is wrong with the latches' timing: the line of the first that is timed otherwise, else the control where it is
+/// driven. An error only for want of memory.
+#[tactic(auto, unfolding(crate::specs::Steps::timing_fault, crate::specs::Lines::first_of))]
+fn timing_fault(
+    alloc: Global,
+    mixed: Option<usize>,
+    timing: &Option<Timing>,
+    drives: &[Name],
+) -> Result<Option<BlifFault>, AllocError>
+    ensures { IfOk result (λ fault. fault ≡ timing_fault_by mixed timing.now drives.now) }
+{
+    if let Some(number) = mixed {
+        return Ok(Some(BlifFault::MixedClock(number)));
+    }
+    if let Some(name) = driven_control(timing, drives) {
+        return Ok(Some(BlifFault::GatedClock(name.copy(alloc)?)));
+    }
+    Ok(None)
+}
+
+/// What is wrong with a draft as its lines list it: the first port that is listed twice, else the timing of its latches.
+/// An error only for want of memory.
+#[tactic(auto, unfolding(crate::specs::Steps::listed_fault, crate::specs::Lines::first_of))]
+pub fn listed_fault(alloc: Global, draft: &Draft) -> Result<Option<BlifFault>, AllocError>
+    ensures fault { IfOk result (λ fault. fault ≡ listed_fault_by draft.now.inputs draft.now.outputs draft.now.ports draft.now.mixed draft.now.timing draft.now.drives) }
+    ensures once { IfOk result (λ fault. fault ≡ None → listed_twice_in draft.now.inputs draft.now.outputs draft.now.ports ≡ None) }
+{
+    let inputs = draft.inputs.as_slice();
+    let outputs = draft.outputs.as_slice();
+    if let Some(name) = first_listed_twice(alloc, inputs, outputs, draft.ports.as_slice())? {
+        return Ok(Some(BlifFault::NameTwice(name.copy(alloc)?)));
+    }
+    let fault = timing_fault(alloc, draft.mixed, &draft.timing, draft.drives.as_slice())?;
+    Ok(fault)
+}
+
+/// What is wrong with the drivers: the first signal that is driven twice, else the first that is read and not driven.
+/// An error only for want of memory.
+#[tactic(auto, unfolding(crate::specs::Steps::drivers_fault, crate::specs::Lines::first_of))]
+fn drivers_fault(
+    alloc: Global,
+    inputs: &[Name],
+    drives: &[Name],
+    reads: &[Name],
+) -> Result<Option<BlifFault>, AllocError>
+    ensures fault { IfOk result (λ fault. fault ≡ drivers_fault_by inputs.now drives.now reads.now) }
+    ensures apart { IfOk result (λ fault. fault ≡ None → again_in inputs.now drives.now ≡ None) }
+{
+    if let Some(name) = first_again(alloc, inputs, drives)? {
+        return Ok(Some(BlifFault::TwoDrivers(name.copy(alloc)?)));
+    }
+    let mut given = Sequence::new(alloc);
+    add_copies(alloc, &mut given, inputs)?;
+    add_copies(alloc, &mut given, drives)?;
+    if let Some(name) = first_missing(alloc, given.as_slice(), reads)? {
+        return Ok(Some(BlifFault::Undriven(name.copy(alloc)?)));
+    }
+    Ok(None)
+}
+
+/// What is wrong with tables: the name by which the first wrong one of the don't-care part is wrong, else the first of the
+/// model that is reached from itself. An error only for want of memory.
+#[tactic(auto, unfolding(crate::specs::Steps::tables_fault, crate::specs::Lines::first_of))]
+fn tables_fault(
+    alloc: Global,
+    leaves: &[Name],
+    dont_care: &[Table],
+    tables: &[Table],
+) -> Result<Option<BlifFault>, AllocError>
+    requires { all_different (outputs_of tables.now) ≡ true }
+    ensures { IfOk result (λ fault. fault ≡ tables_fault_by leaves.now dont_care.now tables.now) }
+{
+    if let Some(name) = first_bad_part_name(alloc, leaves, dont_care)? {
+        return Ok(Some(BlifFault::BadExdc(name)));
+    }
+    if let Some(name) = first_on_cycle(alloc, tables)? {
+        return Ok(Some(BlifFault::Cycle(name.copy(alloc)?)));
+    }
+    Ok(None)
+}
+
+/// What is wrong with a draft that is settled: its drivers, else its tables. An error only for want of memory.
+#[tactic(auto, unfolding(crate::specs::Steps::settled_fault, crate::specs::Lines::first_of))]
+pub fn settled_fault(alloc: Global, draft: &Draft) -> Result<Option<BlifFault>, AllocError>
+    requires { again_in draft.now.inputs draft.now.drives ≡ None → all_different (outputs_of draft.now.model_tables) ≡ true }
+    ensures { IfOk result (λ fault. fault ≡ settled_fault_by draft.now) }
+{
+    let inputs = draft.inputs.as_slice();
+    let drives = draft.drives.as_slice();
+    if let Some(fault) = drivers_fault(alloc, inputs, drives, draft.reads.as_slice())? {
+        return Ok(Some(fault));
+    }
+    let mut leaves = Sequence::new(alloc);
+    add_copies(alloc, &mut leaves, inputs)?;
+    add_states(alloc, &mut leaves, draft.latches.as_slice())?;
+    let part = draft.tables.as_slice();
+    let fault = tables_fault(
+        alloc,
+        leaves.as_slice(),
+        part,
+        draft.model_tables.as_slice(),
+    )?;
+    Ok(fault)
+}
+
+/// What is wrong with the listed ports of a machine: the first that is listed twice. An error only for want of memory.
+pub fn head_fault(alloc: Global, ports: &[Name]) -> Result<Option<BlifFault>, AllocError>
+    ensures { IfOk result (λ fault. fault ≡ option_map (λ name. NameTwice name) (listed_twice_in ports.now [] ports.now)) }
+{
+    let others = Names::new(alloc);
+    match first_listed_twice(alloc, ports, others.as_slice(), ports)? {
+        None => Ok(None),
+        Some(name) => Ok(Some(BlifFault::NameTwice(name.copy(alloc)?))),
+    }
+}

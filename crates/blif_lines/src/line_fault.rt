@@ -1,0 +1,251 @@
+//! What is wrong with a line: the first of its causes.
+
+ghost use Rattle.std.specs.Prelude.{◌≡◌, ◌<◌, ◌==◌, Some, None, length, IfSome};
+ghost use Rattle.line_words.specs.LineWords.{texts};
+ghost use Rattle.blif_lines.specs.Lines.{long_fault as long_fault_by, one_too_many as one_too_many_by, is_init as is_init_word, is_latch_kind as is_latch_kind_word, is_latch_end as is_latch_end_of, is_latch as is_latch_line, latch_names as latch_names_of, is_in_model as is_model_place, is_behind as is_behind_place, model_fault as model_fault_by, ports_fault as ports_fault_by, clock_fault as clock_fault_by, names_fault as names_fault_by, latch_fault as latch_fault_by, start_fault as start_fault_by, place_fault as place_fault_by};
+ghost use Rattle.blif_lines.specs.Steps.{reading_fault as reading_fault_by, next_fault as next_fault_by};
+
+use crate::draft::Reading;
+use crate::fault::{BlifFault, LimitKind};
+use crate::part::Part;
+use crate::row::{is_row, mark_of};
+use crate::word_list::{first_words, front_words};
+use line_words::long_name;
+
+/// Whether a place is in the model itself.
+pub fn is_in_model(place: Part) -> bool
+    ensures { result ≡ is_model_place place }
+{
+    match place {
+        Part::Model => true,
+        Part::DontCare | Part::Behind => false,
+    }
+}
+
+/// Whether a place is behind the end.
+fn is_behind(place: Part) -> bool
+    ensures { result ≡ is_behind_place place }
+{
+    match place {
+        Part::Behind => true,
+        Part::Model | Part::DontCare => false,
+    }
+}
+
+/// The fault of the first word that is longer than a name may be.
+fn long_fault(words: &[&[u8]]) -> Option<BlifFault>
+    ensures { result ≡ long_fault_by (texts words.now) }
+{
+    match long_name(words) {
+        None => None,
+        Some(len) => Some(BlifFault::Limit(LimitKind::Name, len)),
+    }
+}
+
+/// The fault of one table, latch or gate more than a model may have.
+pub fn one_too_many(nodes: usize) -> Option<BlifFault>
+    ensures value { result ≡ one_too_many_by nodes }
+    ensures room { result ≡ None → nodes < 65535 }
+{
+    if nodes >= 65535 {
+        return Some(BlifFault::Limit(LimitKind::Tables, 65536));
+    }
+    None
+}
+
+/// What is wrong with the words of a `.model` line behind the first; `begun` says whether a line stands before it.
+#[tactic(auto, unfolding(crate::specs::Lines::model_fault, crate::specs::Lines::first_of))]
+pub fn model_fault(place: Part, begun: bool, number: usize, words: &[&[u8]]) -> Option<BlifFault>
+    ensures { result ≡ model_fault_by place begun number (texts words.now) }
+{
+    if let Part::DontCare = place {
+        return Some(BlifFault::UnknownWord(number));
+    }
+    if words.len() > 1 {
+        return Some(BlifFault::BadArity(number));
+    }
+    if begun {
+        return Some(BlifFault::SecondModel(number));
+    }
+    long_fault(words)
+}
+
+/// What is wrong with the words of a line of ports behind the first.
+#[tactic(auto, unfolding(crate::specs::Lines::ports_fault, crate::specs::Lines::first_of))]
+pub fn ports_fault(place: Part, number: usize, words: &[&[u8]]) -> Option<BlifFault>
+    ensures { result ≡ ports_fault_by place number (texts words.now) }
+{
+    match place {
+        Part::Model => long_fault(words),
+        Part::DontCare => None,
+        Part::Behind => Some(BlifFault::UnknownWord(number)),
+    }
+}
+
+/// What is wrong with the words of a line of clocks behind the first.
+#[tactic(auto, unfolding(crate::specs::Lines::clock_fault, crate::specs::Lines::first_of))]
+pub fn clock_fault(place: Part, number: usize, words: &[&[u8]]) -> Option<BlifFault>
+    ensures { result ≡ clock_fault_by place number (texts words.now) }
+{
+    if !is_in_model(place) {
+        return Some(BlifFault::UnknownWord(number));
+    }
+    long_fault(words)
+}
+
+/// What is wrong with the words of a `.names` line behind the first; `nodes` tables, latches and gates stand before it.
+#[tactic(auto, unfolding(crate::specs::Lines::names_fault, crate::specs::Lines::first_of))]
+pub fn names_fault(place: Part, nodes: usize, number: usize, words: &[&[u8]]) -> Option<BlifFault>
+    ensures value { result ≡ names_fault_by place nodes number (texts words.now) }
+    ensures room { result ≡ None → nodes < 65535 }
+{
+    if is_behind(place) {
+        return Some(BlifFault::UnknownWord(number));
+    }
+    if words.is_empty() {
+        return Some(BlifFault::BadArity(number));
+    }
+    if let Some(fault) = long_fault(words) {
+        return Some(fault);
+    }
+    if let Some(fault) = one_too_many(nodes) {
+        return Some(fault);
+    }
+    let count = front_words(words).len();
+    if count > 1000 {
+        return Some(BlifFault::Limit(LimitKind::Inputs, count));
+    }
+    None
+}
+
+/// Whether a word is the start value of a latch.
+fn is_init(word: &[u8]) -> bool
+    ensures { result ≡ is_init_word word.now }
+{
+    word == b"0".as_slice()
+        || word == b"1".as_slice()
+        || word == b"2".as_slice()
+        || word == b"3".as_slice()
+}
+
+/// Whether a word is the kind of a latch.
+fn is_latch_kind(word: &[u8]) -> bool
+    ensures { result ≡ is_latch_kind_word word.now }
+{
+    word == b"fe".as_slice()
+        || word == b"re".as_slice()
+        || word == b"ah".as_slice()
+        || word == b"al".as_slice()
+}
+
+/// Whether words may stand behind a latch's signals: a kind with a control, a start value, both or none.
+fn is_latch_end(words: &[&[u8]]) -> bool
+    ensures { result ≡ is_latch_end_of (texts words.now) }
+{
+    match words {
+        [] => true,
+        [init] => is_init(init),
+        [kind, _] => is_latch_kind(kind),
+        [kind, _, init] => is_latch_kind(kind) && is_init(init),
+        _ => false,
+    }
+}
+
+/// Whether words are an input, an output, and what may stand behind them.
+fn is_latch(words: &[&[u8]]) -> bool
+    ensures { result ≡ is_latch_line (texts words.now) }
+{
+    match words {
+        [_, _, end @ ..] => is_latch_end(end),
+        _ => false,
+    }
+}
+
+/// The fault of the first name of a latch that is too long: its input, its output or its control.
+fn long_latch_name(words: &[&[u8]]) -> Option<BlifFault>
+    ensures { result ≡ long_fault_by (latch_names_of (texts words.now)) }
+{
+    match words {
+        [input, output, _, control, ..] => long_fault([*input, *output, *control].as_slice()),
+        _ => long_fault(first_words(words, 2)),
+    }
+}
+
+/// What is wrong with the words of a `.latch` line behind the first; `nodes` tables, latches and gates stand before it.
+#[tactic(auto, unfolding(crate::specs::Lines::latch_fault, crate::specs::Lines::first_of))]
+pub fn latch_fault(place: Part, nodes: usize, number: usize, words: &[&[u8]]) -> Option<BlifFault>
+    ensures value { result ≡ latch_fault_by place nodes number (texts words.now) }
+    ensures room { result ≡ None → nodes < 65535 }
+{
+    if !is_in_model(place) {
+        return Some(BlifFault::UnknownWord(number));
+    }
+    if !is_latch(words) {
+        return Some(BlifFault::BadLatch(number));
+    }
+    if let Some(fault) = long_latch_name(words) {
+        return Some(fault);
+    }
+    one_too_many(nodes)
+}
+
+/// What is wrong with the line that begins a KISS2 part; `had` says whether one began before it.
+#[tactic(auto, unfolding(crate::specs::Lines::start_fault))]
+pub fn start_fault(place: Part, had: bool, number: usize) -> Option<BlifFault>
+    ensures { result ≡ start_fault_by place had number }
+{
+    if !is_in_model(place) || had {
+        return Some(BlifFault::UnknownWord(number));
+    }
+    None
+}
+
+/// What is wrong with the line that begins the don't-care part, or with one that is read past.
+pub fn place_fault(place: Part, number: usize) -> Option<BlifFault>
+    ensures { result ≡ place_fault_by place number }
+{
+    if !is_in_model(place) {
+        return Some(BlifFault::UnknownWord(number));
+    }
+    None
+}
+
+/// What is wrong with bytes as one more row of the table that is being read.
+#[tactic(auto, unfolding(crate::specs::Steps::reading_fault, crate::specs::Lines::first_of))]
+fn reading_fault(reading: &Reading, number: usize, bytes: &[u8]) -> Option<BlifFault>
+    ensures value { result ≡ reading_fault_by reading.now number bytes.now }
+    ensures room { result ≡ None → length reading.now.table.inputs < length bytes.now }
+{
+    let width = reading.table.inputs.len();
+    if !is_row(width, bytes) {
+        return Some(BlifFault::BadRow(number));
+    }
+    let mark = mark_of(reading.table.rows.as_slice(), reading.mark, bytes[width]);
+    if bytes[width] != mark {
+        return Some(BlifFault::MixedPhase(number));
+    }
+    if reading.table.rows.len() >= 32767 {
+        return Some(BlifFault::Limit(LimitKind::Rows, 32768));
+    }
+    None
+}
+
+/// What is wrong with bytes as a row behind the lines before it.
+#[tactic(auto, unfolding(crate::specs::Steps::next_fault, crate::specs::Lines::first_of))]
+pub fn row_fault(
+    place: Part,
+    reading: &Option<Reading>,
+    number: usize,
+    bytes: &[u8],
+) -> Option<BlifFault>
+    ensures value { result ≡ next_fault_by place reading.now number bytes.now }
+    ensures room { result ≡ None → IfSome reading.now (λ one. length one.table.inputs < length bytes.now) }
+{
+    if is_behind(place) {
+        return Some(BlifFault::UnknownWord(number));
+    }
+    match reading {
+        None => Some(BlifFault::BadRow(number)),
+        Some(reading) => reading_fault(reading, number, bytes),
+    }
+}

@@ -1,0 +1,75 @@
+//! Ports that no line lists: the names that are beside others.
+
+ghost use Rattle.std.specs.Prelude.{◌≡◌, not, ◌++◌, ◌∷◌, [], IfOk, OnOk, if◌then◌else◌};
+ghost use Rattle.circuit_model.specs.Names.{has};
+ghost use Rattle.circuit_checks.specs.Sets.{with_name, Alike};
+ghost use Rattle.blif_lines.specs.Reader.{names_beside as beside};
+ghost use Rattle.blif_lines.specs.Steps.{listed_or};
+
+use circuit_model::{Name, Names};
+use indexmap::IndexSet;
+use sis_base::{Copied, Sequence};
+use std::alloc::{AllocError, Global};
+
+/// Puts a name into a set, and says whether it is new; an error only for want of memory.
+fn add(set: &mut IndexSet<Name>, name: Name) -> Result<bool, AllocError>
+    ensures added { IfOk result (λ added. added ≡ not (has set.old.keys name)) }
+    ensures names { OnOk result (set.new.keys ≡ with_name set.old.keys name) }
+{
+    Ok(set.insert(name)?)
+}
+
+/// The set of some names; an error only for want of memory.
+fn set_of(alloc: Global, names: &[Name]) -> Result<IndexSet<Name>, AllocError>
+    ensures { IfOk result (λ set. Alike set.keys names.now) }
+{
+    let mut set = IndexSet::new(alloc);
+    for name in names {
+        let _added = add(&mut set, name.copy(alloc)?)?;
+    }
+    Ok(set)
+}
+
+/// Puts a name into a set, and behind others where it is new; an error only for want of memory.
+fn add_new(
+    alloc: Global,
+    known: &mut IndexSet<Name>,
+    found: &mut Names,
+    name: &Name,
+) -> Result<(), AllocError>
+    ensures known { OnOk result (known.new.keys ≡ with_name known.old.keys name.now) }
+    ensures found { OnOk result (found.new ≡ (if has known.old.keys name.now then found.old else found.old ++ name.now ∷ [])) }
+{
+    if add(known, name.copy(alloc)?)? {
+        found.push(name.copy(alloc)?)?;
+    }
+    Ok(())
+}
+
+/// The names that are not among others, each once, where it comes first; an error only for want of memory.
+fn names_beside(alloc: Global, others: &[Name], names: &[Name]) -> Result<Names, AllocError>
+    ensures { IfOk result (λ found. found ≡ beside others.now names.now) }
+{
+    let mut known = set_of(alloc, others)?;
+    let mut found = Sequence::new(alloc);
+    for name in names {
+        add_new(alloc, &mut known, &mut found, name)?;
+    }
+    Ok(found)
+}
+
+/// Makes ports that no line lists those of some names that are not among others; an error only for want of memory.
+pub fn find_ports(
+    alloc: Global,
+    listed: bool,
+    ports: &mut Names,
+    others: &[Name],
+    names: &[Name],
+) -> Result<(), AllocError>
+    ensures { OnOk result (ports.new ≡ listed_or listed ports.old (beside others.now names.now)) }
+{
+    if !listed {
+        *ports = names_beside(alloc, others, names)?;
+    }
+    Ok(())
+}

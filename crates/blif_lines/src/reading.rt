@@ -1,0 +1,116 @@
+//! Reads the lines of a model as a circuit, or as the head of a machine.
+
+ghost use Rattle.std.specs.Prelude.{◌++◌, true, false, map, option_copied};
+ghost use Rattle.sis_text.specs.Entries.{entry_at};
+ghost use Rattle.blif_lines.specs.Reader.{read_lines, Reads};
+ghost use Rattle.blif_lines.specs.Steps.{take_entry, take_entries, kept_of, read_kept_as, finished, HasApartTables, Takes};
+
+use crate::content::Content;
+use crate::draft::Draft;
+use crate::fault::ReadFault;
+use crate::file_fault::{head_fault, listed_fault, settled_fault};
+use crate::settling::{circuit_of, head_of, settle};
+use genlib_format::Library;
+use sis_text::{Line, texts_at};
+use std::alloc::Global;
+
+/// Takes one logical line of a text.
+fn take_line(
+    alloc: Global,
+    source: &[u8],
+    line: &Line,
+    library: Option<&Library>,
+    draft: &mut Draft,
+) -> Result<(), ReadFault>
+    ensures { Takes result draft.new (take_entry (option_copied library.entry) draft.old (entry_at source.now line.now)) }
+{
+    let words = texts_at(alloc, source, line.words.as_slice())?;
+    draft.take(alloc, library, line.number, words.as_slice())
+}
+
+/// Takes the logical lines of a text, up to the first that has a fault.
+fn take_lines(
+    alloc: Global,
+    source: &[u8],
+    lines: &[Line],
+    library: Option<&Library>,
+    draft: &mut Draft,
+) -> Result<(), ReadFault>
+    ensures { Takes result draft.new (take_entries (option_copied library.entry) draft.old (map (entry_at source.now) lines.now)) }
+{
+    for line in lines {
+        take_line(alloc, source, line, library, draft)?;
+    }
+    Ok(())
+}
+
+/// Takes two runs of logical lines, one behind the other, up to the first line that has a fault.
+fn take_runs(
+    alloc: Global,
+    source: &[u8],
+    front: &[Line],
+    back: &[Line],
+    library: Option<&Library>,
+    draft: &mut Draft,
+) -> Result<(), ReadFault>
+    ensures { Takes result draft.new (take_entries (option_copied library.entry) draft.old (map (entry_at source.now) front.now ++ map (entry_at source.now) back.now)) }
+{
+    take_lines(alloc, source, front, library, draft)?;
+    take_lines(alloc, source, back, library, draft)
+}
+
+/// The head of a machine, of the draft behind the last line, if no port is listed twice.
+fn read_head(alloc: Global, draft: Draft) -> Result<Content, ReadFault>
+    ensures { Reads result (read_kept_as true (kept_of draft)) }
+{
+    if let Some(fault) = head_fault(alloc, draft.ports.as_slice())? {
+        return Err(ReadFault::Fault(fault));
+    }
+    Ok(Content::Head(head_of(draft)))
+}
+
+/// The circuit of the draft behind the last line, if nothing is wrong with the whole.
+#[tactic(auto, unfolding(crate::specs::Steps::kept_fault, crate::specs::Steps::settled, crate::specs::Steps::settled_fault, crate::specs::Lines::first_of))]
+fn read_circuit(alloc: Global, draft: Draft) -> Result<Content, ReadFault>
+    requires { HasApartTables (kept_of draft) }
+    ensures { Reads result (read_kept_as false (kept_of draft)) }
+{
+    let mut draft = draft;
+    if let Some(fault) = listed_fault(alloc, &draft)? {
+        return Err(ReadFault::Fault(fault));
+    }
+    settle(alloc, &mut draft)?;
+    if let Some(fault) = settled_fault(alloc, &draft)? {
+        return Err(ReadFault::Fault(fault));
+    }
+    Ok(Content::Circuit(circuit_of(alloc, draft)?))
+}
+
+/// What is read of a draft behind the last line: its circuit or the head of a machine, if nothing is wrong with the whole.
+#[tactic(auto, unfolding(crate::specs::Steps::read_kept))]
+fn finish(alloc: Global, draft: Draft) -> Result<Content, ReadFault>
+    requires { HasApartTables (kept_of draft) }
+    ensures { Reads result (finished draft) }
+{
+    if draft.is_machine() {
+        read_head(alloc, draft)
+    } else {
+        read_circuit(alloc, draft)
+    }
+}
+
+/// Reads logical lines of a text as a model, in two runs one behind the other: those before a KISS2 part, and those behind it.
+/// An error says the first fault of a line, in file order, else the first of the whole; or that memory was wanting.
+pub fn read_lines(
+    alloc: Global,
+    source: &[u8],
+    front: &[Line],
+    back: &[Line],
+    library: Option<&Library>,
+) -> Result<Content, ReadFault>
+    ensures { Reads result (read_lines (option_copied library.entry) (map (entry_at source.now) front.now ++ map (entry_at source.now) back.now)) }
+{
+    let mut draft = Draft::new(alloc)?;
+    take_runs(alloc, source, front, back, library, &mut draft)?;
+    finish(alloc, draft)
+}

@@ -1,0 +1,49 @@
+//! The rows of tables, by their characters.
+
+ghost use Rattle.std.specs.Prelude.{◌≡◌, ◌<◌, ◌++◌, ◌∷◌, [], true, length, IfOk};
+ghost use Rattle.std.specs.List.{list_all};
+ghost use Rattle.blif_lines.specs.Lines.{is_output_character, is_row_of};
+ghost use Rattle.blif_lines.specs.Steps.{mark_for};
+
+use circuit_model::{Row, Rows};
+use line_words::are_characters;
+use std::alloc::AllocError;
+
+/// Whether all bytes are output characters.
+fn are_output_characters(bytes: &[u8]) -> bool
+    ensures { result ≡ list_all is_output_character bytes.now }
+{
+    bytes.iter().all(|byte| *byte == b'0' || *byte == b'1')
+}
+
+/// Whether bytes are a row of a table of this width: a character for each input, then the output's.
+#[tactic(auto, unfolding(crate::specs::Lines::is_row_of))]
+pub fn is_row(width: usize, bytes: &[u8]) -> bool
+    ensures value { result ≡ is_row_of width bytes.now }
+    ensures room { result ≡ true → width < length bytes.now }
+{
+    if bytes.is_empty() || bytes.len() - 1 != width {
+        return false;
+    }
+    are_characters(&bytes[..width]) && are_output_characters(&bytes[width..])
+}
+
+/// The output character that all rows have, where one more row has `byte`.
+#[tactic(auto, unfolding(crate::specs::Steps::mark_for))]
+pub fn mark_of(rows: &[Row], mark: u8, byte: u8) -> u8
+    ensures { result ≡ mark_for rows.now mark byte }
+{
+    match rows {
+        [] => byte,
+        [_, ..] => mark,
+    }
+}
+
+/// Rows with one more; an error only for want of memory.
+pub fn appended(rows: Rows, row: Row) -> Result<Rows, AllocError>
+    ensures { IfOk result (λ more. more ≡ rows ++ row ∷ []) }
+{
+    let mut rows = rows;
+    rows.push(row)?;
+    Ok(rows)
+}

@@ -1,0 +1,98 @@
+//! What is made of the draft behind the last line: its ports, its two lists of tables, its circuit; or the head of a machine.
+
+ghost use Rattle.std.specs.Prelude.{◌≡◌, map, IfOk, OnOk};
+ghost use Rattle.table_fold.specs.Folding.{folded};
+ghost use Rattle.blif_lines.specs.Steps.{settled, settled_circuit, kept_head, kept_of};
+
+use crate::content::Head;
+use crate::draft::{Draft, with_reading};
+use crate::ports::find_ports;
+use circuit_model::{Circuit, Tables};
+use sis_base::Sequence;
+use std::alloc::{AllocError, Global};
+use std::mem;
+use table_fold::fold_table;
+
+/// Finds the ports that no line lists, and parts the tables; an error only for want of memory.
+#[tactic(auto, unfolding(crate::specs::Steps::settled))]
+pub fn settle(alloc: Global, draft: &mut Draft) -> Result<(), AllocError>
+    ensures { OnOk result (draft.new ≡ settled draft.old) }
+{
+    find_ports(
+        alloc,
+        draft.lists_inputs,
+        &mut draft.inputs,
+        draft.drives.as_slice(),
+        draft.inner.as_slice(),
+    )?;
+    find_ports(
+        alloc,
+        draft.lists_outputs,
+        &mut draft.outputs,
+        draft.reads.as_slice(),
+        draft.drives.as_slice(),
+    )?;
+    let reading = draft.reading.take();
+    with_reading(&mut draft.tables, reading)?;
+    if !draft.has_part {
+        draft.model_tables = mem::replace(&mut draft.tables, Sequence::new(alloc));
+    }
+    Ok(())
+}
+
+/// The tables, each with each of its inputs once; an error only for want of memory.
+fn folded_tables(alloc: Global, tables: Tables) -> Result<Tables, AllocError>
+    ensures { IfOk result (λ less. less ≡ map folded tables) }
+{
+    let mut less = Sequence::new(alloc);
+    for table in tables.into_vec() {
+        less.push(fold_table(alloc, table)?)?;
+    }
+    Ok(less)
+}
+
+/// The circuit of a draft that is settled; an error only for want of memory.
+pub fn circuit_of(alloc: Global, draft: Draft) -> Result<Circuit, AllocError>
+    ensures { IfOk result (λ circuit. circuit ≡ settled_circuit draft) }
+{
+    let Draft {
+        name,
+        inputs,
+        outputs,
+        clocks,
+        timing,
+        latches,
+        model_tables,
+        tables,
+        ..
+    } = draft;
+    Ok(Circuit {
+        name,
+        inputs,
+        outputs,
+        clocks,
+        timing,
+        latches,
+        tables: folded_tables(alloc, model_tables)?,
+        dont_care: tables,
+    })
+}
+
+/// The head of a machine, of the draft behind the last line.
+pub fn head_of(draft: Draft) -> Head
+    ensures { result ≡ kept_head (kept_of draft) }
+{
+    let Draft {
+        name,
+        lists_inputs,
+        inputs,
+        lists_outputs,
+        outputs,
+        ..
+    } = draft;
+    Head {
+        name,
+        inputs: lists_inputs.then_some(inputs),
+        outputs: lists_outputs.then_some(outputs),
+    }
+}

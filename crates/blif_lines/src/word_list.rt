@@ -1,0 +1,164 @@
+//! The words of one line, as they stand in the text that is read.
+
+ghost use Rattle.std.specs.Prelude.{◌≡◌, take, bytes_eq, codes, IfOk, OnOk, if◌then◌else◌};
+ghost use Rattle.std.specs.List.{list_any};
+ghost use Rattle.circuit_model.specs.Names.{has};
+ghost use Rattle.sis_text.specs.Words.{begins_with};
+ghost use Rattle.line_words.specs.LineWords.{texts};
+ghost use Rattle.blif_lines.specs.Keyword.{keyword_of as kind_by, skipped_words};
+ghost use Rattle.blif_lines.specs.Lines.{input_words, last_word as last_of, joined as all_bytes};
+ghost use Rattle.blif_lines.specs.Reader.{latch_output as output_of};
+ghost use Rattle.blif_lines.specs.Steps.{with_more};
+
+use crate::keyword::Keyword;
+use circuit_model::Names;
+use line_words::add_names;
+use std::alloc::{AllocError, Global};
+
+/// What a line is, by its first word.
+#[tactic(auto, unfolding(crate::specs::Keyword::keyword_of))]
+pub fn keyword_of(word: &[u8]) -> Keyword
+    ensures { result ≡ kind_by word.now }
+{
+    if word == b".model".as_slice() {
+        Keyword::Model
+    } else if word == b".inputs".as_slice() {
+        Keyword::Inputs
+    } else if word == b".outputs".as_slice() {
+        Keyword::Outputs
+    } else if word == b".clock".as_slice() {
+        Keyword::Clock
+    } else {
+        node_keyword(word)
+    }
+}
+
+/// What a line is that is no line of the model, its ports or its clocks.
+fn node_keyword(word: &[u8]) -> Keyword
+    ensures { result ≡ (if bytes_eq word.now (codes ".names") then Keyword.Names else (if bytes_eq word.now (codes ".latch") then Keyword.Latch else (if bytes_eq word.now (codes ".gate") then Keyword.Gate else (if bytes_eq word.now (codes ".start_kiss") then Keyword.StartKiss else (if bytes_eq word.now (codes ".exdc") then Keyword.DontCare else (if bytes_eq word.now (codes ".end") then Keyword.End else (if has skipped_words word.now then Keyword.Skipped else (if begins_with 46 word.now then Keyword.Other else Keyword.Row)))))))) }
+{
+    if word == b".names".as_slice() {
+        Keyword::Names
+    } else if word == b".latch".as_slice() {
+        Keyword::Latch
+    } else if word == b".gate".as_slice() {
+        Keyword::Gate
+    } else if word == b".start_kiss".as_slice() {
+        Keyword::StartKiss
+    } else if word == b".exdc".as_slice() {
+        Keyword::DontCare
+    } else if word == b".end".as_slice() {
+        Keyword::End
+    } else if is_skipped(word) {
+        Keyword::Skipped
+    } else {
+        dotted_or_row(word)
+    }
+}
+
+/// Whether a word is one of some.
+fn is_among(words: &[&[u8]], word: &[u8]) -> bool
+    ensures { result ≡ list_any (λ one. bytes_eq word.now one.now) words.now }
+{
+    words.iter().any(|other| word == *other)
+}
+
+/// Whether a line with this first word is read past.
+fn is_skipped(word: &[u8]) -> bool
+    ensures { result ≡ has skipped_words word.now }
+{
+    let skipped = [
+        b".latch_order".as_slice(),
+        b".code".as_slice(),
+        b".area".as_slice(),
+        b".delay".as_slice(),
+        b".wire_load_slope".as_slice(),
+        b".wire".as_slice(),
+        b".input_arrival".as_slice(),
+        b".default_input_arrival".as_slice(),
+        b".output_required".as_slice(),
+        b".default_output_required".as_slice(),
+        b".input_drive".as_slice(),
+        b".default_input_drive".as_slice(),
+        b".output_load".as_slice(),
+        b".default_output_load".as_slice(),
+        b".max_input_load".as_slice(),
+        b".default_max_input_load".as_slice(),
+        b".cycle".as_slice(),
+        b".clock_event".as_slice(),
+    ];
+    is_among(skipped.as_slice(), word)
+}
+
+/// A dotted word that is not known, or the first word of a row.
+fn dotted_or_row(word: &[u8]) -> Keyword
+    ensures { result ≡ (if begins_with 46 word.now then Keyword.Other else Keyword.Row) }
+{
+    match word {
+        [b'.', ..] => Keyword::Other,
+        _ => Keyword::Row,
+    }
+}
+
+/// The last word; the empty one where there is none.
+pub fn last_word<'a>(words: &[&'a [u8]]) -> &'a [u8]
+    ensures { result.now ≡ last_of (texts words.now) }
+{
+    match words {
+        [] => b"".as_slice(),
+        [.., last] => last,
+    }
+}
+
+/// All words but the last.
+pub fn front_words<'a, 'w>(words: &'w [&'a [u8]]) -> &'w [&'a [u8]]
+    ensures { texts result.now ≡ input_words (texts words.now) }
+{
+    match words {
+        [] => words,
+        [front @ .., _] => front,
+    }
+}
+
+/// The first words, at most so many.
+pub fn first_words<'a, 'w>(words: &'w [&'a [u8]], count: usize) -> &'w [&'a [u8]]
+    ensures { texts result.now ≡ take count (texts words.now) }
+{
+    &words[..count.min(words.len())]
+}
+
+/// The output of a latch, by the words of its line.
+pub fn latch_output<'a, 'w>(words: &'w [&'a [u8]]) -> &'w [&'a [u8]]
+    ensures { texts result.now ≡ output_of (texts words.now) }
+{
+    match words {
+        [] => words,
+        [_, others @ ..] => first_words(others, 1),
+    }
+}
+
+/// Puts a name for each word behind the last of some names, where they still grow; an error only for want of memory.
+pub fn add_more(
+    alloc: Global,
+    had: bool,
+    names: &mut Names,
+    words: &[&[u8]],
+) -> Result<(), AllocError>
+    ensures { OnOk result (names.new ≡ with_more had names.old (texts words.now)) }
+{
+    if !had {
+        add_names(alloc, names, words)?;
+    }
+    Ok(())
+}
+
+/// The bytes of all words, one word behind the other; an error only for want of memory.
+pub fn joined(alloc: Global, words: &[&[u8]]) -> Result<Vec<u8>, AllocError>
+    ensures { IfOk result (λ bytes. bytes.items ≡ all_bytes (texts words.now)) }
+{
+    let mut bytes = Vec::new(alloc);
+    for word in words {
+        bytes.extend_from_slice(word)?;
+    }
+    Ok(bytes)
+}

@@ -1,8 +1,0 @@
-use Rattle.std.proofs.Common.{arith}
-use Rattle.std.proofs.lemmas.Grind.{common_steps}
-use Rattle.blif_read.specs.Steps.{take_as, take_entry}
-use Rattle.blif_read.proofs.draft.Draft.take.Goals as goal
-
-pub returns-in-Other : goal.returns-in-Other
-unfolding take_as take_entry
-returns-in-Other c = grind (arith, common_steps)

@@ -1,6 +1,0 @@
-use Rattle.std.proofs.Common.{◌≡◌, ◌++◌, map, take}
-use Rattle.circuit_model.specs.declared.circuit.Latch.{Latch as TheLatch}
-use Rattle.blif_read.proofs.file_fault.add_states.Given as goal
-
-abbrev pub invariant-loop-latch : goal.invariant-loop-latch
-invariant-loop-latch l = l.names ≡ l.fn.names ++ map (λ (latch : TheLatch). latch.output) (take l.latch-index l.latches)

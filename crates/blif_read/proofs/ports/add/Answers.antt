@@ -1,6 +1,0 @@
-use Rattle.circuit_checks.specs.Sets.{with_name}
-use Rattle.blif_read.proofs.ports.add.Goals as goal
-
-pub returns-clause-names : goal.returns-clause-names
-unfolding with_name
-returns-clause-names c = c.in_ok-insert.ensures.keys

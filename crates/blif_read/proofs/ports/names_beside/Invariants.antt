@@ -1,7 +1,0 @@
-use Rattle.std.proofs.Common.{◌≡◌, ◌++◌, drop}
-use Rattle.blif_read.specs.Reader.{names_beside}
-use Rattle.blif_read.proofs.Beside.{new_beside}
-use Rattle.blif_read.proofs.ports.names_beside.Given as goal
-
-abbrev pub invariant-loop-name : goal.invariant-loop-name
-invariant-loop-name l = l.found ++ new_beside l.known.keys (drop l.name-index l.names) ≡ names_beside l.others l.names

@@ -1,6 +1,0 @@
-use Rattle.blif_read.specs.Steps.{settled}
-use Rattle.blif_read.proofs.reading.finish.Goals as goal
-
-pub settled_fault-requires : goal.settled_fault-requires
-unfolding settled
-settled_fault-requires c = rw c.in_ok-settle.ensures (c.requires (c.in_ok-fault.ensures.once c.in_default.is))

@@ -1,6 +1,0 @@
-use Rattle.std.proofs.Common.{◌≡◌, ◌++◌, take}
-use Rattle.blif_read.specs.Steps.{texts}
-use Rattle.blif_read.proofs.word_list.add_names.Given as goal
-
-abbrev pub invariant-loop-word : goal.invariant-loop-word
-invariant-loop-word l = l.names ≡ l.fn.names ++ texts (take l.word-index l.words)

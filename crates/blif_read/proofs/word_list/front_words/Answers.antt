@@ -1,5 +1,0 @@
-use Rattle.blif_read.proofs.Words.{front_texts}
-use Rattle.blif_read.proofs.word_list.front_words.Goals as goal
-
-pub returns-in-len1-up : goal.returns-in-len1-up
-returns-in-len1-up c = front_texts c.args.words.now

@@ -1,7 +1,0 @@
-use Rattle.std.proofs.Common.{◌≡◌, take}
-use Rattle.blif_read.specs.Lines.{joined}
-use Rattle.blif_read.specs.Steps.{texts}
-use Rattle.blif_read.proofs.word_list.joined.Given as goal
-
-abbrev pub invariant-loop-word : goal.invariant-loop-word
-invariant-loop-word l = l.bytes.items ≡ joined (texts (take l.word-index l.words))

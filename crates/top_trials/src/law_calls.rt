@@ -1,0 +1,25 @@
+//! Laws, each of which is a call that does nothing but end.
+
+use sis_session::{
+    changes_have_one_outcome, commands_end_once, commands_have_one_plan, served_commands_are_done,
+    steps_keep_refinement, what_is_held_is_written,
+};
+use sis_top::{runs_are_one, runs_keep_refinement, served_runs_refuse_nothing};
+use std::alloc::{AllocError, Global};
+use trial_cases::put_line;
+
+/// That the laws are called; an error only for want of memory.
+pub fn answer(alloc: Global) -> Result<Vec<u8>, AllocError> {
+    steps_keep_refinement();
+    what_is_held_is_written();
+    served_commands_are_done();
+    commands_have_one_plan();
+    commands_end_once();
+    changes_have_one_outcome();
+    runs_keep_refinement();
+    served_runs_refuse_nothing();
+    runs_are_one();
+    let mut out = Vec::new(alloc);
+    put_line(&mut out, b"called")?;
+    Ok(out)
+}

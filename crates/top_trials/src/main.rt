@@ -1,0 +1,60 @@
+//! Answers cases about calls of the whole program over files, an input and outputs in memory.
+//!
+//! A case `call WORD|WORD|..` is a call of the program on these words, as trial_cases writes texts; lines right below it
+//! stand behind the last word. Below them stand parts, each with a line that begins with `@` and the lines of a text:
+//! `@file NAME`, `@input`, and without a text `@fail OBJECT CALL PASSES` and `@want OBJECT CALL`: the call of this number,
+//! counted from 0, of `store`, `input`, `out` or `err` fails after so many bytes, or wants memory. The input stands before
+//! its failures. A line `%HH HH ..` of a text is the bytes of these hexadecimal numbers. A case `files` has parts for all
+//! cases behind it, up to the next `files`, and no answer.
+//!
+//! Told are the status and its number, the lines put on the output behind `out: ` and on the error output behind `err: `,
+//! those of each file that the call saved behind its name, and the name of any other file that did not stay as it was. A
+//! `\` stands where a text ends without a line end. A case `session` is calls on a session by itself, a case `laws` calls
+//! the laws. What is in `stdin` and `stdout` is worked out by hand from the definitions.
+#![tactic(auto)]
+
+mod calls;
+mod law_calls;
+mod outside;
+mod parts;
+mod sessions;
+mod shown;
+mod wanting;
+
+use parts::{Part, parts};
+use std::alloc::{AllocError, Global};
+use std::io;
+use std::io::{Read, Write};
+use trial_cases::{Case, CaseFault, cases, put_answer};
+
+/// The answer to a case, over the parts that all calls share.
+fn answer(alloc: Global, case: &Case<'_>, shared: &[Part<'_>]) -> Result<Vec<u8>, CaseFault> {
+    match case.word(0) {
+        "call" => calls::answer(alloc, case, shared),
+        "session" => sessions::answer(alloc, case, shared),
+        "laws" => Ok(law_calls::answer(alloc)?),
+        _ => Err(CaseFault::Bad),
+    }
+}
+
+/// The answers to the cases of an input.
+fn answers(alloc: Global, input: &str) -> Result<Vec<u8>, AllocError> {
+    let mut out = Vec::new(alloc);
+    let mut shared = Vec::new(alloc);
+    for case in &cases(alloc, input)? {
+        if case.word(0) == "files" {
+            shared = parts(alloc, case.lines.as_slice())?;
+        } else {
+            let told = answer(alloc, case, shared.as_slice());
+            put_answer(&mut out, case.head, told)?;
+        }
+    }
+    Ok(out)
+}
+
+fn main(rt: HostRuntime) -> io::Result<()> {
+    let mut input = String::new(rt.alloc());
+    rt.stdin().read_to_string(&mut input)?;
+    let out = answers(rt.alloc(), input.as_str())?;
+    rt.stdout().write_all(out.as_slice())
+}

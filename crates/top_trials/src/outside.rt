@@ -1,0 +1,89 @@
+//! What a call sees of the outside, as the parts of a case say it.
+
+use crate::parts::Part;
+use crate::wanting::{TrialStore, Wanting};
+use sis_outside::{MemSink, MemSource};
+use std::alloc::{AllocError, Global};
+use trial_cases::{CaseFault, number_of};
+
+/// The objects of the outside.
+#[derive(Drop)]
+pub struct Outside {
+    pub store: TrialStore,
+    pub input: Wanting<MemSource>,
+    pub out: Wanting<MemSink>,
+    pub err: Wanting<MemSink>,
+}
+
+impl Outside {
+    /// No file, no input, and no call that fails; an error only for want of memory.
+    pub fn new(alloc: Global) -> Result<Self, AllocError> {
+        let input = MemSource::new(alloc, b"")?;
+        Ok(Outside {
+            store: TrialStore::new(alloc),
+            input: Wanting::new(input),
+            out: Wanting::new(MemSink::new(alloc)),
+            err: Wanting::new(MemSink::new(alloc)),
+        })
+    }
+
+    /// Does what the parts of a case say.
+    pub fn take_parts(&mut self, alloc: Global, parts: &[Part<'_>]) -> Result<(), CaseFault> {
+        for part in parts {
+            self.take_part(alloc, part)?;
+        }
+        Ok(())
+    }
+
+    /// Does what a part says; one without a word says nothing.
+    fn take_part(&mut self, alloc: Global, part: &Part<'_>) -> Result<(), CaseFault> {
+        match part.word(0) {
+            "" => Ok(()),
+            "file" => self.put_file(alloc, part),
+            "input" => self.put_input(alloc, part),
+            "fail" => self.fail(part),
+            "want" => self.want(part),
+            _ => Err(CaseFault::Bad),
+        }
+    }
+
+    /// Puts a file into the store.
+    fn put_file(&mut self, alloc: Global, part: &Part<'_>) -> Result<(), CaseFault> {
+        let name = part.name(alloc)?;
+        let text = part.text(alloc)?;
+        Ok(self.store.files.put_file(name.as_str(), text.as_slice())?)
+    }
+
+    /// Puts a text on the input.
+    fn put_input(&mut self, alloc: Global, part: &Part<'_>) -> Result<(), CaseFault> {
+        let text = part.text(alloc)?;
+        self.input.object = MemSource::new(alloc, text.as_slice())?;
+        Ok(())
+    }
+
+    /// Has a call of an object fail after so many bytes.
+    fn fail(&mut self, part: &Part<'_>) -> Result<(), CaseFault> {
+        let call = number_of(part.word(2))?;
+        let passes = number_of(part.word(3))?;
+        match part.word(1) {
+            "store" => Ok(self.store.files.fail_at(call, passes)?),
+            "input" => Ok(self.input.object.fail_at(call, passes)?),
+            "out" => Ok(self.out.object.fail_at(call, passes)?),
+            "err" => Ok(self.err.object.fail_at(call, passes)?),
+            _ => Err(CaseFault::Bad),
+        }
+    }
+
+    /// Has a call of an object want memory.
+    fn want(&mut self, part: &Part<'_>) -> Result<(), CaseFault> {
+        let call = number_of(part.word(2))?;
+        match part.word(1) {
+            "store" => self.store.want = Some(call),
+            "input" => self.input.want = Some(call),
+            "out" => self.out.want = Some(call),
+            "err" => self.err.want = Some(call),
+            _ => return Err(CaseFault::Bad),
+        }
+        Ok(())
+    }
+}
