@@ -1,6 +1,7 @@
 #!/usr/bin/env bash
-# Files of other tools: a sequential circuit is written as BLIF by yosys and by ABC (Debian's packages); `sis` reads, sweeps
-# and writes each, and ABC says whether the result is equivalent to the file. Left out, with a word, where they are missing.
+# Files of other tools: a sequential circuit is written as BLIF by yosys and by ABC (Debian's packages), and a library as genlib by ABC, which
+# maps the circuit to its gates; `sis` reads, sweeps and writes each circuit, the mapped one by either library, and ABC says whether the result is
+# equivalent to the file. Left out, with a word, where they are missing.
 top=$(cd "$(dirname "$(readlink -f "$0")")/.." && pwd)
 . "$top/bench/common.sh"
 
@@ -21,17 +22,36 @@ module top(input clk, input load, input [7:0] data, input bit_in, output reg [7:
 endmodule
 V
 
+# A library in the manner of the mcnc ones.
+cat > "$work/own.genlib" <<'L'
+# name, area, function, delays
+GATE inv1   1  O=!a;            PIN * INV 1 999 0.9 0.3 0.9 0.3
+GATE buf1   1  O=a;             PIN * NONINV 1 999 0.9 0.3 0.9 0.3
+GATE nand2  2  O=!(a*b);        PIN * INV 1 999 1.0 0.2 1.0 0.2
+GATE nor2   2  O=!(a+b);        PIN * INV 1 999 1.4 0.5 1.4 0.5
+GATE and2   3  O=a*b;           PIN * NONINV 1 999 1.9 0.3 1.9 0.3
+GATE xor2   5  O=a*!b+!a*b;     PIN * UNKNOWN 2 999 1.9 0.5 1.9 0.5
+GATE aoi21  3  O=!(a*b+c);      PIN a INV 1 999 1.6 0.4 1.6 0.4 PIN b INV 1 999 1.6 0.4 1.6 0.4 PIN c INV 1 999 1.6 0.4 1.6 0.4
+GATE oai22  4  O=!((a+b)*(c+d)); PIN * INV 1 999 2.0 0.4 2.0 0.4
+GATE zero   0  O=CONST0;
+GATE one    0  O=CONST1;
+L
+
 cd "$work" || exit 1
 yosys -q -p "read_verilog a.v; hierarchy -top top; proc; opt; techmap; opt; abc -g AND,OR,XOR,NAND,NOR; opt_clean; write_blif yosys.blif" > yosys.log 2>&1 || { tail -3 yosys.log; exit 1; }
 berkeley-abc -c "read_blif yosys.blif; strash; write_blif abc.blif" > abc.log 2>&1
 berkeley-abc -c "read_blif yosys.blif; strash; dch; if -K 6; write_blif lut.blif" >> abc.log 2>&1
+berkeley-abc -c "read_genlib own.genlib; write_genlib abc.genlib; read_blif yosys.blif; strash; map; write_blif mapped.blif" >> abc.log 2>&1
+cp mapped.blif mapped_by_own.blif
 
 status=0
-for file in yosys abc lut; do
-  if ! "$top/out/sis" -c "read_blif $file.blif; print_stats; sweep; print_stats; write_blif $file.swept.blif"; then
+for file in yosys abc lut mapped mapped_by_own; do
+  library=abc
+  [ $file = mapped_by_own ] && library=own
+  if ! "$top/out/sis" -c "read_library $library.genlib; read_blif $file.blif; print_stats; sweep; print_stats; write_blif $file.swept.blif"; then
     echo "$file.blif: refused"; status=1; continue
   fi
-  verdict=$(berkeley-abc -c "dsec $file.blif $file.swept.blif" 2>&1 | grep -i "equivalent\|undecided\|fail" | head -1)
+  verdict=$(berkeley-abc -c "read_genlib own.genlib; dsec $file.blif $file.swept.blif" 2>&1 | grep -i "equivalent\|undecided\|fail" | head -1)
   echo "$file.blif: ABC's dsec says: ${verdict:-nothing}"
   case $verdict in *"are equivalent"*) ;; *) status=1 ;; esac
 done
