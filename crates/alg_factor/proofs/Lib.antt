@@ -1,6 +1,6 @@
 pub mod Choosing
 pub mod Laws
-pub mod Parts
+pub mod PartedRows
 pub mod Chains
 pub mod Expansions
 pub mod Texts

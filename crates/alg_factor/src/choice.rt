@@ -11,10 +11,10 @@ use std::alloc::{AllocError, Global};
 
 /// A literal, by its place and its bit, and the number of rows that have it.
 #[derive(Clone, Copy)]
-pub(crate) struct Best {
-    pub(crate) place: usize,
-    pub(crate) bit: bool,
-    pub(crate) count: usize,
+pub struct Best {
+    pub place: usize,
+    pub bit: bool,
+    pub count: usize,
 }
 
 /// In how many rows the negative and the positive literal of a place stand.
@@ -106,7 +106,7 @@ fn best_after<R: Row>(width: usize, rows: &[R], place: usize, best: Option<Best>
 
 /// The literal in most rows, by place and then 0 before 1 among equals; none where no literal stands in two rows.
 #[tactic(auto, using(crate::proofs::Choosing::best_answer))]
-pub(crate) fn best_literal<R: Row>(width: usize, rows: &[R]) -> Option<Best>
+pub fn best_literal<R: Row>(width: usize, rows: &[R]) -> Option<Best>
     requires { HasWidth width (map R.literals rows.now) }
     ensures { MatchOption result (NoneShared (map R.literals rows.now)) (λ best. (best.place < width) × IsChosen best.place best.bit (map R.literals rows.now)) }
 {
@@ -119,9 +119,9 @@ pub(crate) fn best_literal<R: Row>(width: usize, rows: &[R]) -> Option<Best>
 
 /// The rows that have a literal, without it, and the others.
 #[derive(Drop)]
-pub(crate) struct Parts<R: Row> {
-    pub(crate) with: Vec<R>,
-    pub(crate) others: Vec<R>,
+pub struct Parts<R: Row> {
+    pub with: Vec<R>,
+    pub others: Vec<R>,
 }
 
 // Whether a literal is that of a bit.
@@ -145,8 +145,8 @@ fn clear_literal<R: Row>(row: R, place: usize) -> R
 }
 
 /// Parts rows by a literal, in order; an error only for want of memory.
-#[tactic(auto, using(cube_cover::proofs::Points::width_read, crate::proofs::Parts::with_keep, crate::proofs::Parts::with_skip, crate::proofs::Parts::others_keep, crate::proofs::Parts::others_skip), unfolding(crate::specs::Forms::with_literal, crate::specs::Forms::no_literal))]
-pub(crate) fn part_rows<R: Row>(
+#[tactic(auto, using(cube_cover::proofs::Points::width_read, crate::proofs::PartedRows::with_keep, crate::proofs::PartedRows::with_skip, crate::proofs::PartedRows::others_keep, crate::proofs::PartedRows::others_skip), unfolding(crate::specs::Forms::with_literal, crate::specs::Forms::no_literal))]
+pub fn part_rows<R: Row>(
     alloc: Global,
     width: usize,
     rows: Vec<R>,

@@ -5,7 +5,8 @@
 //! literal that stands in most rows is taken out of them, again and again, until no literal stands in two rows.
 //! Promised: the form is the one that this rule gives (`specs/Forms.antt`), multiplied out it is the cover's rows in
 //! some order, and it has fewer literals exactly where some literal stands in two rows; the count, the expansion and
-//! the text (`specs/Texts.antt`) are exact. Calls nest no deeper than the number of inputs.
+//! the text (`specs/Texts.antt`) are exact. Calls nest no deeper than the number of inputs. `best_literal` and `part_rows`, by
+//! which one literal is taken out, serve others too.
 //! Conditions of the caller: one name for each input, and fewer than 2^64 literals where they are counted.
 #![tactic(auto)]
 
@@ -16,6 +17,7 @@ mod form;
 mod literals;
 mod text;
 
+pub use choice::{Best, Parts, best_literal, part_rows};
 pub use factoring::factor;
 pub use form::Factored;
 pub use text::sum_text;

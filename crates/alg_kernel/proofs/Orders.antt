@@ -27,7 +27,7 @@ then_second Less p h = cc
 then_second Equal p h = h
 then_second Greater p h = cc
 
-lists_same : {X : Type 0} (R : X → X → Ordering) → ((x y : X) → R x y ≡ Equal → x ≡ y) → (xs ys : List X) → slice_cmp R xs ys ≡ Equal → xs ≡ ys
+pub lists_same : {X : Type 0} (R : X → X → Ordering) → ((x y : X) → R x y ≡ Equal → x ≡ y) → (xs ys : List X) → slice_cmp R xs ys ≡ Equal → xs ≡ ys
 lists_same R same [] [] h = refl
 lists_same R same [] (y ∷ ys) h = cc
 lists_same R same (x ∷ xs) [] h = cc

@@ -1,4 +1,4 @@
-//! Kernels of covers: the quotients by a cube that have two cubes or more and no common literal, as Brayton and
+//! Kernels of covers: what division by a cube leaves, where it is more than one cube and cube-free, as Brayton and
 //! McMullen define them ("The Decomposition and Factorization of Boolean Expressions", 1982); De Micheli,
 //! "Synthesis and Optimization of Digital Circuits", chapter 8.
 //!

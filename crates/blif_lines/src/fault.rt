@@ -29,7 +29,7 @@ pub enum BlifFault {
     BadRow(usize),
     /// A row whose output differs from that of its table's first row.
     MixedPhase(usize),
-    /// A `.latch` line that is not an input, an output, a kind with a control or none, and an init from 0 to 3 or none.
+    /// A `.latch` line whose words are not two signals, then a known kind and its control or neither, then a digit up to 3 or nothing.
     BadLatch(usize),
     /// A `.model` line that is not the first logical line.
     SecondModel(usize),

@@ -143,9 +143,11 @@ fn placed_row<R: Row>(
     Ok(made)
 }
 
-// The inner rows in the result.
+/// Rows with each literal put at another place of a row of a width: `places` has a place for each input of the rows, all below the
+/// width. Where no place stands twice they match a point of that width exactly where the rows match its bits at these places. An
+/// error only for want of memory.
 #[tactic(auto, using(cube_cover::proofs::Points::width_read))]
-fn place_rows<R: Row>(
+pub fn place_rows<R: Row>(
     alloc: Global,
     rows: &[R],
     places: &[usize],

@@ -10,5 +10,5 @@
 mod composing;
 mod list;
 
-pub use composing::compose;
+pub use composing::{compose, place_rows};
 pub use list::{ListFault, off_list, on_list};

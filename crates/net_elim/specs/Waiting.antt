@@ -25,11 +25,12 @@ worth_within threshold placed table =
 abbrev pub worth_at : ℤ → Placed → ℕ → Option ℤ
 worth_at threshold placed place = option_map_or (worth_within threshold placed) (table_at placed.slots place) None
 
--- the value at a place, if there is one
+-- an optional value of an optional value
 abbrev pub flat : Option (Option ℤ) → Option ℤ
 flat None = None
 flat (Some value) = value
 
+-- the value at a place, if there is one
 abbrev pub waits_at : List (Option ℤ) → ℕ → Option ℤ
 waits_at values place = flat (slice_get values place)
 

@@ -20,7 +20,7 @@ use std::alloc::{AllocError, Global};
 /// What becomes of a table.
 #[derive(Clone, Copy, Debug, PartialEq, Eq)]
 pub enum Fate {
-    /// It is written as it is; its readers have it as a leaf.
+    /// It stays a table without a tree, and its signal is a leaf of its readers' trees.
     Constant,
     /// It is put into its one reader.
     Put,

@@ -13,7 +13,7 @@ use std::alloc::{AllocError, Global};
 const FEW_NAMES: usize = 32;
 
 /// The place of a name among names.
-pub(crate) fn place_among(names: &[Name], name: &Name) -> Option<usize>
+pub fn place_among(names: &[Name], name: &Name) -> Option<usize>
     ensures { result ≡ position (bytes_eq name.now) names.now }
 {
     names.iter().position(|other| *name == *other)
@@ -69,7 +69,7 @@ fn places_in(
 }
 
 /// The place of each other name among different names; an error only for want of memory.
-pub(crate) fn places_of(
+pub fn places_of(
     alloc: Global,
     names: &[Name],
     others: &[Name],

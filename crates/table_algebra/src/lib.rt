@@ -12,4 +12,5 @@ mod inputs;
 pub mod laws;
 mod taking;
 
+pub use inputs::{place_among, places_of};
 pub use taking::{TakeFault, take_in};

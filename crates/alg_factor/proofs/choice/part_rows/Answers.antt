@@ -1,7 +1,7 @@
 use Rattle.std.proofs.Common.{◌≡◌, Bool, true, false, Option, None, sym, ap, ◌∙◌, get_or}
 use Rattle.std.proofs.lemmas.List.{map_push}
 use Rattle.cube_cover.specs.Literals.{has_literal}
-use Rattle.alg_factor.proofs.Parts.{with_keep, with_skip, others_keep, others_skip}
+use Rattle.alg_factor.proofs.PartedRows.{with_keep, with_skip, others_keep, others_skip}
 use Rattle.alg_factor.proofs.choice.part_rows.Goals as goal
 
 pub loop-row-preserved-in-Continue-1 : goal.loop-row-preserved-in-Continue-1
