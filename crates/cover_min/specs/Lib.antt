@@ -1,0 +1,4 @@
+pub mod Points
+pub mod Minimum
+pub mod Primes
+pub mod Trimming

@@ -1,0 +1,62 @@
+-- The minimum of a cover under free points: its rows are made as wide as they can be, and rows that are not needed go.
+-- Source: Brayton, Hachtel, McMullen, Sangiovanni-Vincentelli, "Logic Minimization Algorithms for VLSI Synthesis" (expand and
+-- irredundant); De Micheli, "Synthesis and Optimization of Digital Circuits", chapter 7 (prime and irredundant covers, don't-cares).
+-- Both choices are greedy: literals from the first place to the last, rows from the first to the last.
+use Rattle.std.specs.Prelude.{ℕ, zero, suc, Bool, false, ◌&&◌, ◌||◌, if◌then◌else◌, Option, None, List, [], ◌∷◌, ◌++◌, length, map, slice_index_or, slice_set}
+use Rattle.std.specs.List.{list_any}
+use Rattle.cube_cover.specs.Literals.{not_dash}
+use Rattle.cover_min.specs.Points.{has_point, has_own_point}
+
+-- what an oracle knows: the points at which a function must be 1 and those at which it must be 0, all others being free (no function
+-- fits where a point is of both); and of each test that it may be asked, whether it refuses it
+pub record Meaning : Type 0 where
+  pub width : ℕ
+  pub on : List Bool → Bool
+  pub off : List Bool → Bool
+  pub refuses_off : List (Option Bool) → Bool
+  pub refuses_own : List (Option Bool) → List (List (Option Bool)) → Bool
+
+-- a row without its literal at a place, where no point that it then has is one at which the function must be 0; else the row
+unfoldable pub widened_at : (List Bool → Bool) → List (Option Bool) → ℕ → List (Option Bool)
+widened_at off row place = if has_point off (slice_set row place None) then row else slice_set row place None
+
+-- a row after its literals at the first places went, one after the other, where they could
+unfoldable pub widened_to : (List Bool → Bool) → List (Option Bool) → ℕ → List (Option Bool)
+widened_to off row zero = row
+widened_to off row (suc place) = widened_at off (widened_to off row place) place
+
+-- a row with the literals that stay; those at earlier places are judged first
+abbrev pub widened : (List Bool → Bool) → List (Option Bool) → List (Option Bool)
+widened off row = widened_to off row (length row)
+
+-- the rows that were kept, and a row behind them where it has a point at which the function must be 1 that neither they nor the
+-- rows still to come have
+unfoldable pub with_needed : (List Bool → Bool) → List (List (Option Bool)) → List (Option Bool) → List (List (Option Bool)) → List (List (Option Bool))
+with_needed on kept row rest = if has_own_point on row (kept ++ rest) then kept ++ row ∷ [] else kept
+
+-- the rows that were kept, and those that are needed of the ones still to come
+unfoldable pub needed_behind : (List Bool → Bool) → List (List (Option Bool)) → List (List (Option Bool)) → List (List (Option Bool))
+needed_behind on kept [] = kept
+needed_behind on kept (row ∷ rest) = needed_behind on (with_needed on kept row rest) rest
+
+-- the minimum of rows: each is widened, and then those are left that are needed; earlier rows are judged first
+unfoldable pub minimum_rows : Meaning → List (List (Option Bool)) → List (List (Option Bool))
+minimum_rows meaning rows = needed_behind meaning.on [] (map (widened meaning.off) rows)
+
+-- whether a test is refused by which a literal at one of the first places of a row may go; a dash is not tested
+unfoldable pub refuses_to : Meaning → List (Option Bool) → ℕ → Bool
+refuses_to meaning row zero = false
+refuses_to meaning row (suc place) =
+    refuses_to meaning row place
+    || (not_dash (slice_index_or row place None) && meaning.refuses_off (slice_set (widened_to meaning.off row place) place None))
+
+-- whether a test is refused by which a row may go
+unfoldable pub refuses_behind : Meaning → List (List (Option Bool)) → List (List (Option Bool)) → Bool
+refuses_behind meaning kept [] = false
+refuses_behind meaning kept (row ∷ rest) =
+    meaning.refuses_own row (kept ++ rest) || refuses_behind meaning (with_needed meaning.on kept row rest) rest
+
+-- whether a test is refused by which the minimum of rows is found
+unfoldable pub refuses_minimum : Meaning → List (List (Option Bool)) → Bool
+refuses_minimum meaning rows =
+    list_any (λ row. refuses_to meaning row (length row)) rows || refuses_behind meaning [] (map (widened meaning.off) rows)

@@ -1,0 +1,203 @@
+//! The minimum of a cover: literals go, then rows.
+//!
+//! Each literal and each row costs one test of the oracle. While rows go, one is in hand and the others stand in order in the cover
+//! that the oracle is shown; a row that stays changes places with the next one, in constant time.
+
+ghost use Rattle.std.specs.Prelude.{◌≡◌, ◌<◌, ◌≤◌, true, false, Err, ◌∷◌, ◌++◌, [], length, map, take, drop, option_map, IfOk, OnOk};
+ghost use Rattle.std.specs.List.{list_any};
+ghost use Rattle.sis_base.specs.Rows.{HasWidth};
+ghost use Rattle.cover_min.specs.Minimum.{widened_at, widened, with_needed, needed_behind, minimum_rows, refuses_to, refuses_behind, refuses_minimum};
+ghost use Rattle.cover_min.specs.Trimming.{refuses_at, Holds};
+
+use crate::oracle::{Oracle, OracleFault};
+use cube_cover::{Cover, Row};
+use std::alloc::{AllocError, Global};
+use std::mem;
+
+/// The minimum of a cover of the oracle's width: all rows are widened as far as the points allow at which the function must be 0, and
+/// then rows go that no point needs at which it must be 1; what stands earlier is judged earlier. `Refused` just where the oracle
+/// refuses one of the questions; `Memory` only for want of memory. With an error the cover is lost.
+pub fn prime_irredundant<R: Row, O: Oracle<R>>(
+    alloc: Global,
+    cover: Cover<R>,
+    oracle: &mut O,
+) -> Result<Cover<R>, OracleFault>
+    requires { cover.width ≡ (O.meaning oracle.old).width }
+    ensures kept { O.meaning oracle.new ≡ O.meaning oracle.old }
+    ensures minimum { IfOk result (λ least. least ≡ record cover { rows = minimum_rows (O.meaning oracle.old) cover.rows }) }
+    ensures passed { OnOk result (refuses_minimum (O.meaning oracle.old) cover.rows ≡ false) }
+    ensures refused { result ≡ Err OracleFault.Refused → refuses_minimum (O.meaning oracle.old) cover.rows ≡ true }
+{
+    let primes = primes_of(alloc, cover, oracle)?;
+    needed_of(alloc, primes, oracle)
+}
+
+// The literal at a place goes, where it can; a dash is not tested.
+fn widen_at<R: Row, O: Oracle<R>>(
+    alloc: Global,
+    row: &mut R,
+    place: usize,
+    oracle: &mut O,
+) -> Result<(), OracleFault>
+    requires width { length (R.literals row.old) ≡ (O.meaning oracle.old).width }
+    requires place { place < length (R.literals row.old) }
+    ensures kept { O.meaning oracle.new ≡ O.meaning oracle.old }
+    ensures widened { OnOk result (R.literals row.new ≡ widened_at (O.meaning oracle.old).off (R.literals row.old) place) }
+    ensures passed { OnOk result (refuses_at (O.meaning oracle.old) (R.literals row.old) place ≡ false) }
+    ensures refused { result ≡ Err OracleFault.Refused → refuses_at (O.meaning oracle.old) (R.literals row.old) place ≡ true }
+{
+    let literal = row.at(place);
+    if literal.is_none() {
+        return Ok(());
+    }
+    row.set(place, None);
+    if oracle.meets_off(alloc, row)? {
+        row.set(place, literal);
+    }
+    Ok(())
+}
+
+// The row with just the literals that must stay.
+fn prime_of<R: Row, O: Oracle<R>>(
+    alloc: Global,
+    mut row: R,
+    oracle: &mut O,
+) -> Result<R, OracleFault>
+    requires { length (R.literals row) ≡ (O.meaning oracle.old).width }
+    ensures kept { O.meaning oracle.new ≡ O.meaning oracle.old }
+    ensures widened { IfOk result (λ prime. R.literals prime ≡ widened (O.meaning oracle.old).off (R.literals row)) }
+    ensures passed { OnOk result (refuses_to (O.meaning oracle.old) (R.literals row) (length (R.literals row)) ≡ false) }
+    ensures refused { result ≡ Err OracleFault.Refused → refuses_to (O.meaning oracle.old) (R.literals row) (length (R.literals row)) ≡ true }
+{
+    for place in 0..row.width() {
+        widen_at(alloc, &mut row, place, oracle)?;
+    }
+    Ok(row)
+}
+
+// The rows of a cover with just the literals that must stay.
+fn primes_of<R: Row, O: Oracle<R>>(
+    alloc: Global,
+    cover: Cover<R>,
+    oracle: &mut O,
+) -> Result<Cover<R>, OracleFault>
+    requires { cover.width ≡ (O.meaning oracle.old).width }
+    ensures kept { O.meaning oracle.new ≡ O.meaning oracle.old }
+    ensures widened { IfOk result (λ primes. primes ≡ record cover { rows = map (widened (O.meaning oracle.old).off) cover.rows }) }
+    ensures widths { HasWidth cover.width cover.rows }
+    ensures passed { OnOk result (list_any (λ row. refuses_to (O.meaning oracle.old) row (length row)) cover.rows ≡ false) }
+    ensures refused { result ≡ Err OracleFault.Refused → list_any (λ row. refuses_to (O.meaning oracle.old) row (length row)) cover.rows ≡ true }
+{
+    let mut primes = Cover::new(alloc, cover.width());
+    for row in cover.into_rows() {
+        primes.push(prime_of(alloc, row, oracle)?)?;
+    }
+    Ok(primes)
+}
+
+// The rows that were kept and, from a place on, those still to come, without the first of these, which is in hand.
+#[derive(Drop)]
+struct Held<R: Row> {
+    others: Cover<R>,
+    place: usize,
+    hand: Option<R>,
+}
+
+// Takes the row at a place in hand, where there is one.
+fn taken_out<R: Row>(others: Cover<R>, place: usize) -> Held<R>
+    requires { place ≤ length others.rows }
+    ensures held { Holds (take place others.rows) (drop place others.rows) result.others result.place (option_map R.literals result.hand) }
+    ensures width { result.others.width ≡ others.width }
+    ensures widths { HasWidth others.width others.rows }
+{
+    if place == others.rows().len() {
+        return Held {
+            others,
+            place,
+            hand: None,
+        };
+    }
+    let width = others.width();
+    let mut rows = others.into_rows();
+    let row = rows.remove(place);
+    Held {
+        others: Cover::of(width, rows),
+        place,
+        hand: Some(row),
+    }
+}
+
+// Puts a row at a place and takes the one that stood there in hand, where there is one.
+fn put_in<R: Row>(mut others: Cover<R>, place: usize, row: R) -> Result<Held<R>, AllocError>
+    requires place { place ≤ length others.rows }
+    requires width { length (R.literals row) ≡ others.width }
+    ensures held { IfOk result (λ held. Holds (take place others.rows ++ R.literals row ∷ []) (drop place others.rows) held.others held.place (option_map R.literals held.hand)) }
+    ensures width { IfOk result (λ held. held.others.width ≡ others.width) }
+{
+    if place == others.rows().len() {
+        others.push(row)?;
+        return Ok(Held {
+            others,
+            place: place + 1,
+            hand: None,
+        });
+    }
+    let width = others.width();
+    let mut rows = others.into_rows();
+    let next = mem::replace(&mut rows[place], row);
+    Ok(Held {
+        others: Cover::of(width, rows),
+        place: place + 1,
+        hand: Some(next),
+    })
+}
+
+// Keeps the row that was in hand, or lets it go, and takes the next.
+fn judged<R: Row, O: Oracle<R>>(
+    alloc: Global,
+    others: Cover<R>,
+    place: usize,
+    row: R,
+    oracle: &mut O,
+) -> Result<Held<R>, OracleFault>
+    requires place { place ≤ length others.rows }
+    requires width { others.width ≡ (O.meaning oracle.old).width }
+    requires row { length (R.literals row) ≡ (O.meaning oracle.old).width }
+    ensures kept { O.meaning oracle.new ≡ O.meaning oracle.old }
+    ensures held { IfOk result (λ held. Holds (with_needed (O.meaning oracle.old).on (take place others.rows) (R.literals row) (drop place others.rows)) (drop place others.rows) held.others held.place (option_map R.literals held.hand)) }
+    ensures width { IfOk result (λ held. held.others.width ≡ others.width) }
+    ensures passed { OnOk result ((O.meaning oracle.old).refuses_own (R.literals row) others.rows ≡ false) }
+    ensures refused { result ≡ Err OracleFault.Refused → (O.meaning oracle.old).refuses_own (R.literals row) others.rows ≡ true }
+{
+    if oracle.has_own_point(alloc, &row, &others)? {
+        Ok(put_in(others, place, row)?)
+    } else {
+        Ok(taken_out(others, place))
+    }
+}
+
+// The rows that are left of a cover, each of which is needed.
+fn needed_of<R: Row, O: Oracle<R>>(
+    alloc: Global,
+    cover: Cover<R>,
+    oracle: &mut O,
+) -> Result<Cover<R>, OracleFault>
+    requires { cover.width ≡ (O.meaning oracle.old).width }
+    ensures kept { O.meaning oracle.new ≡ O.meaning oracle.old }
+    ensures needed { IfOk result (λ left. left ≡ record cover { rows = needed_behind (O.meaning oracle.old).on [] cover.rows }) }
+    ensures passed { OnOk result (refuses_behind (O.meaning oracle.old) [] cover.rows ≡ false) }
+    ensures refused { result ≡ Err OracleFault.Refused → refuses_behind (O.meaning oracle.old) [] cover.rows ≡ true }
+{
+    let mut held = taken_out(cover, 0);
+    loop {
+        let Held {
+            others,
+            place,
+            hand,
+        } = held;
+        let Some(row) = hand else {
+            return Ok(others);
+        };
+        held = judged(alloc, others, place, row, oracle)?;
+    }
+}

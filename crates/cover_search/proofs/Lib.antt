@@ -1,0 +1,4 @@
+pub mod Granting
+pub mod Halves
+pub mod Decided
+pub mod Tying

@@ -1,0 +1,114 @@
+-- What the search for a point keeps at each of its steps. No public clause needs these definitions.
+-- Source: Davis, Logemann and Loveland, "A machine program for theorem-proving" (Communications of the ACM 5, 1962: what is left to
+-- be met at each split); De Micheli, "Synthesis and Optimization of Digital Circuits", chapter 7 (recursion on cofactors).
+use Rattle.std.specs.Prelude.{◌≡◌, ℕ, Bool, true, false, if◌then◌else◌, Option, Some, None, List, [], ◌∷◌, ◌++◌, length, slice_index_or, slice_set, is_none}
+use Rattle.std.specs.List.{list_all}
+use Rattle.sis_base.specs.Rows.{agrees, matches, some_matches, phase_value, HasWidth, IsPoint}
+use Rattle.cube_cover.specs.Covers.{agreeing_rows}
+use Rattle.cube_cover.specs.Literals.{rows_intersect, some_contains}
+use Rattle.cover_min.specs.Points.{has_point}
+use Rattle.cover_search.specs.Ties.{Tie}
+
+-- that rows give a bit, or where there is a tie, the point's bit at its place, turned over where the bit is 0
+pub record Aim : Type 0 where
+  pub tie : Option ℕ
+  pub bit : Bool
+  pub rows : List (List (Option Bool))
+
+-- the value that rows are to have at a point
+abbrev pub wanted : Option ℕ → Bool → List Bool → Bool
+wanted None bit point = bit
+wanted (Some place) bit point = phase_value bit (slice_index_or point place false)
+
+-- whether the rows have that value
+abbrev pub grants : List Bool → Aim → Bool
+grants point aim = agrees (Some (wanted aim.tie aim.bit point)) (some_matches aim.rows point)
+
+-- whether the rows of all aims do
+unfoldable pub grants_all : List Aim → List Bool → Bool
+grants_all aims point = list_all (grants point) aims
+
+-- the rows of all aims have the width
+unfoldable pub AllWide : ℕ → List Aim → Type 0
+AllWide width [] = Unit {0}
+AllWide width (aim ∷ aims) = HasWidth width aim.rows × AllWide width aims
+
+-- the rows that have a point of the given one
+unfoldable pub meeting_rows : List (Option Bool) → List (List (Option Bool)) → List (List (Option Bool))
+meeting_rows given [] = []
+meeting_rows given (row ∷ rows) = if rows_intersect row given then row ∷ meeting_rows given rows else meeting_rows given rows
+
+-- a tie as an aim, by the rows that have a point of the given one
+abbrev pub aim_of : List (Option Bool) → Tie → Aim
+aim_of given tie = record { tie = Some tie.place; bit = tie.phase; rows = meeting_rows given tie.rows }
+
+-- the rows that agree with what stands at a place of the given one
+abbrev pub narrowed_rows : Option Bool → ℕ → List (List (Option Bool)) → List (List (Option Bool))
+narrowed_rows None place rows = rows
+narrowed_rows (Some bit) place rows = agreeing_rows place bit rows
+
+-- an aim with the rows that agree with the given one at a place
+abbrev pub narrowed : List (Option Bool) → ℕ → Aim → Aim
+narrowed given place aim = record { tie = aim.tie; bit = aim.bit; rows = narrowed_rows (slice_index_or given place None) place aim.rows }
+
+-- a bit by a phase, where it is known
+abbrev pub known_by_phase : Bool → Option Bool → Option Bool
+known_by_phase phase None = None
+known_by_phase phase (Some bit) = Some (phase_value phase bit)
+
+-- what rows are to give at all points of the given row, where that is one bit
+abbrev pub wanted_within : List (Option Bool) → Option ℕ → Bool → Option Bool
+wanted_within given None bit = Some bit
+wanted_within given (Some place) bit = known_by_phase bit (slice_index_or given place (Some false))
+
+-- what rows give at all points of the given row, where that is seen at once
+abbrev pub value_within : List (Option Bool) → List (List (Option Bool)) → Option Bool
+value_within given [] = Some false
+value_within given (row ∷ rows) = if some_contains given (row ∷ rows) then Some true else None
+
+-- whether two bits are the same, where both are known
+abbrev pub verdict_of : Option Bool → Option Bool → Option Bool
+verdict_of None value = None
+verdict_of (Some bit) None = None
+verdict_of (Some bit) (Some value) = Some (agrees (Some bit) value)
+
+-- whether an aim is met at all points of the given row, or at none, where that is seen at once
+unfoldable pub verdict_within : List (Option Bool) → Aim → Option Bool
+verdict_within given aim = verdict_of (wanted_within given aim.tie aim.bit) (value_within given aim.rows)
+
+-- the aims that are left, and one more where nothing is known of it yet
+abbrev pub with_open : List Aim → Aim → Option Bool → List Aim
+with_open aims aim None = aims ++ aim ∷ []
+with_open aims aim (Some met) = aims
+
+-- two tests have one answer at each point of the given row
+pub record SameWithin (given : List (Option Bool)) (test other : List Bool → Bool) : Type 0 where
+  pub same : (point : List Bool) → IsPoint (length given) point → matches given point ≡ true → test point ≡ other point
+
+-- what is left of aims within the given row: as wide, and met at the same points
+pub record IsLeft (given : List (Option Bool)) (aims left : List Aim) : Type 0 where
+  pub wide : AllWide (length given) left
+  pub same : SameWithin given (grants_all left) (grants_all aims)
+
+-- a positive literal
+abbrev pub is_positive : Option Bool → Bool
+is_positive None = false
+is_positive (Some bit) = bit
+
+-- what rows are to have at the one point of a row without a dash
+abbrev pub wanted_at : List (Option Bool) → Option ℕ → Bool → Bool
+wanted_at given None bit = bit
+wanted_at given (Some place) bit = phase_value bit (is_positive (slice_index_or given place None))
+
+-- whether the rows have it there
+abbrev pub is_granted_at : List (Option Bool) → Aim → Bool
+is_granted_at given aim = agrees (Some (wanted_at given aim.tie aim.bit)) (some_contains given aim.rows)
+
+-- a row with a literal of a bit at a place where it has a dash
+abbrev pub filled_at : List (Option Bool) → ℕ → Bool → List (Option Bool)
+filled_at row place bit = if is_none (slice_index_or row place (Some bit)) then slice_set row place (Some bit) else row
+
+-- a row of the same width has only points of the given one
+pub record IsPart (given row : List (Option Bool)) : Type 0 where
+  pub width : length row ≡ length given
+  pub points : (test : List Bool → Bool) → has_point test row ≡ true → has_point test given ≡ true

@@ -1,0 +1,42 @@
+-- A cover at those points alone at which some bits are the values of other covers.
+-- Source: De Micheli, "Synthesis and Optimization of Digital Circuits", chapter 8 (satisfiability don't-care conditions: where a
+-- variable differs from its local function no point can come), and chapter 7 for covers.
+use Rattle.std.specs.Prelude.{ℕ, Bool, false, not, ◌&&◌, Option, Some, List, [], ◌∷◌, slice_index_or}
+use Rattle.std.specs.List.{list_all}
+use Rattle.sis_base.specs.Rows.{agrees, some_matches, value_by_phase, HasWidth}
+use Rattle.cover_min.specs.Minimum.{Meaning}
+
+-- a tie of the bit at a place to the value that rows give by a phase; past the last place the bit is 0
+pub record Tie : Type 0 where
+  pub place : ℕ
+  pub rows : List (List (Option Bool))
+  pub phase : Bool
+
+-- whether a point keeps a tie: its bit at the place is the value of the rows there
+abbrev pub keeps : List Bool → Tie → Bool
+keeps point tie = agrees (Some (value_by_phase tie.phase tie.rows point)) (slice_index_or point tie.place false)
+
+-- whether a point keeps all ties
+abbrev pub keeps_all : List Tie → List Bool → Bool
+keeps_all ties point = list_all (keeps point) ties
+
+-- rows of a width, and ties
+pub record Tied : Type 0 where
+  pub width : ℕ
+  pub rows : List (List (Option Bool))
+  pub ties : List Tie
+
+-- the function of the rows at the points that keep all ties; all others are free, and no test is refused
+abbrev pub meaning_of : Tied → Meaning
+meaning_of tied = record {
+  width = tied.width;
+  on = λ point. some_matches tied.rows point && keeps_all tied.ties point;
+  off = λ point. not (some_matches tied.rows point) && keeps_all tied.ties point;
+  refuses_off = λ row. false;
+  refuses_own = λ row others. false;
+}
+
+-- the rows of all ties have the width
+abbrev pub AreWide : ℕ → List Tie → Type 0
+AreWide width [] = Unit {0}
+AreWide width (tie ∷ ties) = HasWidth width tie.rows × AreWide width ties

@@ -1,0 +1,259 @@
+//! What is left of wishes within a row.
+//!
+//! Source: De Micheli, "Synthesis and Optimization of Digital Circuits", chapter 7 (cofactors with respect to a row). Of a wish's
+//! rows those can go that have no point of the given row. A wish that is met at all points of the given row goes, and one that is
+//! met at none ends the search there. Promised: the wishes that are left are granted at the same points of the given row. Which of
+//! them are decided is seen at once, by a row that has all its points or by the want of rows (`verdict_within` of
+//! `specs/Searches.antt`).
+
+ghost use Rattle.std.specs.Prelude.{◌≡◌, true, false, Some, length, map, slice_index_or, MatchOption, IfOk, OnOk};
+ghost use Rattle.sis_base.specs.Rows.{agrees, phase_value, HasWidth};
+ghost use Rattle.cube_cover.specs.Covers.{agreeing_rows};
+ghost use Rattle.cube_cover.specs.Literals.{row_contains, rows_intersect, some_contains};
+ghost use Rattle.cover_search.specs.Searches.{AllWide, IsLeft, SameWithin, grants_all, meeting_rows, narrowed, narrowed_rows, known_by_phase, wanted_within, value_within, verdict_of, verdict_within, with_open};
+
+use crate::wish::Wish;
+use cube_cover::Row;
+use std::alloc::{AllocError, Global};
+
+/// What stands at a place of a row; `past` where it has no such place.
+pub fn literal_at<R: Row>(row: &R, place: usize, past: Option<bool>) -> Option<bool>
+    ensures { result ≡ slice_index_or (R.literals row.now) place past }
+{
+    if place >= row.width() {
+        return past;
+    }
+    row.at(place)
+}
+
+// Whether a literal agrees with a bit; a dash does with each.
+fn literal_agrees(literal: Option<bool>, bit: bool) -> bool
+    ensures { result ≡ agrees literal bit }
+{
+    match literal {
+        None => true,
+        Some(other) => other == bit,
+    }
+}
+
+/// A bit by a phase.
+pub fn by_phase(phase: bool, bit: bool) -> bool
+    ensures { result ≡ phase_value phase bit }
+{
+    phase == bit
+}
+
+// Whether a row has each point of another.
+fn contains_row<R: Row>(row: &R, other: &R) -> bool
+    requires { length (R.literals row.now) ≡ length (R.literals other.now) }
+    ensures { result ≡ row_contains (R.literals row.now) (R.literals other.now) }
+{
+    row.contains(other)
+}
+
+// Whether two rows have a point in common.
+fn meets<R: Row>(row: &R, other: &R) -> bool
+    requires { length (R.literals row.now) ≡ length (R.literals other.now) }
+    ensures { result ≡ rows_intersect (R.literals row.now) (R.literals other.now) }
+{
+    row.intersects(other)
+}
+
+/// The rows that have a point of the given one, all of its width; an error only for want of memory.
+#[tactic(auto, using(cube_cover::proofs::Points::width_read), unfolding(crate::specs::Searches::meeting_rows))]
+pub fn rows_within<'a, R: Row>(
+    alloc: Global,
+    given: &R,
+    rows: &'a [R],
+) -> Result<Vec<&'a R>, AllocError>
+    requires { HasWidth (length (R.literals given.now)) (map R.literals rows.now) }
+    ensures { IfOk result (λ made. map (λ row. R.literals row.now) made.items ≡ meeting_rows (R.literals given.now) (map R.literals rows.now)) }
+{
+    let mut made = Vec::new(alloc);
+    for row in rows {
+        if meets(row, given) {
+            made.push(row)?;
+        }
+    }
+    Ok(made)
+}
+
+// The same rows.
+fn all_rows<'a, R: Row>(alloc: Global, rows: &[&'a R]) -> Result<Vec<&'a R>, AllocError>
+    ensures { IfOk result (λ made. map (λ row. R.literals row.now) made.items ≡ map (λ row. R.literals row.now) rows.now) }
+{
+    let mut made = Vec::with_capacity(alloc, rows.len())?;
+    for row in rows {
+        made.push(*row)?;
+    }
+    Ok(made)
+}
+
+// The rows that agree with a bit at a place.
+#[tactic(auto, unfolding(cube_cover::specs::Covers::agreeing_rows))]
+fn rows_agreeing<'a, R: Row>(
+    alloc: Global,
+    rows: &[&'a R],
+    place: usize,
+    bit: bool,
+) -> Result<Vec<&'a R>, AllocError>
+    ensures { IfOk result (λ made. map (λ row. R.literals row.now) made.items ≡ agreeing_rows place bit (map (λ row. R.literals row.now) rows.now)) }
+{
+    let mut made = Vec::new(alloc);
+    for row in rows {
+        if literal_agrees(literal_at(*row, place, None), bit) {
+            made.push(*row)?;
+        }
+    }
+    Ok(made)
+}
+
+// The rows that agree with what stands at a place.
+fn narrowed_to<'a, R: Row>(
+    alloc: Global,
+    rows: &[&'a R],
+    place: usize,
+    literal: Option<bool>,
+) -> Result<Vec<&'a R>, AllocError>
+    ensures { IfOk result (λ made. map (λ row. R.literals row.now) made.items ≡ narrowed_rows literal place (map (λ row. R.literals row.now) rows.now)) }
+{
+    match literal {
+        None => all_rows(alloc, rows),
+        Some(bit) => rows_agreeing(alloc, rows, place, bit),
+    }
+}
+
+// The wish for those of its rows that agree with what stands at a place of the given row.
+fn narrowed_wish<'a, R: Row>(
+    alloc: Global,
+    given: &R,
+    wish: &Wish<'a, R>,
+    place: usize,
+) -> Result<Wish<'a, R>, AllocError>
+    ensures { IfOk result (λ made. made ≡ narrowed (R.literals given.now) place wish.now) }
+{
+    let rows = narrowed_to(alloc, wish.rows(), place, literal_at(given, place, None))?;
+    Ok(Wish::new(wish.tie(), wish.bit(), rows))
+}
+
+/// Whether one of some rows has each point of the given one.
+#[tactic(auto, using(cube_cover::proofs::Points::width_read), unfolding(cube_cover::specs::Literals::some_contains))]
+pub fn some_row_contains<R: Row>(given: &R, rows: &[&R]) -> bool
+    requires { HasWidth (length (R.literals given.now)) (map (λ row. R.literals row.now) rows.now) }
+    ensures { result ≡ some_contains (R.literals given.now) (map (λ row. R.literals row.now) rows.now) }
+{
+    for row in rows {
+        if contains_row(*row, given) {
+            return true;
+        }
+    }
+    false
+}
+
+// What rows give at all points of the given one, where that is seen at once.
+fn known_value<R: Row>(given: &R, rows: &[&R]) -> Option<bool>
+    requires { HasWidth (length (R.literals given.now)) (map (λ row. R.literals row.now) rows.now) }
+    ensures { result ≡ value_within (R.literals given.now) (map (λ row. R.literals row.now) rows.now) }
+{
+    if rows.len() == 0 {
+        return Some(false);
+    }
+    if some_row_contains(given, rows) {
+        return Some(true);
+    }
+    None
+}
+
+// A bit by a phase, where it is known.
+fn known_bit(phase: bool, literal: Option<bool>) -> Option<bool>
+    ensures { result ≡ known_by_phase phase literal }
+{
+    match literal {
+        None => None,
+        Some(bit) => Some(by_phase(phase, bit)),
+    }
+}
+
+/// What a wish wants at all points of the given row, where that is one bit.
+pub fn known_wanted<R: Row>(given: &R, tie: Option<usize>, bit: bool) -> Option<bool>
+    ensures { result ≡ wanted_within (R.literals given.now) tie bit }
+{
+    match tie {
+        None => Some(bit),
+        Some(place) => known_bit(bit, literal_at(given, place, Some(false))),
+    }
+}
+
+// Whether two bits are the same, where both are known.
+fn compared(wanted: Option<bool>, value: Option<bool>) -> Option<bool>
+    ensures { result ≡ verdict_of wanted value }
+{
+    match wanted {
+        None => None,
+        Some(bit) => match value {
+            None => None,
+            Some(other) => Some(bit == other),
+        },
+    }
+}
+
+// Whether a wish is met at all points of the given row, or at none, where that is seen at once.
+#[tactic(auto, unfolding(crate::specs::Searches::verdict_within))]
+fn verdict<R: Row>(given: &R, wish: &Wish<R>) -> Option<bool>
+    requires { HasWidth (length (R.literals given.now)) wish.now.rows }
+    ensures { result ≡ verdict_within (R.literals given.now) wish.now }
+{
+    let wanted = known_wanted(given, wish.tie(), wish.bit());
+    compared(wanted, known_value(given, wish.rows()))
+}
+
+// Whether it is known that a wish cannot be met.
+fn is_hopeless(verdict: Option<bool>) -> bool
+    ensures { (result ≡ true → verdict ≡ Some false) × (verdict ≡ Some false → result ≡ true) }
+{
+    match verdict {
+        None => false,
+        Some(met) => !met,
+    }
+}
+
+// Puts a wish behind the others, where nothing is known of it.
+fn keep_open<'a, R: Row>(
+    left: &mut Vec<Wish<'a, R>>,
+    wish: Wish<'a, R>,
+    verdict: Option<bool>,
+) -> Result<(), AllocError>
+    ensures { OnOk result (left.new.items ≡ with_open left.old.items wish.entry verdict) }
+{
+    match verdict {
+        None => {
+            left.push(wish)?;
+            Ok(())
+        }
+        Some(_met) => Ok(()),
+    }
+}
+
+/// What is left of wishes within the given row, of whose width their rows are: each with the rows that agree at a place, and
+/// without those that are met. None where it is seen at once that one cannot be met; an error only for want of memory.
+#[tactic(auto, using(crate::proofs::Granting::narrowed_wide))]
+pub fn open_wishes<'a, R: Row>(
+    alloc: Global,
+    given: &R,
+    wishes: &[Wish<'a, R>],
+    place: usize,
+) -> Result<Option<Vec<Wish<'a, R>>>, AllocError>
+    requires { AllWide (length (R.literals given.now)) wishes.now }
+    ensures { IfOk result (λ found. MatchOption found (SameWithin (R.literals given.now) (grants_all wishes.now) (λ point. false)) (λ left. IsLeft (R.literals given.now) wishes.now left.items)) }
+{
+    let mut left = Vec::new(alloc);
+    for wish in wishes {
+        let wish_left = narrowed_wish(alloc, given, wish, place)?;
+        let known = verdict(given, &wish_left);
+        if is_hopeless(known) {
+            return Ok(None);
+        }
+        keep_open(&mut left, wish_left, known)?;
+    }
+    Ok(Some(left))
+}

@@ -1,0 +1,201 @@
+//! Whether a row has a point at which all wishes are granted.
+//!
+//! Source: Davis, Logemann and Loveland, "A machine program for theorem-proving" (Communications of the ACM 5, 1962), and De
+//! Micheli, "Synthesis and Optimization of Digital Circuits", chapter 7 (recursion on cofactors). Promised: the answer is exact.
+//! A likely point is tried first. Then the search goes down over the dashes of the given row: at each level the wishes are
+//! narrowed to the literal decided last, those that are met go, and one that cannot be met ends the branch; then a place is
+//! chosen by votes, and the likelier bit tried first.
+
+ghost use Rattle.std.specs.Prelude.{◌≡◌, ◌<◌, true, Some, None, length, slice_index_or, slice_set, MatchOption, IfOk};
+ghost use Rattle.std.specs.List.{list_all};
+ghost use Rattle.sis_base.specs.Rows.{HasWidth};
+ghost use Rattle.cube_cover.specs.Literals.{no_dash};
+ghost use Rattle.cover_min.specs.Points.{has_point};
+ghost use Rattle.cover_search.specs.Searches.{AllWide, IsPart, filled_at, grants_all, wanted_at, is_granted_at, is_positive};
+
+use crate::narrow::{by_phase, literal_at, open_wishes, some_row_contains};
+use crate::votes::{choose, places_for_one};
+use crate::wish::Wish;
+use cube_cover::Row;
+use std::alloc::{AllocError, Global};
+
+// The first dash of a row, if it has one.
+#[tactic(auto, unfolding(cube_cover::specs::Literals::no_dash))]
+fn first_dash<R: Row>(row: &R) -> Option<usize>
+    ensures { MatchOption result (no_dash (R.literals row.now) ≡ true) (λ place. (place < length (R.literals row.now)) × (slice_index_or (R.literals row.now) place None ≡ None)) }
+{
+    for place in 0..row.width() {
+        if row.at(place).is_none() {
+            return Some(place);
+        }
+    }
+    None
+}
+
+// The place chosen where the row has a dash there, else its first dash, if it has one.
+fn dash_of<R: Row>(row: &R, choice: usize) -> Option<usize>
+    ensures { MatchOption result (no_dash (R.literals row.now) ≡ true) (λ place. (place < length (R.literals row.now)) × (slice_index_or (R.literals row.now) place None ≡ None)) }
+{
+    if choice < row.width() && row.at(choice).is_none() {
+        return Some(choice);
+    }
+    first_dash(row)
+}
+
+// A copy of a row with a literal at a place.
+fn row_with<R: Row>(alloc: Global, row: &R, place: usize, bit: bool) -> Result<R, AllocError>
+    requires { place < length (R.literals row.now) }
+    ensures { IfOk result (λ made. R.literals made ≡ slice_set (R.literals row.now) place (Some bit)) }
+{
+    let mut made = row.copy(alloc)?;
+    made.set(place, Some(bit));
+    Ok(made)
+}
+
+// Whether a literal is positive.
+fn positive(literal: Option<bool>) -> bool
+    ensures { result ≡ is_positive literal }
+{
+    match literal {
+        None => false,
+        Some(bit) => bit,
+    }
+}
+
+// What a wish wants at the one point of a row without a dash.
+fn wanted<R: Row>(given: &R, tie: Option<usize>, bit: bool) -> bool
+    ensures { result ≡ wanted_at (R.literals given.now) tie bit }
+{
+    match tie {
+        None => bit,
+        Some(place) => by_phase(bit, positive(literal_at(given, place, None))),
+    }
+}
+
+// Whether a wish is granted at the one point of a row without a dash.
+fn is_granted<R: Row>(given: &R, wish: &Wish<R>) -> bool
+    requires { HasWidth (length (R.literals given.now)) wish.now.rows }
+    ensures { result ≡ is_granted_at (R.literals given.now) wish.now }
+{
+    let wanted = wanted(given, wish.tie(), wish.bit());
+    some_row_contains(given, wish.rows()) == wanted
+}
+
+// Whether all wishes are granted at the one point of a row without a dash.
+#[tactic(auto, using(crate::proofs::Granting::wide_at))]
+fn are_granted<R: Row>(given: &R, wishes: &[Wish<R>]) -> bool
+    requires { AllWide (length (R.literals given.now)) wishes.now }
+    ensures { result ≡ list_all (is_granted_at (R.literals given.now)) wishes.now }
+{
+    for wish in wishes {
+        if !is_granted(given, wish) {
+            return false;
+        }
+    }
+    true
+}
+
+// Puts a literal at a place where the row has a dash.
+fn fill_at<R: Row>(row: &mut R, place: usize, bit: bool)
+    ensures { R.literals row.new ≡ filled_at (R.literals row.old) place bit }
+{
+    if place < row.width() && row.at(place).is_none() {
+        row.set(place, Some(bit));
+    }
+}
+
+// A row of likely bits: the given one, with a literal in place of each dash, as the votes of the wishes are.
+fn likely_row<R: Row>(alloc: Global, given: &R, wishes: &[Wish<R>]) -> Result<R, AllocError>
+    ensures { IfOk result (λ made. IsPart (R.literals given.now) (R.literals made)) }
+{
+    let ones = places_for_one(alloc, given, wishes)?;
+    let mut made = given.copy(alloc)?;
+    for place in ones.iter() {
+        fill_at(&mut made, *place, true);
+    }
+    for place in 0..given.width() {
+        fill_at(&mut made, place, false);
+    }
+    Ok(made)
+}
+
+// Whether all wishes are granted at the one point of a row; false where it has a dash.
+fn are_granted_at<R: Row>(row: &R, wishes: &[Wish<R>]) -> bool
+    requires { AllWide (length (R.literals row.now)) wishes.now }
+    ensures { result ≡ true → has_point (grants_all wishes.now) (R.literals row.now) ≡ true }
+{
+    match first_dash(row) {
+        None => are_granted(row, wishes),
+        Some(_place) => false,
+    }
+}
+
+// Whether all wishes are granted at a likely point of the given row, which is the first to be tried.
+fn are_granted_likely<R: Row>(
+    alloc: Global,
+    given: &R,
+    wishes: &[Wish<R>],
+) -> Result<bool, AllocError>
+    requires { AllWide (length (R.literals given.now)) wishes.now }
+    ensures { IfOk result (λ answer. answer ≡ true → has_point (grants_all wishes.now) (R.literals given.now) ≡ true) }
+{
+    let row = likely_row(alloc, given, wishes)?;
+    Ok(are_granted_at(&row, wishes))
+}
+
+// Whether the row has a point at which all wishes are granted; `last` is the place decided last, of which nothing is asked.
+fn is_met_below<R: Row>(
+    alloc: Global,
+    given: &R,
+    wishes: &[Wish<R>],
+    last: usize,
+) -> Result<bool, AllocError>
+    requires { AllWide (length (R.literals given.now)) wishes.now }
+    ensures { IfOk result (λ answer. answer ≡ has_point (grants_all wishes.now) (R.literals given.now)) }
+{
+    let found = open_wishes(alloc, given, wishes, last)?;
+    match found {
+        None => Ok(false),
+        Some(left) => {
+            if left.len() == 0 {
+                return Ok(true);
+            }
+            let choice = choose(alloc, given, left.as_slice())?;
+            match dash_of(given, choice.place) {
+                None => Ok(are_granted(given, left.as_slice())),
+                Some(place) => {
+                    let first = row_with(alloc, given, place, choice.bit)?;
+                    let first_answer = is_met_below(alloc, &first, left.as_slice(), place)?;
+                    if first_answer {
+                        return Ok(first_answer);
+                    }
+                    let second = row_with(alloc, given, place, !choice.bit)?;
+                    let second_answer = is_met_below(alloc, &second, left.as_slice(), place)?;
+                    Ok(second_answer)
+                }
+            }
+        }
+    }
+}
+
+/// Whether the row has a point at which all wishes are granted, whose rows are of its width; an error only for want of memory.
+pub fn is_met<R: Row>(alloc: Global, given: &R, wishes: &[Wish<R>]) -> Result<bool, AllocError>
+    requires { AllWide (length (R.literals given.now)) wishes.now }
+    ensures { IfOk result (λ answer. answer ≡ has_point (grants_all wishes.now) (R.literals given.now)) }
+{
+    let found = open_wishes(alloc, given, wishes, 0)?;
+    match found {
+        None => Ok(false),
+        Some(left) => {
+            if left.len() == 0 {
+                return Ok(true);
+            }
+            let granted = are_granted_likely(alloc, given, left.as_slice())?;
+            if granted {
+                return Ok(granted);
+            }
+            let answer = is_met_below(alloc, given, left.as_slice(), 0)?;
+            Ok(answer)
+        }
+    }
+}

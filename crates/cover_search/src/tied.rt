@@ -1,0 +1,158 @@
+//! A cover with ties, as an oracle.
+//!
+//! Source: De Micheli, "Synthesis and Optimization of Digital Circuits", chapter 8 (satisfiability don't-care conditions).
+//! Promised: each answer is exact, and no test is refused; an error comes only for want of memory.
+
+ghost use Rattle.std.specs.Prelude.{◌≡◌, not, ◌&&◌, ◌++◌, length, map, IfOk, OnOk};
+ghost use Rattle.std.specs.List.{AllByRecursion};
+ghost use Rattle.sis_base.specs.Rows.{some_matches, HasWidth};
+ghost use Rattle.cover_min.specs.Points.{has_point, has_own_point};
+ghost use Rattle.cover_search.specs.Ties.{AreWide, keeps_all};
+ghost use Rattle.cover_search.specs.Views.{tie_of};
+ghost use Rattle.cover_search.specs.Searches.{aim_of, meeting_rows};
+
+use crate::narrow::rows_within;
+use crate::search::is_met;
+use crate::wish::Wish;
+use cover_min::{Oracle, OracleFault};
+use cube_cover::{Cover, Row};
+use std::alloc::{AllocError, Global};
+use std::marker::Model;
+
+/// The bit at `place` is the value of the cover by the phase.
+#[derive(Drop)]
+pub struct Tie<R: Row> {
+    pub place: usize,
+    pub cover: Cover<R>,
+    pub phase: bool,
+}
+
+/// A cover, and ties between places and other covers, all of one width.
+#[derive(Drop)]
+pub struct TiedCover<R: Row> {
+    cover: Cover<R>,
+    ties: Vec<Tie<R>>,
+}
+
+impl<R: Row> Model for TiedCover<R> {
+    ghost use Rattle.std.specs.Prelude.{◌≡◌, map};
+    ghost use Rattle.std.specs.List.{AllByRecursion};
+    ghost use Rattle.cover_search.specs.Ties.{Tied};
+    ghost use Rattle.cover_search.specs.Views.{tie_of};
+
+    ghost Value = { Tied };
+
+    ghost view = { λ tied. record { width = tied.cover.width; rows = tied.cover.rows; ties = map tie_of tied.ties.items } };
+
+    ghost invariant = { λ tied. AllByRecursion (λ tie. tie.cover.width ≡ tied.cover.width) tied.ties.items };
+}
+
+impl<R: Row> TiedCover<R> {
+    /// The cover with ties to covers of its width; takes no memory.
+    pub fn new(cover: Cover<R>, ties: Vec<Tie<R>>) -> TiedCover<R>
+        requires { AllByRecursion (λ tie. tie.cover.width ≡ cover.width) ties.items }
+        ensures { result ≡ record { width = cover.width; rows = cover.rows; ties = map tie_of ties.items } }
+    {
+        TiedCover { cover, ties }
+    }
+}
+
+// The wish that a cover gives a bit, or the bit that a tie wants, within the given row.
+fn wish_within<'a, R: Row>(
+    alloc: Global,
+    given: &R,
+    cover: &'a Cover<R>,
+    tie: Option<usize>,
+    bit: bool,
+) -> Result<Wish<'a, R>, AllocError>
+    requires { cover.now.width ≡ length (R.literals given.now) }
+    ensures wish { IfOk result (λ wish. wish ≡ record { tie = tie; bit = bit; rows = meeting_rows (R.literals given.now) cover.now.rows }) }
+    ensures wide { HasWidth (length (R.literals given.now)) cover.now.rows }
+{
+    let rows = cover.rows();
+    let kept = rows_within(alloc, given, rows)?;
+    Ok(Wish::new(tie, bit, kept))
+}
+
+// Puts a wish for each tie behind others.
+fn add_ties<'a, R: Row>(
+    alloc: Global,
+    given: &R,
+    ties: &'a [Tie<R>],
+    wishes: &mut Vec<Wish<'a, R>>,
+) -> Result<(), AllocError>
+    requires { AllByRecursion (λ tie. tie.cover.width ≡ length (R.literals given.now)) ties.now }
+    ensures wishes { OnOk result (wishes.new.items ≡ wishes.old.items ++ map (aim_of (R.literals given.now)) (map tie_of ties.now)) }
+    ensures wide { OnOk result (AreWide (length (R.literals given.now)) (map tie_of ties.now)) }
+{
+    for tie in ties {
+        let wish = wish_within(alloc, given, &tie.cover, Some(tie.place), tie.phase)?;
+        wishes.push(wish)?;
+    }
+    Ok(())
+}
+
+// Whether the row has a point at which a cover gives 0 and all ties are kept.
+fn has_off_point<R: Row>(
+    alloc: Global,
+    given: &R,
+    cover: &Cover<R>,
+    ties: &[Tie<R>],
+) -> Result<bool, AllocError>
+    requires cover { cover.now.width ≡ length (R.literals given.now) }
+    requires ties { AllByRecursion (λ tie. tie.cover.width ≡ length (R.literals given.now)) ties.now }
+    ensures { IfOk result (λ answer. answer ≡ has_point (λ point. not (some_matches cover.now.rows point) && keeps_all (map tie_of ties.now) point) (R.literals given.now)) }
+{
+    let no_row = wish_within(alloc, given, cover, None, false)?;
+    let mut wishes = Vec::new(alloc);
+    wishes.push(no_row)?;
+    add_ties(alloc, given, ties, &mut wishes)?;
+    let answer = is_met(alloc, given, wishes.as_slice())?;
+    Ok(answer)
+}
+
+// Whether the row has a point at which a cover gives 1, others give 0 and all ties are kept.
+fn has_on_point<R: Row>(
+    alloc: Global,
+    given: &R,
+    cover: &Cover<R>,
+    others: &Cover<R>,
+    ties: &[Tie<R>],
+) -> Result<bool, AllocError>
+    requires cover { cover.now.width ≡ length (R.literals given.now) }
+    requires others { others.now.width ≡ length (R.literals given.now) }
+    requires ties { AllByRecursion (λ tie. tie.cover.width ≡ length (R.literals given.now)) ties.now }
+    ensures { IfOk result (λ answer. answer ≡ has_own_point (λ point. some_matches cover.now.rows point && keeps_all (map tie_of ties.now) point) (R.literals given.now) others.now.rows) }
+{
+    let no_other = wish_within(alloc, given, others, None, false)?;
+    let some_row = wish_within(alloc, given, cover, None, true)?;
+    let mut wishes = Vec::new(alloc);
+    wishes.push(no_other)?;
+    wishes.push(some_row)?;
+    add_ties(alloc, given, ties, &mut wishes)?;
+    let answer = is_met(alloc, given, wishes.as_slice())?;
+    Ok(answer)
+}
+
+impl<R: Row> Oracle<R> for TiedCover<R> {
+    ghost use Rattle.cover_search.specs.Ties.{meaning_of};
+
+    ghost meaning = { λ tied. meaning_of tied };
+
+    /// Whether the row has a point at which the cover gives 0 and all ties are kept; an error only for want of memory.
+    fn meets_off(&mut self, alloc: Global, row: &R) -> Result<bool, OracleFault> {
+        let answer = has_off_point(alloc, row, &self.cover, self.ties.as_slice())?;
+        Ok(answer)
+    }
+
+    /// Whether the row has a point of its own at which the cover gives 1 and all ties are kept; an error only for want of memory.
+    fn has_own_point(
+        &mut self,
+        alloc: Global,
+        row: &R,
+        others: &Cover<R>,
+    ) -> Result<bool, OracleFault> {
+        let answer = has_on_point(alloc, row, &self.cover, others, self.ties.as_slice())?;
+        Ok(answer)
+    }
+}

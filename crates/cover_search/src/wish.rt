@@ -1,0 +1,56 @@
+//! A wish: that some rows give a certain bit at a point, which may be the point's own bit at a place.
+//!
+//! Source: De Micheli, "Synthesis and Optimization of Digital Circuits", chapter 8 (satisfiability don't-care conditions).
+
+ghost use Rattle.std.specs.Prelude.{◌≡◌, map};
+
+use cube_cover::Row;
+use std::marker::Model;
+
+/// That rows, which stay where they are, give `bit`; or where there is a tie, that they give the point's bit at its place, turned
+/// over where `bit` is false. Contracts see it as an `Aim`.
+#[derive(Drop)]
+pub struct Wish<'a, R: Row> {
+    tie: Option<usize>,
+    bit: bool,
+    rows: Vec<&'a R>,
+}
+
+impl<'a, R: Row> Model for Wish<'a, R> {
+    ghost use Rattle.std.specs.Prelude.{map};
+    ghost use Rattle.cover_search.specs.Searches.{Aim};
+
+    ghost Value = { Aim };
+
+    ghost view = { λ wish. record { tie = wish.tie; bit = wish.bit; rows = map (λ row. R.literals row.now) wish.rows.items } };
+}
+
+impl<'a, R: Row> Wish<'a, R> {
+    /// The wish for some rows.
+    pub fn new(tie: Option<usize>, bit: bool, rows: Vec<&'a R>) -> Wish<'a, R>
+        ensures { result ≡ record { tie = tie; bit = bit; rows = map (λ row. R.literals row.now) rows.entry.items } }
+    {
+        Wish { tie, bit, rows }
+    }
+
+    /// The place of the tie, if there is one.
+    pub fn tie(&self) -> Option<usize>
+        ensures { result ≡ self.now.tie }
+    {
+        self.tie
+    }
+
+    /// The bit, or the phase of the tie.
+    pub fn bit(&self) -> bool
+        ensures { result ≡ self.now.bit }
+    {
+        self.bit
+    }
+
+    /// The rows.
+    pub fn rows(&self) -> &[&'a R]
+        ensures { map (λ row. R.literals row.now) result.now ≡ self.now.rows }
+    {
+        self.rows.as_slice()
+    }
+}
