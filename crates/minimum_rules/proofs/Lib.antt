@@ -1,0 +1,4 @@
+pub mod Local
+pub mod Minimal
+pub mod Simplifying
+pub mod Small

@@ -1,0 +1,3 @@
+pub mod Local
+pub mod Minimized
+pub mod Simplified

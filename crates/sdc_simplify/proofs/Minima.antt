@@ -1,0 +1,145 @@
+-- The minimum of a table: its rows of phase 1, and their minimum where ties stand for local don't-cares.
+use Rattle.std.proofs.Common.{◌≡◌, ℕ, ◌<◌, ◌≤◌, zero, suc, Bool, true, false, not, ◌&&◌, if◌then◌else◌, ltb, Option, Some, None, List, [], ◌∷◌, ◌++◌, map, length, get_or, set, refl, sym, ap, ap₂, ◌∙◌, subst}
+use Rattle.std.specs.List.{list_any}
+use Rattle.std.proofs.Math.Bool.{and-false}
+use Rattle.std.proofs.lemmas.Bool.{or_from, lt-ltb, le-ltb}
+use Rattle.circuit_model.specs.Names.{all_different}
+use Rattle.circuit_model.specs.declared.circuit.Table.{Table as Written}
+use Rattle.circuit_model.specs.declared.circuit.Circuit.{Circuit}
+use Rattle.cube_cover.specs.Covers.{Shape}
+use Rattle.cube_cover.specs.Literals.{not_dash}
+use Rattle.cover_ops.specs.Shannon.{list_rows}
+use Rattle.cover_ops.specs.declared.list.ListFault.{ListFault}
+use Rattle.cover_ops.specs.declared.list.ListFault.TheVariants.{CubeLimit as LongList, Memory as NoMemory}
+use Rattle.cover_min.specs.Minimum.{Meaning, widened, widened_to, with_needed, minimum_rows, refuses_to, refuses_behind, refuses_minimum}
+use Rattle.cover_min.proofs.Minima.{minimum_same}
+use Rattle.cover_search.specs.Ties.{meaning_of as meaning_of_tied}
+use Rattle.cover_search.specs.declared.tied.Tie.{Tie as Held}
+use Rattle.minimum_rules.specs.Local.{is_local}
+use Rattle.minimum_rules.specs.Minimized.{on_rows, meaning_of, minimized, is_list_long}
+use Rattle.minimum_rules.proofs.Minimal.{on_wide, on_value}
+use Rattle.net_core.specs.Places.{written_of}
+use Rattle.net_core.specs.Tables.{places_of, characters_of, named, HasCharacters, IsOverInputs}
+use Rattle.net_core.specs.declared.places.Entry.{Entry}
+use Rattle.net_core.specs.declared.table.Table.{Table}
+use Rattle.net_core.proofs.Rows.{all_places_back}
+use Rattle.table_tidy.specs.Tidy.{tidied}
+use Rattle.table_tidy.proofs.Tidied.{tidied_once}
+use Rattle.sdc_simplify.specs.Simplify.{IsCause}
+use Rattle.sdc_simplify.specs.Turns.{own_refusal, seen, AreLocal}
+use Rattle.sdc_simplify.specs.declared.fault.SimplifyFault.{SimplifyFault}
+use Rattle.sdc_simplify.specs.declared.fault.SimplifyFault.TheVariants.{Memory}
+
+-- where no question is refused, no minimum is
+never_to : (meaning : Meaning) → ((row : List (Option Bool)) → meaning.refuses_off row ≡ false) → (row : List (Option Bool)) (place : ℕ) → refuses_to meaning row place ≡ false
+unfolding refuses_to
+never_to meaning never row zero = refl
+never_to meaning never row (suc place) =
+    or_from (refuses_to meaning row place) (not_dash (get_or row place None) && meaning.refuses_off (set (widened_to meaning.off row place) place None))
+    (never_to meaning never row place)
+    (ap (λ (b : Bool). not_dash (get_or row place None) && b) (never (set (widened_to meaning.off row place) place None)) ∙ and-false (not_dash (get_or row place None)))
+
+never_behind : (meaning : Meaning) → ((row : List (Option Bool)) (others : List (List (Option Bool))) → meaning.refuses_own row others ≡ false) → (kept rows : List (List (Option Bool))) → refuses_behind meaning kept rows ≡ false
+unfolding refuses_behind
+never_behind meaning never kept [] = refl
+never_behind meaning never kept (row ∷ rest) =
+    or_from (meaning.refuses_own row (kept ++ rest)) (refuses_behind meaning (with_needed meaning.on kept row rest) rest) (never row (kept ++ rest)) (never_behind meaning never (with_needed meaning.on kept row rest) rest)
+
+never_any : (test : List (Option Bool) → Bool) → ((row : List (Option Bool)) → test row ≡ false) → (rows : List (List (Option Bool))) → list_any test rows ≡ false
+never_any test never [] = refl
+never_any test never (row ∷ rows) = or_from (test row) (list_any test rows) (never row) (never_any test never rows)
+
+pub never_refused : (meaning : Meaning) (rows : List (List (Option Bool))) → ((row : List (Option Bool)) → meaning.refuses_off row ≡ false)
+    → ((row : List (Option Bool)) (others : List (List (Option Bool))) → meaning.refuses_own row others ≡ false) → refuses_minimum meaning rows ≡ false
+unfolding refuses_minimum
+never_refused meaning rows never_off never_own =
+    or_from (list_any (λ row. refuses_to meaning row (length row)) rows) (refuses_behind meaning [] (map (widened meaning.off) rows))
+    (never_any (λ row. refuses_to meaning row (length row)) (λ row. never_to meaning never_off row (length row)) rows)
+    (never_behind meaning never_own [] (map (widened meaning.off) rows))
+
+-- the minimum where ties are kept is that where no point is a local don't-care
+pub least_same : {R : Type 0} (circuit : Circuit) (table : Written) (ties : List (Held R)) → HasCharacters (length table.inputs) table.rows → AreLocal circuit table ties
+    → minimum_rows (meaning_of_tied (record { width = length table.inputs; rows = on_rows table; ties = seen ties })) (on_rows table) ≡ minimum_rows (meaning_of table (is_local circuit table)) (on_rows table)
+least_same circuit table ties shaped local =
+    minimum_same (meaning_of_tied (record { width = length table.inputs; rows = on_rows table; ties = seen ties })) (meaning_of table (is_local circuit table)) (on_rows table) (on_wide table shaped)
+    (λ point long. ap₂ (λ (a b : Bool). a && b) (on_value table point long) (local.kept point long))
+    (λ point long. ap₂ (λ (a b : Bool). not a && b) (on_value table point long) (local.kept point long))
+
+module _ {R : Type 0} where
+  -- the rows of phase 1 of an entry's table
+  pub on_own : (entry : Entry R) (made : Shape) → IsOverInputs entry.table → entry.table.phase ≡ true → made ≡ entry.table.cover
+      → made ≡ record { width = length entry.table.inputs; rows = on_rows (written_of entry) }
+  unfolding on_rows named
+  on_own entry made over phase is =
+      is
+      ∙ (ap (λ (width : ℕ). record { width = width; rows = entry.table.cover.rows }) over
+      ∙ ap (λ (rows : List (List (Option Bool))). record { width = length entry.table.inputs; rows = rows })
+      (sym (all_places_back entry.table.cover.rows)
+      ∙ ap (λ (b : Bool). if b then map places_of (map characters_of entry.table.cover.rows)
+      else list_rows (length entry.table.inputs) false (map places_of (map characters_of entry.table.cover.rows))) (sym phase)))
+
+  listed_rows : (entry : Entry R) → IsOverInputs entry.table
+      → list_rows entry.table.cover.width false entry.table.cover.rows ≡ list_rows (length entry.table.inputs) false (map places_of (map characters_of entry.table.cover.rows))
+  listed_rows entry over = ap₂ (λ (width : ℕ) (rows : List (List (Option Bool))). list_rows width false rows) over (sym (all_places_back entry.table.cover.rows))
+
+  pub on_listed : (entry : Entry R) (made : Shape) → IsOverInputs entry.table → entry.table.phase ≡ false
+      → made ≡ record { width = entry.table.cover.width; rows = list_rows entry.table.cover.width false entry.table.cover.rows }
+      → made ≡ record { width = length entry.table.inputs; rows = on_rows (written_of entry) }
+  unfolding on_rows named
+  on_listed entry made over phase is =
+      is
+      ∙ (ap (λ (width : ℕ). record { width = width; rows = list_rows entry.table.cover.width false entry.table.cover.rows }) over
+      ∙ ap (λ (rows : List (List (Option Bool))). record { width = length entry.table.inputs; rows = rows })
+      (listed_rows entry over
+      ∙ ap (λ (b : Bool). if b then map places_of (map characters_of entry.table.cover.rows)
+      else list_rows (length entry.table.inputs) false (map places_of (map characters_of entry.table.cover.rows))) (sym phase)))
+
+  -- whether the on-list is too long
+  pub own_short : (entry : Entry R) → entry.table.phase ≡ true → is_list_long (written_of entry) ≡ false
+  unfolding is_list_long named
+  own_short entry phase =
+      ap (λ (b : Bool). not b && ltb 32767 (length (list_rows (length entry.table.inputs) false (map places_of (map characters_of entry.table.cover.rows))))) phase
+
+  long_by : (entry : Entry R) → IsOverInputs entry.table → entry.table.phase ≡ false
+      → is_list_long (written_of entry) ≡ ltb 32767 (length (list_rows entry.table.cover.width false entry.table.cover.rows))
+  unfolding is_list_long named
+  long_by entry over phase =
+      ap (λ (b : Bool). not b && ltb 32767 (length (list_rows (length entry.table.inputs) false (map places_of (map characters_of entry.table.cover.rows))))) phase
+      ∙ ap (λ (rows : List (List (Option Bool))). ltb 32767 (length rows)) (sym (listed_rows entry over))
+
+  pub listed_short : (entry : Entry R) → IsOverInputs entry.table → entry.table.phase ≡ false → length (list_rows entry.table.cover.width false entry.table.cover.rows) ≤ 32767 → is_list_long (written_of entry) ≡ false
+  listed_short entry over phase short = long_by entry over phase ∙ le-ltb 32767 (length (list_rows entry.table.cover.width false entry.table.cover.rows)) short
+
+  pub listed_cause : (entry : Entry R) (fault : SimplifyFault) → IsOverInputs entry.table → entry.table.phase ≡ false → 32767 < length (list_rows entry.table.cover.width false entry.table.cover.rows)
+      → IsCause (Some entry.output) fault → IsCause (own_refusal (written_of entry)) fault
+  unfolding named
+  listed_cause entry fault over phase long cause =
+      subst (λ (b : Bool). IsCause (if b then Some entry.output else None) fault)
+      (sym (long_by entry over phase ∙ lt-ltb 32767 (length (list_rows entry.table.cover.width false entry.table.cover.rows)) long)) cause
+
+  pub listed_fault : (entry : Entry R) (list_fault : ListFault) (fault : SimplifyFault) → IsOverInputs entry.table → entry.table.phase ≡ false
+      → (list_fault ≡ LongList → 32767 < length (list_rows entry.table.cover.width false entry.table.cover.rows)) → (list_fault ≡ LongList → IsCause (Some entry.output) fault)
+      → (list_fault ≡ NoMemory → fault ≡ Memory) → IsCause (own_refusal (written_of entry)) fault
+  listed_fault entry LongList fault over phase long cause memory = listed_cause entry fault over phase (long refl) (cause refl)
+  listed_fault entry NoMemory fault over phase long cause memory = subst (λ (f : SimplifyFault). IsCause (own_refusal (written_of entry)) f) (sym (memory refl)) tt
+
+  -- the table that is made
+  pub least_named : (circuit : Circuit) (entry : Entry R) (ties : List (Held R)) (cover least : Shape) (inputs : List (List ℕ)) (made : Table R) → HasCharacters (length entry.table.inputs) (written_of entry).rows
+      → cover ≡ record { width = length entry.table.inputs; rows = on_rows (written_of entry) }
+      → least ≡ record cover { rows = minimum_rows (meaning_of_tied (record { width = cover.width; rows = cover.rows; ties = seen ties })) cover.rows }
+      → inputs ≡ entry.table.inputs → ((name : List ℕ) → named name made ≡ tidied (named {R = R} name (record { inputs = inputs; cover = least; phase = true })))
+      → AreLocal circuit (written_of entry) ties → named entry.output made ≡ minimized (written_of entry) (is_local circuit (written_of entry))
+  unfolding minimized named
+  least_named circuit entry ties cover least inputs made shaped cover_is least_is inputs_are tidy local =
+      tidy entry.output
+      ∙ (ap (λ (names : List (List ℕ)). tidied (record { inputs = names; output = entry.output; rows = map characters_of least.rows; phase = true })) inputs_are
+      ∙ ap (λ (rows : List (List (Option Bool))). tidied (record { inputs = entry.table.inputs; output = entry.output; rows = map characters_of rows; phase = true })) rows_are)
+    where
+      rows_are : least.rows ≡ minimum_rows (meaning_of (written_of entry) (is_local circuit (written_of entry))) (on_rows (written_of entry))
+      rows_are = ap (λ (shape : Shape). shape.rows) least_is
+          ∙ (ap (λ (shape : Shape). minimum_rows (meaning_of_tied (record { width = shape.width; rows = shape.rows; ties = seen ties })) shape.rows) cover_is
+          ∙ least_same circuit (written_of entry) ties shaped local)
+
+  pub least_once : (least made : Table R) (name : List ℕ) → named name made ≡ tidied (named name least) → all_different made.inputs ≡ true
+  unfolding named
+  least_once least made name tidy = ap (λ (table : Written). all_different table.inputs) tidy ∙ tidied_once (named name least)

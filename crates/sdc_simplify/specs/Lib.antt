@@ -1,0 +1,2 @@
+pub mod Simplify
+pub mod Turns

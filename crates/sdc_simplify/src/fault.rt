@@ -1,0 +1,25 @@
+//! Why a network is not simplified.
+
+use circuit_model::Name;
+use std::alloc::AllocError;
+
+/// Why a network is not simplified.
+#[derive(Debug, PartialEq, Drop)]
+pub enum SimplifyFault {
+    /// The table of this name gives its function by the rows where it is 0, and the list of those where it is 1 has more than 32,767
+    /// rows.
+    CubeLimit(Name),
+    /// There is not enough memory.
+    Memory,
+}
+
+impl From<AllocError> for SimplifyFault {
+    ghost use Rattle.std.specs.Prelude.{◌≡◌};
+    ghost use Rattle.sdc_simplify.specs.declared.fault.SimplifyFault.TheVariants.{Memory};
+
+    ghost from_gives = { λ _ fault. fault ≡ Memory };
+
+    fn from(_error: AllocError) -> SimplifyFault {
+        SimplifyFault::Memory
+    }
+}

@@ -1,0 +1,139 @@
+//! The turn of one table: it becomes its minimum.
+
+ghost use Rattle.std.specs.Prelude.{◌≡◌, ℕ, true, false, Some, List, map, length, is_some, IfOk, IfErr, OnOk};
+ghost use Rattle.circuit_model.specs.Names.{all_different};
+ghost use Rattle.circuit_model.specs.Soundness.{IsSound};
+ghost use Rattle.circuit_model.specs.declared.circuit.Circuit.{Circuit as TheCircuit};
+ghost use Rattle.circuit_model.specs.declared.circuit.Table.{Table as TheWritten};
+ghost use Rattle.cover_min.specs.Minimum.{minimum_rows};
+ghost use Rattle.cover_search.specs.Ties.{meaning_of};
+ghost use Rattle.minimum_rules.specs.Local.{is_local};
+ghost use Rattle.minimum_rules.specs.Minimized.{on_rows, minimized, is_list_long};
+ghost use Rattle.net_core.specs.Places.{written_of};
+ghost use Rattle.net_core.specs.Tables.{named, HasCharacters, IsOverInputs};
+ghost use Rattle.net_work.specs.Placed.{circuit_of, table_at, with_slot};
+ghost use Rattle.sdc_simplify.specs.Simplify.{IsCause};
+ghost use Rattle.sdc_simplify.specs.Turns.{AreLocal, AreOfWidth, own_refusal, seen};
+
+use crate::fault::SimplifyFault;
+use crate::ties::ties_at;
+use circuit_model::Name;
+use cover_min::{OracleFault, prime_irredundant};
+use cover_ops::{ListFault, on_list};
+use cover_search::{Tie, TiedCover};
+use cube_cover::{Cover, Row};
+use net_core::{Entry, Table, tidy};
+use net_work::Work;
+use sis_base::Copied;
+use std::alloc::{AllocError, Global};
+
+/// How many rows a list may have.
+const ROW_LIMIT: usize = 32_767;
+
+// The fault for a list that was not made for the table of a name.
+fn fault_of(alloc: Global, name: &Name, fault: ListFault) -> SimplifyFault
+    ensures limit { fault ≡ ListFault.CubeLimit → IsCause (Some name.now) result }
+    ensures memory { fault ≡ ListFault.Memory → result ≡ SimplifyFault.Memory }
+{
+    match fault {
+        ListFault::Memory => SimplifyFault::Memory,
+        ListFault::CubeLimit => match name.copy(alloc) {
+            Ok(name) => SimplifyFault::CubeLimit(name),
+            Err(_) => SimplifyFault::Memory,
+        },
+    }
+}
+
+// The rows whose phase is 1 for a table's function.
+fn on_cover<R: Row>(alloc: Global, entry: &Entry<R>) -> Result<Cover<R>, SimplifyFault>
+    requires { IsOverInputs entry.now.table }
+    ensures rows { IfOk result (λ made. made ≡ record { width = length entry.now.table.inputs; rows = on_rows (written_of entry.now) }) }
+    ensures within { OnOk result (is_list_long (written_of entry.now) ≡ false) }
+    ensures fault { IfErr result (λ fault. IsCause (own_refusal (written_of entry.now)) fault) }
+{
+    let cover = &entry.table.cover;
+    if entry.table.phase {
+        return Ok(cover.copy(alloc)?);
+    }
+    match on_list(alloc, cover, false, ROW_LIMIT) {
+        Ok(list) => Ok(list),
+        Err(fault) => Err(fault_of(alloc, &entry.output, fault)),
+    }
+}
+
+// The minimum of a cover, where the points are free that break a tie.
+fn least_cover<R: Row>(
+    alloc: Global,
+    cover: Cover<R>,
+    ties: Vec<Tie<R>>,
+) -> Result<Cover<R>, AllocError>
+    requires { AreOfWidth cover.width ties.items }
+    ensures { IfOk result (λ made. made ≡ record cover { rows = minimum_rows (meaning_of (record { width = cover.width; rows = cover.rows; ties = seen ties.items })) cover.rows }) }
+{
+    let mut oracle = TiedCover::new(cover.copy(alloc)?, ties);
+    match prime_irredundant(alloc, cover, &mut oracle) {
+        Ok(least) => Ok(least),
+        Err(OracleFault::Memory) => Err(AllocError),
+        Err(OracleFault::Refused) => unreachable!(),
+    }
+}
+
+// The minimum of a table with the ties that stand for its local don't-cares.
+fn least_table<R: Row>(
+    alloc: Global,
+    entry: &Entry<R>,
+    ties: Vec<Tie<R>>,
+) -> Result<Table<R>, SimplifyFault>
+    requires over { IsOverInputs entry.now.table }
+    requires shaped { HasCharacters (length entry.now.table.inputs) (written_of entry.now).rows }
+    requires wide { AreOfWidth (length entry.now.table.inputs) ties.items }
+    ensures minimized { IfOk result (λ made. (circuit : TheCircuit) → AreLocal circuit (written_of entry.now) ties.items → named entry.now.output made ≡ minimized (written_of entry.now) (is_local circuit (written_of entry.now))) }
+    ensures over { IfOk result IsOverInputs }
+    ensures once { IfOk result (λ made. all_different made.inputs ≡ true) }
+    ensures within { OnOk result (is_list_long (written_of entry.now) ≡ false) }
+    ensures fault { IfErr result (λ fault. IsCause (own_refusal (written_of entry.now)) fault) }
+{
+    let cover = on_cover(alloc, entry)?;
+    let least = Table {
+        inputs: entry.table.inputs.copy(alloc)?,
+        cover: least_cover(alloc, cover, ties)?,
+        phase: true,
+    };
+    let made = tidy(alloc, &least)?;
+    Ok(made)
+}
+
+// The minimum of the table at a place under its local don't-cares.
+fn least_at<R: Row>(alloc: Global, work: &Work<R>, place: usize) -> Result<Table<R>, SimplifyFault>
+    requires sound { IsSound (circuit_of work.now) }
+    requires there { is_some (table_at work.now.slots place) ≡ true }
+    ensures minimized { IfOk result (λ made. (table : TheWritten) → table_at work.now.slots place ≡ Some table → named table.output made ≡ minimized table (is_local (circuit_of work.now) table)) }
+    ensures over { IfOk result IsOverInputs }
+    ensures once { IfOk result (λ made. all_different made.inputs ≡ true) }
+    ensures within { OnOk result ((table : TheWritten) → table_at work.now.slots place ≡ Some table → is_list_long table ≡ false) }
+    ensures fault { IfErr result (λ fault. (table : TheWritten) → table_at work.now.slots place ≡ Some table → IsCause (own_refusal table) fault) }
+{
+    let ties = ties_at(alloc, work, place)?;
+    match work.entry(place) {
+        None => unreachable!(),
+        Some(entry) => least_table(alloc, entry, ties),
+    }
+}
+
+/// The table at a place becomes its minimum under its local don't-cares; refused where its on-list must be made and is too long. Behind
+/// an error for want of memory any network may stand.
+pub(crate) fn minimize_at<R: Row>(
+    alloc: Global,
+    work: &mut Work<R>,
+    place: usize,
+) -> Result<(), SimplifyFault>
+    requires sound { IsSound (circuit_of work.old) }
+    requires there { is_some (table_at work.old.slots place) ≡ true }
+    ensures minimized { OnOk result ((table : TheWritten) → table_at work.old.slots place ≡ Some table → work.new ≡ with_slot work.old place (Some (minimized table (is_local (circuit_of work.old) table)))) }
+    ensures within { OnOk result ((table : TheWritten) → table_at work.old.slots place ≡ Some table → is_list_long table ≡ false) }
+    ensures fault { IfErr result (λ fault. (table : TheWritten) → table_at work.old.slots place ≡ Some table → IsCause (own_refusal table) fault) }
+{
+    let table = least_at(alloc, work, place)?;
+    work.set(alloc, place, table)?;
+    Ok(())
+}
