@@ -1,0 +1,3 @@
+pub mod Partings
+pub mod Rules
+pub mod Decomposed

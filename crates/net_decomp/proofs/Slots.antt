@@ -1,0 +1,104 @@
+-- Tables at places: a list of them behind the last place, that of a place among all, and one written over that of its signal.
+use Rattle.std.proofs.Common.{◌≡◌, ℕ, ◌<◌, zero, suc, Bool, true, cond, Option, Some, None, List, [], ◌∷◌, ◌++◌, map, length, set, refl, sym, ap, ◌∙◌, subst, arith}
+use Rattle.std.specs.List.{AllByRecursion}
+use Rattle.std.proofs.lemmas.Bool.{false≢true}
+use Rattle.std.proofs.lemmas.Option.{none-some, same_Some}
+use Rattle.circuit_model.specs.Names.{has, all_different}
+use Rattle.circuit_model.specs.Soundness.{outputs_of}
+use Rattle.circuit_model.specs.declared.circuit.Table.{Table}
+use Rattle.circuit_laws.specs.Edits.{replaced}
+use Rattle.circuit_laws.proofs.Names.{name_is, name_not, different_head, different_tail, has_head, has_tail}
+use Rattle.net_core.proofs.Lookups.{get_set_same, get_set_other}
+use Rattle.net_work.specs.Placed.{standing, joined, table_at}
+use Rattle.net_work.proofs.Standing.{place_there}
+
+-- tables that all stand
+standing_all : (more : List Table) → standing (map Some more) ≡ more
+unfolding standing
+standing_all [] = refl
+standing_all (table ∷ more) = ap (λ (tables : List Table). table ∷ tables) (standing_all more)
+
+pub standing_behind : (slots : List (Option Table)) (more : List Table) → standing (slots ++ map Some more) ≡ standing slots ++ more
+unfolding standing
+standing_behind [] more = standing_all more
+standing_behind (None ∷ slots) more = standing_behind slots more
+standing_behind (Some table ∷ slots) more = ap (λ (tables : List Table). table ∷ tables) (standing_behind slots more)
+
+-- what stands at a place stays where others come behind the last
+pub table_before : (slots others : List (Option Table)) (at : ℕ) → at < length slots → table_at (slots ++ others) at ≡ table_at slots at
+table_before [] others at below = absurd (omega (arith, below))
+table_before (slot ∷ slots) others zero below = refl
+table_before (slot ∷ slots) others (suc at) below = table_before slots others at (omega (arith, below))
+
+pub table_within : (slots : List (Option Table)) (at : ℕ) (table : Table) → table_at slots at ≡ Some table → at < length slots
+table_within [] at table there = absurd (none-some table there)
+table_within (slot ∷ slots) zero table there = omega arith
+table_within (slot ∷ slots) (suc at) table there = let below : at < length slots = table_within slots at table there in omega (arith, below)
+
+-- what stands at a place that is written, and at others
+pub table_set : (slots : List (Option Table)) (place : ℕ) (old new : Table) → table_at slots place ≡ Some old → table_at (set slots place (Some new)) place ≡ Some new
+table_set slots place old new there = ap joined (get_set_same slots place (Some old) (Some new) (place_there slots place old there))
+
+pub table_other : (slots : List (Option Table)) (place at : ℕ) (new : Table) → at < place → table_at (set slots place (Some new)) at ≡ table_at slots at
+table_other slots place at new below = ap joined (get_set_other slots place at (Some new) (λ same. omega (arith, same, below)))
+
+-- the table at a place among all; what holds of the tables below the place holds of those before it
+pub record IsAmong (P : Table → Type 0) (tables : List Table) (table : Table) : Type 0 where
+  pub before : List Table
+  pub after : List Table
+  pub is : tables ≡ before ++ table ∷ after
+  pub all : AllByRecursion P before
+
+pub among : (P : Table → Type 0) (slots : List (Option Table)) (place : ℕ) (table : Table) → table_at slots place ≡ Some table
+    → ((at : ℕ) (other : Table) → at < place → table_at slots at ≡ Some other → P other) → IsAmong P (standing slots) table
+unfolding standing
+among P [] place table there each = absurd (none-some table there)
+among P (None ∷ slots) zero table there each = absurd (none-some table there)
+among P (Some first ∷ slots) zero table there each = record {
+  before = [];
+  after = standing slots;
+  is = ap (λ (t : Table). t ∷ standing slots) (same_Some first table there);
+  all = tt;
+}
+among P (None ∷ slots) (suc place) table there each = among P slots place table there (λ at other below here. each (suc at) other (omega (arith, below)) here)
+among P (Some first ∷ slots) (suc place) table there each =
+    let rest = among P slots place table there (λ at other below here. each (suc at) other (omega (arith, below)) here) in
+    record {
+      before = first ∷ rest.before;
+      after = rest.after;
+      is = ap (λ (tables : List Table). first ∷ tables) rest.is;
+      all = (each 0 first (omega arith) refl, rest.all);
+    }
+
+-- what holds at each place holds of all tables
+pub all_standing : (P : Table → Type 0) (slots : List (Option Table)) → ((at : ℕ) (table : Table) → at < length slots → table_at slots at ≡ Some table → P table) → AllByRecursion P (standing slots)
+unfolding standing
+all_standing P [] each = tt
+all_standing P (None ∷ slots) each = all_standing P slots (λ at table below here. each (suc at) table (omega (arith, below)) here)
+all_standing P (Some first ∷ slots) each =
+    (each 0 first (omega arith) refl, all_standing P slots (λ at table below here. each (suc at) table (omega (arith, below)) here))
+
+-- a table written over that of its signal
+stands_named : (slots : List (Option Table)) (place : ℕ) (table : Table) → table_at slots place ≡ Some table → has (outputs_of (standing slots)) table.output ≡ true
+unfolding standing
+stands_named [] place table there = absurd (none-some table there)
+stands_named (None ∷ slots) zero table there = absurd (none-some table there)
+stands_named (Some first ∷ slots) zero table there =
+    subst (λ (t : Table). has (first.output ∷ outputs_of (standing slots)) t.output ≡ true) (same_Some first table there) (has_head first.output (outputs_of (standing slots)))
+stands_named (None ∷ slots) (suc place) table there = stands_named slots place table there
+stands_named (Some first ∷ slots) (suc place) table there = has_tail first.output (outputs_of (standing slots)) table.output (stands_named slots place table there)
+
+pub standing_set : (slots : List (Option Table)) (place : ℕ) (old new : Table) → all_different (outputs_of (standing slots)) ≡ true → table_at slots place ≡ Some old → new.output ≡ old.output
+    → standing (set slots place (Some new)) ≡ replaced (standing slots) new
+unfolding standing replaced
+standing_set [] place old new different there same = absurd (none-some old there)
+standing_set (None ∷ slots) zero old new different there same = absurd (none-some old there)
+standing_set (Some first ∷ slots) zero old new different there same =
+    sym (ap (λ (b : Bool). cond b (new ∷ standing slots) (first ∷ replaced (standing slots) new)) (name_is new.output first.output (same ∙ ap (λ (t : Table). t.output) (sym (same_Some first old there)))))
+standing_set (None ∷ slots) (suc place) old new different there same = standing_set slots place old new different there same
+standing_set (Some first ∷ slots) (suc place) old new different there same =
+    ap (λ (rest : List Table). first ∷ rest) (standing_set slots place old new (different_tail first.output (outputs_of (standing slots)) different) there same)
+    ∙ sym (ap (λ (b : Bool). cond b (new ∷ standing slots) (first ∷ replaced (standing slots) new))
+    (name_not new.output first.output (λ (e : new.output ≡ first.output).
+    false≢true (sym (different_head first.output (outputs_of (standing slots)) different)
+    ∙ subst (λ (n : List ℕ). has (outputs_of (standing slots)) n ≡ true) (sym same ∙ e) (stands_named slots place old there)))))

@@ -1,0 +1,6 @@
+use Rattle.std.proofs.Common.{◌≡◌, ◌++◌, drop}
+use Rattle.decomp_rules.specs.Rules.{later_literals}
+use Rattle.net_decomp.proofs.rows.later_of.Given as goal
+
+abbrev pub invariant-loop-literal : goal.invariant-loop-literal
+invariant-loop-literal l = l.made.items ++ later_literals l.left (drop l.literal-index l.literals) ≡ later_literals l.most l.literals

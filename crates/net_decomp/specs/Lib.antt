@@ -1,0 +1,3 @@
+pub mod Decompose
+pub mod Told
+pub mod Cursor

@@ -1,0 +1,89 @@
+//! All tables, from the first place on, are parted until they are done.
+
+ghost use Rattle.std.specs.Prelude.{◌≡◌, ◌+◌, IfOk, IfErr, OnOk};
+ghost use Rattle.circuit_model.specs.Soundness.{IsSound};
+ghost use Rattle.decomp_rules.specs.Decomposed.{IsDecomposed, IsFull};
+ghost use Rattle.net_core.specs.Fresh.{node_count};
+ghost use Rattle.net_core.specs.Reads.{HasBounds};
+ghost use Rattle.net_core.specs.declared.adding.AddFault.TheVariants.{NodeLimit};
+ghost use Rattle.net_work.specs.Placed.{circuit_of};
+ghost use Rattle.net_decomp.specs.Cursor.{AreDone, IsAlong};
+ghost use Rattle.net_decomp.specs.Decompose.{HasDecomposed};
+
+use crate::stepping::part_once;
+use cube_cover::Row;
+use decomp_rules::Rule;
+use net_core::{AddFault, Network};
+use net_work::Work;
+use std::alloc::Global;
+
+// The table at a place is parted until it is done; answers how many nodes there are then.
+fn part_until_done<R: Row>(
+    alloc: Global,
+    work: &mut Work<R>,
+    nodes: u128,
+    place: usize,
+    rule: Rule,
+) -> Result<u128, AddFault>
+    requires sound { IsSound (circuit_of work.old) }
+    requires nodes { nodes ≡ node_count (circuit_of work.old) }
+    requires done { AreDone rule place work.old.slots }
+    ensures nodes { IfOk result (λ now. now ≡ node_count (circuit_of work.new)) }
+    ensures along { OnOk result (IsAlong rule (place + 1) work.old work.new) }
+    ensures full { IfErr result (λ fault. fault ≡ NodeLimit → IsFull rule (circuit_of work.old)) }
+{
+    let mut count = nodes;
+    while let Some(now) = part_once(alloc, work, count, place, rule)? {
+        count = now;
+    }
+    Ok(count)
+}
+
+// The tables at all places are parted until they are done, those with them that are added meanwhile.
+fn part_all<R: Row>(
+    alloc: Global,
+    work: &mut Work<R>,
+    nodes: u128,
+    rule: Rule,
+) -> Result<(), AddFault>
+    requires sound { IsSound (circuit_of work.old) }
+    requires nodes { nodes ≡ node_count (circuit_of work.old) }
+    ensures sound { OnOk result (IsSound (circuit_of work.new)) }
+    ensures decomposed { OnOk result (IsDecomposed rule (circuit_of work.old) (circuit_of work.new)) }
+    ensures bounds { OnOk result (HasBounds (circuit_of work.old) → HasBounds (circuit_of work.new)) }
+    ensures full { IfErr result (λ fault. fault ≡ NodeLimit → IsFull rule (circuit_of work.old)) }
+{
+    let mut count = nodes;
+    let mut place = 0;
+    while place < work.len() {
+        count = part_until_done(alloc, work, count, place, rule)?;
+        place += 1;
+    }
+    Ok(())
+}
+
+// How many tables and latches a network has, the tables of the don't-care part with them.
+fn nodes_of<R: Row>(network: &Network<R>) -> u128
+    ensures { result ≡ node_count network.now }
+{
+    let sizes = network.sizes();
+    sizes.tables as u128 + sizes.latches as u128 + sizes.dont_cares as u128
+}
+
+/// Parts the tables of a network by a rule until all are done, always the earliest one that is not; parts become tables that stand
+/// last, under the least free names. `NodeLimit` exactly where a step has parts and with them there would be more than 65,535 tables
+/// and latches, those of the don't-care part counted. `Memory` stands also for a tidy table of 2^30 inputs or 2^29 rows that would be
+/// made. The network is lost with an error.
+pub fn decompose<R: Row>(
+    alloc: Global,
+    network: Network<R>,
+    rule: Rule,
+) -> Result<Network<R>, AddFault>
+    ensures decomposed { HasDecomposed rule network result }
+    ensures bounds { HasBounds network → IfOk result HasBounds }
+{
+    let nodes = nodes_of(&network);
+    let mut work = Work::from_network(alloc, network)?;
+    part_all(alloc, &mut work, nodes, rule)?;
+    Ok(work.into_network())
+}

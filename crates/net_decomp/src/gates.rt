@@ -1,0 +1,103 @@
+//! Products and sums: which rows are one, and what stands in rows.
+
+ghost use Rattle.std.specs.Prelude.{◌≡◌, ℕ, leb, eqb, Bool, Option, List, map};
+ghost use Rattle.std.specs.List.{list_all, list_any};
+ghost use Rattle.cube_cover.specs.Literals.{row_literals as literals_in, all_dashes, some_dashes};
+ghost use Rattle.decomp_rules.specs.Rules.{is_long, is_gate};
+
+use cube_cover::Row;
+use net_core::row_literals;
+
+// How many literals a row has.
+#[tactic(auto, using(crate::proofs::Counted::literals_same))]
+fn literal_count<R: Row>(row: &R) -> usize
+    ensures { result ≡ literals_in (R.literals row.now) }
+{
+    row_literals(row)
+}
+
+// Whether a row has so many literals at most.
+fn is_within<R: Row>(row: &R, most: usize) -> bool
+    ensures { result ≡ leb (literals_in (R.literals row.now)) most }
+{
+    literal_count(row) <= most
+}
+
+// Whether a row has one literal.
+fn is_single<R: Row>(row: &R) -> bool
+    ensures { result ≡ eqb (literals_in (R.literals row.now)) 1 }
+{
+    literal_count(row) == 1
+}
+
+// Whether a row has no literal.
+#[tactic(auto, using(crate::proofs::Counted::none_dashes))]
+fn is_empty<R: Row>(row: &R) -> bool
+    ensures { result ≡ all_dashes (R.literals row.now) }
+{
+    literal_count(row) == 0
+}
+
+/// Whether a row has two literals or more.
+pub(crate) fn is_long_row<R: Row>(row: &R) -> bool
+    ensures { result ≡ is_long (R.literals row.now) }
+{
+    1 < literal_count(row)
+}
+
+// Whether each row has so many literals at most.
+fn all_within<R: Row>(rows: &[R], most: usize) -> bool
+    ensures { result ≡ list_all (λ row. leb (literals_in row) most) (map R.literals rows.now) }
+{
+    for row in rows {
+        if !is_within(row, most) {
+            return false;
+        }
+    }
+    true
+}
+
+// Whether each row has one literal.
+fn all_single<R: Row>(rows: &[R]) -> bool
+    ensures { result ≡ list_all (λ row. eqb (literals_in row) 1) (map R.literals rows.now) }
+{
+    for row in rows {
+        if !is_single(row) {
+            return false;
+        }
+    }
+    true
+}
+
+/// Whether some row has two literals or more.
+pub(crate) fn some_long<R: Row>(rows: &[R]) -> bool
+    ensures { result ≡ list_any is_long (map R.literals rows.now) }
+{
+    for row in rows {
+        if is_long_row(row) {
+            return true;
+        }
+    }
+    false
+}
+
+/// Whether some row has no literal.
+#[tactic(auto, unfolding(cube_cover::specs::Literals::some_dashes))]
+pub(crate) fn some_empty<R: Row>(rows: &[R]) -> bool
+    ensures { result ≡ some_dashes (map R.literals rows.now) }
+{
+    for row in rows {
+        if is_empty(row) {
+            return true;
+        }
+    }
+    false
+}
+
+/// Whether rows are one product of so many literals at most, or a sum of so many rows of one literal each.
+#[tactic(auto, unfolding(decomp_rules::specs::Rules::is_gate))]
+pub(crate) fn are_gate<R: Row>(rows: &[R], products: usize, sums: usize) -> bool
+    ensures { result ≡ is_gate products sums (map R.literals rows.now) }
+{
+    (rows.len() <= 1 && all_within(rows, products)) || (rows.len() <= sums && all_single(rows))
+}

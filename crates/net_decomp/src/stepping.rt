@@ -1,0 +1,223 @@
+//! One step: the table at a place is parted. Its parts are added as tables, and it is rewritten over their signals.
+
+ghost use Rattle.std.specs.Prelude.{◌≡◌, ℕ, ◌≤◌, ◌<◌, ◌↔◌, Bool, true, Option, Some, None, List, [], ◌∷◌, ◌++◌, length, map, IfOk, IfErr, IfSome, OnOk, MatchOption, IsTrue};
+ghost use Rattle.std.specs.List.{AllByRecursion};
+ghost use Rattle.sis_base.specs.Rows.{HasWidth};
+ghost use Rattle.circuit_model.specs.Names.{all_different};
+ghost use Rattle.circuit_model.specs.Soundness.{IsSound};
+ghost use Rattle.circuit_model.specs.declared.circuit.Table.{Table as TheTable};
+ghost use Rattle.decomp_rules.specs.Rules.{IsDone};
+ghost use Rattle.net_core.specs.Fresh.{IsNewName, node_count};
+ghost use Rattle.net_core.specs.Reads.{IsBounded};
+ghost use Rattle.net_core.specs.Tables.{named, characters_of, IsOverInputs};
+ghost use Rattle.net_core.specs.declared.adding.AddFault.TheVariants.{NodeLimit, Memory};
+ghost use Rattle.net_work.specs.Placed.{circuit_of, table_at, with_last};
+ghost use Rattle.table_tidy.specs.Tidy.{tidied};
+ghost use Rattle.net_decomp.specs.Told.{told};
+ghost use Rattle.net_decomp.specs.Cursor.{IsDueOf, IsDueAt, ArePut, IsTurned, IsPartedAt, HasRoomFor, IsOverAt};
+
+use crate::parting::{Parting, parting_of};
+use circuit_model::{Name, Names};
+use cube_cover::{Cover, Row};
+use decomp_rules::Rule;
+use net_core::{AddFault, Table, tidy};
+use net_work::Work;
+use sis_base::Copied;
+use std::alloc::{AllocError, Global};
+
+/// How many tables and latches may stand, the tables of the don't-care part with them.
+const NODE_LIMIT: u128 = 65_535;
+
+/// A table of so many inputs is not made: that is answered as want of memory.
+const INPUT_BOUND: usize = 1 << 30;
+
+/// Nor is a table of so many rows.
+const ROW_BOUND: usize = 1 << 29;
+
+/// What stays of a table that is to be parted, and how it is parted.
+#[derive(Drop)]
+pub(crate) struct Due<R: Row> {
+    pub(crate) inputs: Names,
+    pub(crate) phase: bool,
+    pub(crate) parting: Parting<R>,
+}
+
+// How a table is parted, or none where it is done.
+fn due_of<R: Row>(alloc: Global, table: &Table<R>, rule: Rule) -> Result<Option<Due<R>>, AllocError>
+    requires { IsOverInputs table.now }
+    ensures { IfOk result (λ found. (name : List ℕ) → MatchOption found (IsDone rule (named name table.now)) (IsDueOf rule R.literals (named name table.now))) }
+{
+    // by this call the rows are known to have the cover's width
+    let _of_one_width = table.cover.rows();
+    match parting_of(alloc, rule, &table.cover)? {
+        None => Ok(None),
+        Some(parting) => Ok(Some(Due {
+            inputs: table.inputs.copy(alloc)?,
+            phase: table.phase,
+            parting,
+        })),
+    }
+}
+
+// How the table at a place is parted, or none where it is done, or where none stands there.
+fn due_at<R: Row>(
+    alloc: Global,
+    work: &Work<R>,
+    place: usize,
+    rule: Rule,
+) -> Result<Option<Due<R>>, AllocError>
+    ensures { IfOk result (λ found. MatchOption found ((table : TheTable) → table_at work.now.slots place ≡ Some table → IsDone rule table) (IsDueAt rule R.literals work.now.slots place)) }
+{
+    match work.entry(place) {
+        None => Ok(None),
+        Some(entry) => due_of(alloc, &entry.table, rule),
+    }
+}
+
+// A table, unless it is as large as none is made.
+fn bounded<R: Row>(table: Table<R>) -> Result<Table<R>, AllocError>
+    ensures { IfOk result (λ made. (made ≡ table) × ((name : List ℕ) → IsBounded (named name table))) }
+{
+    if table.inputs.len() < INPUT_BOUND && table.cover.rows().len() < ROW_BOUND {
+        Ok(table)
+    } else {
+        Err(AllocError)
+    }
+}
+
+// The tidy table of some rows.
+fn tidy_table<R: Row>(
+    alloc: Global,
+    inputs: Names,
+    rows: Vec<R>,
+    phase: bool,
+) -> Result<Table<R>, AllocError>
+    requires { HasWidth (length inputs) (map R.literals rows.items) }
+    ensures tidy { IfOk result (λ made. (name : List ℕ) → named name made ≡ tidied (record { inputs = inputs; output = name; rows = map characters_of (map R.literals rows.items); phase = phase })) }
+    ensures over { IfOk result IsOverInputs }
+    ensures once { IfOk result (λ made. all_different made.inputs ≡ true) }
+    ensures bounded { IfOk result (λ made. (name : List ℕ) → IsBounded (named name made)) }
+{
+    let cover = Cover::of(inputs.len(), rows);
+    let table = Table {
+        inputs,
+        cover,
+        phase,
+    };
+    let made = tidy(alloc, &table)?;
+    bounded(made)
+}
+
+// A part over some inputs is added as a table.
+fn add_part<R: Row>(
+    alloc: Global,
+    work: &mut Work<R>,
+    inputs: &Names,
+    part: Vec<R>,
+) -> Result<Name, AddFault>
+    requires { HasWidth (length inputs.now) (map R.literals part.items) }
+    ensures added { IfOk result (λ name. IsNewName (circuit_of work.old) name × (work.new ≡ with_last work.old (tidied (record { inputs = inputs.now; output = name; rows = map characters_of (map R.literals part.items); phase = true })))) }
+    ensures bounded { IfOk result (λ name. IsBounded (tidied (record { inputs = inputs.now; output = name; rows = map characters_of (map R.literals part.items); phase = true }))) }
+    ensures limit { IfErr result (λ fault. fault ≡ NodeLimit → 65535 ≤ node_count (circuit_of work.old)) }
+{
+    let table = tidy_table(alloc, inputs.copy(alloc)?, part, true)?;
+    work.add(alloc, table)
+}
+
+// A name stands behind the last.
+fn push_name(names: &mut Names, name: Name) -> Result<(), AllocError>
+    ensures { OnOk result (names.new ≡ names.old ++ name ∷ []) }
+{
+    names.push(name)?;
+    Ok(())
+}
+
+// Parts over some inputs are added as tables, one after the other; answers their names.
+fn add_parts<R: Row>(
+    alloc: Global,
+    work: &mut Work<R>,
+    inputs: &Names,
+    parts: Vec<Vec<R>>,
+) -> Result<Names, AddFault>
+    requires wide { AllByRecursion (HasWidth (length inputs.now)) (map (λ part. map R.literals part.items) parts.items) }
+    requires room { HasRoomFor (node_count (circuit_of work.old)) (length parts.items) }
+    ensures put { IfOk result (λ names. ArePut inputs.now (map (λ part. map R.literals part.items) parts.items) names work.old work.new) }
+    ensures fault { IfErr result (λ fault. fault ≡ Memory) }
+{
+    let mut names = Names::new(alloc);
+    for part in parts {
+        push_name(&mut names, add_part(alloc, work, inputs, part)?)?;
+    }
+    Ok(names)
+}
+
+// Names behind others.
+fn joined(names: Names, others: Names) -> Result<Names, AllocError>
+    ensures { IfOk result (λ made. made ≡ names ++ others) }
+{
+    let mut made = names;
+    for name in others.into_vec() {
+        push_name(&mut made, name)?;
+    }
+    Ok(made)
+}
+
+// The table at a place is parted, for whose parts there is room. Behind an error any network may stand.
+fn part_table<R: Row>(
+    alloc: Global,
+    work: &mut Work<R>,
+    place: usize,
+    due: Due<R>,
+    rule: Rule,
+) -> Result<(), AddFault>
+    requires due { IsDueAt rule R.literals work.old.slots place due }
+    requires room { HasRoomFor (node_count (circuit_of work.old)) (length due.parting.parts.items) }
+    ensures turned { OnOk result ((table : TheTable) → table_at work.old.slots place ≡ Some table → IsTurned table (told R.literals due.parting) place work.old work.new) }
+    ensures fault { IfErr result (λ fault. fault ≡ Memory) }
+{
+    let Due {
+        inputs,
+        phase,
+        parting: Parting { parts, rows },
+    } = due;
+    let names = add_parts(alloc, work, &inputs, parts)?;
+    let table = tidy_table(alloc, joined(inputs, names)?, rows, phase)?;
+    work.set(alloc, place, table)?;
+    Ok(())
+}
+
+// Whether there is room for more tables; for none there always is.
+fn has_room(nodes: u128, more: usize) -> bool
+    ensures { IsTrue result ↔ HasRoomFor nodes more }
+{
+    more == 0 || (nodes <= NODE_LIMIT && more as u128 <= NODE_LIMIT - nodes)
+}
+
+/// The table at a place is parted; answers how many nodes there are then, or none where it was done. `NodeLimit` where there is no
+/// room for its parts. Behind an error any network may stand.
+pub(crate) fn part_once<R: Row>(
+    alloc: Global,
+    work: &mut Work<R>,
+    nodes: u128,
+    place: usize,
+    rule: Rule,
+) -> Result<Option<u128>, AddFault>
+    requires sound { IsSound (circuit_of work.old) }
+    requires nodes { nodes ≡ node_count (circuit_of work.old) }
+    ensures done { IfOk result (λ found. found ≡ None → (work.new ≡ work.old) × ((table : TheTable) → table_at work.old.slots place ≡ Some table → IsDone rule table)) }
+    ensures nodes { IfOk result (λ found. IfSome found (λ now. now ≡ node_count (circuit_of work.new))) }
+    ensures parted { IfOk result (λ found. IfSome found (λ now. IsPartedAt rule place work.old work.new)) }
+    ensures over { IfErr result (λ fault. fault ≡ NodeLimit → IsOverAt rule place work.old) }
+{
+    match due_at(alloc, work, place, rule)? {
+        None => Ok(None),
+        Some(due) => {
+            let more = due.parting.parts.len();
+            if !has_room(nodes, more) {
+                return Err(AddFault::NodeLimit);
+            }
+            part_table(alloc, work, place, due, rule)?;
+            Ok(Some(nodes + more as u128))
+        }
+    }
+}
