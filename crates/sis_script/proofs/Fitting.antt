@@ -1,5 +1,6 @@
 -- The words that are no options fill the slots of their command.
 use Rattle.std.proofs.Common.{◌≡◌, ℕ, ◌-◌, ◌^◌, ◌≤◌, Bool, true, false, not, ◌&&◌, nat_le, Option, Some, None, option_map, Result, Ok, Err, List, [], ◌∷◌, drop, pos, neg_ℤ, refl, sym, subst, arith, if◌then◌else◌}
+use Rattle.std.specs.Prelude.{bytes_eq, codes}
 use Rattle.std.specs.Str.{is_utf8}
 use Rattle.std.proofs.lemmas.Bool.Decides.{nat_tests}
 use Rattle.std.proofs.lemmas.Int.{ints}
@@ -59,6 +60,11 @@ integer_fits word value false negative (Some number) below above found =
     let bound = bounded 0 (2 ^ 31 - 1) word number above in
     subst (λ v. Fits kind.Integer v) (sym same) (omega (arith, ints, bound.1), omega (arith, ints, bound.1))
 
+no_complement_fits : (value : Value) (is : Bool) → Some value ≡ (if is then Some made.NoComplement else None) → Fits kind.NoComplement value
+unfolding Fits
+no_complement_fits value true found = let same : value ≡ made.NoComplement = cc in subst (λ v. Fits kind.NoComplement v) (sym same) tt
+no_complement_fits value false found = cc
+
 kind_fits : (asked : Kind) (word : List ℕ) (value : Value) → Some value ≡ value_of asked word → Fits asked value
 unfolding value_of Fits integer_of
 kind_fits kind.File word value found = file_fits word value (is_utf8 word) (begins_with 45 word) refl refl found
@@ -66,6 +72,7 @@ kind_fits kind.Name word value found = let same : value ≡ made.Name word = cc 
 kind_fits (kind.Number least most) word value found = number_fits least most word value (number_within least most word) refl found
 kind_fits kind.Integer word value found =
     integer_fits word value (begins_with 45 word) (number_within 0 (2 ^ 31) (drop 1 word)) (number_within 0 (2 ^ 31 - 1) word) refl refl found
+kind_fits kind.NoComplement word value found = no_complement_fits value (bytes_eq word (codes "nocomp")) found
 
 end_fits : (slots : List Slot) (values : List Value) (lacks : Bool) → lacks ≡ lacks_word slots → Ok values ≡ (if lacks then Err MissingWord else Ok []) → FitSlots slots values
 unfolding FitSlots

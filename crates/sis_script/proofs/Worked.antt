@@ -1,4 +1,5 @@
--- Worked words of two commands with options: `eliminate [-l ROWS] T`, where T is an integer, and `tech_decomp [-a N] [-o N]`.
+-- Worked words of commands with options: `eliminate [-l ROWS] T`, where T is an integer, `tech_decomp [-a N] [-o N]`, and
+-- `simplify [-m nocomp]`.
 use Rattle.std.proofs.Common.{◌≡◌, ℕ, Some, Result, Ok, Err, List, [], ◌∷◌, ℤ, pos, negsuc, refl}
 use Rattle.std.specs.Prelude.{codes}
 use Rattle.sis_text.specs.Decimals.{number_of}
@@ -12,7 +13,6 @@ use Rattle.sis_script.specs.declared.kinds.Kind.TheVariants as kind
 use Rattle.sis_script.specs.declared.kinds.Value.TheVariants as value
 use Rattle.sis_script.specs.declared.grammar.OptionForm.{OptionForm}
 use Rattle.sis_script.specs.declared.grammar.OptionGiven.{OptionGiven}
-use Rattle.sis_script.specs.declared.grammar.Slot.TheVariants.{Needed}
 use Rattle.sis_script.specs.declared.grammar.Given.{Given}
 
 valued : ℕ → ℕ → ℕ → OptionForm
@@ -22,7 +22,10 @@ eliminate : List (List ℕ) → Result Given ScriptFault
 eliminate words = parse_words verb.Eliminate words
 
 tech_decomp : List (List ℕ) → Result Given ScriptFault
-tech_decomp words = parse (valued 97 2 1000 ∷ valued 111 2 1000 ∷ []) [] words
+tech_decomp words = parse_words verb.TechDecomp words
+
+simplify : List (List ℕ) → Result Given ScriptFault
+simplify words = parse_words verb.Simplify words
 
 with_number : ℕ → ℕ → OptionGiven
 with_number letter number = record { letter = letter; value = Some (value.Number number) }
@@ -100,3 +103,19 @@ below_bound = refl
 word_too_many : tech_decomp (codes "-a" ∷ codes "2" ∷ codes "x" ∷ []) ≡ Err BadOption
 unfolding tech_decomp valued parse parse_at fill value_of number_within number_of
 word_too_many = refl
+
+no_method : simplify [] ≡ only_options []
+unfolding simplify only_options parse parse_at fill
+no_method = refl
+
+method : simplify (codes "-m" ∷ codes "nocomp" ∷ []) ≡ only_options (record { letter = 109; value = Some value.NoComplement } ∷ [])
+unfolding simplify only_options parse parse_at fill value_of
+method = refl
+
+method_lacks : simplify (codes "-m" ∷ []) ≡ Err MissingWord
+unfolding simplify parse parse_at fill
+method_lacks = refl
+
+other_method : simplify (codes "-m" ∷ codes "comp" ∷ []) ≡ Err BadOption
+unfolding simplify parse parse_at fill value_of
+other_method = refl

@@ -1,7 +1,7 @@
 -- The kinds of words that a command may ask for, and what a word of each kind gives.
 -- Source: the SIS manual's command language (UCB/ERL M92/41), where a word that begins with `-` is an option. That
 -- numbers are decimal digits as they stand, and that a word of another kind is a bad option, is this program's choice.
-use Rattle.std.specs.Prelude.{ℕ, ◌-◌, ◌^◌, Bool, not, ◌&&◌, nat_le, nat_lt, Option, Some, None, option_map, List, length, drop, ℤ, pos, neg_ℤ, if◌then◌else◌}
+use Rattle.std.specs.Prelude.{ℕ, ◌-◌, ◌^◌, Bool, not, ◌&&◌, nat_le, nat_lt, Option, Some, None, option_map, List, length, drop, ℤ, pos, neg_ℤ, if◌then◌else◌, bytes_eq, codes}
 use Rattle.std.specs.Str.{is_utf8}
 use Rattle.std.specs.List.{list_all}
 use Rattle.sis_text.specs.Words.{begins_with}
@@ -37,3 +37,4 @@ value_of kind.File word = if is_file_word word then Some (value.File word) else 
 value_of kind.Name word = Some (value.Name word)
 value_of (kind.Number least most) word = option_map (λ number. value.Number number) (number_within least most word)
 value_of kind.Integer word = option_map (λ number. value.Integer number) (integer_of word)
+value_of kind.NoComplement word = if bytes_eq word (codes "nocomp") then Some value.NoComplement else None

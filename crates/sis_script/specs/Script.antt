@@ -6,7 +6,7 @@ use Rattle.sis_text.specs.Entries.{Entry}
 use Rattle.sis_script.specs.Grammar.{parse}
 use Rattle.sis_script.specs.declared.command.Op.{Op}
 use Rattle.sis_script.specs.declared.command.Op.TheVariants.{Echo, Quit, ReadBlif, ReadKiss, ReadLibrary, WriteBlif, WriteKiss, PrintStats, Print, PrintLatch, PrintFactor, PrintKernel, Change, Undo, Source, Bad}
-use Rattle.sis_script.specs.declared.command.Change.TheVariants.{Sweep, Eliminate, Collapse}
+use Rattle.sis_script.specs.declared.command.Change.TheVariants.{Sweep, Eliminate, Collapse, Simplify, Decomp, TechDecomp}
 use Rattle.sis_script.specs.declared.command.ScriptFault.{ScriptFault}
 use Rattle.sis_script.specs.declared.command.ScriptFault.TheVariants.{BadCommand, MissingWord}
 use Rattle.sis_script.specs.declared.command.Command.{Command}
@@ -119,6 +119,27 @@ abbrev pub eliminate_op : Result Given ScriptFault → Op
 eliminate_op (Ok given) = eliminate_by (min (unwrap_or (number_behind 108 given.options) 1000) 32767) (first_word given)
 eliminate_op (Err fault) = Bad fault
 
+-- the number behind the option of a letter; 2 where it is not given (the grammar lets no number pass that is not 2 to 1,000, and the
+-- cap shows it to the type that holds it)
+abbrev pub bound_behind : ℕ → List OptionGiven → ℕ
+bound_behind letter options = min (unwrap_or (number_behind letter options) 2) 1000
+
+-- `tech_decomp`: the bounds on products and on sums are the numbers behind `-a` and `-o`
+abbrev pub tech_decomp_op : Result Given ScriptFault → Op
+tech_decomp_op (Ok given) = Change (TechDecomp (bound_behind 97 given.options) (bound_behind 111 given.options))
+tech_decomp_op (Err fault) = Bad fault
+
+-- the commands by their names that change the network
+unfoldable pub change_of : List ℕ → Option Verb
+change_of word =
+    if bytes_eq word (codes "sweep") then Some verb.Sweep
+    else (if bytes_eq word (codes "eliminate") then Some verb.Eliminate
+    else (if bytes_eq word (codes "collapse") then Some verb.Collapse
+    else (if bytes_eq word (codes "simplify") then Some verb.Simplify
+    else (if bytes_eq word (codes "decomp") then Some verb.Decomp
+    else (if bytes_eq word (codes "tech_decomp") then Some verb.TechDecomp
+    else None)))))
+
 -- the commands by their names; `echo` is none of them, since it takes any words
 unfoldable pub verb_of : List ℕ → Option Verb
 verb_of word =
@@ -133,12 +154,9 @@ verb_of word =
     else (if bytes_eq word (codes "print_latch") then Some verb.PrintLatch
     else (if bytes_eq word (codes "print_factor") then Some verb.PrintFactor
     else (if bytes_eq word (codes "print_kernel") then Some verb.PrintKernel
-    else (if bytes_eq word (codes "sweep") then Some verb.Sweep
-    else (if bytes_eq word (codes "eliminate") then Some verb.Eliminate
-    else (if bytes_eq word (codes "collapse") then Some verb.Collapse
     else (if bytes_eq word (codes "undo") then Some verb.Undo
     else (if bytes_eq word (codes "source") then Some (verb.OfFile of_file.Source)
-    else None)))))))))))))))
+    else change_of word))))))))))))
 
 -- the grammar of each command: its options, then the slots for its other words
 abbrev pub parse_words : Verb → List (List ℕ) → Result Given ScriptFault
@@ -153,6 +171,9 @@ parse_words verb.PrintKernel words = parse [] (Needed kind.Name ∷ []) words
 parse_words verb.Sweep words = parse [] [] words
 parse_words verb.Eliminate words = parse (record { letter = 108; kind = Some (kind.Number 1 32767) } ∷ []) (Needed kind.Integer ∷ []) words
 parse_words verb.Collapse words = parse [] [] words
+parse_words verb.Simplify words = parse (record { letter = 109; kind = Some kind.NoComplement } ∷ []) [] words
+parse_words verb.Decomp words = parse [] [] words
+parse_words verb.TechDecomp words = parse (record { letter = 97; kind = Some (kind.Number 2 1000) } ∷ record { letter = 111; kind = Some (kind.Number 2 1000) } ∷ []) [] words
 parse_words verb.Undo words = parse [] [] words
 
 -- what each command does, by what its words give
@@ -168,6 +189,9 @@ op_given verb.PrintKernel given = print_kernel_op (name_in given)
 op_given verb.Sweep given = plain_op (Change Sweep) given
 op_given verb.Eliminate given = eliminate_op given
 op_given verb.Collapse given = plain_op (Change Collapse) given
+op_given verb.Simplify given = plain_op (Change Simplify) given
+op_given verb.Decomp given = plain_op (Change Decomp) given
+op_given verb.TechDecomp given = tech_decomp_op given
 op_given verb.Undo given = plain_op Undo given
 
 -- a command by its verb, if its name is one

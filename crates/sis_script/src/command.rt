@@ -54,6 +54,12 @@ pub enum Change {
     Eliminate(i32, u16),
     /// Takes all inner tables into their readers.
     Collapse,
+    /// Makes each table minimal where its inputs' tables leave points free.
+    Simplify,
+    /// Takes literals that rows of a table share out of them: what else these rows have becomes a table of its own.
+    Decomp,
+    /// Makes each table a product of at most so many literals, or a sum of at most so many of one literal each.
+    TechDecomp(u16, u16),
 }
 
 /// Why a command is refused for its words alone.

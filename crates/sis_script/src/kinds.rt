@@ -24,6 +24,8 @@ pub(crate) enum Kind {
     Number(u64, u64),
     /// Decimal digits, or a `-` and decimal digits, of an integer of 32 bits.
     Integer,
+    /// The word `nocomp`, by which no complement is to be made.
+    NoComplement,
 }
 
 /// What a word gives, by its kind.
@@ -33,6 +35,7 @@ pub(crate) enum Value {
     Name(RawWord),
     Number(u64),
     Integer(i32),
+    NoComplement,
 }
 
 /// Whether the first byte is `-`.
@@ -149,5 +152,12 @@ pub(crate) fn value_of(alloc: Global, kind: Kind, word: &[u8]) -> Result<Option<
             Some(number) => Ok(Some(Value::Integer(number))),
             None => Ok(None),
         },
+        Kind::NoComplement => {
+            if word == b"nocomp".as_slice() {
+                Ok(Some(Value::NoComplement))
+            } else {
+                Ok(None)
+            }
+        }
     }
 }

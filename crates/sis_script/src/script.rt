@@ -1,9 +1,11 @@
 //! The commands of a script.
 
-ghost use Rattle.std.specs.Prelude.{◌≡◌, map, option_map, IfOk};
+ghost use Rattle.std.specs.Prelude.{◌≡◌, min, unwrap_or, map, option_map, IfOk};
 ghost use Rattle.sis_text.specs.Words.{bytes_at};
 ghost use Rattle.sis_text.specs.Entries.{entry_at, script_entries_of};
 ghost use Rattle.sis_script.specs.Script.{
+  bound_behind,
+  change_of,
   command_of,
   eliminate_op,
   file_in,
@@ -22,6 +24,7 @@ ghost use Rattle.sis_script.specs.Script.{
   print_factor_op,
   print_kernel_op,
   print_op,
+  tech_decomp_op,
   verb_of,
   write_op,
 };
@@ -63,6 +66,9 @@ enum Verb {
     Sweep,
     Eliminate,
     Collapse,
+    Simplify,
+    Decomp,
+    TechDecomp,
     Undo,
 }
 
@@ -230,6 +236,48 @@ fn eliminate_op(given: Result<Given, ScriptFault>) -> Op
     }
 }
 
+/// The number behind the option of a letter, 1,000 at most; 2 where none was given.
+fn bound_behind(letter: u8, options: &[OptionGiven]) -> u16
+    ensures { result ≡ min (unwrap_or (number_behind letter options.now) 2) 1000 }
+{
+    number_behind(letter, options).unwrap_or(2).min(1_000) as u16
+}
+
+/// `tech_decomp`, by its bounds on products and on sums.
+fn tech_decomp_op(given: Result<Given, ScriptFault>) -> Op
+    ensures { result ≡ tech_decomp_op given }
+{
+    let given = match given {
+        Ok(given) => given,
+        Err(fault) => return Op::Bad(fault),
+    };
+    let products = bound_behind(b'a', given.options.as_slice());
+    let sums = bound_behind(b'o', given.options.as_slice());
+    Op::Change(Change::TechDecomp(products, sums))
+}
+
+/// The command of a name that changes the network.
+#[tactic(auto, unfolding(crate::specs::Script::change_of))]
+fn change_of(name: &[u8]) -> Option<Verb>
+    ensures { result ≡ change_of name.now }
+{
+    if name == b"sweep".as_slice() {
+        Some(Verb::Sweep)
+    } else if name == b"eliminate".as_slice() {
+        Some(Verb::Eliminate)
+    } else if name == b"collapse".as_slice() {
+        Some(Verb::Collapse)
+    } else if name == b"simplify".as_slice() {
+        Some(Verb::Simplify)
+    } else if name == b"decomp".as_slice() {
+        Some(Verb::Decomp)
+    } else if name == b"tech_decomp".as_slice() {
+        Some(Verb::TechDecomp)
+    } else {
+        None
+    }
+}
+
 /// The command of a name; `echo` is none, since it takes any words.
 #[tactic(auto, unfolding(crate::specs::Script::verb_of))]
 fn verb_of(name: &[u8]) -> Option<Verb>
@@ -257,18 +305,22 @@ fn verb_of(name: &[u8]) -> Option<Verb>
         Some(Verb::PrintFactor)
     } else if name == b"print_kernel".as_slice() {
         Some(Verb::PrintKernel)
-    } else if name == b"sweep".as_slice() {
-        Some(Verb::Sweep)
-    } else if name == b"eliminate".as_slice() {
-        Some(Verb::Eliminate)
-    } else if name == b"collapse".as_slice() {
-        Some(Verb::Collapse)
     } else if name == b"undo".as_slice() {
         Some(Verb::Undo)
     } else if name == b"source".as_slice() {
         Some(Verb::OfFile(FileVerb::Source))
     } else {
-        None
+        change_of(name)
+    }
+}
+
+/// An option with a value of this kind.
+fn valued(letter: u8, kind: Kind) -> OptionForm
+    ensures { result ≡ record { letter = letter; kind = Some kind } }
+{
+    OptionForm {
+        letter,
+        kind: Some(kind),
     }
 }
 
@@ -292,10 +344,7 @@ fn parse_words(
         Verb::PrintKernel => parse(alloc, &[], &[Slot::Needed(Kind::Name)], source, words),
         Verb::Sweep => parse(alloc, &[], &[], source, words),
         Verb::Eliminate => {
-            let rows = OptionForm {
-                letter: b'l',
-                kind: Some(Kind::Number(1, 32_767)),
-            };
+            let rows = valued(b'l', Kind::Number(1, 32_767));
             parse(
                 alloc,
                 &[rows],
@@ -305,6 +354,16 @@ fn parse_words(
             )
         }
         Verb::Collapse => parse(alloc, &[], &[], source, words),
+        Verb::Simplify => {
+            let method = valued(b'm', Kind::NoComplement);
+            parse(alloc, &[method], &[], source, words)
+        }
+        Verb::Decomp => parse(alloc, &[], &[], source, words),
+        Verb::TechDecomp => {
+            let products = valued(b'a', Kind::Number(2, 1_000));
+            let sums = valued(b'o', Kind::Number(2, 1_000));
+            parse(alloc, &[products, sums], &[], source, words)
+        }
         Verb::Undo => parse(alloc, &[], &[], source, words),
     }
 }
@@ -325,6 +384,9 @@ fn op_given(verb: Verb, given: Result<Given, ScriptFault>) -> Op
         Verb::Sweep => plain_op(Op::Change(Change::Sweep), given),
         Verb::Eliminate => eliminate_op(given),
         Verb::Collapse => plain_op(Op::Change(Change::Collapse), given),
+        Verb::Simplify => plain_op(Op::Change(Change::Simplify), given),
+        Verb::Decomp => plain_op(Op::Change(Change::Decomp), given),
+        Verb::TechDecomp => tech_decomp_op(given),
         Verb::Undo => plain_op(Op::Undo, given),
     }
 }

@@ -33,11 +33,17 @@ use Rattle.genlib_format.specs.Reader.{library_of}
 use Rattle.genlib_format.specs.declared.fault.LibFault.{LibFault}
 use Rattle.sweep_rules.proofs.Chaining.{chain_kept}
 use Rattle.elim_rules.specs.Collapsing.{collapsed}
+use Rattle.minimum_rules.specs.Simplified.{simplified}
+use Rattle.decomp_rules.specs.Decomposed.{IsDecomposed}
+use Rattle.decomp_rules.specs.declared.rule.Rule.{Rule}
+use Rattle.decomp_rules.specs.declared.rule.Rule.TheVariants.{Shared, Gates}
+use Rattle.decomp_rules.proofs.Stepping.{reached_extended, decomposed_refines}
 use Rattle.elim_rules.proofs.Stepping.{chain_keeps, chain_refines}
+use Rattle.minimum_rules.proofs.Simplifying.{simplified_reduced, simplified_refines}
 use Rattle.elim_rules.proofs.Gathered.{collapse_reduced, collapse_refines}
 use Rattle.std.proofs.lemmas.Option.{same_Some}
 use Rattle.sis_script.specs.declared.command.Change.{Change}
-use Rattle.sis_script.specs.declared.command.Change.TheVariants.{Sweep, Eliminate, Collapse}
+use Rattle.sis_script.specs.declared.command.Change.TheVariants.{Sweep, Eliminate, Collapse, Simplify, Decomp, TechDecomp}
 use Rattle.sis_script.specs.declared.command.Op.{Op}
 use Rattle.sis_script.specs.declared.command.Op.TheVariants.{Echo, Quit, ReadBlif, ReadKiss, ReadLibrary, WriteBlif, WriteKiss, PrintStats, Print, PrintLatch, PrintFactor, PrintKernel, Change as ChangeOp, Undo, Source, Bad}
 use Rattle.sis_session.specs.Commands.{Changes, ChangePlans, Plans, Prints, changed_by, spec_read, commands_in, last_read, latches_told, library_read, machine_read, machine_told, read_as, sends, stats_told, stays, tables_told, text_told, told_of, undo_plan}
@@ -187,6 +193,13 @@ library_leaves held name read (Err fault) refined = tt
 refines_on : (read : Spec) (old new : Circuit) → RefinesRead read old → Refines old new → RefinesRead read new
 refines_on read old new before after = behaves-through (of_spec read) (of_circuit old) (of_circuit new) before after
 
+-- what a decomposition makes of a sound circuit is sound and refines it
+decomposed_leads : (spec : Option Spec) (rule : Rule) (old new : Circuit) → IsDecomposed rule old new → RefinesSpec spec (Some old) → RefinesSpec spec (Some new)
+decomposed_leads spec rule old new made before circuit same =
+    let (read, is, sound, refines) = before old refl in
+    let equal : new ≡ circuit = cc in
+    (read, is, subst IsSound equal (reached_extended rule old new sound made.reached).change.sound, subst (RefinesRead read) equal (refines_on read old new refines (decomposed_refines rule old new sound made)))
+
 -- a change leads on: what it makes of a sound circuit is sound and refines it
 changed_refines : (spec : Option Spec) (change : Change) (old new : Circuit) → Changes change old (Ok new) → RefinesSpec spec (Some old) → RefinesSpec spec (Some new)
 changed_refines spec Sweep old new chain before circuit same =
@@ -202,6 +215,12 @@ changed_refines spec Collapse old new (none, made) before circuit same =
     let (read, is, sound, refines) = before old refl in
     let equal : collapsed old ≡ circuit = sym made ∙ same_Some new circuit same in
     (read, is, subst IsSound equal (collapse_reduced old sound).change.sound, subst (RefinesRead read) equal (refines_on read old (collapsed old) refines (collapse_refines old sound)))
+changed_refines spec Simplify old new (none, made) before circuit same =
+    let (read, is, sound, refines) = before old refl in
+    let equal : simplified old ≡ circuit = sym made ∙ same_Some new circuit same in
+    (read, is, subst IsSound equal (simplified_reduced old sound).change.sound, subst (RefinesRead read) equal (refines_on read old (simplified old) refines (simplified_refines old sound)))
+changed_refines spec Decomp old new made before circuit same = decomposed_leads spec Shared old new made before circuit same
+changed_refines spec (TechDecomp products sums) old new made before circuit same = decomposed_leads spec (Gates products sums) old new made before circuit same
 
 change_leads : (spec : Option Spec) (held : Held) (change : Change) (network : Option Circuit) (plan : Plan) → held.network ≡ network → IsRefined spec held
     → ChangePlans held change network plan → Leads (λ h. IsRefined spec h) plan

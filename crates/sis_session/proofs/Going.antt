@@ -94,6 +94,7 @@ unloaded_did goes name used old new (fault.Refused refusal.NothingToUndo) h = ab
 unloaded_did goes name used old new (fault.Refused (refusal.NoSignal signal)) h = absurd h
 unloaded_did goes name used old new (fault.Refused (refusal.CubeLimit table)) h = absurd h
 unloaded_did goes name used old new (fault.Refused (refusal.TooWide table count)) h = absurd h
+unloaded_did goes name used old new (fault.Refused refusal.NodeLimit) h = absurd h
 unloaded_did goes name used old new (fault.Refused (refusal.KernelLimit table)) h = absurd h
 unloaded_did goes name used old new (fault.Refused (refusal.Blif file why)) h = absurd h
 unloaded_did goes name used old new (fault.Refused (refusal.Kiss file why)) h = absurd h

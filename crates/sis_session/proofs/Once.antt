@@ -20,11 +20,15 @@ use Rattle.table_algebra.specs.declared.taking.TakeFault.{TakeFault as TableFaul
 use Rattle.table_algebra.specs.declared.taking.TakeFault.TheVariants.{CubeLimit, TooWide, Memory}
 use Rattle.elim_rules.specs.Eliminating.{eliminate_step}
 use Rattle.elim_rules.specs.Collapsing.{collapse_refusal}
+use Rattle.minimum_rules.specs.Simplified.{simplify_refusal}
+use Rattle.decomp_rules.specs.declared.rule.Rule.{Rule}
+use Rattle.decomp_rules.specs.declared.rule.Rule.TheVariants.{Shared, Gates}
+use Rattle.decomp_rules.proofs.Ends.{decomposed_one, decomposed_not_full}
 use Rattle.sis_script.specs.declared.command.Change.{Change}
-use Rattle.sis_script.specs.declared.command.Change.TheVariants.{Sweep, Eliminate, Collapse}
+use Rattle.sis_script.specs.declared.command.Change.TheVariants.{Sweep, Eliminate, Collapse, Simplify, Decomp, TechDecomp}
 use Rattle.sis_script.specs.declared.command.Op.{Op}
 use Rattle.sis_script.specs.declared.command.Op.TheVariants.{Echo, Quit, ReadBlif, ReadKiss, ReadLibrary, WriteBlif, WriteKiss, PrintStats, Print, PrintLatch, PrintFactor, PrintKernel, Change as ChangeOp, Undo, Source, Bad}
-use Rattle.sis_session.specs.Commands.{ChangePlans, IsCollapseRefusal, FactorsTold, FactorTold, KernelsOf, KernelsTold, KernelTold, Plans, Prints, ToldBy, changed_by, sends}
+use Rattle.sis_session.specs.Commands.{ChangePlans, IsCollapseRefusal, IsSimplifyRefusal, Decomposes, FactorsTold, FactorTold, KernelsOf, KernelsTold, KernelTold, Plans, Prints, ToldBy, changed_by, sends}
 use Rattle.sis_session.specs.Keeping.{ChangesOnce}
 use Rattle.sis_session.specs.Plan.{Asked, Nothing, OnStore, OnOut, OnInput, Comes, ComesLoaded, ComesSaved, ComesPut, ComesTaken, ComesPiece, Cut, Done, Ending, Goes, Loads, Outcome, Does, Refuses, Plan, Quiet, Puts, Refused, Saves, Takes, Steps, by_plan, no_memory}
 use Rattle.sis_session.specs.State.{Held}
@@ -136,11 +140,35 @@ collapses_once old (Ok one) (Err why) h k = absurd (refused_or_not (collapse_ref
 collapses_once old (Err why) (Ok other) h k = absurd (refused_or_not (collapse_refusal old) why k.0 h)
 collapses_once old (Err why) (Err other) h k = ap (λ (r : Refusal). Err r) (refusals_once (collapse_refusal old) why other h k)
 
+long_lists_once : (found : Option (List ℕ)) (why other : Refusal) → IsSimplifyRefusal found why → IsSimplifyRefusal found other → why ≡ other
+long_lists_once (Some name) why other h k = h ∙ sym k
+long_lists_once None why other h k = absurd h
+
+long_list_or_not : (found : Option (List ℕ)) (why : Refusal) → found ≡ None → IsSimplifyRefusal found why → ⊥
+long_list_or_not found why none refused = subst (λ f. IsSimplifyRefusal f why) none refused
+
+-- and a simplification
+simplifies_once : ChangesOnce Simplify
+simplifies_once old (Ok one) (Ok other) h k = ap (λ (c : Circuit). Ok c) (h.1 ∙ sym k.1)
+simplifies_once old (Ok one) (Err why) h k = absurd (long_list_or_not (simplify_refusal old) why h.0 k)
+simplifies_once old (Err why) (Ok other) h k = absurd (long_list_or_not (simplify_refusal old) why k.0 h)
+simplifies_once old (Err why) (Err other) h k = ap (λ (r : Refusal). Err r) (long_lists_once (simplify_refusal old) why other h k)
+
+-- a decomposition makes one thing of each network by each rule
+decomposes_once : (rule : Rule) (old : Circuit) (one other : Result Circuit Refusal) → Decomposes rule old one → Decomposes rule old other → one ≡ other
+decomposes_once rule old (Ok one) (Ok other) h k = ap (λ (c : Circuit). Ok c) (decomposed_one rule old one other h k)
+decomposes_once rule old (Ok one) (Err why) h k = absurd (decomposed_not_full rule old one h k.0)
+decomposes_once rule old (Err why) (Ok other) h k = absurd (decomposed_not_full rule old other k h.0)
+decomposes_once rule old (Err why) (Err other) h k = ap (λ (r : Refusal). Err r) (h.1 ∙ sym k.1)
+
 -- each change makes one thing of each network
 pub changes_once : (change : Change) → ChangesOnce change
 changes_once Sweep = sweeps_once
 changes_once (Eliminate threshold rows) = eliminations_once threshold rows
 changes_once Collapse = collapses_once
+changes_once Simplify = simplifies_once
+changes_once Decomp = decomposes_once Shared
+changes_once (TechDecomp products sums) = decomposes_once (Gates products sums)
 
 -- a change has one plan
 change_once : (held : Held) (change : Change) (network : Option Circuit) (plan plan' : Plan)

@@ -11,16 +11,19 @@ use Rattle.circuit_model.specs.declared.circuit.Table.{Table}
 use Rattle.algebra_texts.specs.Told.{HasManyKernels}
 use Rattle.table_algebra.specs.declared.taking.TakeFault.{TakeFault}
 use Rattle.elim_rules.specs.Collapsing.{collapse_refusal}
+use Rattle.minimum_rules.specs.Simplified.{simplify_refusal}
+use Rattle.decomp_rules.specs.Decomposed.{IsFull}
+use Rattle.decomp_rules.specs.declared.rule.Rule.TheVariants.{Shared, Gates}
 use Rattle.machine_model.specs.Text.{text_of as machine_text_of}
 use Rattle.machine_model.specs.declared.machine.Machine.{Machine}
 use Rattle.blif_read.specs.Reader.{read_lines}
 use Rattle.kiss_format.specs.Reader.{read_lines as machine_lines_read}
 use Rattle.genlib_format.specs.Reader.{library_of}
 use Rattle.sis_script.specs.declared.command.Change.{Change}
-use Rattle.sis_script.specs.declared.command.Change.TheVariants.{Sweep, Eliminate, Collapse}
+use Rattle.sis_script.specs.declared.command.Change.TheVariants.{Sweep, Eliminate, Collapse, Simplify, Decomp, TechDecomp}
 use Rattle.sis_script.specs.declared.command.Op.{Op}
 use Rattle.sis_script.specs.declared.command.Op.TheVariants.{Echo, Quit, ReadBlif, ReadKiss, ReadLibrary, WriteBlif, WriteKiss, PrintStats, Print, PrintLatch, PrintFactor, PrintKernel, Change as ChangeOp, Undo, Source, Bad}
-use Rattle.sis_session.specs.Commands.{ChangePlans, IsCollapseRefusal, FactorsTold, FactorTold, KernelsOf, KernelsTold, KernelTold, Plans, Prints, ToldBy, commands_in, spec_read, latches_told, library_read, machine_read, machine_told, named_told, read_as, sends, source_plan, stats_told, stays, tables_told, text_told, told_of, undo_plan}
+use Rattle.sis_session.specs.Commands.{ChangePlans, IsCollapseRefusal, IsSimplifyRefusal, Decomposes, FactorsTold, FactorTold, KernelsOf, KernelsTold, KernelTold, Plans, Prints, ToldBy, commands_in, spec_read, latches_told, library_read, machine_read, machine_told, named_told, read_as, sends, source_plan, stats_told, stays, tables_told, text_told, told_of, undo_plan}
 use Rattle.sis_session.specs.Keeping.{Allows, HasBytes, HasKernels, HasMachine, HasNeeds, HasNetwork, HasTable, IsAnswered, IsServed}
 use Rattle.sis_session.specs.Plan.{MAX_DEPTH, Asked, Nothing, OnStore, OnOut, OnInput, Comes, ComesPut, Cut, Done, Ending, Goes, Loads, Outcome, Does, Refuses, Plan, Quiet, Puts, Saves, Steps, by_plan, no_memory}
 use Rattle.sis_session.specs.State.{Held, Library, with_spec, with_machine, with_library, with_changed, with_exchanged}
@@ -157,6 +160,17 @@ change_works held Collapse (Some circuit) plan old there allows (Ok new, changes
 change_works held Collapse (Some circuit) plan old there allows (Err why, changes, is) =
     let same : old ≡ circuit = cc in
     absurd (subst (λ (found : Option (List ℕ × TakeFault)). IsCollapseRefusal found why) (subst (λ (c : Circuit). collapse_refusal c ≡ None) same allows) changes)
+change_works held Simplify (Some circuit) plan old there allows (Ok new, changes, is) = subst (Works held (ChangeOp Simplify)) (sym is) (quiet_works (ChangeOp Simplify) held (with_changed held new) Go)
+change_works held Simplify (Some circuit) plan old there allows (Err why, changes, is) =
+    let same : old ≡ circuit = cc in
+    absurd (subst (λ (found : Option (List ℕ)). IsSimplifyRefusal found why) (subst (λ (c : Circuit). simplify_refusal c ≡ None) same allows) changes)
+change_works held Decomp (Some circuit) plan old there allows (Ok new, changes, is) = subst (Works held (ChangeOp Decomp)) (sym is) (quiet_works (ChangeOp Decomp) held (with_changed held new) Go)
+change_works held Decomp (Some circuit) plan old there allows (Err why, changes, is) =
+    let same : old ≡ circuit = cc in absurd (subst (λ (c : Circuit). IsFull Shared c → ⊥) same allows changes.0)
+change_works held (TechDecomp products sums) (Some circuit) plan old there allows (Ok new, changes, is) =
+    subst (Works held (ChangeOp (TechDecomp products sums))) (sym is) (quiet_works (ChangeOp (TechDecomp products sums)) held (with_changed held new) Go)
+change_works held (TechDecomp products sums) (Some circuit) plan old there allows (Err why, changes, is) =
+    let same : old ≡ circuit = cc in absurd (subst (λ (c : Circuit). IsFull (Gates products sums) c → ⊥) same allows changes.0)
 
 plan_works : (depth : ℕ) (held : Held) (op : Op) (plan : Plan) → HasNeeds depth held op → Plans depth held op plan → Works held op plan
 plan_works depth held (Echo words) plan needs is = subst (Works held (Echo words)) (sym is) (sends_works (Echo words) held None _)

@@ -21,11 +21,15 @@ use Rattle.sweep_rules.specs.Rules.{sweep_step}
 use Rattle.table_algebra.specs.declared.taking.TakeFault.{TakeFault}
 use Rattle.table_algebra.specs.declared.taking.TakeFault.TheVariants.{CubeLimit, TooWide}
 use Rattle.elim_rules.specs.Eliminating.{eliminate_step}
+use Rattle.minimum_rules.specs.Simplified.{simplified, simplify_refusal}
+use Rattle.decomp_rules.specs.Decomposed.{IsDecomposed, IsFull}
+use Rattle.decomp_rules.specs.declared.rule.Rule.{Rule}
+use Rattle.decomp_rules.specs.declared.rule.Rule.TheVariants.{Shared, Gates}
 use Rattle.elim_rules.specs.Collapsing.{collapsed, collapse_refusal}
 use Rattle.sis_script.specs.Script.{command_of}
 use Rattle.sis_script.specs.declared.command.Command.{Command}
 use Rattle.sis_script.specs.declared.command.Change.{Change}
-use Rattle.sis_script.specs.declared.command.Change.TheVariants.{Sweep, Eliminate, Collapse}
+use Rattle.sis_script.specs.declared.command.Change.TheVariants.{Sweep, Eliminate, Collapse, Simplify, Decomp, TechDecomp}
 use Rattle.sis_script.specs.declared.command.Op.{Op}
 use Rattle.sis_script.specs.declared.command.Op.TheVariants.{Echo, Quit, ReadBlif, ReadKiss, ReadLibrary, WriteBlif, WriteKiss, PrintStats, Print, PrintLatch, PrintFactor, PrintKernel, Change as ChangeOp, Undo, Source, Bad}
 use Rattle.sis_session.specs.Plan.{MAX_DEPTH, Outcome, Does, Refuses, Plan, Quiet, Loads, Saves, replies}
@@ -135,8 +139,20 @@ IsCollapseRefusal (Some (name, CubeLimit)) why = why ≡ refusal.CubeLimit name
 IsCollapseRefusal (Some (name, TooWide count)) why = why ≡ refusal.TooWide name count
 IsCollapseRefusal other why = ⊥
 
+-- why a network is not simplified: a table whose list of rows is too long
+abbrev pub IsSimplifyRefusal : Option (List ℕ) → Refusal → Type 0
+IsSimplifyRefusal (Some name) why = why ≡ refusal.CubeLimit name
+IsSimplifyRefusal None why = ⊥
+
+-- a network is decomposed by a rule, or there is no room for a table that is due
+abbrev pub Decomposes : Rule → Circuit → Result Circuit Refusal → Type 0
+Decomposes rule old (Ok new) = IsDecomposed rule old new
+Decomposes rule old (Err why) = IsFull rule old × (why ≡ refusal.NodeLimit)
+
 -- What a command that changes the network makes of it: a new network, or a refusal. `sweep`, `eliminate`: steps are taken until none
--- applies. `collapse`: all tables are taken into their readers, or the first that cannot take one in is told.
+-- applies. `collapse`: all tables are taken into their readers, or the first that cannot take one in is told. `simplify`: each table
+-- becomes minimal in its turn, or the first whose list is too long is told. `decomp`, `tech_decomp`: tables are parted until all are
+-- done, or there is no room.
 abbrev pub Changes : Change → Circuit → Result Circuit Refusal → Type 0
 Changes Sweep old (Ok new) = Chain sweep_step old new
 Changes Sweep old (Err why) = ⊥
@@ -144,6 +160,10 @@ Changes (Eliminate threshold rows) old (Ok new) = Chain (eliminate_step threshol
 Changes (Eliminate threshold rows) old (Err why) = ⊥
 Changes Collapse old (Ok new) = (collapse_refusal old ≡ None) × (new ≡ collapsed old)
 Changes Collapse old (Err why) = IsCollapseRefusal (collapse_refusal old) why
+Changes Simplify old (Ok new) = (simplify_refusal old ≡ None) × (new ≡ simplified old)
+Changes Simplify old (Err why) = IsSimplifyRefusal (simplify_refusal old) why
+Changes Decomp old what = Decomposes Shared old what
+Changes (TechDecomp products sums) old what = Decomposes (Gates products sums) old what
 
 -- what comes of a change: the new network is held, and the old one is the previous one; or the refusal
 abbrev pub changed_by : Held → Result Circuit Refusal → Outcome

@@ -24,8 +24,11 @@ use Rattle.genlib_format.specs.Reader.{library_of}
 use Rattle.sis_script.specs.declared.command.Op.{Op}
 use Rattle.sis_script.specs.declared.command.Op.TheVariants.{Echo, Quit, ReadBlif, ReadKiss, ReadLibrary, WriteBlif, WriteKiss, PrintStats, Print, PrintLatch, PrintFactor, PrintKernel, Change as ChangeOp, Undo, Source, Bad}
 use Rattle.sis_script.specs.declared.command.Change.{Change}
-use Rattle.sis_script.specs.declared.command.Change.TheVariants.{Sweep, Eliminate, Collapse}
+use Rattle.sis_script.specs.declared.command.Change.TheVariants.{Sweep, Eliminate, Collapse, Simplify, Decomp, TechDecomp}
 use Rattle.elim_rules.specs.Collapsing.{collapse_refusal}
+use Rattle.minimum_rules.specs.Simplified.{simplify_refusal}
+use Rattle.decomp_rules.specs.Decomposed.{IsFull}
+use Rattle.decomp_rules.specs.declared.rule.Rule.TheVariants.{Shared, Gates}
 use Rattle.sis_session.specs.Commands.{Changes}
 use Rattle.sis_session.specs.Plan.{MAX_DEPTH, Asked, Nothing, OnStore, OnOut, OnInput}
 use Rattle.sis_session.specs.State.{Held, Library, Written, CircuitWritten, MachineWritten, NetlistWritten}
@@ -104,6 +107,9 @@ abbrev pub Allows : Change → Circuit → Type 0
 Allows Sweep circuit = Unit {0}
 Allows (Eliminate threshold rows) circuit = Unit {0}
 Allows Collapse circuit = collapse_refusal circuit ≡ None
+Allows Simplify circuit = simplify_refusal circuit ≡ None
+Allows Decomp circuit = IsFull Shared circuit → ⊥
+Allows (TechDecomp products sums) circuit = IsFull (Gates products sums) circuit → ⊥
 
 -- what a command needs of what is held: its words fit, its scripts are not nested too deep; the network, the previous one or the
 -- machine and the table that it names are there, with no more kernels than are listed; and nothing refuses the change

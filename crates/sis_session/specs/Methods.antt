@@ -72,12 +72,16 @@ HasRead bytes old (Ok done) new = (read : Spec) × (read_lines old.library (entr
 HasRead bytes old (Err (reading.Fault why)) new = (read_lines old.library (entries_of bytes) ≡ Err why) × (new ≡ old)
 HasRead bytes old (Err reading.Memory) new = new ≡ old
 
--- what a change makes of a network: the new one, or the refusal; or memory was wanting
+-- a network, or a refusal, may be made; or memory was wanting
+abbrev pub IsMadeBy : (Result Circuit Refusal → Type 0) → Result Circuit StepFault → Type 0
+IsMadeBy makes (Ok new) = makes (Ok new)
+IsMadeBy makes (Err (fault.Refused why)) = makes (Err why)
+IsMadeBy makes (Err fault.Memory) = Unit {0}
+IsMadeBy makes (Err other) = ⊥
+
+-- what a change makes of a network
 abbrev pub IsChanged : Change → Circuit → Result Circuit StepFault → Type 0
-IsChanged change old (Ok new) = Changes change old (Ok new)
-IsChanged change old (Err (fault.Refused why)) = Changes change old (Err why)
-IsChanged change old (Err fault.Memory) = Unit {0}
-IsChanged change old (Err other) = ⊥
+IsChanged change old = IsMadeBy (Changes change old)
 
 -- what an undo leaves: whether there was a previous network, and then the exchange
 abbrev pub Undoes : Option Circuit → Held → Bool → Held → Type 0

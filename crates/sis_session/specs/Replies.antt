@@ -8,7 +8,7 @@ use Rattle.fault_texts.specs.Texts.{blif_text, kiss_text, library_text}
 use Rattle.sis_script.specs.declared.command.ScriptFault.{ScriptFault}
 use Rattle.sis_script.specs.declared.command.ScriptFault.TheVariants.{BadCommand, BadOption, MissingWord}
 use Rattle.sis_session.specs.declared.refusal.Refusal.{Refusal}
-use Rattle.sis_session.specs.declared.refusal.Refusal.TheVariants.{Script, Nested, NoNetwork, NoMachine, NothingToUndo, NoSignal, CubeLimit, TooWide, KernelLimit, Missing, TooLong, Blif, Kiss, Lib, LongScript}
+use Rattle.sis_session.specs.declared.refusal.Refusal.TheVariants.{Script, Nested, NoNetwork, NoMachine, NothingToUndo, NoSignal, CubeLimit, TooWide, NodeLimit, KernelLimit, Missing, TooLong, Blif, Kiss, Lib, LongScript}
 use Rattle.sis_session.specs.declared.texts.Stats.{Stats}
 
 -- words as a line, with one blank between
@@ -58,6 +58,7 @@ refusal_text NothingToUndo = codes "nothing to undo"
 refusal_text (NoSignal name) = codes "no table " ++ name
 refusal_text (CubeLimit name) = codes "too many rows at " ++ name
 refusal_text (TooWide name count) = decimal count ++ (codes " inputs at " ++ name)
+refusal_text NodeLimit = codes "too many nodes"
 refusal_text (KernelLimit name) = codes "too many kernels at " ++ name
 refusal_text (Missing file) = codes "no file " ++ file
 refusal_text (TooLong file) = codes "file " ++ (file ++ codes " is longer than 67108864 bytes")

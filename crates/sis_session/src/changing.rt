@@ -5,15 +5,19 @@ ghost use Rattle.std.specs.Prelude.{◌≡◌, IfOk};
 ghost use Rattle.circuit_laws.specs.Chains.{Chain};
 ghost use Rattle.elim_rules.specs.Eliminating.{eliminate_step};
 ghost use Rattle.net_core.specs.Reads.{HasBounds};
-ghost use Rattle.sis_script.specs.declared.command.Change.TheVariants.{Collapse};
-ghost use Rattle.sis_session.specs.Methods.{IsChanged};
+ghost use Rattle.sis_script.specs.declared.command.Change.TheVariants.{Collapse, Simplify};
+ghost use Rattle.sis_session.specs.Commands.{Decomposes};
+ghost use Rattle.sis_session.specs.Methods.{IsChanged, IsMadeBy};
 
 use crate::refusal::{Refusal, StepFault};
 use cube_cover::PlainRow;
+use decomp_rules::Rule;
 use net_collapse::{CollapseFault, collapse};
-use net_core::Network;
+use net_core::{AddFault, Network};
+use net_decomp::decompose;
 use net_elim::eliminated;
 use net_sweep::{SweepFault, swept_copy};
+use sdc_simplify::{SimplifyFault, simplify};
 use sis_script::Change;
 use std::alloc::{AllocError, Global};
 
@@ -54,6 +58,41 @@ fn collapsed_copy(
     }
 }
 
+/// A network after simplification, or the refusal of a table whose list of rows is too long.
+fn simplified_copy(
+    alloc: Global,
+    network: &Network<PlainRow>,
+) -> Result<Network<PlainRow>, StepFault>
+    requires { HasBounds network.now }
+    ensures changes { IsChanged Simplify network.now result }
+    ensures bounds { IfOk result HasBounds }
+{
+    let copy = network.copy(alloc)?;
+    match simplify(alloc, copy) {
+        Ok(new) => Ok(new),
+        Err(SimplifyFault::CubeLimit(name)) => Err(StepFault::Refused(Refusal::CubeLimit(name))),
+        Err(SimplifyFault::Memory) => Err(StepFault::Memory),
+    }
+}
+
+/// A network after decomposition by a rule, or the refusal where there is no room.
+fn decomposed_copy(
+    alloc: Global,
+    network: &Network<PlainRow>,
+    rule: Rule,
+) -> Result<Network<PlainRow>, StepFault>
+    requires { HasBounds network.now }
+    ensures decomposed { IsMadeBy (Decomposes rule network.now) result }
+    ensures bounds { IfOk result HasBounds }
+{
+    let copy = network.copy(alloc)?;
+    match decompose(alloc, copy, rule) {
+        Ok(new) => Ok(new),
+        Err(AddFault::NodeLimit) => Err(StepFault::Refused(Refusal::NodeLimit)),
+        Err(AddFault::Memory) => Err(StepFault::Memory),
+    }
+}
+
 /// What a change makes of a network: a new one beside it.
 #[tactic(auto, using(crate::proofs::Bounds::bounds_swept))]
 pub fn changed(
@@ -77,5 +116,12 @@ pub fn changed(
             }
         }
         Change::Collapse => collapsed_copy(alloc, network),
+        Change::Simplify => simplified_copy(alloc, network),
+        Change::Decomp => decomposed_copy(alloc, network, Rule::Shared),
+        Change::TechDecomp(products, sums) => decomposed_copy(
+            alloc,
+            network,
+            Rule::Gates(products as usize, sums as usize),
+        ),
     }
 }

@@ -52,6 +52,8 @@ pub enum Refusal {
     CubeLimit(RawWord),
     /// The table of this name would have so many inputs, which are too many.
     TooWide(RawWord, usize),
+    /// There would be more tables and latches than may stand.
+    NodeLimit,
     /// The table of this name has more kernels than are listed.
     KernelLimit(RawWord),
     /// There is no file of this name.

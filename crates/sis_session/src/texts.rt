@@ -206,6 +206,7 @@ fn put_refusal(out: &mut Vec<u8>, alloc: Global, refusal: &Refusal) -> Result<()
             put_two(out, b"too many rows at ".as_slice(), name.as_slice())
         }
         Refusal::TooWide(name, count) => put_width(out, alloc, *count, name),
+        Refusal::NodeLimit => out.extend_from_slice(b"too many nodes".as_slice()),
         Refusal::KernelLimit(name) => {
             put_two(out, b"too many kernels at ".as_slice(), name.as_slice())
         }
