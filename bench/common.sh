@@ -19,11 +19,11 @@ print(f"  {name:4} {taken:.2f} s, processor {used.ru_utime + used.ru_stime:.2f} 
 PY
 }
 
-# Runs a script on $work/a.blif, once with each program; each writes a file of its own.
+# Runs a script on $work/a.blif, once with each program; each writes a file of its own. ABC is stopped after a minute (status 124).
 compare() { # the commands between reading and writing; ABC's, where they are other ones
   (cd "$work" && measure sis "$top/out/sis" -c "read_blif a.blif; $1; write_blif b.blif")
   if command -v berkeley-abc >/dev/null; then
-    (cd "$work" && measure abc berkeley-abc -c "read_blif a.blif; ${2:-$1}; write_blif c.blif")
+    (cd "$work" && measure abc timeout 60 berkeley-abc -c "read_blif a.blif; ${2:-$1}; write_blif c.blif")
   else
     echo "  abc  not installed (Debian's berkeley-abc): left out"
   fi
