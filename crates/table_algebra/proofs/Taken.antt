@@ -38,7 +38,7 @@ pub taken_once : (inner outer : Table) → all_different outer.inputs ≡ true �
 taken_once inner outer once =
     taken_either (λ (made : Table). all_different made.inputs ≡ true) inner outer (λ place lt at. tidied_once (composed_at place inner outer)) (λ unread. once)
 
-characters_wide : (width : ℕ) (rows : List (List (Option Bool))) → HasWidth width rows → HasCharacters width (map characters_of rows)
+pub characters_wide : (width : ℕ) (rows : List (List (Option Bool))) → HasWidth width rows → HasCharacters width (map characters_of rows)
 unfolding HasWidth
 characters_wide width [] h = tt
 characters_wide width (row ∷ rows) h = (length-map row character_of ∙ h.0, characters_wide width rows h.1)
