@@ -1,0 +1,4 @@
+pub mod Listed
+pub mod Parts
+pub mod Pairs
+pub mod Faults

@@ -1,0 +1,31 @@
+-- What each two items of a list make, the earlier one first, and what two cubes and two literals make. No public clause needs these
+-- definitions: they say by what way the candidates are listed.
+-- Source: Rajski and Vasudevamurthy (IEEE Transactions on CAD 11, 1992).
+use Rattle.std.specs.Prelude.{if◌then◌else◌, Option, Some, None, List, [], ◌∷◌, ◌++◌, length}
+use Rattle.std.specs.List.{filter_map}
+use Rattle.std.proofs.Common.{ltb}
+use Rattle.extract_rules.specs.Candidates.{own, shared}
+use Rattle.name_covers.specs.Literals.{Cube, NamedCover, cube_cmp, sorted}
+use Rattle.name_covers.specs.declared.literal.Literal.{Literal}
+
+abbrev pub made_by_pairs : {X Y : Type 0} → (X → X → Option Y) → List X → List Y
+made_by_pairs gives [] = []
+made_by_pairs gives (one ∷ others) = filter_map (gives one) others ++ made_by_pairs gives others
+
+-- the sum of two cubes, where both have a literal
+abbrev pub sum_from : Cube → Cube → Option NamedCover
+sum_from [] right = None
+sum_from (literal ∷ left) [] = None
+sum_from (literal ∷ left) (other ∷ right) = Some (sorted cube_cmp ((literal ∷ left) ∷ (other ∷ right) ∷ []))
+
+-- the sum of what each of two cubes has beside the other
+abbrev pub sum_of : Cube → Cube → Option NamedCover
+sum_of one other = sum_from (own one other) (own other one)
+
+-- the product of two literals
+abbrev pub product_of : Literal → Literal → Option NamedCover
+product_of one other = Some ((one ∷ other ∷ []) ∷ [])
+
+-- what two cubes share, where it is two literals or more
+abbrev pub shared_of : Cube → Cube → Option NamedCover
+shared_of one other = if ltb (length (shared one other)) 2 then None else Some (shared one other ∷ [])

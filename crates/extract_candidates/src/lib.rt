@@ -1,0 +1,19 @@
+//! The candidates of extraction, listed: sums of two cubes and products of two literals, kernels, and cubes that rows share.
+//!
+//! Source: Rajski and Vasudevamurthy (IEEE Transactions on CAD 11, 1992); Brayton and McMullen, "The Decomposition and Factorization of
+//! Boolean Expressions" (1982). What a candidate is, extract_rules says. Promised (`specs/Listed.antt`): all candidates and nothing else;
+//! `ManyKernels` just where a table has more kernels than are listed. `parts` has what two cubes or two literals make (`specs/Parts.antt`).
+//! Else an error is want of memory.
+#![tactic(auto)]
+
+mod cubes;
+mod fault;
+mod own;
+mod pairs;
+mod parts;
+mod shared;
+
+pub use cubes::cubes_of;
+pub use fault::ListFault;
+pub use own::own_candidates;
+pub use shared::shared_candidates;

@@ -1,0 +1,11 @@
+pub mod Ends
+pub mod Usable
+pub mod Keeping
+pub mod Sums
+pub mod Products
+pub mod TidyLiterals
+pub mod Gains
+pub mod Divisors
+pub mod Proper
+pub mod Totals
+pub mod Local
