@@ -6,7 +6,7 @@ ghost use Rattle.circuit_model.specs.Names.{has, all_different};
 ghost use Rattle.circuit_model.specs.Soundness.{outputs_of};
 ghost use Rattle.circuit_model.specs.declared.circuit.Table.{Table as TheWritten};
 ghost use Rattle.circuit_laws.specs.Edits.{with_tables};
-ghost use Rattle.net_core.specs.Fresh.{bracketed, used_names, node_count};
+ghost use Rattle.net_core.specs.Fresh.{bracketed, used_names, node_count, IsNewName};
 ghost use Rattle.net_core.specs.Tables.{named, IsOverInputs};
 ghost use Rattle.net_work.specs.Placed.{standing, circuit_of, table_at, with_slot, with_last, AddsLast};
 ghost use Rattle.net_work.specs.Slots.{AreTaken};
@@ -81,6 +81,14 @@ impl<R: Row> Work<R> {
         let name = bracketed_name(alloc, number)?;
         self.extend(alloc, &name, table, number)?;
         Ok(name)
+    }
+
+    /// The least name in brackets that a new table may take; an error only for want of memory.
+    pub fn new_name(&self, alloc: Global) -> Result<Name, AllocError>
+        ensures { IfOk result (λ name. IsNewName (circuit_of self.now) name) }
+    {
+        let free = self.free_number(alloc)?;
+        bracketed_name(alloc, free)
     }
 
     // A table of a new name stands behind the last.

@@ -1,0 +1,103 @@
+-- The best of all candidates is next, and where none saves a literal the circuit is done.
+use Rattle.std.proofs.Common.{◌≡◌, ℕ, ◌+◌, ◌-◌, ◌<◌, ◌≤◌, Option, None, List, ◌++◌, map, sym, ap, ◌∙◌, subst, inl, inr, arith}
+use Rattle.std.specs.List.{AllByRecursion}
+use Rattle.std.proofs.lemmas.Bool.{cases_lt}
+use Rattle.circuit_model.specs.Counts.{literals_of_table}
+use Rattle.circuit_model.specs.Soundness.{given, IsSound}
+use Rattle.circuit_model.specs.declared.circuit.Table.{Table}
+use Rattle.circuit_model.specs.declared.circuit.Circuit.{Circuit}
+use Rattle.extract_rules.specs.Candidates.{IsCandidate}
+use Rattle.extract_rules.specs.Extracting.{IsListable, IsOpen, IsNext, IsDone}
+use Rattle.extract_rules.specs.declared.rule.Rule.{Rule}
+use Rattle.extract_rules.proofs.Divisors.{cover_table_literals}
+use Rattle.extract_rules.proofs.Proper.{candidate_literal}
+use Rattle.extract_rules.proofs.Totals.{lost, lost_exact, best_from, done_from}
+use Rattle.extract_rules.proofs.Usable.{tables_read, candidate_usable}
+use Rattle.name_covers.specs.Literals.{NamedCover}
+use Rattle.net_core.specs.Fresh.{IsNewName}
+use Rattle.table_algebra.specs.Dividing.{cover_table}
+use Rattle.net_extract.specs.Saving.{literals_in, IsSaving}
+use Rattle.net_extract.specs.Choosing.{IsFirst, IsChosen}
+use Rattle.net_extract.specs.declared.choosing.Choice.{Choice}
+use Rattle.net_extract.specs.Listing.{all_of}
+use Rattle.net_extract.proofs.Listed.{AreCandidates}
+
+module _ (rule : Rule) (circuit : Circuit) (name : List ℕ) (sound : IsSound circuit) (new : IsNewName circuit name) where
+  -- a candidate has a literal
+  pub candidate_some : (cover : NamedCover) → IsCandidate rule circuit.tables cover → 1 ≤ literals_in cover
+  candidate_some cover is = (candidate_literal rule (given circuit) circuit.tables cover (tables_read circuit sound) is).some
+
+  own_literals : (cover : NamedCover) → IsCandidate rule circuit.tables cover → literals_of_table (cover_table name cover) ≡ literals_in cover
+  own_literals cover is = cover_table_literals name cover (candidate_usable rule (given circuit) circuit.tables cover (tables_read circuit sound) is).apart
+
+  -- an open candidate that loses more than it has saves the rest
+  open_saves : (cover : NamedCover) → IsOpen rule circuit name cover → literals_in cover < lost name cover circuit.tables
+      → IsSaving circuit.tables name cover (lost name cover circuit.tables - literals_in cover)
+  open_saves cover may more = record {
+    added = may.added;
+    changed = may.changed;
+    exact = let same : literals_of_table (cover_table name cover) ≡ literals_in cover = own_literals cover may.candidate in
+        left (literals_in cover) (lost name cover circuit.tables) (literals_of_table (cover_table name cover)) same more;
+    some = rest (literals_in cover) (lost name cover circuit.tables) more;
+  }
+    where
+      left : (own all number : ℕ) → number ≡ own → own < all → all - own + number ≡ all
+      left own all number same less = omega (arith, same, less)
+
+      rest : (own all : ℕ) → own < all → 1 ≤ all - own
+      rest own all less = omega (arith, less)
+
+  pub found_done : (covers : List NamedCover) → AreCandidates rule circuit.tables covers → AllByRecursion (IsListable rule) circuit.tables → IsChosen circuit.tables name covers None → IsDone rule circuit
+  found_done covers are listable none =
+      done_from rule circuit name (λ cover. lost name cover circuit.tables) listable new (lost_exact rule circuit name sound new)
+      (λ cover may. elim (cases_lt (literals_in cover) (lost name cover circuit.tables)) as (λ _. lost name cover circuit.tables ≤ literals_in cover) [
+        | inl more ↦ absurd (none cover (lost name cover circuit.tables - literals_in cover) (are.all cover may.candidate) (open_saves cover may more))
+        | inr less ↦ less
+      ])
+
+  pub found_next : (covers : List NamedCover) (choice : Choice) → AreCandidates rule circuit.tables covers → AllByRecursion (IsListable rule) circuit.tables → IsFirst circuit.tables name covers choice
+      → IsNext rule circuit name choice.cover
+  found_next covers choice are listable first = record {
+    listable = listable;
+    free = new;
+    best = best_from rule circuit name (λ cover. lost name cover circuit.tables) choice.cover (lost_exact rule circuit name sound new)
+        (record { candidate = is; added = first.saving.added; changed = first.saving.changed })
+        (let e : choice.saves + literals_in choice.cover ≡ lost name choice.cover circuit.tables = exact in more_than choice.saves (literals_in choice.cover) (lost name choice.cover circuit.tables) e first.saving.some)
+        (λ other may. elim (cases_lt (literals_in other) (lost name other circuit.tables)) as (λ _. lost name other circuit.tables + literals_in choice.cover ≤ lost name choice.cover circuit.tables + literals_in other) [
+          | inl more ↦ saved_less (lost name other circuit.tables) (literals_in other) choice.saves (literals_in choice.cover) (lost name choice.cover circuit.tables) exact more
+              (first.most other (lost name other circuit.tables - literals_in other) (are.all other may.candidate) (open_saves other may more))
+          | inr less ↦ unsaved_less (lost name other circuit.tables) (literals_in other) choice.saves (literals_in choice.cover) (lost name choice.cover circuit.tables) exact less
+        ])
+        (λ other may same below. elim (cases_lt (literals_in other) (lost name other circuit.tables)) as (λ _. ⊥) [
+          | inl more ↦ first.first other (lost name other circuit.tables - literals_in other) (are.all other may.candidate) (open_saves other may more)
+              (saved_same (lost name other circuit.tables) (literals_in other) choice.saves (literals_in choice.cover) (lost name choice.cover circuit.tables) exact more same) below
+          | inr less ↦ unsaved_not (lost name other circuit.tables) (literals_in other) choice.saves (literals_in choice.cover) (lost name choice.cover circuit.tables) exact first.saving.some less same
+        ]);
+  }
+    where
+      is : IsCandidate rule circuit.tables choice.cover
+      is = are.listed choice.cover first.among
+
+      exact : choice.saves + literals_in choice.cover ≡ lost name choice.cover circuit.tables
+      exact = ap (λ (n : ℕ). choice.saves + n) (sym (own_literals choice.cover is)) ∙ first.saving.exact
+
+      more_than : (saves own all : ℕ) → saves + own ≡ all → 1 ≤ saves → own < all
+      more_than saves own all e some = omega (arith, e, some)
+
+      saved_less : (other_all other_own saves own all : ℕ) → saves + own ≡ all → other_own < other_all → other_all - other_own ≤ saves → other_all + own ≤ all + other_own
+      saved_less other_all other_own saves own all e more most = omega (arith, e, more, most)
+
+      unsaved_less : (other_all other_own saves own all : ℕ) → saves + own ≡ all → other_all ≤ other_own → other_all + own ≤ all + other_own
+      unsaved_less other_all other_own saves own all e less = omega (arith, e, less)
+
+      saved_same : (other_all other_own saves own all : ℕ) → saves + own ≡ all → other_own < other_all → other_all + own ≡ all + other_own → other_all - other_own ≡ saves
+      saved_same other_all other_own saves own all e more same = omega (arith, e, more, same)
+
+      unsaved_not : (other_all other_own saves own all : ℕ) → saves + own ≡ all → 1 ≤ saves → other_all ≤ other_own → other_all + own ≡ all + other_own → ⊥
+      unsaved_not other_all other_own saves own all e some less same = absurd (omega (arith, e, some, less, same))
+
+-- what is chosen of the covers of all places, read as a slice, and of those that tables share
+pub chosen_read : {X : Type 0} (f : X → List NamedCover) (tables : List Table) (name : List ℕ) (listing slice : List X) (shared covers : List NamedCover) (found : Option Choice) → slice ≡ listing → covers ≡ shared
+    → IsChosen tables name (all_of (map f slice) ++ covers) found → IsChosen tables name (all_of (map f listing) ++ shared) found
+chosen_read f tables name listing slice shared covers found first second chosen =
+    subst (λ (xs : List _). IsChosen tables name (all_of (map f xs) ++ shared) found) first (subst (λ (cs : List NamedCover). IsChosen tables name (all_of (map f slice) ++ cs) found) second chosen)

@@ -1,0 +1,10 @@
+pub mod Slots
+pub mod Summing
+pub mod Naming
+pub mod Reading
+pub mod Losing
+pub mod Tabled
+pub mod Choices
+pub mod Listed
+pub mod Found
+pub mod Steps

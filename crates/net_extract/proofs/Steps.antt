@@ -1,0 +1,147 @@
+-- A cover is extracted: what the network is then; and chains of such steps.
+use Rattle.std.proofs.Common.{◌≡◌, ℕ, ◌+◌, ◌<◌, ◌≤◌, ◌^◌, suc, true, Err, Option, Some, List, [], ◌∷◌, ◌++◌, map, length, refl, sym, ap, ◌∙◌, subst, arith}
+use Rattle.std.specs.List.{AllByRecursion}
+use Rattle.std.proofs.lemmas.List.{length-map, length-append}
+use Rattle.circuit_model.specs.Counts.{literals_of}
+use Rattle.circuit_model.specs.Soundness.{IsSound}
+use Rattle.circuit_model.specs.declared.circuit.Table.{Table}
+use Rattle.circuit_model.specs.declared.circuit.Circuit.{Circuit}
+use Rattle.circuit_laws.specs.Edits.{with_tables}
+use Rattle.circuit_laws.proofs.Sound.{all_append}
+use Rattle.chain_laws.specs.Following.{Follows}
+use Rattle.extract_rules.specs.Extracting.{extracted, literals_after, IsNext, IsStep, IsDone, IsExtracted}
+use Rattle.extract_rules.specs.declared.rule.Rule.{Rule}
+use Rattle.extract_rules.proofs.Ends.{new_name_one}
+use Rattle.extract_rules.proofs.Keeping.{step_extended}
+use Rattle.name_covers.specs.Literals.{NamedCover}
+use Rattle.net_core.specs.Fresh.{node_count}
+use Rattle.net_core.specs.Reads.{IsBounded}
+use Rattle.net_work.specs.Placed.{Placed, standing, circuit_of, table_at, with_slot, with_last}
+use Rattle.net_work.proofs.Standing.{standing_push}
+use Rattle.table_algebra.specs.Dividing.{divided, cover_table}
+use Rattle.net_extract.specs.Extract.{HasExtracted}
+use Rattle.net_extract.specs.Dividing.{divided_slot, with_divided, IsAdded}
+use Rattle.net_extract.specs.Going.{IsStopped, IsNotAdded, IsPut, IsTaken, IsAlong, IsEnd}
+use Rattle.net_extract.specs.declared.fault.ExtractFault.{ExtractFault}
+use Rattle.net_extract.specs.declared.fault.ExtractFault.TheVariants.{KernelLimit, NodeLimit, Memory}
+use Rattle.net_extract.proofs.Slots.{below_none, below_next, below_all, standing_turned}
+
+-- ---- tables divided, place by place
+
+module _ (name : List ℕ) (cover : NamedCover) where
+  pub divided_begin : (now : Placed) → now ≡ with_divided name cover 0 now
+  divided_begin now = ap (λ (slots : List (Option Table)). record now { slots = slots }) (sym (below_none (divided name true cover) now.slots))
+
+  pub divided_next : (before now new : Placed) (place : ℕ) → place < length before.slots → now ≡ with_divided name cover place before
+      → new ≡ with_slot now place (divided_slot name cover (table_at now.slots place)) → new ≡ with_divided name cover (place + 1) before
+  divided_next before now new place below is made =
+      made
+      ∙ ap (λ (p : Placed). with_slot p place (divided_slot name cover (table_at p.slots place))) is
+      ∙ ap (λ (slots : List (Option Table)). record before { slots = slots }) (below_next (divided name true cover) before.slots place below)
+      ∙ ap (λ (n : ℕ). with_divided name cover n before) (let one : suc place ≡ place + 1 = omega arith in one)
+
+  -- the circuit once the table of the cover is added, and the tables before it are divided
+  pub divided_circuit : (before between now : Placed) → between ≡ with_last before (cover_table name cover) → now ≡ with_divided name cover (length before.slots) between
+      → circuit_of now ≡ extracted (circuit_of before) name cover
+  divided_circuit before between now added is =
+      ap (λ (p : Placed). circuit_of p) (is ∙ ap (with_divided name cover (length before.slots)) added)
+      ∙ ap (λ (slots : List (Option Table)). with_tables before.frame (standing slots)) (below_all (divided name true cover) before.slots (Some (cover_table name cover) ∷ []))
+      ∙ ap (λ (tables : List Table). with_tables before.frame tables) (standing_push (map (divided_slot name cover) before.slots) (cover_table name cover))
+      ∙ ap (λ (tables : List Table). with_tables before.frame (tables ++ cover_table name cover ∷ [])) (standing_turned (divided name true cover) before.slots)
+
+  pub added_bounded : (before between : Placed) → IsAdded cover name before between → AllByRecursion IsBounded (standing before.slots) → AllByRecursion IsBounded (standing between.slots)
+  added_bounded before between added all =
+      subst (AllByRecursion IsBounded) (sym (ap (λ (p : Placed). standing p.slots) added.is ∙ standing_push before.slots (cover_table name cover)))
+      (all_append IsBounded (standing before.slots) (cover_table name cover ∷ []) all (added.bounded, tt))
+
+  pub put_from : (before between now : Placed) → IsAdded cover name before between → now ≡ with_divided name cover (length before.slots) between
+      → (AllByRecursion IsBounded (standing between.slots) → AllByRecursion IsBounded (standing now.slots)) → IsPut cover before now
+  put_from before between now added is bounded = record {
+    name = name;
+    free = added.free;
+    room = added.room;
+    made = divided_circuit before between now added.is is;
+    bounded = λ all. bounded (added_bounded before between added all);
+  }
+
+  pub added_long : (before between : Placed) → IsAdded cover name before between → length before.slots ≤ length between.slots
+  added_long before between added =
+      let long : length between.slots ≡ length (before.slots ++ Some (cover_table name cover) ∷ []) = ap (λ (p : Placed). length p.slots) added.is in
+      omega (arith, long, length-append before.slots (Some (cover_table name cover) ∷ []))
+
+-- ---- a step
+
+pub put_taken : (rule : Rule) (before now : Placed) (name : List ℕ) (cover : NamedCover) → IsNext rule (circuit_of before) name cover → IsPut cover before now → IsTaken rule before now
+put_taken rule before now name cover next put =
+    let same : put.name ≡ name = new_name_one (circuit_of before) put.name name put.free next.free in
+    let made : circuit_of now ≡ extracted (circuit_of before) name cover = put.made ∙ ap (λ (n : List ℕ). extracted (circuit_of before) n cover) same in
+    let left : literals_of (circuit_of now) ≡ literals_after (circuit_of before) name cover = ap literals_of made in
+    record {
+      step = record { name = name; cover = cover; next = next; room = put.room; made = made };
+      fewer = omega (arith, left, next.best.saves);
+      bounded = put.bounded;
+    }
+
+pub put_stopped : (rule : Rule) (now : Placed) (name : List ℕ) (cover : NamedCover) (fault : ExtractFault) → IsNext rule (circuit_of now) name cover → IsNotAdded (circuit_of now) fault
+    → IsStopped rule (circuit_of now) fault
+put_stopped rule now name cover (KernelLimit many) next h = absurd h
+put_stopped rule now name cover NodeLimit next h = record { name = name; cover = cover; next = next; over = h }
+put_stopped rule now name cover Memory next h = tt
+
+-- ---- steps
+
+-- chains one behind the other
+follows_both : {N : Type 0} (Next : N → N → Type 0) (one other : List N) (from between to : N) → Follows Next one from between → Follows Next other between to → Follows Next (one ++ other) from to
+follows_both Next [] other from between to same rest = subst (λ x. Follows Next other x to) (sym same) rest
+follows_both Next (next ∷ one) other from between to steps rest = (steps.0, follows_both Next one other next between to steps.1 rest)
+
+pub along_begin : (rule : Rule) (now : Placed) → IsSound (circuit_of now) → IsAlong rule now now
+along_begin rule now sound = record { reached = record { between = []; steps = refl }; sound = sound; bounds = λ bounds. bounds }
+
+-- a step leaves few tables and latches
+few_nodes : (circuit new : Circuit) (name : List ℕ) (cover : NamedCover) → new ≡ extracted circuit name cover → node_count circuit < 65535 → length new.tables + length new.latches < 2 ^ 29
+few_nodes circuit new name cover is room =
+    let tables : length new.tables ≡ length (map (divided name true cover) circuit.tables ++ cover_table name cover ∷ []) = ap (λ (c : Circuit). length c.tables) is in
+    let latches : length new.latches ≡ length circuit.latches = ap (λ (c : Circuit). length c.latches) is in
+    omega (arith, tables, latches, room, length-append (map (divided name true cover) circuit.tables) (cover_table name cover ∷ []), length-map circuit.tables (divided name true cover))
+
+pub along_more : (rule : Rule) (before now new : Placed) → IsAlong rule before now → IsTaken rule now new → IsAlong rule before new
+along_more rule before now new along taken = record {
+  reached = record {
+    between = along.reached.between ++ circuit_of new ∷ [];
+    steps = follows_both (IsStep rule) along.reached.between (circuit_of new ∷ []) (circuit_of before) (circuit_of now) (circuit_of new) along.reached.steps (taken.step, refl);
+  };
+  sound = (step_extended rule (circuit_of now) (circuit_of new) along.sound taken.step).change.sound;
+  bounds = λ bounds. record {
+    nodes = few_nodes (circuit_of now) (circuit_of new) taken.step.name taken.step.cover taken.step.made taken.step.room;
+    tables = taken.bounded (along.bounds bounds).tables;
+  };
+}
+
+pub along_done : (rule : Rule) (before now : Placed) → IsAlong rule before now → IsDone rule (circuit_of now) → IsExtracted rule (circuit_of before) (circuit_of now)
+along_done rule before now along done = record { reached = along.reached; done = done }
+
+pub along_stopped : (rule : Rule) (before now : Placed) (fault : ExtractFault) → IsAlong rule before now → IsStopped rule (circuit_of now) fault → IsEnd rule (circuit_of before) fault
+along_stopped rule before now (KernelLimit name) along stopped = record {
+  last = circuit_of now;
+  reached = along.reached;
+  before = stopped.before;
+  table = stopped.table;
+  after = stopped.after;
+  tables = stopped.tables_are;
+  first = stopped.first;
+  many = stopped.many;
+  named = stopped.named;
+}
+along_stopped rule before now NodeLimit along stopped = record {
+  full = circuit_of now;
+  reached = along.reached;
+  name = stopped.name;
+  cover = stopped.cover;
+  next = stopped.next;
+  over = stopped.over;
+}
+along_stopped rule before now Memory along stopped = tt
+
+pub end_told : (rule : Rule) (old now : Circuit) (fault : ExtractFault) → now ≡ old → IsEnd rule now fault → HasExtracted rule old (Err fault)
+end_told rule old now fault same end = subst (λ (c : Circuit). HasExtracted rule c (Err fault)) same end

@@ -1,0 +1,6 @@
+use Rattle.net_extract.proofs.Naming.{readers_all}
+use Rattle.net_extract.proofs.saving.places_for.Goals as goal
+
+pub returns-clause-all : goal.returns-clause-all
+returns-clause-all g c =
+    readers_all c.args.work.now.slots c.args.cover.now c.in-Some.name.now c.in_ok-readers-in-Some.readers c.risen.result.items c.in-Some.ensures c.in_ok-readers-in-Some.ensures c.risen.ensures.all

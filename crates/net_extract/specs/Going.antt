@@ -1,0 +1,79 @@
+-- Steps of extraction on a working network, and where they stop. No public clause needs these definitions.
+-- Source: Brayton, Rudell, Sangiovanni-Vincentelli and Wang, "MIS: A Multiple-Level Logic Optimization System" (1987): a command applies
+-- an operation to one node after the other.
+use Rattle.std.specs.Prelude.{◌≡◌, ℕ, ◌≤◌, ◌<◌, Err, List, ◌∷◌, ◌++◌}
+use Rattle.std.specs.List.{AllByRecursion}
+use Rattle.circuit_model.specs.Counts.{literals_of}
+use Rattle.circuit_model.specs.Soundness.{IsSound}
+use Rattle.circuit_model.specs.declared.circuit.Table.{Table}
+use Rattle.circuit_model.specs.declared.circuit.Circuit.{Circuit}
+use Rattle.alg_div.specs.Cubes.{Has}
+use Rattle.extract_candidates.specs.Listed.{IsOwn}
+use Rattle.extract_rules.specs.Extracting.{extracted, HasManyKernels, IsListable, IsNext, IsStep, IsReached}
+use Rattle.extract_rules.specs.declared.rule.Rule.{Rule}
+use Rattle.name_covers.specs.Literals.{NamedCover}
+use Rattle.net_core.specs.Fresh.{IsNewName, node_count}
+use Rattle.net_core.specs.Reads.{IsBounded, HasBounds}
+use Rattle.net_work.specs.Placed.{Placed, standing, circuit_of}
+use Rattle.net_extract.specs.Extract.{HasExtracted}
+use Rattle.net_extract.specs.declared.fault.ExtractFault.{ExtractFault}
+use Rattle.net_extract.specs.declared.fault.ExtractFault.TheVariants.{KernelLimit, NodeLimit, Memory}
+
+-- a cover is what one of some tables gives by itself
+pub record IsOwnOf (rule : Rule) (tables : List Table) (cover : NamedCover) : Type 0 where
+  pub table : Table
+  pub among : Has table tables
+  pub own : IsOwn rule table cover
+
+-- the first of some tables with too many kernels has a name
+pub record IsFirstMany (rule : Rule) (tables : List Table) (name : List ℕ) : Type 0 where
+  pub before : List Table
+  pub table : Table
+  pub after : List Table
+  pub tables_are : tables ≡ before ++ table ∷ after
+  pub first : AllByRecursion (IsListable rule) before
+  pub many : HasManyKernels rule table
+  pub named : table.output ≡ name
+
+-- what is next has no room
+pub record IsOver (rule : Rule) (circuit : Circuit) : Type 0 where
+  pub name : List ℕ
+  pub cover : NamedCover
+  pub next : IsNext rule circuit name cover
+  pub over : 65535 ≤ node_count circuit
+
+-- why there is no step; want of memory is free
+abbrev pub IsStopped : Rule → Circuit → ExtractFault → Type 0
+IsStopped rule circuit (KernelLimit name) = IsFirstMany rule circuit.tables name
+IsStopped rule circuit NodeLimit = IsOver rule circuit
+IsStopped rule circuit Memory = Unit {0}
+
+-- why a table is not added; want of memory is free
+abbrev pub IsNotAdded : Circuit → ExtractFault → Type 0
+IsNotAdded circuit (KernelLimit name) = ⊥
+IsNotAdded circuit NodeLimit = 65535 ≤ node_count circuit
+IsNotAdded circuit Memory = Unit {0}
+
+-- a cover was extracted under the new name; tables keep within their bounds
+pub record IsPut (cover : NamedCover) (before now : Placed) : Type 0 where
+  pub name : List ℕ
+  pub free : IsNewName (circuit_of before) name
+  pub room : node_count (circuit_of before) < 65535
+  pub made : circuit_of now ≡ extracted (circuit_of before) name cover
+  pub bounded : AllByRecursion IsBounded (standing before.slots) → AllByRecursion IsBounded (standing now.slots)
+
+-- a step was taken, which leaves fewer literals
+pub record IsTaken (rule : Rule) (before now : Placed) : Type 0 where
+  pub step : IsStep rule (circuit_of before) (circuit_of now)
+  pub fewer : literals_of (circuit_of now) < literals_of (circuit_of before)
+  pub bounded : AllByRecursion IsBounded (standing before.slots) → AllByRecursion IsBounded (standing now.slots)
+
+-- steps lead from one network to another one
+pub record IsAlong (rule : Rule) (before now : Placed) : Type 0 where
+  pub reached : IsReached rule (circuit_of before) (circuit_of now)
+  pub sound : IsSound (circuit_of now)
+  pub bounds : HasBounds (circuit_of before) → HasBounds (circuit_of now)
+
+-- where steps end that come to no circuit that is done
+abbrev pub IsEnd : Rule → Circuit → ExtractFault → Type 0
+IsEnd rule old fault = HasExtracted rule old (Err fault)

@@ -1,0 +1,6 @@
+pub mod Extract
+pub mod Saving
+pub mod Choosing
+pub mod Listing
+pub mod Dividing
+pub mod Going

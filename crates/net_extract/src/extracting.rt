@@ -1,0 +1,46 @@
+//! The chain of steps.
+
+ghost use Rattle.std.specs.Prelude.{IfOk, OnOk, IfErr};
+ghost use Rattle.circuit_model.specs.Soundness.{IsSound};
+ghost use Rattle.extract_rules.specs.Extracting.{IsExtracted};
+ghost use Rattle.net_core.specs.Reads.{HasBounds};
+ghost use Rattle.net_work.specs.Placed.{circuit_of};
+ghost use Rattle.net_extract.specs.Going.{IsEnd};
+ghost use Rattle.net_extract.specs.Extract.{HasExtracted};
+
+use crate::fault::ExtractFault;
+use crate::stepping::step;
+use cube_cover::Row;
+use extract_rules::Rule;
+use net_core::Network;
+use net_work::Work;
+use std::alloc::Global;
+
+// Takes steps until none applies.
+fn take_steps<R: Row>(alloc: Global, work: &mut Work<R>, rule: Rule) -> Result<(), ExtractFault>
+    requires { IsSound (circuit_of work.old) }
+    ensures sound { OnOk result (IsSound (circuit_of work.new)) }
+    ensures extracted { OnOk result (IsExtracted rule (circuit_of work.old) (circuit_of work.new)) }
+    ensures bounds { OnOk result (HasBounds (circuit_of work.old) → HasBounds (circuit_of work.new)) }
+    ensures stopped { IfErr result (IsEnd rule (circuit_of work.old)) }
+{
+    while step(alloc, work, rule)? {}
+    Ok(())
+}
+
+/// Extracts candidates of a rule from a network as long as one saves literals: always the one that saves most, of those that save as
+/// much the first. New tables stand last, under the least free names. `KernelLimit` where a table has more than 10,000 kernels and they
+/// are asked for, with the first such table's name; `NodeLimit` exactly where a candidate saves
+/// literals and with its table there would be more than 65,535 tables and latches, those of the don't-care part counted. The network is lost with an error.
+pub fn extract<R: Row>(
+    alloc: Global,
+    network: Network<R>,
+    rule: Rule,
+) -> Result<Network<R>, ExtractFault>
+    ensures extracted { HasExtracted rule network result }
+    ensures bounds { HasBounds network → IfOk result HasBounds }
+{
+    let mut work = Work::from_network(alloc, network)?;
+    take_steps(alloc, &mut work, rule)?;
+    Ok(work.into_network())
+}

@@ -1,0 +1,26 @@
+//! Why nothing is extracted.
+
+use circuit_model::Name;
+use std::alloc::AllocError;
+
+/// Why a network is not extracted.
+#[derive(Debug, PartialEq, Drop)]
+pub enum ExtractFault {
+    /// The table of this name has more than 10,000 kernels.
+    KernelLimit(Name),
+    /// There would be more tables and latches than may stand.
+    NodeLimit,
+    /// There is not enough memory.
+    Memory,
+}
+
+impl From<AllocError> for ExtractFault {
+    ghost use Rattle.std.specs.Prelude.{◌≡◌};
+    ghost use Rattle.net_extract.specs.declared.fault.ExtractFault.TheVariants.{Memory};
+
+    ghost from_gives = { λ _ fault. fault ≡ Memory };
+
+    fn from(_error: AllocError) -> ExtractFault {
+        ExtractFault::Memory
+    }
+}

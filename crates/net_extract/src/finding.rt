@@ -1,0 +1,64 @@
+//! The best candidate of a network.
+
+ghost use Rattle.std.specs.Prelude.{◌≡◌, ◌≤◌, ◌++◌, List, map, IfOk, IfErr, MatchOption};
+ghost use Rattle.circuit_model.specs.Soundness.{IsSound};
+ghost use Rattle.alg_div.specs.Cubes.{Has};
+ghost use Rattle.extract_rules.specs.Extracting.{IsNext, IsDone};
+ghost use Rattle.name_covers.specs.Literals.{NamedCover as TheCover};
+ghost use Rattle.net_core.specs.Fresh.{IsNewName};
+ghost use Rattle.net_work.specs.Placed.{standing, circuit_of};
+ghost use Rattle.net_extract.specs.Saving.{literals_in};
+ghost use Rattle.net_extract.specs.Choosing.{IsChosen};
+ghost use Rattle.net_extract.specs.Listing.{all_of};
+ghost use Rattle.net_extract.specs.Going.{IsStopped};
+
+use crate::choosing::{Choice, best_of};
+use crate::fault::ExtractFault;
+use crate::listing::{listing_of, shared_of};
+use circuit_model::Name;
+use cube_cover::Row;
+use extract_rules::Rule;
+use name_covers::NamedCover;
+use net_work::Work;
+use std::alloc::{AllocError, Global};
+
+// The best of the covers of all places, each of which has a literal, if one saves any.
+fn best_listed<R: Row>(
+    alloc: Global,
+    work: &Work<R>,
+    name: &Name,
+    listing: &[Vec<NamedCover>],
+) -> Result<Option<Choice>, AllocError>
+    requires sound { IsSound (circuit_of work.now) }
+    requires free { IsNewName (circuit_of work.now) name.now }
+    requires some { (cover : TheCover) → Has cover (all_of (map (λ own. own.items) listing.now)) → 1 ≤ literals_in cover }
+    ensures { IfOk result (λ found. IsChosen (standing work.now.slots) name.now (all_of (map (λ own. own.items) listing.now)) found) }
+{
+    let mut best = None;
+    for own in listing {
+        best = best_of(alloc, work, name, own.as_slice(), best)?;
+    }
+    Ok(best)
+}
+
+/// The best candidate of a network under a new name; none where none saves a literal. `KernelLimit` with the name of the first table
+/// that has too many kernels; else an error is want of memory.
+pub(crate) fn best<R: Row>(
+    alloc: Global,
+    work: &Work<R>,
+    rule: Rule,
+    name: &Name,
+) -> Result<Option<NamedCover>, ExtractFault>
+    requires sound { IsSound (circuit_of work.now) }
+    requires free { IsNewName (circuit_of work.now) name.now }
+    ensures found { IfOk result (λ found. MatchOption found (IsDone rule (circuit_of work.now)) (IsNext rule (circuit_of work.now) name.now)) }
+    ensures stopped { IfErr result (IsStopped rule (circuit_of work.now)) }
+{
+    let listing = listing_of(alloc, work, rule)?;
+    let shared = shared_of(alloc, work, rule)?;
+    let listed = best_listed(alloc, work, name, listing.as_slice())?;
+    match best_of(alloc, work, name, shared.as_slice(), listed)? {
+        None => Ok(None),
+        Some(choice) => Ok(Some(choice.cover)),
+    }
+}

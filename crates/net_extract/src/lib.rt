@@ -1,0 +1,18 @@
+//! Extraction from a network: divisors that save literals become tables.
+//!
+//! Source: Brayton, Rudell, Sangiovanni-Vincentelli and Wang, "MIS: A Multiple-Level Logic Optimization System" (1987); the SIS report
+//! (UCB/ERL M92/41), `fx`, `gkx` and `gcx`. What a candidate is, which one is next and what extraction keeps is told by extract_rules.
+//! Promised here (`specs/Extract.antt`): the end of the chain of steps; `KernelLimit` with the first table that has more kernels than are
+//! listed; or `NodeLimit` where a step has no room.
+#![tactic(auto)]
+
+mod choosing;
+mod extracting;
+mod fault;
+mod finding;
+mod listing;
+mod saving;
+mod stepping;
+
+pub use extracting::extract;
+pub use fault::ExtractFault;

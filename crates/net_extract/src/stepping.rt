@@ -1,0 +1,163 @@
+//! One step: the table of a cover is added, and all tables that stood before are divided by the cover.
+
+ghost use Rattle.std.specs.Prelude.{◌≡◌, ℕ, ◌≤◌, ◌<◌, true, false, Some, None, length, List, IfOk, IfErr, OnOk, MatchOption};
+ghost use Rattle.std.specs.List.{AllByRecursion};
+ghost use Rattle.circuit_model.specs.Names.{all_different};
+ghost use Rattle.circuit_model.specs.Soundness.{IsSound};
+ghost use Rattle.extract_rules.specs.Extracting.{IsDone};
+ghost use Rattle.net_core.specs.Places.{written_of};
+ghost use Rattle.net_core.specs.Reads.{IsBounded};
+ghost use Rattle.net_core.specs.Tables.{named, IsOverInputs};
+ghost use Rattle.table_algebra.specs.Dividing.{divided};
+ghost use Rattle.net_work.specs.Placed.{standing, circuit_of, table_at, with_slot};
+ghost use Rattle.net_extract.specs.Dividing.{divided_slot, with_divided, IsMade, IsMadeAt, IsAdded};
+ghost use Rattle.net_extract.specs.Going.{IsStopped, IsNotAdded, IsPut, IsTaken};
+
+use crate::fault::ExtractFault;
+use crate::finding::best;
+use circuit_model::Name;
+use cube_cover::Row;
+use extract_rules::Rule;
+use name_covers::Cube;
+use net_core::{AddFault, Entry, Table};
+use net_work::Work;
+use std::alloc::{AllocError, Global};
+use table_algebra::{cover_table, divided_table};
+
+/// A table of so many inputs is not made: that is answered as want of memory.
+const INPUT_BOUND: usize = 1 << 30;
+
+/// Nor is a table of so many rows.
+const ROW_BOUND: usize = 1 << 29;
+
+// A table, unless it is as large as none is made.
+fn bounded<R: Row>(table: Table<R>) -> Result<Table<R>, AllocError>
+    ensures { IfOk result (λ made. (made ≡ table) × ((name : List ℕ) → IsBounded (named name table))) }
+{
+    if table.inputs.len() < INPUT_BOUND && table.cover.rows().len() < ROW_BOUND {
+        Ok(table)
+    } else {
+        Err(AllocError)
+    }
+}
+
+// The table of a cover is added.
+fn add_table<R: Row>(
+    alloc: Global,
+    work: &mut Work<R>,
+    cover: &[Cube],
+) -> Result<Name, ExtractFault>
+    ensures added { IfOk result (λ name. IsAdded cover.now name work.old work.new) }
+    ensures fault { IfErr result (IsNotAdded (circuit_of work.old)) }
+{
+    let made = cover_table(alloc, cover)?;
+    let table = bounded(made)?;
+    match work.add(alloc, table) {
+        Ok(name) => Ok(name),
+        Err(AddFault::NodeLimit) => Err(ExtractFault::NodeLimit),
+        Err(AddFault::Memory) => Err(ExtractFault::Memory),
+    }
+}
+
+// What a table becomes where it is divided, or none where it stays as it is.
+fn divided_of<R: Row>(
+    alloc: Global,
+    entry: &Entry<R>,
+    name: &Name,
+    cover: &[Cube],
+) -> Result<Option<Table<R>>, AllocError>
+    requires over { IsOverInputs entry.now.table }
+    requires once { all_different entry.now.table.inputs ≡ true }
+    ensures { IfOk result (λ found. MatchOption found (divided name.now true cover.now (written_of entry.now) ≡ written_of entry.now) (IsMade name.now cover.now (written_of entry.now))) }
+{
+    match divided_table(alloc, &entry.table, name, true, cover)? {
+        None => Ok(None),
+        Some(made) => {
+            let table = bounded(made)?;
+            Ok(Some(table))
+        }
+    }
+}
+
+// What the table at a place becomes where it is divided, or none where it stays as it is, or none stands there.
+fn divided_at<R: Row>(
+    alloc: Global,
+    work: &Work<R>,
+    name: &Name,
+    cover: &[Cube],
+    place: usize,
+) -> Result<Option<Table<R>>, AllocError>
+    ensures { IfOk result (λ found. MatchOption found (divided_slot name.now cover.now (table_at work.now.slots place) ≡ table_at work.now.slots place) (IsMadeAt name.now cover.now work.now.slots place)) }
+{
+    match work.entry(place) {
+        None => Ok(None),
+        Some(entry) => divided_of(alloc, entry, name, cover),
+    }
+}
+
+// The table at a place is divided, if one stands there.
+fn divide_at<R: Row>(
+    alloc: Global,
+    work: &mut Work<R>,
+    name: &Name,
+    cover: &[Cube],
+    place: usize,
+) -> Result<(), AllocError>
+    ensures divided { OnOk result (work.new ≡ with_slot work.old place (divided_slot name.now cover.now (table_at work.old.slots place))) }
+    ensures bounded { OnOk result (AllByRecursion IsBounded (standing work.old.slots) → AllByRecursion IsBounded (standing work.new.slots)) }
+{
+    match divided_at(alloc, work, name, cover, place)? {
+        None => Ok(()),
+        Some(table) => work.set(alloc, place, table),
+    }
+}
+
+// The tables below a place are divided.
+fn divide_below<R: Row>(
+    alloc: Global,
+    work: &mut Work<R>,
+    name: &Name,
+    cover: &[Cube],
+    count: usize,
+) -> Result<(), AllocError>
+    requires { count ≤ length work.old.slots }
+    ensures divided { OnOk result (work.new ≡ with_divided name.now cover.now count work.old) }
+    ensures bounded { OnOk result (AllByRecursion IsBounded (standing work.old.slots) → AllByRecursion IsBounded (standing work.new.slots)) }
+{
+    for place in 0..count {
+        divide_at(alloc, work, name, cover, place)?;
+    }
+    Ok(())
+}
+
+// A cover is extracted; `NodeLimit` where there is no room for its table. Behind an error any network may stand.
+fn put<R: Row>(alloc: Global, work: &mut Work<R>, cover: &[Cube]) -> Result<(), ExtractFault>
+    ensures put { OnOk result (IsPut cover.now work.old work.new) }
+    ensures fault { IfErr result (IsNotAdded (circuit_of work.old)) }
+{
+    let count = work.len();
+    let name = add_table(alloc, work, cover)?;
+    divide_below(alloc, work, &name, cover, count)?;
+    Ok(())
+}
+
+/// The best candidate is extracted; false where none saves a literal. Behind an error any network may stand.
+pub(crate) fn step<R: Row>(
+    alloc: Global,
+    work: &mut Work<R>,
+    rule: Rule,
+) -> Result<bool, ExtractFault>
+    requires sound { IsSound (circuit_of work.old) }
+    ensures done { IfOk result (λ taken. taken ≡ false → (work.new ≡ work.old) × IsDone rule (circuit_of work.old)) }
+    ensures taken { IfOk result (λ taken. taken ≡ true → IsTaken rule work.old work.new) }
+    ensures stopped { IfErr result (IsStopped rule (circuit_of work.old)) }
+{
+    let name = work.new_name(alloc)?;
+    match best(alloc, work, rule, &name)? {
+        None => Ok(false),
+        Some(cover) => {
+            put(alloc, work, cover.as_slice())?;
+            Ok(true)
+        }
+    }
+}
