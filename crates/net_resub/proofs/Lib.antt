@@ -1,0 +1,7 @@
+pub mod Slots
+pub mod Graph
+pub mod Rows
+pub mod Saving
+pub mod Firsts
+pub mod Steps
+pub mod Visiting

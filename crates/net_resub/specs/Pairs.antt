@@ -1,0 +1,34 @@
+-- What the division of one table by another one saves.
+-- Source: Brayton, Rudell, Sangiovanni-Vincentelli and Wang, "MIS: A Multiple-Level Logic Optimization System" (1987); the SIS report
+-- (UCB/ERL M92/41), `resub`. The limit of 1,000 inputs is the project's own.
+use Rattle.std.specs.Prelude.{ℕ, ◌-◌, ◌==◌, ltb, Bool, ◌||◌, if◌then◌else◌, Option, Some, None, List, length}
+use Rattle.std.specs.List.{list_all}
+use Rattle.circuit_model.specs.Names.{has}
+use Rattle.circuit_model.specs.Counts.{literals_of_table}
+use Rattle.circuit_model.specs.declared.circuit.Table.{Table}
+use Rattle.name_covers.specs.Literals.{Cube}
+use Rattle.net_work.specs.Placed.{table_at}
+use Rattle.resub_rules.specs.Resubbed.{row_cubes, resubbed}
+
+-- how many literals go where a table is divided by another one; none where it reads that one's signal already, or becomes too wide
+unfoldable pub saving_of : Table → Table → ℕ
+saving_of by table =
+    if has table.inputs by.output || ltb 1000 (length (resubbed by table).inputs) then 0 else literals_of_table table - literals_of_table (resubbed by table)
+
+-- the same of tables that need not stand
+abbrev pub saving_between : Option Table → Option Table → ℕ
+saving_between None by = 0
+saving_between (Some table) None = 0
+saving_between (Some table) (Some by) = saving_of by table
+
+-- the same of the tables at two places, the divided one's first; a table does not divide itself
+unfoldable pub saving_at : List (Option Table) → ℕ → ℕ → ℕ
+saving_at slots place by = if place == by then 0 else saving_between (table_at slots place) (table_at slots by)
+
+-- whether a cube has no literal
+abbrev pub is_plain : Cube → Bool
+is_plain cube = length cube == 0
+
+-- whether the rows of a table have no literal
+unfoldable pub is_bare : Table → Bool
+is_bare table = list_all is_plain (row_cubes table)

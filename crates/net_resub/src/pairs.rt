@@ -1,0 +1,179 @@
+//! One division: what a table becomes where it is divided by another one's rows, and how many literals that saves.
+
+ghost use Rattle.std.specs.Prelude.{◌≡◌, ℕ, ◌-◌, ◌<◌, ltb, true, Some, None, List, length, if◌then◌else◌, IfOk, IfSome};
+ghost use Rattle.std.specs.List.{list_all};
+ghost use Rattle.circuit_model.specs.Names.{all_different};
+ghost use Rattle.circuit_model.specs.Counts.{literals_of_table};
+ghost use Rattle.circuit_model.specs.declared.circuit.Table.{Table as TheWritten};
+ghost use Rattle.net_core.specs.Places.{written_of};
+ghost use Rattle.net_core.specs.Reads.{IsBounded};
+ghost use Rattle.net_core.specs.Tables.{named, IsOverInputs};
+ghost use Rattle.net_work.specs.Placed.{table_at};
+ghost use Rattle.resub_rules.specs.Resubbed.{row_cubes as cubes_of_rows, resubbed as resubbed_by};
+ghost use Rattle.net_resub.specs.Pairs.{saving_of as saved_of, saving_at as saved_at, is_plain, is_bare as is_without};
+
+use crate::reaching::has_name;
+use alg_div::literals_of;
+use cube_cover::Row;
+use name_covers::{Cube, cube_over};
+use net_core::{Entry, Table};
+use net_work::Work;
+use std::alloc::{AllocError, Global};
+use table_algebra::divided_table;
+use use_counts::literal_count;
+
+/// How many inputs a table may have that a division makes.
+const INPUT_LIMIT: usize = 1_000;
+
+/// A table of so many inputs is not made: that is answered as want of memory.
+const INPUT_BOUND: usize = 1 << 30;
+
+/// Nor is a table of so many rows.
+const ROW_BOUND: usize = 1 << 29;
+
+// The cubes of a table's rows, in their order.
+fn row_cubes<R: Row>(alloc: Global, entry: &Entry<R>) -> Result<Vec<Cube>, AllocError>
+    ensures { IfOk result (λ cubes. cubes.items ≡ cubes_of_rows (written_of entry.now)) }
+{
+    let rows = entry.table.cover.rows();
+    let mut cubes = Vec::with_capacity(alloc, rows.len())?;
+    for row in rows {
+        let literals = literals_of(alloc, row)?;
+        cubes.push(cube_over(alloc, entry.table.inputs.as_slice(), literals.as_slice())?)?;
+    }
+    Ok(cubes)
+}
+
+// Whether no cube has a literal.
+fn are_plain(cubes: &[Cube]) -> bool
+    ensures { result ≡ list_all is_plain cubes.now }
+{
+    cubes.iter().all(|cube| cube.is_empty())
+}
+
+/// Whether the rows of a table have no literal; an error only for want of memory.
+pub(crate) fn is_bare<R: Row>(alloc: Global, entry: &Entry<R>) -> Result<bool, AllocError>
+    ensures { IfOk result (λ bare. bare ≡ is_without (written_of entry.now)) }
+{
+    let cubes = row_cubes(alloc, entry)?;
+    Ok(are_plain(cubes.as_slice()))
+}
+
+// What a table becomes where it is divided by another one; none where it stays.
+fn resubbed_table<R: Row>(
+    alloc: Global,
+    entry: &Entry<R>,
+    by: &Entry<R>,
+) -> Result<Option<Table<R>>, AllocError>
+    requires { IsOverInputs entry.now.table }
+    ensures some { IfOk result (λ found. IfSome found (λ made. named entry.now.output made ≡ resubbed_by (written_of by.now) (written_of entry.now))) }
+    ensures over { IfOk result (λ found. IfSome found IsOverInputs) }
+    ensures none { IfOk result (λ found. found ≡ None → resubbed_by (written_of by.now) (written_of entry.now) ≡ written_of entry.now) }
+{
+    let cubes = row_cubes(alloc, by)?;
+    divided_table(
+        alloc,
+        &entry.table,
+        &by.output,
+        by.table.phase,
+        cubes.as_slice(),
+    )
+}
+
+// How many literals go where a table gives place to another one, if that is not too wide.
+fn saved<R: Row>(table: &Table<R>, made: &Table<R>) -> u128
+    ensures { (name : List ℕ) → result ≡ (if ltb 1000 (length made.now.inputs) then 0 else literals_of_table (named name table.now) - literals_of_table (named name made.now)) }
+{
+    if made.inputs.len() > INPUT_LIMIT {
+        0
+    } else {
+        literal_count(table).saturating_sub(literal_count(made))
+    }
+}
+
+// How many literals the division of a table by another one saves.
+fn saving_of<R: Row>(alloc: Global, entry: &Entry<R>, by: &Entry<R>) -> Result<u128, AllocError>
+    requires { IsOverInputs entry.now.table }
+    ensures { IfOk result (λ saving. saving ≡ saved_of (written_of by.now) (written_of entry.now)) }
+{
+    if has_name(entry.table.inputs.as_slice(), &by.output) {
+        return Ok(0);
+    }
+    match resubbed_table(alloc, entry, by)? {
+        None => Ok(0),
+        Some(made) => Ok(saved(&entry.table, &made)),
+    }
+}
+
+/// How many literals the division of the table at a place by that at another one saves; an error only for want of memory.
+pub(crate) fn saving_at<R: Row>(
+    alloc: Global,
+    work: &Work<R>,
+    place: usize,
+    by: usize,
+) -> Result<u128, AllocError>
+    ensures { IfOk result (λ saving. saving ≡ saved_at work.now.slots place by) }
+{
+    if place == by {
+        return Ok(0);
+    }
+    match work.entry(place) {
+        None => Ok(0),
+        Some(entry) => match work.entry(by) {
+            None => Ok(0),
+            Some(by) => saving_of(alloc, entry, by),
+        },
+    }
+}
+
+// A table, unless it is as large as none is made.
+fn bounded<R: Row>(table: Table<R>) -> Result<Table<R>, AllocError>
+    ensures { IfOk result (λ made. (made ≡ table) × ((name : List ℕ) → IsBounded (named name table))) }
+{
+    if table.inputs.len() < INPUT_BOUND && table.cover.rows().len() < ROW_BOUND {
+        Ok(table)
+    } else {
+        Err(AllocError)
+    }
+}
+
+// What a table becomes where it is divided by another one, which saves literals.
+fn divided_by<R: Row>(
+    alloc: Global,
+    entry: &Entry<R>,
+    by: &Entry<R>,
+) -> Result<Table<R>, AllocError>
+    requires over { IsOverInputs entry.now.table }
+    requires saves { 0 < saved_of (written_of by.now) (written_of entry.now) }
+    ensures is { IfOk result (λ made. named entry.now.output made ≡ resubbed_by (written_of by.now) (written_of entry.now)) }
+    ensures over { IfOk result IsOverInputs }
+    ensures bounded { IfOk result (λ made. (name : List ℕ) → IsBounded (named name made)) }
+{
+    match resubbed_table(alloc, entry, by)? {
+        None => unreachable!(),
+        Some(made) => bounded(made),
+    }
+}
+
+/// What the table at a place becomes where it is divided by that at another one, which saves literals; an error only for want of
+/// memory.
+pub(crate) fn divided_at<R: Row>(
+    alloc: Global,
+    work: &Work<R>,
+    place: usize,
+    by: usize,
+) -> Result<Table<R>, AllocError>
+    requires { 0 < saved_at work.now.slots place by }
+    ensures is { IfOk result (λ made. (table other : TheWritten) → table_at work.now.slots place ≡ Some table → table_at work.now.slots by ≡ Some other → named table.output made ≡ resubbed_by other table) }
+    ensures over { IfOk result IsOverInputs }
+    ensures once { IfOk result (λ made. all_different made.inputs ≡ true) }
+    ensures bounded { IfOk result (λ made. (name : List ℕ) → IsBounded (named name made)) }
+{
+    match work.entry(place) {
+        None => unreachable!(),
+        Some(entry) => match work.entry(by) {
+            None => unreachable!(),
+            Some(by) => divided_by(alloc, entry, by),
+        },
+    }
+}
