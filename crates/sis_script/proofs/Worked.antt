@@ -1,12 +1,12 @@
--- Worked words of commands with options: `eliminate [-l ROWS] T`, where T is an integer, `tech_decomp [-a N] [-o N]`, and
--- `simplify [-m nocomp]`.
-use Rattle.std.proofs.Common.{◌≡◌, ℕ, Some, Result, Ok, Err, List, [], ◌∷◌, ℤ, pos, negsuc, refl}
+-- Worked words of commands with options: `eliminate [-l ROWS] T`, where T is an integer, `tech_decomp [-a N] [-o N]`,
+-- `simplify [-m nocomp]` and `resub [-a]`.
+use Rattle.std.proofs.Common.{◌≡◌, ℕ, Some, None, Result, Ok, Err, List, [], ◌∷◌, ℤ, pos, negsuc, refl}
 use Rattle.std.specs.Prelude.{codes}
 use Rattle.sis_text.specs.Decimals.{number_of}
 use Rattle.sis_script.specs.Kinds.{number_within, integer_of, value_of}
 use Rattle.sis_script.specs.Grammar.{fill, parse_at, parse}
-use Rattle.sis_script.specs.Script.{parse_words}
-use Rattle.sis_script.specs.declared.script.Verb.TheVariants as verb
+use Rattle.sis_script.specs.Script.{parse_change}
+use Rattle.sis_script.specs.declared.script.ChangeVerb.TheVariants as changing
 use Rattle.sis_script.specs.declared.command.ScriptFault.{ScriptFault}
 use Rattle.sis_script.specs.declared.command.ScriptFault.TheVariants.{BadOption, MissingWord}
 use Rattle.sis_script.specs.declared.kinds.Kind.TheVariants as kind
@@ -19,13 +19,16 @@ valued : ℕ → ℕ → ℕ → OptionForm
 valued letter least most = record { letter = letter; kind = Some (kind.Number least most) }
 
 eliminate : List (List ℕ) → Result Given ScriptFault
-eliminate words = parse_words verb.Eliminate words
+eliminate words = parse_change changing.Eliminate words
 
 tech_decomp : List (List ℕ) → Result Given ScriptFault
-tech_decomp words = parse_words verb.TechDecomp words
+tech_decomp words = parse_change changing.TechDecomp words
 
 simplify : List (List ℕ) → Result Given ScriptFault
-simplify words = parse_words verb.Simplify words
+simplify words = parse_change changing.Simplify words
+
+resub : List (List ℕ) → Result Given ScriptFault
+resub words = parse_change changing.Resub words
 
 with_number : ℕ → ℕ → OptionGiven
 with_number letter number = record { letter = letter; value = Some (value.Number number) }
@@ -119,3 +122,19 @@ method_lacks = refl
 other_method : simplify (codes "-m" ∷ codes "comp" ∷ []) ≡ Err BadOption
 unfolding simplify parse parse_at fill value_of
 other_method = refl
+
+no_letter : resub [] ≡ only_options []
+unfolding resub only_options parse parse_at fill
+no_letter = refl
+
+letter : resub (codes "-a" ∷ []) ≡ only_options (record { letter = 97; value = None } ∷ [])
+unfolding resub only_options parse parse_at fill
+letter = refl
+
+letter_twice : resub (codes "-a" ∷ codes "-a" ∷ []) ≡ Err BadOption
+unfolding resub parse parse_at fill
+letter_twice = refl
+
+other_letter : resub (codes "-d" ∷ []) ≡ Err BadOption
+unfolding resub parse parse_at fill
+other_letter = refl

@@ -1,12 +1,13 @@
 -- The commands of a script.
 -- Source: the SIS manual's command language (UCB/ERL M92/41): commands are parted by `;` and line ends, words by
 -- blanks, and `#` begins a comment. No quotes or escapes. What the words behind a command's name give is the grammar's.
-use Rattle.std.specs.Prelude.{ℕ, ◌==◌, Option, Some, None, Result, Ok, Err, List, [], ◌∷◌, bytes_eq, codes, find, min, unwrap_or, if◌then◌else◌}
+use Rattle.std.specs.Prelude.{ℕ, ◌==◌, Option, Some, None, Result, Ok, Err, List, [], ◌∷◌, bytes_eq, codes, find, min, option_map, unwrap_or, if◌then◌else◌}
 use Rattle.sis_text.specs.Entries.{Entry}
 use Rattle.sis_script.specs.Grammar.{parse}
 use Rattle.sis_script.specs.declared.command.Op.{Op}
 use Rattle.sis_script.specs.declared.command.Op.TheVariants.{Echo, Quit, ReadBlif, ReadKiss, ReadLibrary, WriteBlif, WriteKiss, PrintStats, Print, PrintLatch, PrintFactor, PrintKernel, Change, Undo, Source, Bad}
-use Rattle.sis_script.specs.declared.command.Change.TheVariants.{Sweep, Eliminate, Collapse, Simplify, Decomp, TechDecomp}
+use Rattle.sis_script.specs.declared.command.Change.{Change as NetworkChange}
+use Rattle.sis_script.specs.declared.command.Change.TheVariants.{Sweep, Eliminate, Collapse, Simplify, Fx, Gkx, Gcx, Resub, Decomp, TechDecomp}
 use Rattle.sis_script.specs.declared.command.ScriptFault.{ScriptFault}
 use Rattle.sis_script.specs.declared.command.ScriptFault.TheVariants.{BadCommand, MissingWord}
 use Rattle.sis_script.specs.declared.command.Command.{Command}
@@ -14,6 +15,8 @@ use Rattle.sis_script.specs.declared.script.FileVerb.{FileVerb}
 use Rattle.sis_script.specs.declared.script.FileVerb.TheVariants as of_file
 use Rattle.sis_script.specs.declared.script.WriteVerb.{WriteVerb}
 use Rattle.sis_script.specs.declared.script.WriteVerb.TheVariants as write
+use Rattle.sis_script.specs.declared.script.ChangeVerb.{ChangeVerb}
+use Rattle.sis_script.specs.declared.script.ChangeVerb.TheVariants as changing
 use Rattle.sis_script.specs.declared.script.Verb.{Verb}
 use Rattle.sis_script.specs.declared.script.Verb.TheVariants as verb
 use Rattle.sis_script.specs.declared.kinds.Kind.TheVariants as kind
@@ -129,16 +132,25 @@ abbrev pub tech_decomp_op : Result Given ScriptFault → Op
 tech_decomp_op (Ok given) = Change (TechDecomp (bound_behind 97 given.options) (bound_behind 111 given.options))
 tech_decomp_op (Err fault) = Bad fault
 
--- the commands by their names that change the network
-unfoldable pub change_of : List ℕ → Option Verb
-change_of word =
-    if bytes_eq word (codes "sweep") then Some verb.Sweep
-    else (if bytes_eq word (codes "eliminate") then Some verb.Eliminate
-    else (if bytes_eq word (codes "collapse") then Some verb.Collapse
-    else (if bytes_eq word (codes "simplify") then Some verb.Simplify
-    else (if bytes_eq word (codes "decomp") then Some verb.Decomp
-    else (if bytes_eq word (codes "tech_decomp") then Some verb.TechDecomp
+-- the commands by their names that change the network and have neither options nor other words
+unfoldable pub plain_change_of : List ℕ → Option NetworkChange
+plain_change_of word =
+    if bytes_eq word (codes "sweep") then Some Sweep
+    else (if bytes_eq word (codes "collapse") then Some Collapse
+    else (if bytes_eq word (codes "fx") then Some Fx
+    else (if bytes_eq word (codes "gkx") then Some Gkx
+    else (if bytes_eq word (codes "gcx") then Some Gcx
+    else (if bytes_eq word (codes "decomp") then Some Decomp
     else None)))))
+
+-- the commands by their names that change the network
+unfoldable pub change_of : List ℕ → Option ChangeVerb
+change_of word =
+    if bytes_eq word (codes "eliminate") then Some changing.Eliminate
+    else (if bytes_eq word (codes "simplify") then Some changing.Simplify
+    else (if bytes_eq word (codes "resub") then Some changing.Resub
+    else (if bytes_eq word (codes "tech_decomp") then Some changing.TechDecomp
+    else option_map changing.Plain (plain_change_of word))))
 
 -- the commands by their names; `echo` is none of them, since it takes any words
 unfoldable pub verb_of : List ℕ → Option Verb
@@ -156,7 +168,15 @@ verb_of word =
     else (if bytes_eq word (codes "print_kernel") then Some verb.PrintKernel
     else (if bytes_eq word (codes "undo") then Some verb.Undo
     else (if bytes_eq word (codes "source") then Some (verb.OfFile of_file.Source)
-    else change_of word))))))))))))
+    else option_map verb.Change (change_of word)))))))))))))
+
+-- the grammar of the commands that change the network
+abbrev pub parse_change : ChangeVerb → List (List ℕ) → Result Given ScriptFault
+parse_change (changing.Plain change) words = parse [] [] words
+parse_change changing.Eliminate words = parse (record { letter = 108; kind = Some (kind.Number 1 32767) } ∷ []) (Needed kind.Integer ∷ []) words
+parse_change changing.Simplify words = parse (record { letter = 109; kind = Some kind.NoComplement } ∷ []) [] words
+parse_change changing.Resub words = parse (record { letter = 97; kind = None } ∷ []) [] words
+parse_change changing.TechDecomp words = parse (record { letter = 97; kind = Some (kind.Number 2 1000) } ∷ record { letter = 111; kind = Some (kind.Number 2 1000) } ∷ []) [] words
 
 -- the grammar of each command: its options, then the slots for its other words
 abbrev pub parse_words : Verb → List (List ℕ) → Result Given ScriptFault
@@ -168,13 +188,17 @@ parse_words verb.Print words = parse [] (Optional kind.Name ∷ []) words
 parse_words verb.PrintLatch words = parse [] [] words
 parse_words verb.PrintFactor words = parse [] (Optional kind.Name ∷ []) words
 parse_words verb.PrintKernel words = parse [] (Needed kind.Name ∷ []) words
-parse_words verb.Sweep words = parse [] [] words
-parse_words verb.Eliminate words = parse (record { letter = 108; kind = Some (kind.Number 1 32767) } ∷ []) (Needed kind.Integer ∷ []) words
-parse_words verb.Collapse words = parse [] [] words
-parse_words verb.Simplify words = parse (record { letter = 109; kind = Some kind.NoComplement } ∷ []) [] words
-parse_words verb.Decomp words = parse [] [] words
-parse_words verb.TechDecomp words = parse (record { letter = 97; kind = Some (kind.Number 2 1000) } ∷ record { letter = 111; kind = Some (kind.Number 2 1000) } ∷ []) [] words
+parse_words (verb.Change which) words = parse_change which words
 parse_words verb.Undo words = parse [] [] words
+
+-- what each command that changes the network does, by what its words give; the options of `resub` and `simplify` are taken and ask for
+-- nothing else
+abbrev pub change_op : ChangeVerb → Result Given ScriptFault → Op
+change_op (changing.Plain change) given = plain_op (Change change) given
+change_op changing.Eliminate given = eliminate_op given
+change_op changing.Simplify given = plain_op (Change Simplify) given
+change_op changing.Resub given = plain_op (Change Resub) given
+change_op changing.TechDecomp given = tech_decomp_op given
 
 -- what each command does, by what its words give
 abbrev pub op_given : Verb → Result Given ScriptFault → Op
@@ -186,12 +210,7 @@ op_given verb.Print given = print_op (name_in given)
 op_given verb.PrintLatch given = plain_op PrintLatch given
 op_given verb.PrintFactor given = print_factor_op (name_in given)
 op_given verb.PrintKernel given = print_kernel_op (name_in given)
-op_given verb.Sweep given = plain_op (Change Sweep) given
-op_given verb.Eliminate given = eliminate_op given
-op_given verb.Collapse given = plain_op (Change Collapse) given
-op_given verb.Simplify given = plain_op (Change Simplify) given
-op_given verb.Decomp given = plain_op (Change Decomp) given
-op_given verb.TechDecomp given = tech_decomp_op given
+op_given (verb.Change which) given = change_op which given
 op_given verb.Undo given = plain_op Undo given
 
 -- a command by its verb, if its name is one

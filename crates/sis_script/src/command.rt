@@ -56,6 +56,14 @@ pub enum Change {
     Collapse,
     /// Makes each table minimal where its inputs' tables leave points free.
     Simplify,
+    /// Makes tables of sums of two cubes and of products of two literals, as long as that saves literals.
+    Fx,
+    /// Makes tables of kernels, as long as that saves literals.
+    Gkx,
+    /// Makes tables of cubes that rows share, as long as that saves literals.
+    Gcx,
+    /// Divides tables by others that stand already, as long as that saves literals.
+    Resub,
     /// Takes literals that rows of a table share out of them: what else these rows have becomes a table of its own.
     Decomp,
     /// Makes each table a product of at most so many literals, or a sum of at most so many of one literal each.

@@ -27,6 +27,9 @@ ghost use Rattle.sis_script.specs.Script.{
   tech_decomp_op,
   verb_of,
   write_op,
+  plain_change_of,
+  parse_change,
+  change_op,
 };
 
 use crate::command::{Change, Command, Commands, Op, RawWord, RawWords, ScriptFault};
@@ -52,6 +55,16 @@ enum WriteVerb {
     Kiss,
 }
 
+/// A command that changes the network: one without options and words, or one with its own.
+#[derive(Clone, Copy)]
+enum ChangeVerb {
+    Plain(Change),
+    Eliminate,
+    Simplify,
+    Resub,
+    TechDecomp,
+}
+
 /// A command whose words have a grammar.
 #[derive(Clone, Copy)]
 enum Verb {
@@ -63,12 +76,7 @@ enum Verb {
     PrintLatch,
     PrintFactor,
     PrintKernel,
-    Sweep,
-    Eliminate,
-    Collapse,
-    Simplify,
-    Decomp,
-    TechDecomp,
+    Change(ChangeVerb),
     Undo,
 }
 
@@ -256,25 +264,43 @@ fn tech_decomp_op(given: Result<Given, ScriptFault>) -> Op
     Op::Change(Change::TechDecomp(products, sums))
 }
 
-/// The command of a name that changes the network.
-#[tactic(auto, unfolding(crate::specs::Script::change_of))]
-fn change_of(name: &[u8]) -> Option<Verb>
-    ensures { result ≡ change_of name.now }
+/// The command of a name that changes the network and has no options.
+#[tactic(auto, unfolding(crate::specs::Script::plain_change_of))]
+fn plain_change_of(name: &[u8]) -> Option<Change>
+    ensures { result ≡ plain_change_of name.now }
 {
     if name == b"sweep".as_slice() {
-        Some(Verb::Sweep)
-    } else if name == b"eliminate".as_slice() {
-        Some(Verb::Eliminate)
+        Some(Change::Sweep)
     } else if name == b"collapse".as_slice() {
-        Some(Verb::Collapse)
-    } else if name == b"simplify".as_slice() {
-        Some(Verb::Simplify)
+        Some(Change::Collapse)
+    } else if name == b"fx".as_slice() {
+        Some(Change::Fx)
+    } else if name == b"gkx".as_slice() {
+        Some(Change::Gkx)
+    } else if name == b"gcx".as_slice() {
+        Some(Change::Gcx)
     } else if name == b"decomp".as_slice() {
-        Some(Verb::Decomp)
-    } else if name == b"tech_decomp".as_slice() {
-        Some(Verb::TechDecomp)
+        Some(Change::Decomp)
     } else {
         None
+    }
+}
+
+/// The command of a name that changes the network.
+#[tactic(auto, unfolding(crate::specs::Script::change_of))]
+fn change_of(name: &[u8]) -> Option<ChangeVerb>
+    ensures { result ≡ change_of name.now }
+{
+    if name == b"eliminate".as_slice() {
+        Some(ChangeVerb::Eliminate)
+    } else if name == b"simplify".as_slice() {
+        Some(ChangeVerb::Simplify)
+    } else if name == b"resub".as_slice() {
+        Some(ChangeVerb::Resub)
+    } else if name == b"tech_decomp".as_slice() {
+        Some(ChangeVerb::TechDecomp)
+    } else {
+        plain_change_of(name).map(ChangeVerb::Plain)
     }
 }
 
@@ -310,7 +336,7 @@ fn verb_of(name: &[u8]) -> Option<Verb>
     } else if name == b"source".as_slice() {
         Some(Verb::OfFile(FileVerb::Source))
     } else {
-        change_of(name)
+        change_of(name).map(Verb::Change)
     }
 }
 
@@ -321,6 +347,47 @@ fn valued(letter: u8, kind: Kind) -> OptionForm
     OptionForm {
         letter,
         kind: Some(kind),
+    }
+}
+
+/// An option without a value.
+fn bare(letter: u8) -> OptionForm
+    ensures { result ≡ record { letter = letter; kind = None } }
+{
+    OptionForm { letter, kind: None }
+}
+
+/// What the words of a command give that changes the network.
+fn parse_change(
+    alloc: Global,
+    verb: ChangeVerb,
+    source: &[u8],
+    words: &[Span],
+) -> Result<Result<Given, ScriptFault>, AllocError>
+    ensures { IfOk result (λ given. given ≡ parse_change verb (map (bytes_at source.now) words.now)) }
+{
+    match verb {
+        ChangeVerb::Plain(_) => parse(alloc, &[], &[], source, words),
+        ChangeVerb::Eliminate => {
+            let rows = valued(b'l', Kind::Number(1, 32_767));
+            parse(
+                alloc,
+                &[rows],
+                &[Slot::Needed(Kind::Integer)],
+                source,
+                words,
+            )
+        }
+        ChangeVerb::Simplify => {
+            let method = valued(b'm', Kind::NoComplement);
+            parse(alloc, &[method], &[], source, words)
+        }
+        ChangeVerb::Resub => parse(alloc, &[bare(b'a')], &[], source, words),
+        ChangeVerb::TechDecomp => {
+            let products = valued(b'a', Kind::Number(2, 1_000));
+            let sums = valued(b'o', Kind::Number(2, 1_000));
+            parse(alloc, &[products, sums], &[], source, words)
+        }
     }
 }
 
@@ -342,29 +409,21 @@ fn parse_words(
         Verb::PrintLatch => parse(alloc, &[], &[], source, words),
         Verb::PrintFactor => parse(alloc, &[], &[Slot::Optional(Kind::Name)], source, words),
         Verb::PrintKernel => parse(alloc, &[], &[Slot::Needed(Kind::Name)], source, words),
-        Verb::Sweep => parse(alloc, &[], &[], source, words),
-        Verb::Eliminate => {
-            let rows = valued(b'l', Kind::Number(1, 32_767));
-            parse(
-                alloc,
-                &[rows],
-                &[Slot::Needed(Kind::Integer)],
-                source,
-                words,
-            )
-        }
-        Verb::Collapse => parse(alloc, &[], &[], source, words),
-        Verb::Simplify => {
-            let method = valued(b'm', Kind::NoComplement);
-            parse(alloc, &[method], &[], source, words)
-        }
-        Verb::Decomp => parse(alloc, &[], &[], source, words),
-        Verb::TechDecomp => {
-            let products = valued(b'a', Kind::Number(2, 1_000));
-            let sums = valued(b'o', Kind::Number(2, 1_000));
-            parse(alloc, &[products, sums], &[], source, words)
-        }
+        Verb::Change(verb) => parse_change(alloc, verb, source, words),
         Verb::Undo => parse(alloc, &[], &[], source, words),
+    }
+}
+
+/// What a command does that changes the network, by what its words give.
+fn change_op(verb: ChangeVerb, given: Result<Given, ScriptFault>) -> Op
+    ensures { result ≡ change_op verb given }
+{
+    match verb {
+        ChangeVerb::Plain(change) => plain_op(Op::Change(change), given),
+        ChangeVerb::Eliminate => eliminate_op(given),
+        ChangeVerb::Simplify => plain_op(Op::Change(Change::Simplify), given),
+        ChangeVerb::Resub => plain_op(Op::Change(Change::Resub), given),
+        ChangeVerb::TechDecomp => tech_decomp_op(given),
     }
 }
 
@@ -381,12 +440,7 @@ fn op_given(verb: Verb, given: Result<Given, ScriptFault>) -> Op
         Verb::PrintLatch => plain_op(Op::PrintLatch, given),
         Verb::PrintFactor => print_factor_op(name_in(given)),
         Verb::PrintKernel => print_kernel_op(name_in(given)),
-        Verb::Sweep => plain_op(Op::Change(Change::Sweep), given),
-        Verb::Eliminate => eliminate_op(given),
-        Verb::Collapse => plain_op(Op::Change(Change::Collapse), given),
-        Verb::Simplify => plain_op(Op::Change(Change::Simplify), given),
-        Verb::Decomp => plain_op(Op::Change(Change::Decomp), given),
-        Verb::TechDecomp => tech_decomp_op(given),
+        Verb::Change(verb) => change_op(verb, given),
         Verb::Undo => plain_op(Op::Undo, given),
     }
 }

@@ -34,6 +34,12 @@ use Rattle.genlib_format.specs.declared.fault.LibFault.{LibFault}
 use Rattle.sweep_rules.proofs.Chaining.{chain_kept}
 use Rattle.elim_rules.specs.Collapsing.{collapsed}
 use Rattle.minimum_rules.specs.Simplified.{simplified}
+use Rattle.extract_rules.specs.Extracting.{IsExtracted}
+use Rattle.extract_rules.specs.declared.rule.Rule.{Rule as Extraction}
+use Rattle.extract_rules.specs.declared.rule.Rule.TheVariants as extract
+use Rattle.extract_rules.proofs.Keeping.{extracted_refines, reached_extended as extraction_extended}
+use Rattle.resub_rules.specs.Resubbed.{IsResubbed}
+use Rattle.resub_rules.proofs.Keeping.{resubbed_refines, reached_extended as resub_extended}
 use Rattle.decomp_rules.specs.Decomposed.{IsDecomposed}
 use Rattle.decomp_rules.specs.declared.rule.Rule.{Rule}
 use Rattle.decomp_rules.specs.declared.rule.Rule.TheVariants.{Shared, Gates}
@@ -43,7 +49,7 @@ use Rattle.minimum_rules.proofs.Simplifying.{simplified_reduced, simplified_refi
 use Rattle.elim_rules.proofs.Gathered.{collapse_reduced, collapse_refines}
 use Rattle.std.proofs.lemmas.Option.{same_Some}
 use Rattle.sis_script.specs.declared.command.Change.{Change}
-use Rattle.sis_script.specs.declared.command.Change.TheVariants.{Sweep, Eliminate, Collapse, Simplify, Decomp, TechDecomp}
+use Rattle.sis_script.specs.declared.command.Change.TheVariants.{Sweep, Eliminate, Collapse, Simplify, Fx, Gkx, Gcx, Resub, Decomp, TechDecomp}
 use Rattle.sis_script.specs.declared.command.Op.{Op}
 use Rattle.sis_script.specs.declared.command.Op.TheVariants.{Echo, Quit, ReadBlif, ReadKiss, ReadLibrary, WriteBlif, WriteKiss, PrintStats, Print, PrintLatch, PrintFactor, PrintKernel, Change as ChangeOp, Undo, Source, Bad}
 use Rattle.sis_session.specs.Commands.{Changes, ChangePlans, Plans, Prints, changed_by, spec_read, commands_in, last_read, latches_told, library_read, machine_read, machine_told, read_as, sends, stats_told, stays, tables_told, text_told, told_of, undo_plan}
@@ -200,6 +206,20 @@ decomposed_leads spec rule old new made before circuit same =
     let equal : new ≡ circuit = cc in
     (read, is, subst IsSound equal (reached_extended rule old new sound made.reached).change.sound, subst (RefinesRead read) equal (refines_on read old new refines (decomposed_refines rule old new sound made)))
 
+-- so does extraction
+extracted_leads : (spec : Option Spec) (rule : Extraction) (old new : Circuit) → IsExtracted rule old new → RefinesSpec spec (Some old) → RefinesSpec spec (Some new)
+extracted_leads spec rule old new made before circuit same =
+    let (read, is, sound, refines) = before old refl in
+    let equal : new ≡ circuit = cc in
+    (read, is, subst IsSound equal (extraction_extended rule old new sound made.reached).change.sound, subst (RefinesRead read) equal (refines_on read old new refines (extracted_refines rule old new sound made)))
+
+-- and resubstitution
+resubbed_leads : (spec : Option Spec) (old new : Circuit) → IsResubbed old new → RefinesSpec spec (Some old) → RefinesSpec spec (Some new)
+resubbed_leads spec old new made before circuit same =
+    let (read, is, sound, refines) = before old refl in
+    let equal : new ≡ circuit = cc in
+    (read, is, subst IsSound equal (resub_extended old new sound made.reached).change.sound, subst (RefinesRead read) equal (refines_on read old new refines (resubbed_refines old new sound made)))
+
 -- a change leads on: what it makes of a sound circuit is sound and refines it
 changed_refines : (spec : Option Spec) (change : Change) (old new : Circuit) → Changes change old (Ok new) → RefinesSpec spec (Some old) → RefinesSpec spec (Some new)
 changed_refines spec Sweep old new chain before circuit same =
@@ -219,6 +239,10 @@ changed_refines spec Simplify old new (none, made) before circuit same =
     let (read, is, sound, refines) = before old refl in
     let equal : simplified old ≡ circuit = sym made ∙ same_Some new circuit same in
     (read, is, subst IsSound equal (simplified_reduced old sound).change.sound, subst (RefinesRead read) equal (refines_on read old (simplified old) refines (simplified_refines old sound)))
+changed_refines spec Fx old new made before circuit same = extracted_leads spec extract.Fx old new made before circuit same
+changed_refines spec Gkx old new made before circuit same = extracted_leads spec extract.Gkx old new made before circuit same
+changed_refines spec Gcx old new made before circuit same = extracted_leads spec extract.Gcx old new made before circuit same
+changed_refines spec Resub old new made before circuit same = resubbed_leads spec old new made before circuit same
 changed_refines spec Decomp old new made before circuit same = decomposed_leads spec Shared old new made before circuit same
 changed_refines spec (TechDecomp products sums) old new made before circuit same = decomposed_leads spec (Gates products sums) old new made before circuit same
 

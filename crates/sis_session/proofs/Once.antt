@@ -21,14 +21,19 @@ use Rattle.table_algebra.specs.declared.taking.TakeFault.TheVariants.{CubeLimit,
 use Rattle.elim_rules.specs.Eliminating.{eliminate_step}
 use Rattle.elim_rules.specs.Collapsing.{collapse_refusal}
 use Rattle.minimum_rules.specs.Simplified.{simplify_refusal}
+use Rattle.extract_rules.specs.Extracting.{IsExtracted}
+use Rattle.extract_rules.specs.declared.rule.Rule.{Rule as Extraction}
+use Rattle.extract_rules.specs.declared.rule.Rule.TheVariants as extract
+use Rattle.extract_rules.proofs.Ends.{extracted_one, extracted_not_full, extracted_not_unlistable, full_not_unlistable, unlistable_one}
+use Rattle.resub_rules.proofs.Ends.{resubbed_one}
 use Rattle.decomp_rules.specs.declared.rule.Rule.{Rule}
 use Rattle.decomp_rules.specs.declared.rule.Rule.TheVariants.{Shared, Gates}
 use Rattle.decomp_rules.proofs.Ends.{decomposed_one, decomposed_not_full}
 use Rattle.sis_script.specs.declared.command.Change.{Change}
-use Rattle.sis_script.specs.declared.command.Change.TheVariants.{Sweep, Eliminate, Collapse, Simplify, Decomp, TechDecomp}
+use Rattle.sis_script.specs.declared.command.Change.TheVariants.{Sweep, Eliminate, Collapse, Simplify, Fx, Gkx, Gcx, Resub, Decomp, TechDecomp}
 use Rattle.sis_script.specs.declared.command.Op.{Op}
 use Rattle.sis_script.specs.declared.command.Op.TheVariants.{Echo, Quit, ReadBlif, ReadKiss, ReadLibrary, WriteBlif, WriteKiss, PrintStats, Print, PrintLatch, PrintFactor, PrintKernel, Change as ChangeOp, Undo, Source, Bad}
-use Rattle.sis_session.specs.Commands.{ChangePlans, IsCollapseRefusal, IsSimplifyRefusal, Decomposes, FactorsTold, FactorTold, KernelsOf, KernelsTold, KernelTold, Plans, Prints, ToldBy, changed_by, sends}
+use Rattle.sis_session.specs.Commands.{ChangePlans, IsCollapseRefusal, IsSimplifyRefusal, Decomposes, Extracts, IsExtractionRefusal, FactorsTold, FactorTold, KernelsOf, KernelsTold, KernelTold, Plans, Prints, ToldBy, changed_by, sends}
 use Rattle.sis_session.specs.Keeping.{ChangesOnce}
 use Rattle.sis_session.specs.Plan.{Asked, Nothing, OnStore, OnOut, OnInput, Comes, ComesLoaded, ComesSaved, ComesPut, ComesTaken, ComesPiece, Cut, Done, Ending, Goes, Loads, Outcome, Does, Refuses, Plan, Quiet, Puts, Refused, Saves, Takes, Steps, by_plan, no_memory}
 use Rattle.sis_session.specs.State.{Held}
@@ -161,12 +166,40 @@ decomposes_once rule old (Ok one) (Err why) h k = absurd (decomposed_not_full ru
 decomposes_once rule old (Err why) (Ok other) h k = absurd (decomposed_not_full rule old other k h.0)
 decomposes_once rule old (Err why) (Err other) h k = ap (λ (r : Refusal). Err r) (h.1 ∙ sym k.1)
 
+-- extraction makes one thing of each network by each rule, whatever it comes to
+extraction_refusals_once : (rule : Extraction) (old : Circuit) (why other : Refusal) → IsExtractionRefusal rule old why → IsExtractionRefusal rule old other → why ≡ other
+extraction_refusals_once rule old why other (inl (name, many, is)) (inl (next, more, same)) =
+    is ∙ (ap (λ (n : List ℕ). refusal.KernelLimit n) (unlistable_one rule old name next many more) ∙ sym same)
+extraction_refusals_once rule old why other (inl (name, many, is)) (inr (full, same)) = absurd (full_not_unlistable rule old name full many)
+extraction_refusals_once rule old why other (inr (full, is)) (inl (name, many, same)) = absurd (full_not_unlistable rule old name full many)
+extraction_refusals_once rule old why other (inr (full, is)) (inr (over, same)) = is ∙ sym same
+
+not_extracted : (rule : Extraction) (old new : Circuit) (why : Refusal) → IsExtracted rule old new → IsExtractionRefusal rule old why → ⊥
+not_extracted rule old new why made (inl (name, many, is)) = extracted_not_unlistable rule old new name made many
+not_extracted rule old new why made (inr (full, is)) = extracted_not_full rule old new made full
+
+extracts_once : (rule : Extraction) (old : Circuit) (one other : Result Circuit Refusal) → Extracts rule old one → Extracts rule old other → one ≡ other
+extracts_once rule old (Ok one) (Ok other) h k = ap (λ (c : Circuit). Ok c) (extracted_one rule old one other h k)
+extracts_once rule old (Ok one) (Err why) h k = absurd (not_extracted rule old one why h k)
+extracts_once rule old (Err why) (Ok other) h k = absurd (not_extracted rule old other why k h)
+extracts_once rule old (Err why) (Err other) h k = ap (λ (r : Refusal). Err r) (extraction_refusals_once rule old why other h k)
+
+-- and resubstitution
+resubs_once : ChangesOnce Resub
+resubs_once old (Ok one) (Ok other) h k = ap (λ (c : Circuit). Ok c) (resubbed_one old one other h k)
+resubs_once old (Ok one) (Err why) h k = absurd k
+resubs_once old (Err why) other h k = absurd h
+
 -- each change makes one thing of each network
 pub changes_once : (change : Change) → ChangesOnce change
 changes_once Sweep = sweeps_once
 changes_once (Eliminate threshold rows) = eliminations_once threshold rows
 changes_once Collapse = collapses_once
 changes_once Simplify = simplifies_once
+changes_once Fx = extracts_once extract.Fx
+changes_once Gkx = extracts_once extract.Gkx
+changes_once Gcx = extracts_once extract.Gcx
+changes_once Resub = resubs_once
 changes_once Decomp = decomposes_once Shared
 changes_once (TechDecomp products sums) = decomposes_once (Gates products sums)
 

@@ -12,6 +12,8 @@ use Rattle.algebra_texts.specs.Told.{HasManyKernels}
 use Rattle.table_algebra.specs.declared.taking.TakeFault.{TakeFault}
 use Rattle.elim_rules.specs.Collapsing.{collapse_refusal}
 use Rattle.minimum_rules.specs.Simplified.{simplify_refusal}
+use Rattle.extract_rules.specs.declared.rule.Rule.{Rule as Extraction}
+use Rattle.extract_rules.specs.declared.rule.Rule.TheVariants as extract
 use Rattle.decomp_rules.specs.Decomposed.{IsFull}
 use Rattle.decomp_rules.specs.declared.rule.Rule.TheVariants.{Shared, Gates}
 use Rattle.machine_model.specs.Text.{text_of as machine_text_of}
@@ -20,11 +22,11 @@ use Rattle.blif_read.specs.Reader.{read_lines}
 use Rattle.kiss_format.specs.Reader.{read_lines as machine_lines_read}
 use Rattle.genlib_format.specs.Reader.{library_of}
 use Rattle.sis_script.specs.declared.command.Change.{Change}
-use Rattle.sis_script.specs.declared.command.Change.TheVariants.{Sweep, Eliminate, Collapse, Simplify, Decomp, TechDecomp}
+use Rattle.sis_script.specs.declared.command.Change.TheVariants.{Sweep, Eliminate, Collapse, Simplify, Fx, Gkx, Gcx, Resub, Decomp, TechDecomp}
 use Rattle.sis_script.specs.declared.command.Op.{Op}
 use Rattle.sis_script.specs.declared.command.Op.TheVariants.{Echo, Quit, ReadBlif, ReadKiss, ReadLibrary, WriteBlif, WriteKiss, PrintStats, Print, PrintLatch, PrintFactor, PrintKernel, Change as ChangeOp, Undo, Source, Bad}
-use Rattle.sis_session.specs.Commands.{ChangePlans, IsCollapseRefusal, IsSimplifyRefusal, Decomposes, FactorsTold, FactorTold, KernelsOf, KernelsTold, KernelTold, Plans, Prints, ToldBy, commands_in, spec_read, latches_told, library_read, machine_read, machine_told, named_told, read_as, sends, source_plan, stats_told, stays, tables_told, text_told, told_of, undo_plan}
-use Rattle.sis_session.specs.Keeping.{Allows, HasBytes, HasKernels, HasMachine, HasNeeds, HasNetwork, HasTable, IsAnswered, IsServed}
+use Rattle.sis_session.specs.Commands.{ChangePlans, IsCollapseRefusal, IsSimplifyRefusal, Decomposes, Extracts, FactorsTold, FactorTold, KernelsOf, KernelsTold, KernelTold, Plans, Prints, ToldBy, commands_in, spec_read, latches_told, library_read, machine_read, machine_told, named_told, read_as, sends, source_plan, stats_told, stays, tables_told, text_told, told_of, undo_plan}
+use Rattle.sis_session.specs.Keeping.{Allows, IsExtractable, HasBytes, HasKernels, HasMachine, HasNeeds, HasNetwork, HasTable, IsAnswered, IsServed}
 use Rattle.sis_session.specs.Plan.{MAX_DEPTH, Asked, Nothing, OnStore, OnOut, OnInput, Comes, ComesPut, Cut, Done, Ending, Goes, Loads, Outcome, Does, Refuses, Plan, Quiet, Puts, Saves, Steps, by_plan, no_memory}
 use Rattle.sis_session.specs.State.{Held, Library, with_spec, with_machine, with_library, with_changed, with_exchanged}
 use Rattle.sis_session.specs.declared.refusal.Failed.TheVariants as failed
@@ -148,6 +150,11 @@ source_works depth held name shallow =
     subst (λ (b : Bool). Works held (Source name) (if b then Loads name (λ bytes. Does held (Script (commands_in bytes))) else Quiet (Refuses refusal.Nested))) (sym here)
     (loads_works held (Source name) name (λ bytes. Does held (Script (commands_in bytes))) (λ bytes ending has comes. does_done held (Script (commands_in bytes)) ending comes))
 
+-- a network whose extraction comes neither to a table with too many kernels nor to one without room is not refused
+extractable_works : (rule : Extraction) (circuit : Circuit) (why : Refusal) → IsExtractable rule circuit → Extracts rule circuit (Err why) → ⊥
+extractable_works rule circuit why may (inl (name, many, is)) = may.0 name many
+extractable_works rule circuit why may (inr (full, is)) = may.1 full
+
 change_works : (held : Held) (change : Change) (network : Option Circuit) (plan : Plan) (old : Circuit) → network ≡ Some old → Allows change old
     → ChangePlans held change network plan → Works held (ChangeOp change) plan
 change_works held change None plan old there allows planned = cc
@@ -164,6 +171,17 @@ change_works held Simplify (Some circuit) plan old there allows (Ok new, changes
 change_works held Simplify (Some circuit) plan old there allows (Err why, changes, is) =
     let same : old ≡ circuit = cc in
     absurd (subst (λ (found : Option (List ℕ)). IsSimplifyRefusal found why) (subst (λ (c : Circuit). simplify_refusal c ≡ None) same allows) changes)
+change_works held Fx (Some circuit) plan old there allows (Ok new, changes, is) = subst (Works held (ChangeOp Fx)) (sym is) (quiet_works (ChangeOp Fx) held (with_changed held new) Go)
+change_works held Fx (Some circuit) plan old there allows (Err why, changes, is) =
+    let same : old ≡ circuit = cc in absurd (extractable_works extract.Fx circuit why (subst (IsExtractable extract.Fx) same allows) changes)
+change_works held Gkx (Some circuit) plan old there allows (Ok new, changes, is) = subst (Works held (ChangeOp Gkx)) (sym is) (quiet_works (ChangeOp Gkx) held (with_changed held new) Go)
+change_works held Gkx (Some circuit) plan old there allows (Err why, changes, is) =
+    let same : old ≡ circuit = cc in absurd (extractable_works extract.Gkx circuit why (subst (IsExtractable extract.Gkx) same allows) changes)
+change_works held Gcx (Some circuit) plan old there allows (Ok new, changes, is) = subst (Works held (ChangeOp Gcx)) (sym is) (quiet_works (ChangeOp Gcx) held (with_changed held new) Go)
+change_works held Gcx (Some circuit) plan old there allows (Err why, changes, is) =
+    let same : old ≡ circuit = cc in absurd (extractable_works extract.Gcx circuit why (subst (IsExtractable extract.Gcx) same allows) changes)
+change_works held Resub (Some circuit) plan old there allows (Ok new, changes, is) = subst (Works held (ChangeOp Resub)) (sym is) (quiet_works (ChangeOp Resub) held (with_changed held new) Go)
+change_works held Resub (Some circuit) plan old there allows (Err why, changes, is) = absurd changes
 change_works held Decomp (Some circuit) plan old there allows (Ok new, changes, is) = subst (Works held (ChangeOp Decomp)) (sym is) (quiet_works (ChangeOp Decomp) held (with_changed held new) Go)
 change_works held Decomp (Some circuit) plan old there allows (Err why, changes, is) =
     let same : old ≡ circuit = cc in absurd (subst (λ (c : Circuit). IsFull Shared c → ⊥) same allows changes.0)

@@ -2,7 +2,7 @@
 -- Source: the SIS manual (UCB/ERL M92/41), the commands; the order of refusals is the project's own: a command's words, then
 -- how deep scripts are nested, then the parts that it needs, then names, then the file that it loads, then what is read of it,
 -- then the command's own limits.
-use Rattle.std.specs.Prelude.{◌≡◌, ℕ, Option, Some, None, Result, Ok, Err, List, nat_lt, flat_map, map, if◌then◌else◌}
+use Rattle.std.specs.Prelude.{◌≡◌, ◌⊎◌, ℕ, Option, Some, None, Result, Ok, Err, List, nat_lt, flat_map, map, if◌then◌else◌}
 use Rattle.sis_base.specs.Written.{lines_text}
 use Rattle.sis_text.specs.Entries.{entries_of, script_entries_of}
 use Rattle.circuit_model.specs.Text.{text_of, table_lines, latch_line}
@@ -22,6 +22,10 @@ use Rattle.table_algebra.specs.declared.taking.TakeFault.{TakeFault}
 use Rattle.table_algebra.specs.declared.taking.TakeFault.TheVariants.{CubeLimit, TooWide}
 use Rattle.elim_rules.specs.Eliminating.{eliminate_step}
 use Rattle.minimum_rules.specs.Simplified.{simplified, simplify_refusal}
+use Rattle.extract_rules.specs.Extracting.{IsExtracted, IsUnlistable, IsFull as IsExtractionFull}
+use Rattle.extract_rules.specs.declared.rule.Rule.{Rule as Extraction}
+use Rattle.extract_rules.specs.declared.rule.Rule.TheVariants as extract
+use Rattle.resub_rules.specs.Resubbed.{IsResubbed}
 use Rattle.decomp_rules.specs.Decomposed.{IsDecomposed, IsFull}
 use Rattle.decomp_rules.specs.declared.rule.Rule.{Rule}
 use Rattle.decomp_rules.specs.declared.rule.Rule.TheVariants.{Shared, Gates}
@@ -29,7 +33,7 @@ use Rattle.elim_rules.specs.Collapsing.{collapsed, collapse_refusal}
 use Rattle.sis_script.specs.Script.{command_of}
 use Rattle.sis_script.specs.declared.command.Command.{Command}
 use Rattle.sis_script.specs.declared.command.Change.{Change}
-use Rattle.sis_script.specs.declared.command.Change.TheVariants.{Sweep, Eliminate, Collapse, Simplify, Decomp, TechDecomp}
+use Rattle.sis_script.specs.declared.command.Change.TheVariants.{Sweep, Eliminate, Collapse, Simplify, Fx, Gkx, Gcx, Resub, Decomp, TechDecomp}
 use Rattle.sis_script.specs.declared.command.Op.{Op}
 use Rattle.sis_script.specs.declared.command.Op.TheVariants.{Echo, Quit, ReadBlif, ReadKiss, ReadLibrary, WriteBlif, WriteKiss, PrintStats, Print, PrintLatch, PrintFactor, PrintKernel, Change as ChangeOp, Undo, Source, Bad}
 use Rattle.sis_session.specs.Plan.{MAX_DEPTH, Outcome, Does, Refuses, Plan, Quiet, Loads, Saves, replies}
@@ -149,10 +153,22 @@ abbrev pub Decomposes : Rule → Circuit → Result Circuit Refusal → Type 0
 Decomposes rule old (Ok new) = IsDecomposed rule old new
 Decomposes rule old (Err why) = IsFull rule old × (why ≡ refusal.NodeLimit)
 
+-- why a network is not extracted by a rule: its steps come to a first table with too many kernels, or to a network that has no room for
+-- the next table
+abbrev pub IsExtractionRefusal : Extraction → Circuit → Refusal → Type 0
+IsExtractionRefusal rule old why =
+    ((name : List ℕ) × IsUnlistable rule old name × (why ≡ refusal.KernelLimit name)) ⊎ (IsExtractionFull rule old × (why ≡ refusal.NodeLimit))
+
+-- a network is extracted by a rule, or refused
+abbrev pub Extracts : Extraction → Circuit → Result Circuit Refusal → Type 0
+Extracts rule old (Ok new) = IsExtracted rule old new
+Extracts rule old (Err why) = IsExtractionRefusal rule old why
+
 -- What a command that changes the network makes of it: a new network, or a refusal. `sweep`, `eliminate`: steps are taken until none
 -- applies. `collapse`: all tables are taken into their readers, or the first that cannot take one in is told. `simplify`: each table
--- becomes minimal in its turn, or the first whose list is too long is told. `decomp`, `tech_decomp`: tables are parted until all are
--- done, or there is no room.
+-- becomes minimal in its turn, or the first whose list is too long is told. `fx`, `gkx`, `gcx`: candidates become tables as long as one
+-- saves literals, or the first table with too many kernels is told, or there is no room. `resub`: tables are divided by others as long as
+-- that saves literals. `decomp`, `tech_decomp`: tables are parted until all are done, or there is no room.
 abbrev pub Changes : Change → Circuit → Result Circuit Refusal → Type 0
 Changes Sweep old (Ok new) = Chain sweep_step old new
 Changes Sweep old (Err why) = ⊥
@@ -162,6 +178,11 @@ Changes Collapse old (Ok new) = (collapse_refusal old ≡ None) × (new ≡ coll
 Changes Collapse old (Err why) = IsCollapseRefusal (collapse_refusal old) why
 Changes Simplify old (Ok new) = (simplify_refusal old ≡ None) × (new ≡ simplified old)
 Changes Simplify old (Err why) = IsSimplifyRefusal (simplify_refusal old) why
+Changes Fx old what = Extracts extract.Fx old what
+Changes Gkx old what = Extracts extract.Gkx old what
+Changes Gcx old what = Extracts extract.Gcx old what
+Changes Resub old (Ok new) = IsResubbed old new
+Changes Resub old (Err why) = ⊥
 Changes Decomp old what = Decomposes Shared old what
 Changes (TechDecomp products sums) old what = Decomposes (Gates products sums) old what
 

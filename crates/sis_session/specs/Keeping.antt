@@ -24,9 +24,12 @@ use Rattle.genlib_format.specs.Reader.{library_of}
 use Rattle.sis_script.specs.declared.command.Op.{Op}
 use Rattle.sis_script.specs.declared.command.Op.TheVariants.{Echo, Quit, ReadBlif, ReadKiss, ReadLibrary, WriteBlif, WriteKiss, PrintStats, Print, PrintLatch, PrintFactor, PrintKernel, Change as ChangeOp, Undo, Source, Bad}
 use Rattle.sis_script.specs.declared.command.Change.{Change}
-use Rattle.sis_script.specs.declared.command.Change.TheVariants.{Sweep, Eliminate, Collapse, Simplify, Decomp, TechDecomp}
+use Rattle.sis_script.specs.declared.command.Change.TheVariants.{Sweep, Eliminate, Collapse, Simplify, Fx, Gkx, Gcx, Resub, Decomp, TechDecomp}
 use Rattle.elim_rules.specs.Collapsing.{collapse_refusal}
 use Rattle.minimum_rules.specs.Simplified.{simplify_refusal}
+use Rattle.extract_rules.specs.Extracting.{IsUnlistable, IsFull as IsExtractionFull}
+use Rattle.extract_rules.specs.declared.rule.Rule.{Rule as Extraction}
+use Rattle.extract_rules.specs.declared.rule.Rule.TheVariants as extract
 use Rattle.decomp_rules.specs.Decomposed.{IsFull}
 use Rattle.decomp_rules.specs.declared.rule.Rule.TheVariants.{Shared, Gates}
 use Rattle.sis_session.specs.Commands.{Changes}
@@ -102,12 +105,20 @@ abbrev pub HasKernels : Option Circuit → List ℕ → Type 0
 HasKernels network name =
     (circuit : Circuit) × (network ≡ Some circuit) × (table : Table) × (driver circuit.tables name ≡ Some table) × (HasManyKernels table → ⊥)
 
+-- extraction by a rule comes neither to a table with too many kernels nor to a network without room
+abbrev pub IsExtractable : Extraction → Circuit → Type 0
+IsExtractable rule circuit = ((name : List ℕ) → IsUnlistable rule circuit name → ⊥) × (IsExtractionFull rule circuit → ⊥)
+
 -- what a change needs of the network so that it is not refused
 abbrev pub Allows : Change → Circuit → Type 0
 Allows Sweep circuit = Unit {0}
 Allows (Eliminate threshold rows) circuit = Unit {0}
 Allows Collapse circuit = collapse_refusal circuit ≡ None
 Allows Simplify circuit = simplify_refusal circuit ≡ None
+Allows Fx circuit = IsExtractable extract.Fx circuit
+Allows Gkx circuit = IsExtractable extract.Gkx circuit
+Allows Gcx circuit = IsExtractable extract.Gcx circuit
+Allows Resub circuit = Unit {0}
 Allows Decomp circuit = IsFull Shared circuit → ⊥
 Allows (TechDecomp products sums) circuit = IsFull (Gates products sums) circuit → ⊥
 

@@ -6,16 +6,20 @@ ghost use Rattle.circuit_laws.specs.Chains.{Chain};
 ghost use Rattle.elim_rules.specs.Eliminating.{eliminate_step};
 ghost use Rattle.net_core.specs.Reads.{HasBounds};
 ghost use Rattle.sis_script.specs.declared.command.Change.TheVariants.{Collapse, Simplify};
-ghost use Rattle.sis_session.specs.Commands.{Decomposes};
+ghost use Rattle.resub_rules.specs.Resubbed.{IsResubbed};
+ghost use Rattle.sis_session.specs.Commands.{Decomposes, Extracts};
 ghost use Rattle.sis_session.specs.Methods.{IsChanged, IsMadeBy};
 
 use crate::refusal::{Refusal, StepFault};
 use cube_cover::PlainRow;
 use decomp_rules::Rule;
+use extract_rules::Rule as Extraction;
 use net_collapse::{CollapseFault, collapse};
 use net_core::{AddFault, Network};
 use net_decomp::decompose;
 use net_elim::eliminated;
+use net_extract::{ExtractFault, extract};
+use net_resub::resubbed;
 use net_sweep::{SweepFault, swept_copy};
 use sdc_simplify::{SimplifyFault, simplify};
 use sis_script::Change;
@@ -75,6 +79,41 @@ fn simplified_copy(
     }
 }
 
+/// A network after extraction by a rule, or the refusal of a table with too many kernels, or of one table more.
+fn extracted_copy(
+    alloc: Global,
+    network: &Network<PlainRow>,
+    rule: Extraction,
+) -> Result<Network<PlainRow>, StepFault>
+    requires { HasBounds network.now }
+    ensures extracted { IsMadeBy (Extracts rule network.now) result }
+    ensures bounds { IfOk result HasBounds }
+{
+    let copy = network.copy(alloc)?;
+    match extract(alloc, copy, rule) {
+        Ok(new) => Ok(new),
+        Err(ExtractFault::KernelLimit(name)) => {
+            Err(StepFault::Refused(Refusal::KernelLimit(name)))
+        }
+        Err(ExtractFault::NodeLimit) => Err(StepFault::Refused(Refusal::NodeLimit)),
+        Err(ExtractFault::Memory) => Err(StepFault::Memory),
+    }
+}
+
+/// A network after resubstitution.
+fn resubbed_copy(
+    alloc: Global,
+    network: &Network<PlainRow>,
+) -> Result<Network<PlainRow>, AllocError>
+    requires { HasBounds network.now }
+    ensures resubbed { IfOk result (λ new. IsResubbed network.now new) }
+    ensures bounds { IfOk result HasBounds }
+{
+    let copy = network.copy(alloc)?;
+    let new = resubbed(alloc, copy)?;
+    Ok(new)
+}
+
 /// A network after decomposition by a rule, or the refusal where there is no room.
 fn decomposed_copy(
     alloc: Global,
@@ -117,6 +156,13 @@ pub fn changed(
         }
         Change::Collapse => collapsed_copy(alloc, network),
         Change::Simplify => simplified_copy(alloc, network),
+        Change::Fx => extracted_copy(alloc, network, Extraction::Fx),
+        Change::Gkx => extracted_copy(alloc, network, Extraction::Gkx),
+        Change::Gcx => extracted_copy(alloc, network, Extraction::Gcx),
+        Change::Resub => match resubbed_copy(alloc, network) {
+            Ok(new) => Ok(new),
+            Err(_) => Err(StepFault::Memory),
+        },
         Change::Decomp => decomposed_copy(alloc, network, Rule::Shared),
         Change::TechDecomp(products, sums) => decomposed_copy(
             alloc,
