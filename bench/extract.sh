@@ -1,39 +1,57 @@
 #!/usr/bin/env bash
-# Decomposes with `sis`, and reports the time and the peak memory beside `sweep` on the same file: a random circuit of two-input tables, as it
-# is and after `eliminate 4`, and one table of 20 inputs and 400 random rows. ABC (Debian's berkeley-abc) has no command of this kind; `st`, by
-# which it makes a graph of two-input nodes of the same file, stands beside them, told as what it is.
+# Extracts, resubstitutes and decomposes with `sis`, and reports the time and the peak memory beside `sweep` on the same file: random circuits
+# of two-input tables, as they are and after `eliminate`, and tables of random rows. `fx` stands beside ABC's `fx` (Debian's berkeley-abc), which
+# looks at two-cube and two-literal divisors as well, with weights of its own; ABC has no command like the others: `st`, by which it makes a graph
+# of two-input nodes of the same file, stands beside them, told as what it is.
 # Usage: bench/extract.sh [TABLES ..]   (2000 and 20000 where none is named)
 set -u
 top=$(cd "$(dirname "$0")/.." && pwd) || exit 1
 . "$top/bench/common.sh" || exit 1
 sizes=("$@"); [ ${#sizes[@]} -gt 0 ] || sizes=(2000 20000)
 
-each() { # what is measured, and what comes before it
-  echo "$1"
-  for command in sweep decomp tech_decomp; do
-    echo " ${2:-}$command"
+each() { # what is measured, and the commands
+  echo "$1"; shift
+  for command in "$@"; do
+    echo " $command"
     case $command in
-      sweep) compare "${2:-}sweep" sweep ;;
-      *) compare "${2:-}$command" "st" ;;
+      sweep | fx) compare "$command" "$command" ;;
+      *) compare "$command" "st" ;;
     esac
   done
 }
 
-for tables in "${sizes[@]}"; do
-  random "$tables" >"$work/a.blif"
-  each "random circuit of $tables tables"
-  each "the same after eliminate 4" "eliminate 4; "
-done
+after() { # commands that change the file before anything is measured
+  (cd "$work" && "$top/out/sis" -c "read_blif a.blif; $1; write_blif made.blif" && mv made.blif a.blif)
+}
 
-python3 - >"$work/a.blif" <<'PY'
-x = 1
+rows() { # inputs and rows of a table of random rows
+  python3 - "$1" "$2" <<'PY'
+import sys
+width, count, x = int(sys.argv[1]), int(sys.argv[2]), 1
 def pick(m):
     global x
     x = (x * 6364136223846793005 + 1442695040888963407) % 2**64
     return (x >> 33) % m
-inputs = " ".join(f"i{k}" for k in range(20))
+inputs = " ".join(f"i{k}" for k in range(width))
 print(f".model one\n.inputs {inputs}\n.outputs y\n.names {inputs} y")
-for _ in range(400): print("".join("01-"[pick(3)] for _ in range(20)), 1)
+for _ in range(count): print("".join("01-"[pick(3)] for _ in range(width)), 1)
 print(".end")
 PY
-each "a table of 20 inputs and 400 random rows"
+}
+
+for tables in "${sizes[@]}"; do
+  random "$tables" >"$work/a.blif"
+  each "random circuit of $tables tables" sweep resub decomp tech_decomp
+  after "eliminate 4"
+  each "the same after eliminate 4" sweep fx resub decomp tech_decomp
+done
+
+random 3000 >"$work/a.blif"
+after "eliminate 2"
+each "random circuit of 3000 tables after eliminate 2" sweep fx gkx gcx
+
+rows 40 200 >"$work/a.blif"
+each "a table of 40 inputs and 200 random rows" sweep fx
+
+rows 20 400 >"$work/a.blif"
+each "a table of 20 inputs and 400 random rows" sweep decomp tech_decomp
