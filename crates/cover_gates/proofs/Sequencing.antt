@@ -13,7 +13,7 @@ use Rattle.subject_tree.specs.Tables.{trees_of}
 use Rattle.subject_tree.specs.declared.arena.Vertex.{Vertex}
 use Rattle.subject_tree.specs.declared.arena.Vertex.TheVariants.{Leaf as VertexLeaf, Inv as VertexInv, Nand as VertexNand}
 use Rattle.tree_cover.specs.Covers.{Tile, leaf_cover, Least, LeastOfAll, IsGiven, Stands}
-use Rattle.tree_cover.specs.Candidates.{cost_at, IsChoice, AreMade}
+use Rattle.tree_cover.specs.Candidates.{choice_at, cost_at, IsChoice, AreMade}
 use Rattle.tree_cover.specs.declared.choice.Choice.{Choice}
 use Rattle.tree_cover.proofs.Valuing.{leasts-one}
 use Rattle.cover_gates.specs.declared.writing.Signal.{Signal}
@@ -22,7 +22,7 @@ use Rattle.cover_gates.specs.declared.writing.CoverGate.{CoverGate}
 use Rattle.cover_gates.specs.declared.writing.Step.{Step}
 use Rattle.cover_gates.specs.declared.writing.Step.TheVariants.{Visit}
 use Rattle.cover_gates.specs.Written.{IsWritten, written_leaf, written_gate, AreWritten, none_written, more_written, area_at}
-use Rattle.cover_gates.specs.Postorder.{Event, meet, put, choice_at, events_by, postorder, Progress, gate_put, after_event, after, to_come}
+use Rattle.cover_gates.specs.Postorder.{Event, meet, put, events_by, postorder, Progress, gate_put, after_event, after, to_come}
 use Rattle.cover_gates.proofs.Walking.{back_nothing}
 
 -- the areas of gates, together

@@ -8,12 +8,13 @@ use Rattle.subject_tree.specs.Arenas.{vertex_at}
 use Rattle.subject_tree.specs.declared.arena.Vertex.{Vertex}
 use Rattle.subject_tree.specs.declared.arena.Vertex.TheVariants.{Leaf as VertexLeaf, Inv as VertexInv, Nand as VertexNand}
 use Rattle.tree_cover.specs.declared.choice.Choice.{Choice}
+use Rattle.tree_cover.specs.Candidates.{choice_at}
 use Rattle.cover_gates.specs.declared.writing.Signal.{Signal}
 use Rattle.cover_gates.specs.declared.writing.Signal.TheVariants.{Gate as AtGate}
 use Rattle.cover_gates.specs.declared.writing.CoverGate.{CoverGate}
 use Rattle.cover_gates.specs.declared.writing.Step.{Step}
 use Rattle.cover_gates.specs.declared.writing.Step.TheVariants.{Visit, Write}
-use Rattle.cover_gates.specs.Postorder.{Event, put, choice_at, AreBelow, events_by, postorder, after, visits, planned, to_come, turns_of, StepBelow, leaf_signals, first_steps}
+use Rattle.cover_gates.specs.Postorder.{Event, put, AreBelow, events_by, postorder, after, visits, planned, to_come, turns_of, StepBelow, leaf_signals, first_steps}
 
 pub back_nothing : {X : Type 0} (xs : List X) → xs ++ [] ≡ xs
 back_nothing [] = refl

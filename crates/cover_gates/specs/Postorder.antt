@@ -1,21 +1,18 @@
 -- How the gates of a cover are written: vertices in postorder, over a stack of signals.
 -- Source: Knuth, "The Art of Computer Programming", volume 1, section 2.3.1: a tree in postorder, by a stack and without
 -- recursion, and the value of a formula in postfix order by a stack of its operands.
-use Rattle.std.specs.Prelude.{◌≡◌, ℕ, zero, suc, ◌*◌, ◌-◌, ◌<◌, Some, List, [], ◌∷◌, ◌++◌, length, take, drop, slice_get, slice_index_or, fold}
+use Rattle.std.specs.Prelude.{◌≡◌, ℕ, zero, suc, ◌*◌, ◌-◌, ◌<◌, Some, List, [], ◌∷◌, ◌++◌, length, take, drop, slice_get, fold}
 use Rattle.std.specs.List.{AllByRecursion, flat_map}
 use Rattle.subject_tree.specs.Arenas.{vertex_at}
 use Rattle.subject_tree.specs.declared.arena.Vertex.{Vertex}
 use Rattle.subject_tree.specs.declared.arena.Vertex.TheVariants.{Leaf as VertexLeaf, Inv as VertexInv, Nand as VertexNand}
 use Rattle.tree_cover.specs.declared.choice.Choice.{Choice}
+use Rattle.tree_cover.specs.Candidates.{choice_at}
 use Rattle.cover_gates.specs.declared.writing.Signal.{Signal}
 use Rattle.cover_gates.specs.declared.writing.Signal.TheVariants.{Leaf as AtLeaf, Gate as AtGate}
 use Rattle.cover_gates.specs.declared.writing.CoverGate.{CoverGate}
 use Rattle.cover_gates.specs.declared.writing.Step.{Step}
 use Rattle.cover_gates.specs.declared.writing.Step.TheVariants.{Visit, Write}
-
--- the choice at a number; one of no pins past the last
-abbrev pub choice_at : List Choice → ℕ → Choice
-choice_at choices n = slice_index_or choices n (record { cost = 0; place = 0; pins = [] })
 
 -- the choice at each number has lower numbers at its pins
 abbrev pub AreBelow : List Choice → Type 0

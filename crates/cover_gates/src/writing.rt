@@ -6,17 +6,17 @@ ghost use Rattle.std.specs.declared.cmp.Ordering.{Ordering as TheOrdering};
 ghost use Rattle.subject_tree.specs.Trees.{Tree};
 ghost use Rattle.subject_tree.specs.Arenas.{tree_at, vertex_at};
 ghost use Rattle.tree_cover.specs.Covers.{Tile};
-ghost use Rattle.tree_cover.specs.Candidates.{AreMade, cost_at};
+ghost use Rattle.tree_cover.specs.Candidates.{AreMade, choice_at, cost_at};
 ghost use Rattle.cover_gates.specs.declared.writing.Signal.TheVariants.{Gate as AtGate};
 ghost use Rattle.cover_gates.specs.declared.writing.CoverGate.{CoverGate as TheCoverGate};
 ghost use Rattle.cover_gates.specs.declared.writing.Step.TheVariants.{Write as ToWrite};
 ghost use Rattle.cover_gates.specs.Written.{IsWritten, area_at};
-ghost use Rattle.cover_gates.specs.Postorder.{choice_at, AreBelow, after, visits, planned, to_come, turns_of, StepBelow, leaf_signals, first_steps};
+ghost use Rattle.cover_gates.specs.Postorder.{AreBelow, after, visits, planned, to_come, turns_of, StepBelow, leaf_signals, first_steps};
 
 use sis_base::Sequence;
 use std::alloc::{AllocError, Global};
 use subject_tree::{Arena, Vertex};
-use tree_cover::Choice;
+use tree_cover::Choices;
 
 /// What drives a pin or the root of a tree: a leaf, by its place, or a gate, by its place in the list of the cover's gates.
 #[derive(Clone, Copy, Debug, PartialEq, Eq)]
@@ -46,51 +46,31 @@ enum Step {
     Write(usize),
 }
 
-// The numbers at the pins of the choice at a number.
-fn pins_at(choices: &[Choice], number: usize) -> &[usize]
-    ensures { result.now ≡ (choice_at choices.now number).pins }
-{
-    match choices.get(number) {
-        Some(choice) => choice.pins.as_slice(),
-        None => &[],
-    }
-}
-
-// The gate of the choice at a number, by its place in the library.
-fn place_at(choices: &[Choice], number: usize) -> usize
-    ensures { result ≡ (choice_at choices.now number).place }
-{
-    match choices.get(number) {
-        Some(choice) => choice.place,
-        None => 0,
-    }
-}
-
 // Lets the visits of numbers wait, the first one to come next.
-fn wait_for(numbers: &[usize], waiting: &mut Vec<Step>) -> Result<(), AllocError>
+fn wait_for(numbers: &[u32], waiting: &mut Vec<Step>) -> Result<(), AllocError>
     ensures { OnOk result (waiting.new.items ≡ waiting.old.items ++ visits numbers.now) }
 {
     let mut place = numbers.len();
     while place > 0 {
         place -= 1;
-        let number = numbers[place];
+        let number = numbers[place] as usize;
         waiting.push(Step::Visit(number))?;
     }
     Ok(())
 }
 
 // Lets the gate at a number wait, and the visits of its pins before it.
-fn open_gate(choices: &[Choice], number: usize, waiting: &mut Vec<Step>) -> Result<(), AllocError>
+fn open_gate(choices: &Choices, number: usize, waiting: &mut Vec<Step>) -> Result<(), AllocError>
     ensures { OnOk result (waiting.new.items ≡ waiting.old.items ++ (ToWrite number ∷ visits (choice_at choices.now number).pins)) }
 {
     waiting.push(Step::Write(number))?;
-    wait_for(pins_at(choices, number), waiting)
+    wait_for(choices.pins(number), waiting)
 }
 
 // Visits a vertex: a leaf is a signal by itself, and a gate comes behind those of its pins.
 fn visit(
     nodes: &Arena,
-    choices: &[Choice],
+    choices: &Choices,
     number: usize,
     waiting: &mut Vec<Step>,
     signals: &mut Vec<Signal>,
@@ -110,7 +90,7 @@ fn visit(
 
 // Writes the gate at a number: the newest signals are its pins', and it drives a signal of its own.
 fn write(
-    choices: &[Choice],
+    choices: &Choices,
     number: usize,
     signals: &mut Vec<Signal>,
     gates: &mut Vec<CoverGate>,
@@ -118,11 +98,11 @@ fn write(
     ensures signals { OnOk result (signals.new.items ≡ take (length signals.old.items - length (choice_at choices.now number).pins) signals.old.items ++ AtGate (length gates.old.items) ∷ []) }
     ensures gates { OnOk result (gates.new.items ≡ gates.old.items ++ record { place = (choice_at choices.now number).place; pins = drop (length signals.old.items - length (choice_at choices.now number).pins) signals.old.items } ∷ []) }
 {
-    let kept = signals.len().saturating_sub(pins_at(choices, number).len());
+    let kept = signals.len().saturating_sub(choices.pins(number).len());
     let pins = Sequence::from_vec(signals.split_off(kept)?);
     signals.push(Signal::Gate(gates.len()))?;
     gates.push(CoverGate {
-        place: place_at(choices, number),
+        place: choices.place(number),
         pins,
     })?;
     Ok(())
@@ -131,7 +111,7 @@ fn write(
 // Does a step.
 fn advance(
     nodes: &Arena,
-    choices: &[Choice],
+    choices: &Choices,
     step: Step,
     waiting: &mut Vec<Step>,
     signals: &mut Vec<Signal>,
@@ -159,7 +139,7 @@ fn advance(
 // Does the steps that wait, until none is left.
 fn write_all(
     nodes: &Arena,
-    choices: &[Choice],
+    choices: &Choices,
     waiting: &mut Vec<Step>,
     signals: &mut Vec<Signal>,
     gates: &mut Vec<CoverGate>,
@@ -181,7 +161,7 @@ fn write_all(
 pub fn write_cover(
     alloc: Global,
     nodes: &Arena,
-    choices: &[Choice],
+    choices: &Choices,
     root: usize,
 ) -> Result<WrittenCover, AllocError>
     requires root { root < length nodes.now }

@@ -1,6 +1,5 @@
 -- The trees of numbered vertices, as vertices are put behind the last.
-use Rattle.std.proofs.Common.{◌≡◌, ℕ, zero, suc, ◌+◌, ◌<◌, ◌≤◌, Bool, true, false, ◌||◌, if◌then◌else◌, Some, List, [], ◌∷◌, ◌++◌, length, fold, get_or, slice_get, refl, sym, ap, ◌∙◌, subst, inl, inr, ◌⊎◌, arith, length-append}
-use Rattle.std.specs.List.{list_any}
+use Rattle.std.proofs.Common.{◌≡◌, ℕ, zero, suc, ◌+◌, ◌<◌, ◌≤◌, Bool, true, false, ◌||◌, Some, List, [], ◌∷◌, ◌++◌, length, fold, get_or, slice_get, refl, sym, ap, ◌∙◌, subst, inl, inr, ◌⊎◌, arith, length-append}
 use Rattle.std.proofs.Math.ListN.{get_or-append}
 use Rattle.std.proofs.Math.Seq.{get_or-append_seam}
 use Rattle.std.proofs.lemmas.Bool.{cases_lt, false≢true}
@@ -121,55 +120,39 @@ arena-push vs v arena over new = record { over = overs; reads = reads; one = one
       ]
     ]
 
--- a set of vertices, to which a vertex was put in where it was not there
-pub record IsPut (eq : Vertex → Vertex → Bool) (old new : List Vertex) (v : Vertex) : Type 0 where
-  pub same : (u w : Vertex) → eq u w ≡ true → u ≡ w
-  pub itself : (u : Vertex) → eq u u ≡ true
-  pub keys : new ≡ (if list_any (eq v) old then old else old ++ v ∷ [])
-
 pub or_none : (a b : Bool) → (a || b) ≡ false → (a ≡ false) × (b ≡ false)
 or_none true b e = absurd (false≢true (sym e))
 or_none false b e = (refl, e)
 
-none_passes : (eq : Vertex → Bool) (vs : List Vertex) (n : ℕ) → list_any eq vs ≡ false → n < length vs → eq (vertex_at vs n) ≡ false
-none_passes eq [] n none lt = absurd (omega (arith, lt))
-none_passes eq (v ∷ vs) zero none lt = (or_none (eq v) (list_any eq vs) none).0
-none_passes eq (v ∷ vs) (suc n) none lt = none_passes eq vs n (or_none (eq v) (list_any eq vs) none).1 (omega (arith, lt))
+-- a vertex was put behind others, or was one of them
+abbrev pub IsPut : List Vertex → List Vertex → Vertex → Type 0
+IsPut old new v = (new ≡ old) ⊎ ((new ≡ old ++ v ∷ []) × ((n : ℕ) → n < length old → vertex_at old n ≡ v → ⊥))
 
-pub put-either : (eq : Vertex → Vertex → Bool) (old new : List Vertex) (v : Vertex) → IsPut eq old new v
-    → (new ≡ old) ⊎ ((new ≡ old ++ v ∷ []) × ((n : ℕ) → n < length old → vertex_at old n ≡ v → ⊥))
-put-either eq old new v put = cases (list_any (eq v) old) refl put.keys
-  where
-    cases : (b : Bool) → list_any (eq v) old ≡ b → new ≡ (if b then old else old ++ v ∷ []) → (new ≡ old) ⊎ ((new ≡ old ++ v ∷ []) × ((n : ℕ) → n < length old → vertex_at old n ≡ v → ⊥))
-    cases true e is = inl is
-    cases false e is =
-        inr (is, λ n lt here. false≢true (sym (none_passes (eq v) old n e lt) ∙ (ap (eq v) here ∙ put.itself v)))
-
-pub put-arena : (eq : Vertex → Vertex → Bool) (old new : List Vertex) (v : Vertex) → IsPut eq old new v → IsArena old → IsOver (length old) v → IsArena new
-put-arena eq old new v put arena over = elim (put-either eq old new v put) as (λ _. IsArena new) [
+pub put-arena : (old new : List Vertex) (v : Vertex) → IsPut old new v → IsArena old → IsOver (length old) v → IsArena new
+put-arena old new v put arena over = elim put as (λ _. IsArena new) [
   | inl e ↦ subst IsArena (sym e) arena
   | inr (e, new) ↦ subst IsArena (sym e) (arena-push old v arena over new)
 ]
 
-pub put-keeps : (eq : Vertex → Vertex → Bool) (old new : List Vertex) (v : Vertex) → IsPut eq old new v → KeepsTrees old new
-put-keeps eq old new v put = elim (put-either eq old new v put) as (λ _. KeepsTrees old new) [
+pub put-keeps : (old new : List Vertex) (v : Vertex) → IsPut old new v → KeepsTrees old new
+put-keeps old new v put = elim put as (λ _. KeepsTrees old new) [
   | inl e ↦ subst (KeepsTrees old) (sym e) (λ n lt. (lt, refl))
   | inr (e, new) ↦ subst (KeepsTrees old) (sym e) (λ n lt. (omega (arith, lt, length-append old (v ∷ [])), tree_at-old old v n lt))
 ]
 
-pub put-has : (eq : Vertex → Vertex → Bool) (old new : List Vertex) (v w : Vertex) (number : ℕ) → IsPut eq old new v → IsArena old → IsOver (length old) v
-    → slice_get new number ≡ Some w → eq v w ≡ true → Has new number (built (trees old) v)
-put-has eq old new v w number put arena over at same =
-    let lt : number < length new = slice_get_within new number w at in
-    let here : vertex_at new number ≡ v = get_or_from_slice_get new number w (AtLeaf 0) at ∙ sym (put.same v w same) in (
+pub put-has : (old new : List Vertex) (v : Vertex) (number : ℕ) → IsPut old new v → IsArena old → IsOver (length old) v
+    → slice_get new number ≡ Some v → Has new number (built (trees old) v)
+put-has old new v number put arena over at =
+    let lt : number < length new = slice_get_within new number v at in
+    let here : vertex_at new number ≡ v = get_or_from_slice_get new number v (AtLeaf 0) at in (
       lt,
-      (put-arena eq old new v put arena over).reads number lt ∙ (ap (built (trees new)) here
-          ∙ built-agrees (trees old) (trees new) (length old) v over (λ n h. (put-keeps eq old new v put n h).1)),
+      (put-arena old new v put arena over).reads number lt ∙ (ap (built (trees new)) here
+          ∙ built-agrees (trees old) (trees new) (length old) v over (λ n h. (put-keeps old new v put n h).1)),
     )
 
 -- each number that is taken was taken before, or has the vertex's tree
-pub put-added : (eq : Vertex → Vertex → Bool) (old new : List Vertex) (v : Vertex) → IsPut eq old new v → IsArena old → IsOver (length old) v → (n : ℕ) → n < length new → (n < length old) ⊎ (tree_at new n ≡ built (trees old) v)
-put-added eq old new v put arena over n lt = elim (put-either eq old new v put) as (λ _. (n < length old) ⊎ (tree_at new n ≡ built (trees old) v)) [
+pub put-added : (old new : List Vertex) (v : Vertex) → IsPut old new v → IsArena old → IsOver (length old) v → (n : ℕ) → n < length new → (n < length old) ⊎ (tree_at new n ≡ built (trees old) v)
+put-added old new v put arena over n lt = elim put as (λ _. (n < length old) ⊎ (tree_at new n ≡ built (trees old) v)) [
   | inl e ↦ inl (subst (λ (vs : List Vertex). n < length vs) e lt)
   | inr (e, other) ↦ elim (cases_lt n (length old)) as (λ _. (n < length old) ⊎ (tree_at new n ≡ built (trees old) v)) [
     | inl before ↦ inl before
@@ -183,7 +166,7 @@ put-added eq old new v put arena over n lt = elim (put-either eq old new v put) 
         let one : length (v ∷ []) ≡ 1 = refl in
         let at : n ≡ length old = omega (arith, lt, past, long, one, length-append old (v ∷ [])) in
         let here : vertex_at new n ≡ v = ap (λ (vs : List Vertex). vertex_at vs n) e ∙ (ap (λ (k : ℕ). vertex_at (old ++ v ∷ []) k) at ∙ get_or-append_seam old v [] (AtLeaf 0)) in
-        (put-arena eq old new v put arena over).reads n lt ∙ (ap (built (trees new)) here ∙ built-agrees (trees old) (trees new) (length old) v over (λ m h. (put-keeps eq old new v put m h).1))
+        (put-arena old new v put arena over).reads n lt ∙ (ap (built (trees new)) here ∙ built-agrees (trees old) (trees new) (length old) v over (λ m h. (put-keeps old new v put m h).1))
 
 -- past the last number the tree is the leaf that the vertex there is
 reads_past : (vs : List Vertex) (n : ℕ) → length vs ≤ n → tree_at vs n ≡ built (trees vs) (vertex_at vs n)

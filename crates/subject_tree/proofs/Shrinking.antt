@@ -1,12 +1,13 @@
 -- An arena that is made anew of the small trees of another one.
 use Rattle.std.proofs.Common.{◌≡◌, ℕ, zero, suc, ◌+◌, ◌-◌, ◌^◌, ◌<◌, ◌≤◌, true, Option, Some, List, [], ◌∷◌, ◌++◌, map, length, take, drop, set, leb, get_or, sum_by, refl, sym, ap, ◌∙◌, subst, inl, inr, ◌⊎◌, arith}
-use Rattle.std.specs.List.{AllByRecursion}
+use Rattle.std.specs.List.{AllByRecursion, list_all}
 use Rattle.std.proofs.lemmas.List.{length-append, get_or_append_left}
 use Rattle.std.proofs.lemmas.Bool.{leb-true, le-leb}
 use Rattle.std.proofs.lemmas.List.Edits.{map_over_more}
 use Rattle.std.proofs.lemmas.List.Sums.{sum_by-cons}
 use Rattle.std.proofs.Math.Seq.{get_or-append_seam}
 use Rattle.circuit_model.specs.declared.circuit.Table.{Table}
+use Rattle.subject_tree.proofs.Vertices.{both}
 use Rattle.subject_tree.specs.Trees.{Tree, Inv, Nand, size_of, renamed}
 use Rattle.subject_tree.specs.Order.{name_at}
 use Rattle.subject_tree.specs.Arenas.{nowhere, trees, tree_at, built, vertex_at, IsOver, IsArena, KeepsTrees, Has}
@@ -103,6 +104,15 @@ size_small vs sizes n limit size is at low le = omega (arith, at, ap (λ (xs : L
 
 pub small_size : (vs : List Vertex) (sizes : List ℕ) (n limit size : ℕ) → sizes ≡ map word_size (trees vs) → size ≡ get_or sizes n 1 → size_of (tree_at vs n) ≤ limit → size ≤ limit
 small_size vs sizes n limit size is at le = omega (arith, at, ap (λ (xs : List ℕ). get_or xs n 1) is, size_there (trees vs) n, le)
+
+-- where all sizes are within the limit, all trees are
+all_within : (sizes : List ℕ) (limit n : ℕ) → 1 ≤ limit → list_all (λ (size : ℕ). leb size limit) sizes ≡ true → get_or sizes n 1 ≤ limit
+all_within [] limit n one all = one
+all_within (size ∷ sizes) limit zero one all = leb-true size limit (both _ _ all).0
+all_within (size ∷ sizes) limit (suc n) one all = all_within sizes limit n one (both _ _ all).1
+
+pub all_small : (vs : List Vertex) (sizes : List ℕ) (limit n : ℕ) → sizes ≡ map word_size (trees vs) → 1 ≤ limit → limit < 2 ^ 64 - 1 → list_all (λ (size : ℕ). leb size limit) sizes ≡ true → size_of (tree_at vs n) ≤ limit
+all_small vs sizes limit n is one low all = size_small vs sizes n limit (get_or sizes n 1) is refl low (all_within sizes limit n one all)
 
 -- the same by the test that is made
 pub kept_over : (limit : ℕ) (vs ws : List Vertex) (numbers slice sizes : List ℕ) (k size : ℕ) (v : Vertex) → IsArena vs → k < length vs → Pruned limit vs ws numbers k → slice ≡ numbers → v ≡ vertex_at vs k

@@ -1,6 +1,7 @@
 pub mod Trees
 pub mod Order
 pub mod Arenas
+pub mod Packing
 pub mod Sizes
 pub mod Steps
 pub mod Tables

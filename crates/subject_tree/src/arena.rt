@@ -1,9 +1,11 @@
-//! Numbered vertices, and the trees that they are.
+//! Numbered vertices, and the trees that they are. A vertex is kept in eight bytes, so that a number in one that is past
+//! 2^32 - 2, for which no machine has room, is answered as want of memory.
 
 ghost use Rattle.std.specs.Prelude.{◌≡◌, ◌==◌, ◌<◌, ◌⊎◌, ℕ, [], length, IfOk, OnOk};
 ghost use Rattle.subject_tree.specs.Trees.{Leaf as TheLeaf, Nand as TheNand, complement_of, product_of, sum_of};
 ghost use Rattle.subject_tree.specs.Arenas.{trees, tree_at, built, vertex_at, IsOver, IsArena, KeepsTrees, Has};
 
+use crate::packing::{Packed, pack};
 use indexmap::IndexSet;
 use std::alloc::{AllocError, Global};
 use std::marker::Model;
@@ -20,20 +22,21 @@ pub enum Vertex {
 /// of its vertices. After an error all numbers have the trees that they had.
 #[derive(Drop)]
 pub struct Arena {
-    nodes: IndexSet<Vertex>,
+    nodes: IndexSet<Packed>,
 }
 
 impl Model for Arena {
-    ghost use Rattle.std.specs.Prelude.{List};
+    ghost use Rattle.std.specs.Prelude.{List, map};
     ghost use Rattle.subject_tree.specs.declared.arena.Vertex.{Vertex as TheVertex};
 
     ghost Value = { List TheVertex };
 
     ghost use Rattle.subject_tree.specs.Arenas.{IsArena};
+    ghost use Rattle.subject_tree.specs.Packing.{unpacked};
 
-    ghost view = { λ a. a.nodes.keys };
+    ghost view = { λ a. map unpacked a.nodes.keys };
 
-    ghost invariant = { λ a. IsArena a.nodes.keys };
+    ghost invariant = { λ a. IsArena (map unpacked a.nodes.keys) };
 }
 
 impl Arena {
@@ -72,7 +75,7 @@ impl Arena {
         ensures { result ≡ vertex_at self.now number }
     {
         match self.nodes.get_index(number) {
-            Some(vertex) => *vertex,
+            Some(packed) => packed.vertex(),
             None => Vertex::Leaf(0),
         }
     }
@@ -85,7 +88,8 @@ impl Arena {
         ensures kept { KeepsTrees self.old self.new }
         ensures added { OnOk result ((n : ℕ) → n < length self.new → (n < length self.old) ⊎ (tree_at self.new n ≡ built (trees self.old) vertex)) }
     {
-        let (number, _) = self.nodes.insert_full(vertex)?;
+        let packed = pack(vertex)?;
+        let (number, _) = self.nodes.insert_full(packed)?;
         Ok(number)
     }
 

@@ -325,8 +325,8 @@ fn grow_puts(
 {
     acyclic_tables_are_ordered();
     let tables = circuit.tables.as_slice();
-    let index = index_of(alloc, tables)?;
     let names = order(alloc, tables)?;
+    let index = index_of(alloc, tables)?;
     let numbers = grow_listed(
         alloc,
         arena,
@@ -469,7 +469,7 @@ pub fn forest_of(alloc: Global, circuit: &Circuit) -> Result<Forest, ForestFault
     if total > LIMIT {
         return Err(ForestFault::TreeLimit);
     }
-    let arena = shrink(alloc, &arena, &mut roots)?;
+    let arena = shrink(alloc, arena, &mut roots)?;
     Ok(Forest {
         arena,
         leaves,

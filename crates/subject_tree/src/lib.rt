@@ -6,7 +6,7 @@
 //! is walked to compare, to copy or to drop it; `Leaves` numbers the signals at their leaves. `table_number` makes the tree of
 //! a table, `fates` tells which tables of a circuit are constant, put into their reader, left out, or roots of trees, and
 //! `forest_of` makes the trees of the roots (`specs/Roots.antt`). `laws` says what values trees have. Each error but
-//! TreeLimit is want of memory.
+//! TreeLimit is want of memory; numbers of leaves or trees past 2^32 - 2 count as that.
 #![tactic(auto)]
 
 mod arena;
@@ -15,6 +15,7 @@ mod judging;
 pub mod laws;
 mod leaves;
 mod order;
+mod packing;
 mod pruning;
 mod sizes;
 mod tables;

@@ -1,6 +1,7 @@
 //! An arena without the trees that are too large.
 
-ghost use Rattle.std.specs.Prelude.{◌≡◌, ◌<◌, ◌≤◌, ◌^◌, ◌-◌, ◌⊎◌, ℕ, List, true, [], length, map, sum_by, slice_index_or, IfOk, OnOk};
+ghost use Rattle.std.specs.Prelude.{◌≡◌, ◌<◌, ◌≤◌, ◌^◌, ◌-◌, ◌⊎◌, ℕ, List, true, [], length, map, sum_by, slice_index_or, nat_le, IfOk, OnOk};
+ghost use Rattle.std.specs.List.{list_all};
 ghost use Rattle.circuit_model.specs.declared.circuit.Table.{Table as TheTable};
 ghost use Rattle.subject_tree.specs.Trees.{Tree, size_of};
 ghost use Rattle.subject_tree.specs.Roots.{AreRoots};
@@ -90,15 +91,41 @@ fn renumber_roots(roots: &mut Vec<Root>, numbers: &[usize])
     }
 }
 
-/// The trees that are small enough for a forest, in an arena of their own; each root has its tree's number there.
-pub fn shrink(alloc: Global, arena: &Arena, roots: &mut Vec<Root>) -> Result<Arena, AllocError>
+// Whether all sizes are at most a limit.
+fn are_small(sizes: &[u64], limit: u64) -> bool
+    ensures { result ≡ list_all (λ size. nat_le size limit) sizes.now }
+{
+    sizes.iter().all(|size| *size <= limit)
+}
+
+// The trees that have at most LIMIT vertices, in an arena of their own; each root has its tree's number there.
+fn pruned(
+    alloc: Global,
+    arena: &Arena,
+    sizes: &[u64],
+    roots: &mut Vec<Root>,
+) -> Result<Arena, AllocError>
+    requires { sizes.now ≡ map word_size (trees arena.now) }
     ensures small { IfOk result (λ kept. (n : ℕ) → n < length kept → size_of (tree_at kept n) ≤ LIMIT) }
     ensures roots { IfOk result (λ kept. (names : List (List ℕ)) (tree : List ℕ → Tree (List ℕ)) (tables : List TheTable) → AreRoots arena.now names tree tables roots.old.items
         → sum_by (λ (root : TheRoot). size_of (tree_at arena.now root.number)) roots.old.items ≤ LIMIT → AreRoots kept names tree tables roots.new.items) }
 {
-    let sizes = arena.sizes(alloc)?;
     let mut kept = Arena::new(alloc);
-    let numbers = keep_small(alloc, arena, sizes.as_slice(), LIMIT, &mut kept)?;
+    let numbers = keep_small(alloc, arena, sizes, LIMIT, &mut kept)?;
     renumber_roots(roots, numbers.as_slice());
     Ok(kept)
+}
+
+/// The trees that are small enough for a forest; each root has its tree's number among them. Where all are, the arena is handed
+/// back as it is, and else they get an arena of their own.
+pub fn shrink(alloc: Global, arena: Arena, roots: &mut Vec<Root>) -> Result<Arena, AllocError>
+    ensures small { IfOk result (λ kept. (n : ℕ) → n < length kept → size_of (tree_at kept n) ≤ LIMIT) }
+    ensures roots { IfOk result (λ kept. (names : List (List ℕ)) (tree : List ℕ → Tree (List ℕ)) (tables : List TheTable) → AreRoots arena names tree tables roots.old.items
+        → sum_by (λ (root : TheRoot). size_of (tree_at arena root.number)) roots.old.items ≤ LIMIT → AreRoots kept names tree tables roots.new.items) }
+{
+    let sizes = arena.sizes(alloc)?;
+    if are_small(sizes.as_slice(), LIMIT) {
+        return Ok(arena);
+    }
+    pruned(alloc, &arena, sizes.as_slice(), roots)
 }

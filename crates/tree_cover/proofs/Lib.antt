@@ -3,6 +3,7 @@ pub mod Bests
 pub mod Choosing
 pub mod Comparing
 pub mod Growing
+pub mod Keeping
 pub mod Levels
 pub mod Made
 pub mod Misfits

@@ -50,9 +50,13 @@ Binds binding numbers = (pin : ℕ) → pin < length numbers → bound_at bindin
 abbrev pub IsSmall : Choice → Type 0
 IsSmall choice = choice.cost ≤ 2 ^ 70
 
+-- the choice at a number; one of no pins past the last
+abbrev pub choice_at : List Choice → ℕ → Choice
+choice_at choices n = slice_index_or choices n (record { cost = 0; place = 0; pins = [] })
+
 -- what the tree of a number costs, by the choices made
 abbrev pub cost_at : List Choice → ℕ → ℕ
-cost_at choices n = (slice_index_or choices n (record { cost = 0; place = 0; pins = [] })).cost
+cost_at choices n = (choice_at choices n).cost
 
 -- a choice comes from a binding of a gate's pins
 pub record IsFrom (choices : List Choice) (gate : Gate) (place : ℕ) (binding : Binding) (choice : Choice) : Type 0 where

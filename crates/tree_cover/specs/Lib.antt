@@ -4,3 +4,4 @@ pub mod Candidates
 pub mod Fitting
 pub mod Outlines
 pub mod Held
+pub mod Flat

@@ -1,6 +1,6 @@
 //! Choices of a gate at a tree, and which of two comes first.
 
-ghost use Rattle.std.specs.Prelude.{◌≡◌, IfOk};
+ghost use Rattle.std.specs.Prelude.{◌≡◌};
 ghost use Rattle.std.specs.Ordering.{ordering_then, nat_cmp};
 ghost use Rattle.std.specs.Cmp.Lexicographic.{slice_cmp};
 ghost use Rattle.subject_tree.specs.Order.{tree_cmp, place_cmp};
@@ -10,27 +10,26 @@ ghost use Rattle.tree_cover.specs.Candidates.{order_of};
 ghost use Rattle.tree_cover.specs.Held.{choice_of};
 
 use sis_base::{Sequence, Short};
-use std::alloc::{AllocError, Global};
 use std::cmp::Ordering;
 use subject_tree::{Arena, Leaves};
 
 /// A gate that is taken at a tree: what the cover costs in millionths, the gate's place in the library, and for each pin the
-/// number of the tree that it is bound to.
+/// number of the tree that it is bound to. `Choices` keeps many.
 #[derive(Drop)]
 pub struct Choice {
     pub cost: u128,
     pub place: usize,
-    pub pins: Sequence<usize>,
+    pub pins: Sequence<u32>,
 }
 
 // How two lists of trees compare: the first two that differ decide, and else the lengths do.
-fn compare_pins(leaves: &Leaves, nodes: &Arena, one: &[usize], other: &[usize]) -> Ordering
+fn compare_pins(leaves: &Leaves, nodes: &Arena, one: &[u32], other: &[u32]) -> Ordering
     ensures { result ≡ slice_cmp (tree_cmp (place_cmp leaves.now)) (trees_of nodes.now one.now) (trees_of nodes.now other.now) }
 {
     let count = one.len().min(other.len());
     let mut place = 0;
     while place < count {
-        match nodes.compare(leaves, one[place], other[place]) {
+        match nodes.compare(leaves, one[place] as usize, other[place] as usize) {
             Ordering::Less => return Ordering::Less,
             Ordering::Greater => return Ordering::Greater,
             Ordering::Equal => place += 1,
@@ -44,9 +43,9 @@ fn compare_parts(
     leaves: &Leaves,
     nodes: &Arena,
     one: (u128, usize),
-    one_pins: &[usize],
+    one_pins: &[u32],
     other: (u128, usize),
-    other_pins: &[usize],
+    other_pins: &[u32],
 ) -> Ordering
     ensures { result ≡ choice_cmp (tree_cmp (place_cmp leaves.now)) one.0 one.1 (trees_of nodes.now one_pins.now) other.0 other.1 (trees_of nodes.now other_pins.now) }
 {
@@ -78,7 +77,7 @@ pub fn compare(leaves: &Leaves, nodes: &Arena, one: &Choice, other: &Choice) -> 
 pub(crate) struct Candidate {
     pub cost: u128,
     pub place: usize,
-    pub pins: Short<usize, 6>,
+    pub pins: Short<u32, 6>,
 }
 
 /// How two candidates compare, as the choices that they are.
@@ -98,16 +97,4 @@ pub(crate) fn compare_candidates(
         (other.cost, other.place),
         other.pins.as_slice(),
     )
-}
-
-/// The choice that a candidate is. An error only for want of memory.
-pub(crate) fn chosen(alloc: Global, candidate: &Candidate) -> Result<Choice, AllocError>
-    ensures { IfOk result (λ choice. choice ≡ choice_of candidate.now) }
-{
-    let pins = Vec::from_slice(alloc, candidate.pins.as_slice())?;
-    Ok(Choice {
-        cost: candidate.cost,
-        place: candidate.place,
-        pins: Sequence::from_vec(pins),
-    })
 }

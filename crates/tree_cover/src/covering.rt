@@ -8,17 +8,18 @@ ghost use Rattle.subject_tree.specs.Arenas.{tree_at};
 ghost use Rattle.tree_cover.specs.declared.choice.Choice.{Choice as TheChoice};
 ghost use Rattle.tree_cover.specs.Covers.{IsProper, tiles};
 ghost use Rattle.tree_cover.specs.Bindings.{PinsBelow};
-ghost use Rattle.tree_cover.specs.Held.{held};
+ghost use Rattle.tree_cover.specs.Held.{choice_of, held};
 ghost use Rattle.tree_cover.specs.Outlines.{AreOutlines, TellMisfits};
 ghost use Rattle.tree_cover.specs.Candidates.{order_of, better_of as better_choice, bound_at as bound_there, BestOf, Binds, IsSmall, IsUsable, cost_at as cost_there, IsFrom, Below, FromBindings, FromPattern, FromPatterns, FromGates, IsLibrary, IsChoice, AreMade};
 
 use crate::binding::Binding;
-use crate::choice::{Candidate, Choice, chosen, compare_candidates};
+use crate::choice::{Candidate, compare_candidates};
+use crate::choices::{Choices, small};
 use crate::fitting::may_fit;
 use crate::matching::matches;
 use crate::outlines::{Outlines, is_open, marks_of, outlines_of};
 use pattern_set::{Gate, Patterns};
-use sis_base::{Sequence, Short};
+use sis_base::Short;
 use std::alloc::{AllocError, Global};
 use std::cmp::Ordering;
 use subject_tree::{Arena, Leaves, Vertex};
@@ -59,7 +60,7 @@ fn pins_of(
     alloc: Global,
     binding: &Binding,
     count: usize,
-) -> Result<Option<Short<usize, 6>>, AllocError>
+) -> Result<Option<Short<u32, 6>>, AllocError>
     ensures some { IfOk result (λ made. (numbers : List ℕ) → made ≡ Some numbers → (length numbers ≡ count) × Binds binding.now numbers) }
     ensures none { IfOk result (λ made. (numbers : List ℕ) → made ≡ None → length numbers ≡ count → Binds binding.now numbers → ⊥) }
 {
@@ -67,26 +68,23 @@ fn pins_of(
     for pin in 0..count {
         match bound_at(binding, pin) {
             None => return Ok(None),
-            Some(number) => made.push(number)?,
+            Some(number) => made.push(small(number)?)?,
         }
     }
     Ok(Some(made))
 }
 
 // What the tree of a number costs, by the choices made.
-fn cost_at(choices: &[Choice], number: usize) -> u128
+fn cost_at(choices: &Choices, number: usize) -> u128
     requires { AllByRecursion IsSmall choices.now }
     ensures cost { result ≡ cost_there choices.now number }
     ensures small { result ≤ 2 ^ 70 }
 {
-    match choices.get(number) {
-        None => 0,
-        Some(choice) => choice.cost,
-    }
+    choices.cost(number)
 }
 
 // What the trees at pins cost together.
-fn costs_of(choices: &[Choice], pins: &[usize]) -> u128
+fn costs_of(choices: &Choices, pins: &[u32]) -> u128
     requires choices { AllByRecursion IsSmall choices.now }
     requires pins { length pins.now ≤ 15 }
     ensures sum { result ≡ sum_by (cost_there choices.now) pins.now }
@@ -94,7 +92,7 @@ fn costs_of(choices: &[Choice], pins: &[usize]) -> u128
 {
     let mut total: u128 = 0;
     for pin in pins {
-        total += cost_at(choices, *pin);
+        total += cost_at(choices, *pin as usize);
     }
     total
 }
@@ -102,7 +100,7 @@ fn costs_of(choices: &[Choice], pins: &[usize]) -> u128
 // The choice that comes from a binding; none where a pin is not bound.
 fn candidate(
     alloc: Global,
-    choices: &[Choice],
+    choices: &Choices,
     gate: &Gate,
     place: usize,
     binding: &Binding,
@@ -127,7 +125,7 @@ fn best_bound(
     alloc: Global,
     leaves: &Leaves,
     nodes: &Arena,
-    choices: &[Choice],
+    choices: &Choices,
     gate: &Gate,
     place: usize,
     bindings: &[Binding],
@@ -151,7 +149,7 @@ fn best_match(
     leaves: &Leaves,
     nodes: &Arena,
     shapes: &Arena,
-    choices: &[Choice],
+    choices: &Choices,
     gate: &Gate,
     place: usize,
     number: usize,
@@ -184,7 +182,7 @@ fn best_pattern(
     leaves: &Leaves,
     nodes: &Arena,
     shapes: &Arena,
-    choices: &[Choice],
+    choices: &Choices,
     gate: &Gate,
     place: usize,
     number: usize,
@@ -213,7 +211,7 @@ fn best_gate(
     leaves: &Leaves,
     nodes: &Arena,
     shapes: &Arena,
-    choices: &[Choice],
+    choices: &Choices,
     gate: &Gate,
     place: usize,
     number: usize,
@@ -246,7 +244,7 @@ fn best_choice(
     leaves: &Leaves,
     nodes: &Arena,
     shapes: &Arena,
-    choices: &[Choice],
+    choices: &Choices,
     gates: &[Gate],
     number: usize,
     numbers: &[usize],
@@ -283,18 +281,18 @@ fn choose_gate(
     leaves: &Leaves,
     nodes: &Arena,
     shapes: &Arena,
-    choices: &[Choice],
+    choices: &Choices,
     gates: &[Gate],
     lines: &Outlines,
     number: usize,
-) -> Result<Choice, AllocError>
+) -> Result<Candidate, AllocError>
     requires number { number < length nodes.now }
     requires lines { AreOutlines lines.now.arena shapes.now lines.now.numbers.items }
     requires inner { (place : ℕ) → tree_at nodes.now number ≡ TheLeaf place → ⊥ }
     requires library { IsLibrary shapes.now gates.now }
     requires small { AllByRecursion IsSmall choices.now }
     requires made { AreMade (tree_cmp (place_cmp leaves.now)) nodes.now (tiles shapes.now gates.now) choices.now number }
-    ensures { IfOk result (λ choice. IsChoice (tree_cmp (place_cmp leaves.now)) nodes.now (tiles shapes.now gates.now) number choice) }
+    ensures { IfOk result (λ choice. IsChoice (tree_cmp (place_cmp leaves.now)) nodes.now (tiles shapes.now gates.now) number (choice_of choice)) }
 {
     nodes.sound();
     let marks = marks_of(alloc, &lines.arena, nodes, number)?;
@@ -310,10 +308,7 @@ fn choose_gate(
         marks.as_slice(),
     )?;
     match best {
-        Some(candidate) => {
-            let choice = chosen(alloc, &candidate)?;
-            Ok(choice)
-        }
+        Some(candidate) => Ok(candidate),
         None => unreachable!(),
     }
 }
@@ -324,24 +319,24 @@ fn choose(
     leaves: &Leaves,
     nodes: &Arena,
     shapes: &Arena,
-    choices: &[Choice],
+    choices: &Choices,
     gates: &[Gate],
     lines: &Outlines,
     number: usize,
-) -> Result<Choice, AllocError>
+) -> Result<Candidate, AllocError>
     requires number { number < length nodes.now }
     requires lines { AreOutlines lines.now.arena shapes.now lines.now.numbers.items }
     requires library { IsLibrary shapes.now gates.now }
     requires small { AllByRecursion IsSmall choices.now }
     requires made { AreMade (tree_cmp (place_cmp leaves.now)) nodes.now (tiles shapes.now gates.now) choices.now number }
-    ensures { IfOk result (λ choice. IsChoice (tree_cmp (place_cmp leaves.now)) nodes.now (tiles shapes.now gates.now) number choice) }
+    ensures { IfOk result (λ choice. IsChoice (tree_cmp (place_cmp leaves.now)) nodes.now (tiles shapes.now gates.now) number (choice_of choice)) }
 {
     nodes.sound();
     if let Vertex::Leaf(_) = nodes.vertex(number) {
-        return Ok(Choice {
+        return Ok(Candidate {
             cost: 0,
             place: 0,
-            pins: Sequence::new(alloc),
+            pins: Short::new(alloc),
         });
     }
     let choice = choose_gate(alloc, leaves, nodes, shapes, choices, gates, lines, number)?;
@@ -355,25 +350,25 @@ pub fn best(
     leaves: &Leaves,
     nodes: &Arena,
     patterns: &Patterns,
-) -> Result<Vec<Choice>, AllocError>
+) -> Result<Choices, AllocError>
     requires library { IsLibrary patterns.now.arena patterns.now.gates }
     requires sizes { (n : ℕ) → n < length nodes.now → size_of (tree_at nodes.now n) ≤ 2 ^ 20 }
-    ensures { IfOk result (λ choices. AreMade (tree_cmp (place_cmp leaves.now)) nodes.now (tiles patterns.now.arena patterns.now.gates) choices.items (length nodes.now)) }
+    ensures { IfOk result (λ choices. AreMade (tree_cmp (place_cmp leaves.now)) nodes.now (tiles patterns.now.arena patterns.now.gates) choices (length nodes.now)) }
 {
     let lines = outlines_of(alloc, &patterns.arena)?;
-    let mut choices = Vec::with_capacity(alloc, nodes.len())?;
+    let mut choices = Choices::with_capacity(alloc, nodes.len())?;
     for number in 0..nodes.len() {
         let choice = choose(
             alloc,
             leaves,
             nodes,
             &patterns.arena,
-            choices.as_slice(),
+            &choices,
             patterns.gates.as_slice(),
             &lines,
             number,
         )?;
-        choices.push(choice)?;
+        choices.push(choice.cost, choice.place, choice.pins.as_slice())?;
     }
     Ok(choices)
 }

@@ -21,7 +21,7 @@ use library_cells::library_patterns;
 use pattern_set::{Patterns, covers_all};
 use std::alloc::{AllocError, Global};
 use subject_tree::{Forest, ForestFault, Root, forest_of};
-use tree_cover::{Choice, best};
+use tree_cover::{Choices, best};
 use trial_cases::CaseFault;
 
 /// The forest of a circuit.
@@ -126,7 +126,7 @@ fn cover_forest(
     requires sizes { (n : ℕ) → n < length forest.now.arena → size_of (tree_at forest.now.arena n) ≤ 1048575 }
 {
     let choices = best(alloc, &forest.leaves, &forest.arena, patterns)?;
-    tell_covers(alloc, library, forest, choices.as_slice(), is_whole)
+    tell_covers(alloc, library, forest, &choices, is_whole)
 }
 
 /// The area and the number of gates so far, and how many of them drive no root.
@@ -142,7 +142,7 @@ fn tell_covers(
     alloc: Global,
     library: &Library,
     forest: &Forest,
-    choices: &[Choice],
+    choices: &Choices,
     is_whole: bool,
 ) -> Result<Vec<u8>, AllocError>
     requires count { length choices.now ≡ length forest.now.arena }
@@ -170,7 +170,7 @@ fn take_root(
     tally: &mut Tally,
     library: &Library,
     forest: &Forest,
-    choices: &[Choice],
+    choices: &Choices,
     root: &Root,
     is_whole: bool,
 ) -> Result<(), AllocError>
@@ -181,20 +181,12 @@ fn take_root(
         return Ok(());
     }
     let cover = write_cover(alloc, &forest.arena, choices, root.number)?;
-    let area = cost_at(choices, root.number);
+    let area = choices.cost(root.number);
     if is_whole {
         put_tree(alloc, out, library, forest, root, &cover, area, tally.inner)?;
     }
     count_in(tally, area, cover.gates.len());
     Ok(())
-}
-
-/// What the tree of a number costs.
-fn cost_at(choices: &[Choice], number: usize) -> u128 {
-    match choices.get(number) {
-        Some(choice) => choice.cost,
-        None => 0,
-    }
 }
 
 /// Counts a cover in.

@@ -1,7 +1,6 @@
-use Rattle.std.proofs.Common.{Some, sym, ap, ◌∙◌}
+use Rattle.std.proofs.Common.{ap}
 use Rattle.subject_tree.specs.Order.{tree_cmp, place_cmp}
-use Rattle.tree_cover.specs.declared.choice.Choice.{Choice}
-use Rattle.tree_cover.specs.Held.{held}
+use Rattle.tree_cover.specs.Held.{choice_of, held}
 use Rattle.tree_cover.proofs.Made.{some_open, choice_made}
 use Rattle.tree_cover.proofs.covering.choose_gate.Goals as goal
 
@@ -14,4 +13,4 @@ unreachable-requires c =
 pub returns : goal.returns
 returns c =
     choice_made (tree_cmp (place_cmp c.args.leaves.now)) c.args.nodes.now c.args.shapes.now c.args.gates.now c.args.choices.now c.args.number c.sound.ensures c.requires.number c.requires.library c.requires.made
-    (held c.in_ok-best.best) c.in_ok-choice-in-Some.choice c.requires.inner c.in_ok-best.ensures (ap held c.in-Some.is ∙ ap (λ (choice : Choice). Some choice) (sym c.in_ok-choice-in-Some.ensures))
+    (held c.in_ok-best.best) (choice_of c.in-Some.candidate) c.requires.inner c.in_ok-best.ensures (ap held c.in-Some.is)

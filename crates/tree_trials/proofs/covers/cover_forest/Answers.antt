@@ -1,5 +1,4 @@
-use Rattle.std.proofs.Common.{sym, subst, arith}
-use Rattle.cover_gates.specs.Postorder.{AreBelow}
+use Rattle.std.proofs.Common.{arith}
 use Rattle.tree_trials.proofs.covers.cover_forest.Goals as goal
 
 pub best-requires-clause-sizes : goal.best-requires-clause-sizes
@@ -7,5 +6,4 @@ best-requires-clause-sizes c = λ n below. omega (arith, c.requires.sizes n belo
 
 -- the pins of each choice are bound to lower numbers
 pub tell_covers-requires-clause-below : goal.tell_covers-requires-clause-below
-tell_covers-requires-clause-below c =
-    subst AreBelow (sym c.as_slice.ensures.value) (λ n choice at. (c.in_ok-choices.ensures.made n choice at).below)
+tell_covers-requires-clause-below c = λ n choice at. (c.in_ok-choices.ensures.made n choice at).below
