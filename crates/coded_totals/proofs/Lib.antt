@@ -1,0 +1,12 @@
+pub mod Merged
+pub mod Divisors
+pub mod Ranks
+pub mod Noting
+pub mod Turned
+pub mod Pairing
+pub mod Best
+pub mod OverPairs
+pub mod Parted
+pub mod InSets
+pub mod Paired
+pub mod Exchanged

@@ -1,0 +1,23 @@
+-- The laws that the order of divisors keeps. No public clause needs them.
+use Rattle.std.specs.Prelude.{◌≡◌, ◌&&◌, Bool, nat_eq}
+use Rattle.std.specs.Cmp.{IsTotalOrder, IsPartialOrder, po, on_total, then_total, both_tied}
+use Rattle.std.specs.Cmp.Lexicographic.{pointwise, nat_list_cmp_total, texts_ties}
+use Rattle.std.specs.Ordering.{eq_by_cmp, as_partial_cmp}
+use Rattle.coded_totals.specs.Gains.{numbers_cmp}
+use Rattle.coded_totals.specs.Divisors.{divisor_cmp}
+use Rattle.coded_totals.specs.declared.divisor.Divisor.{Divisor}
+
+-- divisors of the same cubes
+abbrev pub divisor_eq : Divisor → Divisor → Bool
+divisor_eq one other = pointwise nat_eq one.first other.first && pointwise nat_eq one.second other.second
+
+pub divisor_total : IsTotalOrder divisor_cmp
+divisor_total = then_total (on_total (λ (divisor : Divisor). divisor.first) nat_list_cmp_total) (on_total (λ (divisor : Divisor). divisor.second) nat_list_cmp_total)
+
+pub divisor_ties : (one other : Divisor) → divisor_eq one other ≡ eq_by_cmp divisor_cmp one other
+divisor_ties one other =
+    both_tied (pointwise nat_eq one.first other.first) (pointwise nat_eq one.second other.second) (numbers_cmp one.first other.first) (numbers_cmp one.second other.second)
+    (texts_ties one.first other.first) (texts_ties one.second other.second)
+
+pub divisor_partial : IsPartialOrder divisor_eq (as_partial_cmp divisor_cmp)
+divisor_partial = po divisor_total divisor_ties

@@ -1,0 +1,115 @@
+//! Divisors as keys: a sum of two cubes or one cube, whose literals are numbers.
+
+ghost use Rattle.std.specs.Prelude.{◌≡◌, ◌+◌, ◌∷◌, [], map, length, IfOk};
+ghost use Rattle.coded_totals.specs.Gains.{literals_in};
+ghost use Rattle.coded_totals.specs.Divisors.{cover_of, Sums};
+
+use sis_base::{Copied, Short};
+use std::alloc::{AllocError, Global};
+use std::cmp::Ordering;
+
+/// The numbers of a cube, in rising order.
+pub type Numbers = Short<u32, 6>;
+
+/// A sum of two cubes, the lesser one first, or one cube, where the second has no number.
+#[derive(Debug, PartialEq, Eq, Hash, Drop)]
+pub struct Divisor {
+    pub first: Numbers,
+    pub second: Numbers,
+}
+
+impl Copied for Divisor {
+    fn copy(&self, alloc: Global) -> Result<Divisor, AllocError> {
+        Ok(Divisor {
+            first: self.first.copy(alloc)?,
+            second: self.second.copy(alloc)?,
+        })
+    }
+}
+
+impl Ord for Divisor {
+    ghost use Rattle.coded_totals.specs.Divisors.{divisor_cmp};
+    ghost use Rattle.coded_totals.specs.Orders.{divisor_total, divisor_ties};
+    ghost use mathlib.Core.Path.{refl};
+
+    ghost cmp = { divisor_cmp };
+
+    ghost total = { divisor_total };
+
+    ghost matches_partial_cmp = { λ one other. refl };
+
+    ghost matches_eq = { divisor_ties };
+
+    fn cmp(&self, other: &Divisor) -> Ordering {
+        self.first
+            .as_slice()
+            .cmp(other.first.as_slice())
+            .then(self.second.as_slice().cmp(other.second.as_slice()))
+    }
+}
+
+impl PartialOrd for Divisor {
+    ghost use Rattle.std.specs.Ordering.{as_partial_cmp};
+    ghost use Rattle.coded_totals.specs.Divisors.{divisor_cmp};
+    ghost use Rattle.coded_totals.specs.Orders.{divisor_partial};
+
+    ghost partial_cmp = { as_partial_cmp divisor_cmp };
+
+    ghost laws = { divisor_partial };
+
+    fn partial_cmp(&self, other: &Divisor) -> Option<Ordering> {
+        Some(self.cmp(other))
+    }
+}
+
+/// A divisor behind what its saving lacks of the greatest number: the first saves most; of several that save as much it is the least.
+#[derive(Debug, PartialEq, Eq, PartialOrd, Ord, Drop)]
+pub struct Ranked {
+    pub lack: u64,
+    pub divisor: Divisor,
+}
+
+impl Divisor {
+    /// The sum of two cubes that differ.
+    pub fn of_sum(first: Numbers, second: Numbers) -> Divisor
+        ensures { Sums first second result }
+    {
+        if second.as_slice().cmp(first.as_slice()).is_lt() {
+            Divisor {
+                first: second,
+                second: first,
+            }
+        } else {
+            Divisor { first, second }
+        }
+    }
+
+    /// The product of two literals; an error only for want of memory.
+    pub fn of_product(alloc: Global, one: u32, other: u32) -> Result<Divisor, AllocError>
+        ensures { IfOk result (λ product. cover_of product ≡ (one ∷ other ∷ []) ∷ []) }
+    {
+        Ok(Divisor {
+            first: Numbers::from_slice(alloc, &[one, other])?,
+            second: Numbers::new(alloc),
+        })
+    }
+
+    /// The cubes, each by its numbers; an error only for want of memory.
+    pub fn cubes(&self, alloc: Global) -> Result<Vec<Vec<u32>>, AllocError>
+        ensures { IfOk result (λ cubes. map (λ cube. cube.items) cubes.items ≡ cover_of self.now) }
+    {
+        let mut cubes = Vec::with_capacity(alloc, 2)?;
+        cubes.push(Vec::from_slice(alloc, self.first.as_slice())?)?;
+        if !self.second.is_empty() {
+            cubes.push(Vec::from_slice(alloc, self.second.as_slice())?)?;
+        }
+        Ok(cubes)
+    }
+
+    /// How many literals there are.
+    pub fn literals(&self) -> u64
+        ensures { result ≡ literals_in (cover_of self.now) }
+    {
+        self.first.as_slice().len() as u64 + self.second.as_slice().len() as u64
+    }
+}
