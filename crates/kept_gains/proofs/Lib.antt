@@ -1,0 +1,5 @@
+pub mod Decoded
+pub mod Numbered
+pub mod Summed
+pub mod Best
+pub mod Taken

@@ -1,0 +1,4 @@
+pub mod Places
+pub mod Looked
+pub mod Carried
+pub mod Coded
