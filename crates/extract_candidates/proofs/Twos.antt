@@ -82,7 +82,7 @@ fx_listed rule table cubes made asked e m cover =
 abbrev pub long_cover : Cube → Option NamedCover
 long_cover cube = if ltb (length cube) 2 then None else Some (cube ∷ [])
 
-long_made : (cube : Cube) (cover : NamedCover) → long_cover cube ≡ Some cover → (2 ≤ length cube) × (cover ≡ cube ∷ [])
+pub long_made : (cube : Cube) (cover : NamedCover) → long_cover cube ≡ Some cover → (2 ≤ length cube) × (cover ≡ cube ∷ [])
 long_made cube cover e = cases (ltb (length cube) 2) refl e
   where
     cases : (b : Bool) → ltb (length cube) 2 ≡ b → (if b then None else Some (cube ∷ [])) ≡ Some cover → (2 ≤ length cube) × (cover ≡ cube ∷ [])

@@ -2,3 +2,5 @@ pub mod Listed
 pub mod Parts
 pub mod Pairs
 pub mod Faults
+pub mod Spots
+pub mod Partners

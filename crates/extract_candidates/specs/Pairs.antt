@@ -1,7 +1,7 @@
 -- What each two items of a list make, the earlier one first, and what two cubes and two literals make. No public clause needs these
 -- definitions: they say by what way the candidates are listed.
 -- Source: Rajski and Vasudevamurthy (IEEE Transactions on CAD 11, 1992).
-use Rattle.std.specs.Prelude.{if◌then◌else◌, Option, Some, None, List, [], ◌∷◌, ◌++◌, length}
+use Rattle.std.specs.Prelude.{if◌then◌else◌, Option, Some, None, ℕ, List, [], ◌∷◌, ◌++◌, length, slice_get}
 use Rattle.std.specs.List.{filter_map}
 use Rattle.std.proofs.Common.{ltb}
 use Rattle.extract_rules.specs.Candidates.{own, shared}
@@ -29,3 +29,11 @@ product_of one other = Some ((one ∷ other ∷ []) ∷ [])
 -- what two cubes share, where it is two literals or more
 abbrev pub shared_of : Cube → Cube → Option NamedCover
 shared_of one other = if ltb (length (shared one other)) 2 then None else Some (shared one other ∷ [])
+
+-- what a cube shares with the earlier one at a place
+abbrev pub found_with : Option Cube → Cube → Option NamedCover
+found_with None cube = None
+found_with (Some other) cube = shared_of other cube
+
+abbrev pub shared_at : List Cube → Cube → ℕ → Option NamedCover
+shared_at earlier cube at = found_with (slice_get earlier at) cube

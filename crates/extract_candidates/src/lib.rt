@@ -10,8 +10,10 @@ mod cubes;
 mod fault;
 mod own;
 mod pairs;
+mod partners;
 mod parts;
 mod shared;
+mod spots;
 
 pub use cubes::cubes_of;
 pub use fault::ListFault;
