@@ -31,7 +31,7 @@ module _ (rule : Rule) (circuit : Circuit) (name : List ℕ) (sound : IsSound ci
   own_literals cover is = cover_table_literals name cover (candidate_usable rule (given circuit) circuit.tables cover (tables_read circuit sound) is).apart
 
   -- an open candidate that loses more than it has saves the rest
-  open_saves : (cover : NamedCover) → IsOpen rule circuit name cover → literals_in cover < lost name cover circuit.tables
+  pub open_saves : (cover : NamedCover) → IsOpen rule circuit name cover → literals_in cover < lost name cover circuit.tables
       → IsSaving circuit.tables name cover (lost name cover circuit.tables - literals_in cover)
   open_saves cover may more = record {
     added = may.added;

@@ -4,7 +4,10 @@ pub mod Naming
 pub mod Reading
 pub mod Losing
 pub mod Tabled
+pub mod Places
 pub mod Choices
 pub mod Listed
 pub mod Found
 pub mod Steps
+pub mod Gaining
+pub mod KeptLists

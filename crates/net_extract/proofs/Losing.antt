@@ -67,7 +67,8 @@ pub record AreAll (cover : NamedCover) (slots : List (Option Table)) (places : L
   pub all : (at : ℕ) (table : Table) → table_at slots at ≡ Some table → is_over table.inputs cover ≡ true → is_in places at ≡ true
 
 module _ (name : List ℕ) (cover : NamedCover) (slots : List (Option Table)) where
-  stays : (places : List ℕ) → AreAll cover slots places → (at : ℕ) → (Has at places → ⊥) → (table : Table) → table_at slots at ≡ Some table → divided name true cover table ≡ table
+  -- a table at another place stays as it is
+  pub stays : (places : List ℕ) → AreAll cover slots places → (at : ℕ) → (Has at places → ⊥) → (table : Table) → table_at slots at ≡ Some table → divided name true cover table ≡ table
   stays places are at away table there = cases (is_over table.inputs cover) refl
     where
       cases : (b : Bool) → is_over table.inputs cover ≡ b → divided name true cover table ≡ table

@@ -1,7 +1,7 @@
 -- The tables that read all that a cover reads read the name of its first literal; places in order, each once.
-use Rattle.std.proofs.Common.{◌≡◌, ℕ, ◌+◌, ◌<◌, ◌==◌, eqb, cond, Bool, true, false, Option, Some, List, [], ◌∷◌, ◌++◌, length, take, slice_get, get_or, refl, sym, ap, ◌∙◌, subst, inl, inr, arith}
+use Rattle.std.proofs.Common.{◌≡◌, ℕ, ◌+◌, ◌<◌, ◌==◌, zero, suc, eqb, cond, Bool, true, false, Option, Some, List, [], ◌∷◌, ◌++◌, length, take, slice_get, get_or, refl, sym, ap, ◌∙◌, subst, inl, inr, arith}
 use Rattle.std.specs.List.{dedup, dedup_from}
-use Rattle.std.proofs.lemmas.Bool.{eqb-true, or_left, or_right, or_cases}
+use Rattle.std.proofs.lemmas.Bool.{false≢true, eqb-true, or_left, or_right, or_cases}
 use Rattle.std.proofs.lemmas.Option.{none-some, same_Some}
 use Rattle.std.proofs.lemmas.List.{take_more}
 use Rattle.std.proofs.lemmas.List.Sums.{sum_by_push}
@@ -73,3 +73,28 @@ from_kept first (next ∷ places) at h = cases (eqb next first) refl (from_kept 
 pub dedup_kept : (places : List ℕ) (at : ℕ) → is_in places at ≡ true → is_in (dedup eqb places) at ≡ true
 dedup_kept [] at h = h
 dedup_kept (first ∷ places) at h = from_kept first places at h
+
+of_kept : (first : ℕ) (places : List ℕ) (at : ℕ) → is_in (dedup_from eqb first places) at ≡ true → is_in (first ∷ places) at ≡ true
+of_kept first [] at h = h
+of_kept first (next ∷ places) at h = cases (eqb next first) h (of_kept first places at) (of_kept next places at)
+  where
+    cases : (b : Bool) → is_in (cond b (dedup_from eqb first places) (first ∷ dedup_from eqb next places)) at ≡ true → (is_in (dedup_from eqb first places) at ≡ true → is_in (first ∷ places) at ≡ true)
+        → (is_in (dedup_from eqb next places) at ≡ true → is_in (next ∷ places) at ≡ true) → is_in (first ∷ (next ∷ places)) at ≡ true
+    cases true m here there = elim (or_cases (first == at) (is_in places at) (here m)) as (λ _. is_in (first ∷ (next ∷ places)) at ≡ true) [
+      | inl e ↦ or_left (first == at) (is_in (next ∷ places) at) e
+      | inr k ↦ or_right (first == at) (is_in (next ∷ places) at) (or_right (next == at) (is_in places at) k)
+    ]
+    cases false m here there = elim (or_cases (first == at) (is_in (dedup_from eqb next places) at) m) as (λ _. is_in (first ∷ (next ∷ places)) at ≡ true) [
+      | inl e ↦ or_left (first == at) (is_in (next ∷ places) at) e
+      | inr k ↦ or_right (first == at) (is_in (next ∷ places) at) (there k)
+    ]
+
+pub of_dedup : (places : List ℕ) (at : ℕ) → is_in (dedup eqb places) at ≡ true → is_in places at ≡ true
+of_dedup [] at h = h
+of_dedup (first ∷ places) at h = of_kept first places at h
+
+-- a place whose table reads a name is one of the places
+pub reads_within : (slots : List (Option Table)) (name : List ℕ) (at : ℕ) → has (inputs_at slots at) name ≡ true → at < length slots
+reads_within [] name at h = absurd (false≢true h)
+reads_within (slot ∷ slots) name zero h = omega arith
+reads_within (slot ∷ slots) name (suc at) h = let below : at < length slots = reads_within slots name at h in omega (arith, below)

@@ -47,29 +47,8 @@ all_set P (None ∷ slots) (suc at) table h all = all_set P slots at table h all
 all_set P (Some first ∷ slots) zero table h all = (h, all.1)
 all_set P (Some first ∷ slots) (suc at) table h all = (all.0, all_set P slots at table h all.1)
 
--- the tables below a place changed
+-- all tables changed
 module _ (turn : Table → Table) where
-  abbrev pub turned_below : ℕ → List (Option Table) → List (Option Table)
-  turned_below at slots = map (option_map turn) (take at slots) ++ drop at slots
-
-  pub below_none : (slots : List (Option Table)) → turned_below 0 slots ≡ slots
-  below_none [] = refl
-  below_none (first ∷ slots) = refl
-
-  -- one place more
-  pub below_next : (slots : List (Option Table)) (at : ℕ) → at < length slots
-      → set (turned_below at slots) at (option_map turn (table_at (turned_below at slots) at)) ≡ turned_below (suc at) slots
-  below_next [] at h = absurd (omega (arith, h))
-  below_next (first ∷ []) zero h = refl
-  below_next (first ∷ second ∷ slots) zero h = refl
-  below_next (first ∷ slots) (suc at) h = ap (λ (rest : List (Option Table)). option_map turn first ∷ rest) (below_next slots at (omega (arith, h)))
-
-  -- all places but those behind
-  pub below_all : (slots more : List (Option Table)) → turned_below (length slots) (slots ++ more) ≡ map (option_map turn) slots ++ more
-  below_all [] [] = refl
-  below_all [] (first ∷ more) = refl
-  below_all (first ∷ slots) more = ap (λ (rest : List (Option Table)). option_map turn first ∷ rest) (below_all slots more)
-
   pub standing_turned : (slots : List (Option Table)) → standing (map (option_map turn) slots) ≡ map turn (standing slots)
   unfolding standing
   standing_turned [] = refl

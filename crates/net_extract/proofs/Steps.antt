@@ -1,6 +1,7 @@
 -- A cover is extracted: what the network is then; and chains of such steps.
-use Rattle.std.proofs.Common.{◌≡◌, ℕ, ◌+◌, ◌<◌, ◌≤◌, ◌^◌, suc, true, Err, Option, Some, List, [], ◌∷◌, ◌++◌, map, length, refl, sym, ap, ◌∙◌, subst, arith}
+use Rattle.std.proofs.Common.{◌≡◌, ℕ, ◌+◌, ◌<◌, ◌^◌, true, Err, Option, Some, List, [], ◌∷◌, ◌++◌, map, length, refl, sym, ap, ◌∙◌, subst, arith}
 use Rattle.std.specs.List.{AllByRecursion}
+use Rattle.std.specs.List.Sorted.{IsStrictlyIncreasing}
 use Rattle.std.proofs.lemmas.List.{length-map, length-append}
 use Rattle.circuit_model.specs.Counts.{literals_of}
 use Rattle.circuit_model.specs.Soundness.{IsSound}
@@ -14,9 +15,11 @@ use Rattle.extract_rules.specs.declared.rule.Rule.{Rule}
 use Rattle.extract_rules.proofs.Ends.{new_name_one}
 use Rattle.extract_rules.proofs.Keeping.{step_extended}
 use Rattle.name_covers.specs.Literals.{NamedCover}
+use Rattle.name_covers.specs.Cubes.{is_over}
+use Rattle.input_readers.specs.Readers.{is_in}
 use Rattle.net_core.specs.Fresh.{node_count}
 use Rattle.net_core.specs.Reads.{IsBounded}
-use Rattle.net_work.specs.Placed.{Placed, standing, circuit_of, table_at, with_slot, with_last}
+use Rattle.net_work.specs.Placed.{Placed, standing, circuit_of, table_at, with_last}
 use Rattle.net_work.proofs.Standing.{standing_push}
 use Rattle.table_algebra.specs.Dividing.{divided, cover_table}
 use Rattle.net_extract.specs.Extract.{HasExtracted}
@@ -24,28 +27,20 @@ use Rattle.net_extract.specs.Dividing.{divided_slot, with_divided, IsAdded}
 use Rattle.net_extract.specs.Going.{IsStopped, IsNotAdded, IsPut, IsTaken, IsAlong, IsEnd}
 use Rattle.net_extract.specs.declared.fault.ExtractFault.{ExtractFault}
 use Rattle.net_extract.specs.declared.fault.ExtractFault.TheVariants.{KernelLimit, NodeLimit, Memory}
-use Rattle.net_extract.proofs.Slots.{below_none, below_next, below_all, standing_turned}
+use Rattle.net_extract.proofs.Slots.{standing_turned}
+use Rattle.net_extract.proofs.Summing.{rising_once}
+use Rattle.net_extract.proofs.Losing.{AreAll}
+use Rattle.net_extract.proofs.Places.{divided_all}
 
--- ---- tables divided, place by place
+-- ---- a cover extracted
 
 module _ (name : List ℕ) (cover : NamedCover) where
-  pub divided_begin : (now : Placed) → now ≡ with_divided name cover 0 now
-  divided_begin now = ap (λ (slots : List (Option Table)). record now { slots = slots }) (sym (below_none (divided name true cover) now.slots))
-
-  pub divided_next : (before now new : Placed) (place : ℕ) → place < length before.slots → now ≡ with_divided name cover place before
-      → new ≡ with_slot now place (divided_slot name cover (table_at now.slots place)) → new ≡ with_divided name cover (place + 1) before
-  divided_next before now new place below is made =
-      made
-      ∙ ap (λ (p : Placed). with_slot p place (divided_slot name cover (table_at p.slots place))) is
-      ∙ ap (λ (slots : List (Option Table)). record before { slots = slots }) (below_next (divided name true cover) before.slots place below)
-      ∙ ap (λ (n : ℕ). with_divided name cover n before) (let one : suc place ≡ place + 1 = omega arith in one)
-
   -- the circuit once the table of the cover is added, and the tables before it are divided
-  pub divided_circuit : (before between now : Placed) → between ≡ with_last before (cover_table name cover) → now ≡ with_divided name cover (length before.slots) between
-      → circuit_of now ≡ extracted (circuit_of before) name cover
-  divided_circuit before between now added is =
-      ap (λ (p : Placed). circuit_of p) (is ∙ ap (with_divided name cover (length before.slots)) added)
-      ∙ ap (λ (slots : List (Option Table)). with_tables before.frame (standing slots)) (below_all (divided name true cover) before.slots (Some (cover_table name cover) ∷ []))
+  pub divided_circuit : (places : List ℕ) (before between now : Placed) → AreAll cover before.slots places → ((at : ℕ) → is_in places at ≡ true → at < length before.slots)
+      → between ≡ with_last before (cover_table name cover) → now ≡ with_divided name cover places between → circuit_of now ≡ extracted (circuit_of before) name cover
+  divided_circuit places before between now are within added is =
+      ap (λ (p : Placed). circuit_of p) (is ∙ ap (with_divided name cover places) added)
+      ∙ ap (λ (slots : List (Option Table)). with_tables before.frame (standing slots)) (divided_all name cover before.slots places are within (Some (cover_table name cover)))
       ∙ ap (λ (tables : List Table). with_tables before.frame tables) (standing_push (map (divided_slot name cover) before.slots) (cover_table name cover))
       ∙ ap (λ (tables : List Table). with_tables before.frame (tables ++ cover_table name cover ∷ [])) (standing_turned (divided name true cover) before.slots)
 
@@ -54,20 +49,17 @@ module _ (name : List ℕ) (cover : NamedCover) where
       subst (AllByRecursion IsBounded) (sym (ap (λ (p : Placed). standing p.slots) added.is ∙ standing_push before.slots (cover_table name cover)))
       (all_append IsBounded (standing before.slots) (cover_table name cover ∷ []) all (added.bounded, tt))
 
-  pub put_from : (before between now : Placed) → IsAdded cover name before between → now ≡ with_divided name cover (length before.slots) between
+  pub put_from : (places : List ℕ) (before between now : Placed) → IsStrictlyIncreasing places → ((at : ℕ) → is_in places at ≡ true → at < length before.slots)
+      → ((at : ℕ) (table : Table) → table_at before.slots at ≡ Some table → is_over table.inputs cover ≡ true → is_in places at ≡ true)
+      → IsAdded cover name before between → now ≡ with_divided name cover places between
       → (AllByRecursion IsBounded (standing between.slots) → AllByRecursion IsBounded (standing now.slots)) → IsPut cover before now
-  put_from before between now added is bounded = record {
+  put_from places before between now rising within all added is bounded = record {
     name = name;
     free = added.free;
     room = added.room;
-    made = divided_circuit before between now added.is is;
+    made = divided_circuit places before between now (record { once = rising_once places rising; all = all }) within added.is is;
     bounded = λ all. bounded (added_bounded before between added all);
   }
-
-  pub added_long : (before between : Placed) → IsAdded cover name before between → length before.slots ≤ length between.slots
-  added_long before between added =
-      let long : length between.slots ≡ length (before.slots ++ Some (cover_table name cover) ∷ []) = ap (λ (p : Placed). length p.slots) added.is in
-      omega (arith, long, length-append before.slots (Some (cover_table name cover) ∷ []))
 
 -- ---- a step
 

@@ -1,7 +1,7 @@
 -- Tables at places divided by a cover, whose own table stands behind the last. No public clause needs these definitions.
 -- Source: De Micheli, "Synthesis and Optimization of Digital Circuits", chapter 8 (a logic network as a set of nodes, changed one
 -- after the other).
-use Rattle.std.specs.Prelude.{◌≡◌, ℕ, ◌<◌, true, Option, Some, List, ◌++◌, map, take, drop}
+use Rattle.std.specs.Prelude.{◌≡◌, ℕ, ◌<◌, true, Option, Some, List, [], ◌∷◌, slice_set}
 use Rattle.std.specs.Option.{option_map}
 use Rattle.circuit_model.specs.Names.{all_different}
 use Rattle.circuit_model.specs.declared.circuit.Table.{Table as Written}
@@ -17,12 +17,14 @@ use Rattle.table_algebra.specs.Dividing.{divided, cover_table}
 abbrev pub divided_slot : List ℕ → NamedCover → Option Written → Option Written
 divided_slot name cover slot = option_map (divided name true cover) slot
 
--- the tables below a place divided
-abbrev pub divided_below : List ℕ → NamedCover → ℕ → List (Option Written) → List (Option Written)
-divided_below name cover place slots = map (divided_slot name cover) (take place slots) ++ drop place slots
+-- slots at some places changed, one after the other
+abbrev pub turned_at : (Option Written → Option Written) → List ℕ → List (Option Written) → List (Option Written)
+turned_at turn [] slots = slots
+turned_at turn (place ∷ places) slots = turned_at turn places (slice_set slots place (turn (table_at slots place)))
 
-abbrev pub with_divided : List ℕ → NamedCover → ℕ → Placed → Placed
-with_divided name cover place placed = record placed { slots = divided_below name cover place placed.slots }
+-- the tables at some places divided
+abbrev pub with_divided : List ℕ → NamedCover → List ℕ → Placed → Placed
+with_divided name cover places placed = record placed { slots = turned_at (divided_slot name cover) places placed.slots }
 
 -- what was made is a table, divided
 pub record IsMade {R : Type 0} (name : List ℕ) (cover : NamedCover) (table : Written) (made : Table R) : Type 0 where

@@ -4,3 +4,4 @@ pub mod Choosing
 pub mod Listing
 pub mod Dividing
 pub mod Going
+pub mod Known

@@ -9,6 +9,7 @@ ghost use Rattle.net_extract.specs.Going.{IsEnd};
 ghost use Rattle.net_extract.specs.Extract.{HasExtracted};
 
 use crate::fault::ExtractFault;
+use crate::known::Known;
 use crate::stepping::step;
 use cube_cover::Row;
 use extract_rules::Rule;
@@ -24,7 +25,8 @@ fn take_steps<R: Row>(alloc: Global, work: &mut Work<R>, rule: Rule) -> Result<(
     ensures bounds { OnOk result (HasBounds (circuit_of work.old) → HasBounds (circuit_of work.new)) }
     ensures stopped { IfErr result (IsEnd rule (circuit_of work.old)) }
 {
-    while step(alloc, work, rule)? {}
+    let mut known = Known::nothing(alloc);
+    while step(alloc, work, &mut known, rule)? {}
     Ok(())
 }
 

@@ -10,8 +10,10 @@ ghost use Rattle.net_core.specs.Tables.{IsOverInputs};
 ghost use Rattle.net_work.specs.Placed.{standing, circuit_of, table_at};
 ghost use Rattle.net_extract.specs.Listing.{AreOwn, IsListing, IsShared, IsMany, IsManyIn, told};
 ghost use Rattle.net_extract.specs.Going.{IsStopped};
+ghost use Rattle.net_extract.specs.Known.{AreKept};
 
 use crate::fault::ExtractFault;
+use crate::owned::{OwnLists, taken};
 use cube_cover::Row;
 use extract_candidates::{ListFault, cubes_of, own_candidates, shared_candidates};
 use extract_rules::Rule;
@@ -60,6 +62,25 @@ fn own_at<R: Row>(
     }
 }
 
+// What the table at a place gives by itself: what is known of it moves out, else it is made.
+fn known_at<R: Row>(
+    alloc: Global,
+    work: &Work<R>,
+    rule: Rule,
+    lists: &mut OwnLists,
+    place: usize,
+) -> Result<Vec<NamedCover>, ExtractFault>
+    requires kept { AreKept rule work.now.slots lists.old.items }
+    ensures own { IfOk result (λ own. AreOwn rule (table_at work.now.slots place) own.items) }
+    ensures many { IfErr result (IsManyIn rule (table_at work.now.slots place)) }
+    ensures kept { AreKept rule work.now.slots lists.new.items }
+{
+    match taken(lists, place) {
+        None => own_at(alloc, work, rule, place),
+        Some(own) => Ok(own),
+    }
+}
+
 // Puts the covers of a place behind those of the places before it.
 fn push_own(listing: &mut Listing, own: Vec<NamedCover>) -> Result<(), AllocError>
     ensures { OnOk result (listing.new.items ≡ listing.old.items ++ own ∷ []) }
@@ -68,18 +89,21 @@ fn push_own(listing: &mut Listing, own: Vec<NamedCover>) -> Result<(), AllocErro
     Ok(())
 }
 
-/// What the tables at all places give, each by itself; `KernelLimit` with the name of the first that has too many kernels.
+/// What the tables at all places give, each by itself: what is known moves out, and the rest is made. `KernelLimit` with the name of the
+/// first that has too many kernels.
 pub(crate) fn listing_of<R: Row>(
     alloc: Global,
     work: &Work<R>,
     rule: Rule,
+    lists: &mut OwnLists,
 ) -> Result<Listing, ExtractFault>
+    requires kept { AreKept rule work.now.slots lists.old.items }
     ensures listing { IfOk result (λ listing. IsListing rule work.now.slots (map (λ own. own.items) listing.items)) }
     ensures stopped { IfErr result (IsStopped rule (circuit_of work.now)) }
 {
     let mut listing = Vec::new(alloc);
     for place in 0..work.len() {
-        let own = own_at(alloc, work, rule, place)?;
+        let own = known_at(alloc, work, rule, lists, place)?;
         push_own(&mut listing, own)?;
     }
     Ok(listing)

@@ -48,6 +48,7 @@ fn first_name(cover: &[Cube]) -> Option<&Name>
 fn risen(places: Places) -> Vec<usize>
     ensures rising { IsStrictlyIncreasing result.items }
     ensures all { (at : ℕ) → is_in places at ≡ true → is_in result.items at ≡ true }
+    ensures same { (at : ℕ) → is_in result.items at ≡ true → is_in places at ≡ true }
 {
     let mut sorted = places.into_vec();
     sorted.sort_unstable();
@@ -55,14 +56,15 @@ fn risen(places: Places) -> Vec<usize>
     sorted
 }
 
-// Places, each once, among which are those of all tables that read all that a cover reads.
-fn places_for<R: Row>(
+/// Places at which tables stand, each once, among which are those of all tables that read all that a cover reads.
+pub(crate) fn places_for<R: Row>(
     alloc: Global,
     work: &Work<R>,
     cover: &[Cube],
 ) -> Result<Vec<usize>, AllocError>
     requires { 1 ≤ literals_in cover.now }
     ensures rising { IfOk result (λ places. IsStrictlyIncreasing places.items) }
+    ensures within { IfOk result (λ places. (at : ℕ) → is_in places.items at ≡ true → at < length work.now.slots) }
     ensures all { IfOk result (λ places. (at : ℕ) (table : TheTable) → table_at work.now.slots at ≡ Some table → is_over table.inputs cover.now ≡ true → is_in places.items at ≡ true) }
 {
     match first_name(cover) {

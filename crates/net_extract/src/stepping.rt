@@ -10,11 +10,15 @@ ghost use Rattle.net_core.specs.Reads.{IsBounded};
 ghost use Rattle.net_core.specs.Tables.{named, IsOverInputs};
 ghost use Rattle.table_algebra.specs.Dividing.{divided};
 ghost use Rattle.net_work.specs.Placed.{standing, circuit_of, table_at, with_slot};
+ghost use Rattle.net_extract.specs.Saving.{literals_in};
 ghost use Rattle.net_extract.specs.Dividing.{divided_slot, with_divided, IsMade, IsMadeAt, IsAdded};
 ghost use Rattle.net_extract.specs.Going.{IsStopped, IsNotAdded, IsPut, IsTaken};
+ghost use Rattle.net_extract.specs.Known.{AreCounted, AreKept, StayKept};
 
 use crate::fault::ExtractFault;
-use crate::finding::best;
+use crate::finding::best_known;
+use crate::known::{Known, add_known, know, set_known};
+use crate::saving::places_for;
 use circuit_model::Name;
 use cube_cover::Row;
 use extract_rules::Rule;
@@ -45,14 +49,18 @@ fn bounded<R: Row>(table: Table<R>) -> Result<Table<R>, AllocError>
 fn add_table<R: Row>(
     alloc: Global,
     work: &mut Work<R>,
+    known: &mut Known,
     cover: &[Cube],
 ) -> Result<Name, ExtractFault>
+    requires known { AreCounted work.old.slots known.old.gains }
     ensures added { IfOk result (λ name. IsAdded cover.now name work.old work.new) }
+    ensures known { IfOk result (λ _. AreCounted work.new.slots known.new.gains) }
+    ensures lists { IfOk result (λ _. StayKept work.old.slots known.old.own.items work.new.slots known.new.own.items) }
     ensures fault { IfErr result (IsNotAdded (circuit_of work.old)) }
 {
     let made = cover_table(alloc, cover)?;
     let table = bounded(made)?;
-    match work.add(alloc, table) {
+    match add_known(alloc, work, known, table) {
         Ok(name) => Ok(name),
         Err(AddFault::NodeLimit) => Err(ExtractFault::NodeLimit),
         Err(AddFault::Memory) => Err(ExtractFault::Memory),
@@ -99,45 +107,62 @@ fn divided_at<R: Row>(
 fn divide_at<R: Row>(
     alloc: Global,
     work: &mut Work<R>,
+    known: &mut Known,
     name: &Name,
     cover: &[Cube],
     place: usize,
 ) -> Result<(), AllocError>
+    requires known { AreCounted work.old.slots known.old.gains }
+    ensures known { OnOk result (AreCounted work.new.slots known.new.gains) }
+    ensures lists { OnOk result (StayKept work.old.slots known.old.own.items work.new.slots known.new.own.items) }
     ensures divided { OnOk result (work.new ≡ with_slot work.old place (divided_slot name.now cover.now (table_at work.old.slots place))) }
     ensures bounded { OnOk result (AllByRecursion IsBounded (standing work.old.slots) → AllByRecursion IsBounded (standing work.new.slots)) }
 {
     match divided_at(alloc, work, name, cover, place)? {
         None => Ok(()),
-        Some(table) => work.set(alloc, place, table),
+        Some(table) => set_known(alloc, work, known, place, table),
     }
 }
 
-// The tables below a place are divided.
-fn divide_below<R: Row>(
+// The tables at some places are divided.
+fn divide_places<R: Row>(
     alloc: Global,
     work: &mut Work<R>,
+    known: &mut Known,
     name: &Name,
     cover: &[Cube],
-    count: usize,
+    places: &[usize],
 ) -> Result<(), AllocError>
-    requires { count ≤ length work.old.slots }
-    ensures divided { OnOk result (work.new ≡ with_divided name.now cover.now count work.old) }
+    requires known { AreCounted work.old.slots known.old.gains }
+    ensures known { OnOk result (AreCounted work.new.slots known.new.gains) }
+    ensures lists { OnOk result (StayKept work.old.slots known.old.own.items work.new.slots known.new.own.items) }
+    ensures divided { OnOk result (work.new ≡ with_divided name.now cover.now places.now work.old) }
     ensures bounded { OnOk result (AllByRecursion IsBounded (standing work.old.slots) → AllByRecursion IsBounded (standing work.new.slots)) }
 {
-    for place in 0..count {
-        divide_at(alloc, work, name, cover, place)?;
+    for place in places {
+        divide_at(alloc, work, known, name, cover, *place)?;
     }
     Ok(())
 }
 
-// A cover is extracted; `NodeLimit` where there is no room for its table. Behind an error any network may stand.
-fn put<R: Row>(alloc: Global, work: &mut Work<R>, cover: &[Cube]) -> Result<(), ExtractFault>
+// A cover is extracted: where tables may read all that it reads they are divided, and the others stay as they are; `NodeLimit` where there
+// is no room for its table. Behind an error any network may stand.
+fn put<R: Row>(
+    alloc: Global,
+    work: &mut Work<R>,
+    known: &mut Known,
+    cover: &[Cube],
+) -> Result<(), ExtractFault>
+    requires some { 1 ≤ literals_in cover.now }
+    requires known { AreCounted work.old.slots known.old.gains }
     ensures put { OnOk result (IsPut cover.now work.old work.new) }
+    ensures known { OnOk result (AreCounted work.new.slots known.new.gains) }
+    ensures lists { OnOk result (StayKept work.old.slots known.old.own.items work.new.slots known.new.own.items) }
     ensures fault { IfErr result (IsNotAdded (circuit_of work.old)) }
 {
-    let count = work.len();
-    let name = add_table(alloc, work, cover)?;
-    divide_below(alloc, work, &name, cover, count)?;
+    let places = places_for(alloc, work, cover)?;
+    let name = add_table(alloc, work, known, cover)?;
+    divide_places(alloc, work, known, &name, cover, places.as_slice())?;
     Ok(())
 }
 
@@ -145,18 +170,24 @@ fn put<R: Row>(alloc: Global, work: &mut Work<R>, cover: &[Cube]) -> Result<(), 
 pub(crate) fn step<R: Row>(
     alloc: Global,
     work: &mut Work<R>,
+    known: &mut Known,
     rule: Rule,
 ) -> Result<bool, ExtractFault>
     requires sound { IsSound (circuit_of work.old) }
+    requires known { AreCounted work.old.slots known.old.gains }
+    requires lists { AreKept rule work.old.slots known.old.own.items }
+    ensures known { OnOk result (AreCounted work.new.slots known.new.gains) }
+    ensures lists { OnOk result (AreKept rule work.new.slots known.new.own.items) }
     ensures done { IfOk result (λ taken. taken ≡ false → (work.new ≡ work.old) × IsDone rule (circuit_of work.old)) }
     ensures taken { IfOk result (λ taken. taken ≡ true → IsTaken rule work.old work.new) }
     ensures stopped { IfErr result (IsStopped rule (circuit_of work.old)) }
 {
     let name = work.new_name(alloc)?;
-    match best(alloc, work, rule, &name)? {
+    know(alloc, work, rule, known)?;
+    match best_known(alloc, work, rule, &name, known)? {
         None => Ok(false),
         Some(cover) => {
-            put(alloc, work, cover.as_slice())?;
+            put(alloc, work, known, cover.as_slice())?;
             Ok(true)
         }
     }

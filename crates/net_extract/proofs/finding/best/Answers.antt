@@ -7,6 +7,7 @@ use Rattle.net_extract.specs.Choosing.{IsChosen}
 use Rattle.net_extract.specs.Listing.{all_of}
 use Rattle.net_extract.proofs.Listed.{candidates_listed, listing_listable}
 use Rattle.net_extract.proofs.Found.{candidate_some, found_done, found_next, chosen_read}
+use Rattle.net_extract.proofs.KeptLists.{kept_listing}
 use Rattle.net_extract.proofs.finding.best.Goals as goal
 
 pub best_listed-requires-clause-some : goal.best_listed-requires-clause-some
@@ -30,8 +31,8 @@ returns-in-None-clause-found g c =
     let are = candidates_listed c.args.rule c.args.work.now.slots own c.in_ok-shared.shared.items c.in_ok-listing.ensures.listing c.in_ok-shared.ensures in
     let chosen =
     chosen_read (λ (own : Vec NamedCover Global). own.items) (standing c.args.work.now.slots) c.args.name.now c.in_ok-listing.listing.items c.as_slice.result.now c.in_ok-shared.shared.items c.as_slice-2.result.now
-    c.in_ok-best_of.field-0 c.as_slice.ensures.value c.as_slice-2.ensures.value
-    (c.in_ok-best_of.ensures (all_of (map (λ (own : Vec NamedCover Global). own.items) c.as_slice.result.now)) c.in_ok-listed.ensures) in
+    c.in_ok-chosen.chosen c.as_slice.ensures.value c.as_slice-2.ensures.value
+    (c.in_ok-chosen.ensures (all_of (map (λ (own : Vec NamedCover Global). own.items) c.as_slice.result.now)) c.in_ok-listed.ensures) in
     found_done c.args.rule (circuit_of c.args.work.now) c.args.name.now c.requires.sound c.requires.free (all_of own ++ c.in_ok-shared.shared.items) are
     (listing_listable c.args.rule c.args.work.now.slots own c.in_ok-listing.ensures.listing)
     (subst (IsChosen (standing c.args.work.now.slots) c.args.name.now (all_of own ++ c.in_ok-shared.shared.items)) c.in-None.is chosen)
@@ -42,8 +43,16 @@ returns-clause-found g c =
     let are = candidates_listed c.args.rule c.args.work.now.slots own c.in_ok-shared.shared.items c.in_ok-listing.ensures.listing c.in_ok-shared.ensures in
     let chosen =
     chosen_read (λ (own : Vec NamedCover Global). own.items) (standing c.args.work.now.slots) c.args.name.now c.in_ok-listing.listing.items c.as_slice.result.now c.in_ok-shared.shared.items c.as_slice-2.result.now
-    c.in_ok-best_of.field-0 c.as_slice.ensures.value c.as_slice-2.ensures.value
-    (c.in_ok-best_of.ensures (all_of (map (λ (own : Vec NamedCover Global). own.items) c.as_slice.result.now)) c.in_ok-listed.ensures) in
+    c.in_ok-chosen.chosen c.as_slice.ensures.value c.as_slice-2.ensures.value
+    (c.in_ok-chosen.ensures (all_of (map (λ (own : Vec NamedCover Global). own.items) c.as_slice.result.now)) c.in_ok-listed.ensures) in
     found_next c.args.rule (circuit_of c.args.work.now) c.args.name.now c.requires.sound c.requires.free (all_of own ++ c.in_ok-shared.shared.items) c.in-Some.choice are
     (listing_listable c.args.rule c.args.work.now.slots own c.in_ok-listing.ensures.listing)
     (subst (IsChosen (standing c.args.work.now.slots) c.args.name.now (all_of own ++ c.in_ok-shared.shared.items)) c.in-Some.is chosen)
+
+pub returns-in-None-clause-kept : goal.returns-in-None-clause-kept
+returns-in-None-clause-kept g c =
+    kept_listing c.args.rule c.args.work.now.slots c.in_ok-listing.listing.items c.in_ok-lists.field-0.items c.in_ok-listing.ensures.listing c.in_ok-lists.ensures
+
+pub returns-clause-kept : goal.returns-clause-kept
+returns-clause-kept g c =
+    kept_listing c.args.rule c.args.work.now.slots c.in_ok-listing.listing.items c.in_ok-lists.field-0.items c.in_ok-listing.ensures.listing c.in_ok-lists.ensures

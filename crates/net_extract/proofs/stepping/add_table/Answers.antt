@@ -4,6 +4,6 @@ use Rattle.net_core.specs.declared.table.Table.{Table}
 use Rattle.net_extract.proofs.Tabled.{cover_once}
 use Rattle.net_extract.proofs.stepping.add_table.Goals as goal
 
-pub add-requires-clause-once : goal.add-requires-clause-once
-add-requires-clause-once g c =
+pub add_known-requires-clause-once : goal.add_known-requires-clause-once
+add_known-requires-clause-once g c =
     ap (λ (t : Table g.row.R.Denot). all_different t.inputs) c.in_ok-table.ensures.0 ∙ cover_once c.args.cover.now c.in_ok-made.made c.in_ok-made.ensures.table

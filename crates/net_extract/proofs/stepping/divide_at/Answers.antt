@@ -10,4 +10,4 @@ returns-in-None-clause-divided g c =
 pub returns-in-Some-clause-bounded : goal.returns-in-Some-clause-bounded
 returns-in-Some-clause-bounded g c =
     let is = rw c.in-Some.is at c.in_ok-divided_at.ensures in
-    on_ok_weaker c.set.result (λ set_is. made_bounded c.args.name.now c.args.cover.now c.args.work.now c.set.new.self c.args.place c.in-Some.table is set_is) c.set.ensures
+    on_ok_weaker c.set_known.result (λ set_is. made_bounded c.args.name.now c.args.cover.now c.args.work.now c.set_known.new.work c.args.place c.in-Some.table is set_is) c.set_known.ensures.set

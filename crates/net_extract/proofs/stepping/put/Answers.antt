@@ -1,9 +1,13 @@
-use Rattle.std.proofs.Common.{ℕ, ap, ◌∙◌}
+use Rattle.std.proofs.Common.{ℕ, List, ap, ◌∙◌}
 use Rattle.net_extract.specs.Dividing.{with_divided}
 use Rattle.net_extract.proofs.Steps.{put_from}
 use Rattle.net_extract.proofs.stepping.put.Goals as goal
 
 pub returns-clause-put : goal.returns-clause-put
 returns-clause-put g c =
-    put_from c.in_ok-name.name c.args.cover.now c.args.work.now c.add_table.new.work c.divide_below.new.work c.in_ok-name.ensures.added
-    (c.in_ok-divide_below.ensures.divided ∙ ap (λ (n : ℕ). with_divided c.in_ok-name.name c.args.cover.now n c.add_table.new.work) c.len-count.ensures) c.in_ok-divide_below.ensures.bounded
+    put_from c.in_ok-name.name c.args.cover.now c.in_ok-places.places.items c.args.work.now c.add_table.new.work c.divide_places.new.work c.in_ok-places.ensures.rising c.in_ok-places.ensures.within
+    c.in_ok-places.ensures.all c.in_ok-name.ensures.added
+    (c.in_ok-divide_places.ensures.divided ∙ ap (λ (places : List ℕ). with_divided c.in_ok-name.name c.args.cover.now places c.add_table.new.work) c.as_slice.ensures.value) c.in_ok-divide_places.ensures.bounded
+
+pub returns-clause-lists : goal.returns-clause-lists
+returns-clause-lists g c = λ rule kept. c.in_ok-divide_places.ensures.lists rule (c.in_ok-name.ensures.lists rule kept)

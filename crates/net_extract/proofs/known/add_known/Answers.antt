@@ -1,0 +1,13 @@
+use Rattle.std.proofs.Common.{sym, subst}
+use Rattle.net_extract.specs.Known.{AreCounted}
+use Rattle.net_extract.proofs.Gaining.{counted_after_add}
+use Rattle.net_extract.proofs.KeptLists.{kept_after_add}
+use Rattle.net_extract.proofs.known.add_known.Goals as goal
+
+pub returns-clause-known : goal.returns-clause-known
+returns-clause-known g c =
+    counted_after_add c.args.work.now c.add.new.self c.args.table c.args.known.now.gains c.in_ok-known.field-0 c.add.result c.requires.known
+    (λ slots output h. c.in_ok-known.ensures slots output (subst (AreCounted slots) (sym c.take.ensures.value) h)) c.add.ensures
+
+pub returns-clause-lists : goal.returns-clause-lists
+returns-clause-lists g c = kept_after_add c.args.work.now c.add.new.self c.args.table c.args.known.now.own.items c.add.result c.add.ensures

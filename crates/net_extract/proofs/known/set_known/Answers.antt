@@ -1,0 +1,21 @@
+use Rattle.std.proofs.Common.{sym, subst}
+use Rattle.std.proofs.lemmas.Result.{on_ok_weaker}
+use Rattle.net_extract.specs.Known.{AreCounted}
+use Rattle.net_extract.proofs.Gaining.{counted_within, counted_after_set}
+use Rattle.net_extract.proofs.KeptLists.{kept_after_set}
+use Rattle.net_extract.proofs.known.set_known.Goals as goal
+
+pub changed-requires-clause-place : goal.changed-requires-clause-place
+changed-requires-clause-place g c =
+    counted_within c.args.work.now.slots c.take.result c.args.place c.requires.there (subst (AreCounted c.args.work.now.slots) (sym c.take.ensures.value) c.requires.known)
+
+pub returns-clause-known : goal.returns-clause-known
+returns-clause-known g c =
+    on_ok_weaker c.set.result
+    (counted_after_set c.args.work.now c.set.new.self c.args.place c.args.table c.args.known.now.gains c.in_ok-known.field-0 c.requires.there c.requires.known
+    (λ slots output h. c.in_ok-known.ensures slots output (subst (AreCounted slots) (sym c.take.ensures.value) h))) c.set.ensures
+
+pub returns-clause-lists : goal.returns-clause-lists
+returns-clause-lists g c =
+    on_ok_weaker c.set.result
+    (kept_after_set c.args.work.now c.set.new.self c.args.place c.args.table c.args.known.now.own.items c.taken-old.new.lists.items c.requires.there c.taken-old.ensures.rest) c.set.ensures

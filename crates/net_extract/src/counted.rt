@@ -1,0 +1,61 @@
+//! The best candidate of a network by the gains that are kept.
+
+ghost use Rattle.std.specs.Prelude.{◌≡◌, ℕ, IfOk, MatchOption};
+ghost use Rattle.circuit_model.specs.Soundness.{IsSound};
+ghost use Rattle.extract_rules.specs.Extracting.{IsNext, IsDone};
+ghost use Rattle.extract_rules.specs.declared.rule.Rule.TheVariants.{Fx as TheFx};
+ghost use Rattle.net_core.specs.Fresh.{IsNewName};
+ghost use Rattle.net_work.specs.Placed.{standing, circuit_of};
+ghost use Rattle.net_extract.specs.Saving.{IsSaving};
+ghost use Rattle.net_extract.specs.Known.{IsCounted};
+
+use crate::saving::saving_of;
+use circuit_model::Name;
+use cube_cover::Row;
+use kept_gains::{KeptGains, Trial};
+use name_covers::NamedCover;
+use net_work::Work;
+use pair_gains::laws::{gains_are_what_tables_lose, what_gains_is_a_candidate};
+use std::alloc::{AllocError, Global};
+
+// Whether covers may be extracted from a network under a name: they save a literal, and no table has too many inputs then.
+#[derive(Drop)]
+struct SavingTrial<'a, R: Row> {
+    work: &'a Work<R>,
+    name: &'a Name,
+}
+
+impl<'a, R: Row> Trial for SavingTrial<'a, R> {
+    ghost use Rattle.std.specs.Prelude.{ℕ};
+    ghost use Rattle.circuit_model.specs.Soundness.{IsSound};
+    ghost use Rattle.net_core.specs.Fresh.{IsNewName};
+    ghost use Rattle.net_work.specs.Placed.{standing, circuit_of};
+    ghost use Rattle.net_extract.specs.Saving.{IsSaving};
+
+    ghost IsReady = { λ t. IsSound (circuit_of t.work.now) × IsNewName (circuit_of t.work.now) t.name.now };
+
+    ghost Passes = { λ t cover. (number : ℕ) × IsSaving (standing t.work.now.slots) t.name.now cover number };
+
+    fn passes(&self, alloc: Global, cover: &NamedCover) -> Result<bool, AllocError> {
+        let saved = saving_of(alloc, self.work, self.name, cover.as_slice())?;
+        Ok(saved.is_some())
+    }
+}
+
+/// The best candidate of `fx` under a new name by the gains of all tables; none where none saves a literal.
+pub(crate) fn best_counted<R: Row>(
+    alloc: Global,
+    work: &Work<R>,
+    name: &Name,
+    gains: &KeptGains,
+) -> Result<Option<NamedCover>, AllocError>
+    requires sound { IsSound (circuit_of work.now) }
+    requires free { IsNewName (circuit_of work.now) name.now }
+    requires counted { IsCounted work.now.slots gains.now }
+    ensures { IfOk result (λ found. MatchOption found (IsDone TheFx (circuit_of work.now)) (IsNext TheFx (circuit_of work.now) name.now)) }
+{
+    gains_are_what_tables_lose();
+    what_gains_is_a_candidate();
+    let trial = SavingTrial { work, name };
+    gains.first(alloc, &trial)
+}

@@ -1,0 +1,94 @@
+//! The gains of all tables of a network, counted from nothing.
+
+ghost use Rattle.std.specs.Prelude.{◌≡◌, true, Option, List, [], ◌∷◌, ◌++◌, IfOk};
+ghost use Rattle.circuit_model.specs.declared.circuit.Table.{Table as TheTable};
+ghost use Rattle.net_work.specs.Placed.{table_at};
+ghost use Rattle.net_extract.specs.Known.{IsCounted, AreCounted};
+
+use circuit_model::Name;
+use cube_cover::Row;
+use kept_gains::KeptGains;
+use net_core::{Entry, bracketed_name};
+use net_work::Work;
+use sis_base::Copied;
+use std::alloc::{AllocError, Global};
+
+// How many names in brackets are known ahead, however few tables there are.
+const NAMES_AHEAD: u64 = 1_000;
+
+// Puts the names of a table and its inputs behind others.
+fn push_entry<R: Row>(
+    alloc: Global,
+    names: &mut Vec<Name>,
+    entry: &Entry<R>,
+) -> Result<(), AllocError> {
+    for input in entry.table.inputs.as_slice() {
+        names.push(input.copy(alloc)?)?;
+    }
+    names.push(entry.output.copy(alloc)?)?;
+    Ok(())
+}
+
+// Puts the names of the table at a place and its inputs behind others.
+fn push_place<R: Row>(
+    alloc: Global,
+    names: &mut Vec<Name>,
+    work: &Work<R>,
+    place: usize,
+) -> Result<(), AllocError> {
+    match work.entry(place) {
+        None => Ok(()),
+        Some(entry) => push_entry(alloc, names, entry),
+    }
+}
+
+// Puts the first names in brackets behind others.
+fn push_bracketed(alloc: Global, names: &mut Vec<Name>, count: u64) -> Result<(), AllocError> {
+    for number in 0..count {
+        names.push(bracketed_name(alloc, number)?)?;
+    }
+    Ok(())
+}
+
+// The names of all tables and inputs, and names in brackets, of which new tables take the first that are free.
+fn names_of<R: Row>(alloc: Global, work: &Work<R>) -> Result<Vec<Name>, AllocError> {
+    let mut names = Vec::new(alloc);
+    for place in 0..work.len() {
+        push_place(alloc, &mut names, work, place)?;
+    }
+    let ahead = (work.len() as u64)
+        .saturating_mul(2)
+        .saturating_add(NAMES_AHEAD);
+    push_bracketed(alloc, &mut names, ahead)?;
+    Ok(names)
+}
+
+// The table at a place comes behind those before it; false where there is none, or it has a row twice.
+fn count_at<R: Row>(
+    alloc: Global,
+    work: &Work<R>,
+    gains: &mut KeptGains,
+    place: usize,
+) -> Result<bool, AllocError>
+    ensures { IfOk result (λ counted. counted ≡ true → (slots : List (Option TheTable)) → IsCounted slots gains.old → IsCounted (slots ++ table_at work.now.slots place ∷ []) gains.new) }
+{
+    match work.entry(place) {
+        None => Ok(false),
+        Some(entry) => gains.push(alloc, &entry.table),
+    }
+}
+
+/// The gains of all tables, counted; none where a place is empty or a table has a row twice. An error only for want of memory, or of
+/// numbers for the totals.
+pub(crate) fn count<R: Row>(alloc: Global, work: &Work<R>) -> Result<Option<KeptGains>, AllocError>
+    ensures { IfOk result (λ found. AreCounted work.now.slots found) }
+{
+    let names = names_of(alloc, work)?;
+    let mut gains = KeptGains::new(alloc, names)?;
+    for place in 0..work.len() {
+        if !count_at(alloc, work, &mut gains, place)? {
+            return Ok(None);
+        }
+    }
+    Ok(Some(gains))
+}
