@@ -90,6 +90,10 @@ saved_is by table made saved unread is counted =
     ∙ (ap (λ (t : Table). cond {A = ℕ} (ltb 1000 (length t.inputs)) 0 (literals_of_table table - literals_of_table t)) is
     ∙ sym (ap (λ (a : Bool). cond {A = ℕ} (a || ltb 1000 (length (resubbed by table).inputs)) 0 (literals_of_table table - literals_of_table (resubbed by table))) unread))
 
+-- nor does one that reads not all names of the other one's literals
+pub unread_saves : (by table : Table) → is_over table.inputs (row_cubes by) ≡ false → saving_of by table ≡ 0
+unread_saves by table apart = stays_saves by table (unread_stays by.output by.phase (row_cubes by) table apart)
+
 pub saving_changes : (by table : Table) → 0 < saving_of by table → resubbed by table ≢ table
 saving_changes by table some same = zero_saving (saving_of by table) some (stays_saves by table same)
 

@@ -1,4 +1,5 @@
--- Which division is best: that which saves most, of several the one of the first table, and for that table by the first one.
+-- Which division is best: that which saves most, of several the one of the first table, and for that table by the first one. No public
+-- clause needs these definitions.
 -- Source: Brayton, Rudell, Sangiovanni-Vincentelli and Wang, "MIS: A Multiple-Level Logic Optimization System" (1987). The order among
 -- divisions that save as much is the project's own.
 use Rattle.std.specs.Prelude.{◌≡◌, ◌⊎◌, ℕ, ◌<◌, ◌≤◌, ◌==◌, ltb, Bool, true, ◌&&◌, ◌||◌, if◌then◌else◌, Option, Some, None, List, length}

@@ -1,4 +1,4 @@
--- What the division of one table by another one saves.
+-- What the division of one table by another one saves. No public clause needs these definitions.
 -- Source: Brayton, Rudell, Sangiovanni-Vincentelli and Wang, "MIS: A Multiple-Level Logic Optimization System" (1987); the SIS report
 -- (UCB/ERL M92/41), `resub`. The limit of 1,000 inputs is the project's own.
 use Rattle.std.specs.Prelude.{ℕ, ◌-◌, ◌==◌, ltb, Bool, ◌||◌, if◌then◌else◌, Option, Some, None, List, length}
@@ -7,6 +7,7 @@ use Rattle.circuit_model.specs.Names.{has}
 use Rattle.circuit_model.specs.Counts.{literals_of_table}
 use Rattle.circuit_model.specs.declared.circuit.Table.{Table}
 use Rattle.name_covers.specs.Literals.{Cube}
+use Rattle.name_covers.specs.declared.literal.Literal.{Literal}
 use Rattle.net_work.specs.Placed.{table_at}
 use Rattle.resub_rules.specs.Resubbed.{row_cubes, resubbed}
 
@@ -24,6 +25,10 @@ saving_between (Some table) (Some by) = saving_of by table
 -- the same of the tables at two places, the divided one's first; a table does not divide itself
 unfoldable pub saving_at : List (Option Table) → ℕ → ℕ → ℕ
 saving_at slots place by = if place == by then 0 else saving_between (table_at slots place) (table_at slots by)
+
+-- whether all literals of a cube are of names
+abbrev pub is_cube_over : List (List ℕ) → Cube → Bool
+is_cube_over names cube = list_all (λ (literal : Literal). has names literal.name) cube
 
 -- whether a cube has no literal
 abbrev pub is_plain : Cube → Bool

@@ -1,4 +1,4 @@
--- The places of the tables that a table reads, and so the graph of all places.
+-- The places of the tables that a table reads, and so the graph of all places. No public clause needs these definitions.
 -- Source: De Micheli, "Synthesis and Optimization of Digital Circuits", chapter 8 (a logic network as a directed graph).
 use Rattle.std.specs.Prelude.{◌≡◌, ℕ, suc, true, Option, Some, None, List, [], ◌∷◌, map, flat_map, bytes_eq, if◌then◌else◌, option_to_list}
 use Rattle.std.specs.Option.{option_map}

@@ -118,12 +118,12 @@ fn best_at<R: Row>(
 }
 
 // Whether a table without literals stands at a place.
-fn is_bare_at<R: Row>(alloc: Global, work: &Work<R>, place: usize) -> Result<bool, AllocError>
-    ensures { IfOk result (λ bare. (table : TheWritten) → table_at work.now.slots place ≡ Some table → bare ≡ is_without table) }
+fn is_bare_at<R: Row>(work: &Work<R>, place: usize) -> bool
+    ensures { (table : TheWritten) → table_at work.now.slots place ≡ Some table → result ≡ is_without table }
 {
     match work.entry(place) {
-        None => Ok(false),
-        Some(entry) => is_bare(alloc, entry),
+        None => false,
+        Some(entry) => is_bare(entry),
     }
 }
 
@@ -133,7 +133,7 @@ fn bare_places<R: Row>(alloc: Global, work: &Work<R>) -> Result<Vec<usize>, Allo
 {
     let mut places = Vec::new(alloc);
     for place in 0..work.len() {
-        if is_bare_at(alloc, work, place)? {
+        if is_bare_at(work, place) {
             places.push(place)?;
         }
     }

@@ -1,8 +1,7 @@
 //! One division: what a table becomes where it is divided by another one's rows, and how many literals that saves.
 
-ghost use Rattle.std.specs.Prelude.{◌≡◌, ℕ, ◌-◌, ◌<◌, ltb, true, Some, None, List, length, if◌then◌else◌, IfOk, IfSome};
-ghost use Rattle.std.specs.List.{list_all};
-ghost use Rattle.circuit_model.specs.Names.{all_different};
+ghost use Rattle.std.specs.Prelude.{◌≡◌, ℕ, ◌-◌, ◌<◌, ltb, true, not, ◌||◌, Some, None, List, length, is_some, slice_index_or, if◌then◌else◌, IfOk, IfSome};
+ghost use Rattle.circuit_model.specs.Names.{has, all_different};
 ghost use Rattle.circuit_model.specs.Counts.{literals_of_table};
 ghost use Rattle.circuit_model.specs.declared.circuit.Table.{Table as TheWritten};
 ghost use Rattle.net_core.specs.Places.{written_of};
@@ -10,10 +9,12 @@ ghost use Rattle.net_core.specs.Reads.{IsBounded};
 ghost use Rattle.net_core.specs.Tables.{named, IsOverInputs};
 ghost use Rattle.net_work.specs.Placed.{table_at};
 ghost use Rattle.resub_rules.specs.Resubbed.{row_cubes as cubes_of_rows, resubbed as resubbed_by};
-ghost use Rattle.net_resub.specs.Pairs.{saving_of as saved_of, saving_at as saved_at, is_plain, is_bare as is_without};
+ghost use Rattle.name_covers.specs.Cubes.{cube_over as cube_from, is_over};
+ghost use Rattle.net_resub.specs.Pairs.{saving_of as saved_of, saving_at as saved_at, is_cube_over, is_bare as is_without};
 
 use crate::reaching::has_name;
 use alg_div::literals_of;
+use circuit_model::Name;
 use cube_cover::Row;
 use name_covers::{Cube, cube_over};
 use net_core::{Entry, Table};
@@ -44,19 +45,55 @@ fn row_cubes<R: Row>(alloc: Global, entry: &Entry<R>) -> Result<Vec<Cube>, Alloc
     Ok(cubes)
 }
 
-// Whether no cube has a literal.
-fn are_plain(cubes: &[Cube]) -> bool
-    ensures { result ≡ list_all is_plain cubes.now }
+// What stands at a place of a row; a dash past its last.
+fn item_at<R: Row>(row: &R, place: usize) -> Option<bool>
+    ensures { result ≡ slice_index_or (R.literals row.now) place None }
 {
-    cubes.iter().all(|cube| cube.is_empty())
+    if place < row.width() {
+        row.at(place)
+    } else {
+        None
+    }
 }
 
-/// Whether the rows of a table have no literal; an error only for want of memory.
-pub(crate) fn is_bare<R: Row>(alloc: Global, entry: &Entry<R>) -> Result<bool, AllocError>
-    ensures { IfOk result (λ bare. bare ≡ is_without (written_of entry.now)) }
+// Whether there is a dash under a name, or the name is among names.
+fn is_dash_or_among(names: &[Name], name: &Name, item: Option<bool>) -> bool
+    ensures { result ≡ (not (is_some item) || has names.now name.now) }
 {
-    let cubes = row_cubes(alloc, entry)?;
-    Ok(are_plain(cubes.as_slice()))
+    item.is_none() || has_name(names, name)
+}
+
+// Whether all literals of a row over inputs are of some names.
+fn is_row_over<R: Row>(names: &[Name], inputs: &[Name], row: &R) -> bool
+    ensures { result ≡ is_cube_over names.now (cube_from inputs.now (R.literals row.now)) }
+{
+    for (place, input) in inputs.iter().enumerate() {
+        if !is_dash_or_among(names, input, item_at(row, place)) {
+            return false;
+        }
+    }
+    true
+}
+
+// Whether all literals of a table's rows are of some names: only then can a table with these inputs be divided by it.
+fn is_table_over<R: Row>(names: &[Name], by: &Entry<R>) -> bool
+    ensures { result ≡ is_over names.now (cubes_of_rows (written_of by.now)) }
+{
+    let inputs = by.table.inputs.as_slice();
+    let rows = by.table.cover.rows();
+    for row in rows {
+        if !is_row_over(names, inputs, row) {
+            return false;
+        }
+    }
+    true
+}
+
+/// Whether the rows of a table have no literal: all that they have are of no names.
+pub(crate) fn is_bare<R: Row>(entry: &Entry<R>) -> bool
+    ensures { result ≡ is_without (written_of entry.now) }
+{
+    is_table_over(&[], entry)
 }
 
 // What a table becomes where it is divided by another one; none where it stays.
@@ -96,7 +133,11 @@ fn saving_of<R: Row>(alloc: Global, entry: &Entry<R>, by: &Entry<R>) -> Result<u
     requires { IsOverInputs entry.now.table }
     ensures { IfOk result (λ saving. saving ≡ saved_of (written_of by.now) (written_of entry.now)) }
 {
-    if has_name(entry.table.inputs.as_slice(), &by.output) {
+    let inputs = entry.table.inputs.as_slice();
+    if has_name(inputs, &by.output) {
+        return Ok(0);
+    }
+    if !is_table_over(inputs, by) {
         return Ok(0);
     }
     match resubbed_table(alloc, entry, by)? {
