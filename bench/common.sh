@@ -1,22 +1,16 @@
-# What the benchmarks share: time, processor time and peak memory of a command, and the same script run by `sis` and by ABC (Debian's
-# berkeley-abc). Read by the scripts beside it, which set $top (the repository); $work is a folder for
+# What the benchmarks share: time, processor time and peak memory of a command by GNU time (Debian's time), and the same script run by `sis`
+# and by ABC (Debian's berkeley-abc). Read by the scripts beside it, which set $top (the repository); $work is a folder for
 # files that goes with the script.
 
+[ -x "$(type -P time)" ] || { echo "GNU time (Debian's time) is wanted" >&2; exit 1; }
 "$top/bin/sis" -c quit || exit 1 # proves and builds the program where it does not stand yet
 work=$(mktemp -d) || exit 1
 trap 'rm -rf "$work"' EXIT
 
 measure() { # name, command ..
   local name=$1; shift
-  python3 - "$name" "$@" <<'PY'
-import resource, subprocess, sys, time
-name, command = sys.argv[1], sys.argv[2:]
-begun = time.time()
-status = subprocess.run(command, stdout=subprocess.DEVNULL, stderr=subprocess.DEVNULL).returncode
-taken = time.time() - begun
-used = resource.getrusage(resource.RUSAGE_CHILDREN)
-print(f"  {name:4} {taken:.2f} s, processor {used.ru_utime + used.ru_stime:.2f} s, peak {used.ru_maxrss} kB, status {status}")
-PY
+  command time -q -f "%e %U %S %M %x" -o "$work/time" "$@" >/dev/null 2>&1
+  awk -v name="$name" '{ printf "  %-4s %.2f s, processor %.2f s, peak %d kB, status %d\n", name, $1, $2 + $3, $4, $5 }' "$work/time"
 }
 
 # Runs a script on $work/a.blif, once with each program; each writes a file of its own. ABC is stopped after a minute (status 124).

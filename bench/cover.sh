@@ -57,11 +57,12 @@ def run(text):
     open(f"{work}/case", "w").write(text)
     best = None
     for turn in range(3):
-        child = subprocess.Popen([program], stdin=open(f"{work}/case"), stdout=subprocess.PIPE)
+        timed = ["time", "-q", "-f", "%M", "-o", f"{work}/time", program]
+        child = subprocess.Popen(timed, stdin=open(f"{work}/case"), stdout=subprocess.PIPE)
         answer = child.stdout.read().decode()
         _, _, used = os.wait4(child.pid, 0)
-        taken = used.ru_utime + used.ru_stime
-        if best is None or taken < best[0]: best = (taken, used.ru_maxrss, answer.split("\n")[1:])
+        taken, peak = used.ru_utime + used.ru_stime, open(f"{work}/time").read()
+        if best is None or taken < best[0]: best = (taken, int(peak), answer.split("\n")[1:])
     return best
 patterns = run(f"patterns\n{library}==\n")
 forest = run(f"vertices\n{circuit}==\n")

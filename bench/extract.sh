@@ -24,34 +24,36 @@ after() { # commands that change the file before anything is measured
   (cd "$work" && "$top/out/sis" -c "read_blif a.blif; $1; write_blif made.blif" && mv made.blif a.blif)
 }
 
-rows() { # inputs and rows of a table of random rows
-  python3 - "$1" "$2" <<'PY'
+rows() { # inputs, rows, and of a hundred places how many are literals
+  python3 - "$1" "$2" "$3" <<'PY'
 import sys
-width, count, x = int(sys.argv[1]), int(sys.argv[2]), 1
+width, count, literals, x = int(sys.argv[1]), int(sys.argv[2]), int(sys.argv[3]), 1
 def pick(m):
     global x
     x = (x * 6364136223846793005 + 1442695040888963407) % 2**64
     return (x >> 33) % m
 inputs = " ".join(f"i{k}" for k in range(width))
 print(f".model one\n.inputs {inputs}\n.outputs y\n.names {inputs} y")
-for _ in range(count): print("".join("01-"[pick(3)] for _ in range(width)), 1)
+for _ in range(count): print("".join("01"[pick(2)] if pick(100) < literals else "-" for _ in range(width)), 1)
 print(".end")
 PY
 }
 
 for tables in "${sizes[@]}"; do
   random "$tables" >"$work/a.blif"
-  each "random circuit of $tables tables" sweep resub decomp tech_decomp
+  each "random circuit of $tables tables" sweep fx gkx gcx resub decomp tech_decomp
   after "eliminate 4"
-  each "the same after eliminate 4" sweep fx resub decomp tech_decomp
+  each "the same after eliminate 4" sweep fx gkx gcx resub decomp tech_decomp
 done
 
 random 3000 >"$work/a.blif"
 after "eliminate 2"
 each "random circuit of 3000 tables after eliminate 2" sweep fx gkx gcx
 
-rows 40 200 >"$work/a.blif"
-each "a table of 40 inputs and 200 random rows" sweep fx
+for literals in 25 50 67; do
+  rows 40 200 "$literals" >"$work/a.blif"
+  each "a table of 40 inputs and 200 random rows, of whose places $literals in a hundred are literals" sweep fx
+done
 
-rows 20 400 >"$work/a.blif"
+rows 20 400 67 >"$work/a.blif"
 each "a table of 20 inputs and 400 random rows" sweep decomp tech_decomp
