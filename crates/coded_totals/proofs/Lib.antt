@@ -1,3 +1,5 @@
+pub mod Compared
+pub mod Mixed
 pub mod Merged
 pub mod Divisors
 pub mod Ranks

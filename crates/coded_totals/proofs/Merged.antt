@@ -1,11 +1,13 @@
 -- What two rising lists have beside each other, number by number.
-use Rattle.std.proofs.Common.{◌≡◌, ◌<◌, ◌+◌, ◌==◌, ◌≤◌, ◌⊎◌, inl, inr, get_or, drop-cons, ℕ, zero, suc, Bool, true, false, not, cond, ◌||◌, List, [], ◌∷◌, ◌++◌, length, drop, Less, Equal, Greater, nat_cmp, refl, sym, ap, ap₂, ◌∙◌, subst, arith, append_assoc}
+use Rattle.std.proofs.Common.{◌≡◌, ◌<◌, ◌+◌, ◌==◌, ◌≤◌, ◌⊎◌, inl, inr, get_or, drop-cons, ℕ, zero, suc, Bool, true, false, not, cond, ◌||◌, List, [], ◌∷◌, ◌++◌, ◌-◌, length, take, drop, Less, Equal, Greater, nat_cmp, refl, sym, ap, ap₂, ◌∙◌, subst, arith, append_assoc}
 use Rattle.std.specs.List.{AllByRecursion, list_any}
 use Rattle.std.specs.List.Sorted.{IsStrictlySortedBy}
 use Rattle.std.proofs.lemmas.Bool.{false≢true, eq-eqb, ne_eqb, eqb-false}
 use Rattle.std.specs.Cmp.{nat_cmp_is}
 use Rattle.std.specs.Ordering.{ordering_reverse}
 use Rattle.std.proofs.lemmas.Cmp.{ranked, nat_cmp_total}
+use Rattle.std.proofs.lemmas.List.{length-drop}
+use Rattle.std.proofs.Math.Seq.{take-length}
 use Rattle.coded_totals.specs.Gains.{own}
 
 -- a number below all of a list stands not in it
@@ -125,9 +127,12 @@ drop_past (z ∷ zs) zero le = absurd (omega (arith, le))
 drop_past (z ∷ zs) (suc n) le = drop_past zs n (omega (arith, le))
 
 -- what is left when one list is at its end
-pub merged_all : (xs ys whole made after : List ℕ) (i j : ℕ) → (length xs ≤ i) ⊎ (length ys ≤ j) → after ≡ made ++ drop i xs → made ++ own (drop i xs) (drop j ys) ≡ whole → after ≡ whole
-merged_all xs ys whole made after i j end put h = put ∙ (ap (λ (zs : List ℕ). made ++ zs) (sym (left end)) ∙ h)
+pub merged_all : (xs ys whole made after : List ℕ) (i j : ℕ) → (length xs ≤ i) ⊎ (length ys ≤ j) → after ≡ made ++ take (length xs - i) (drop i xs) → made ++ own (drop i xs) (drop j ys) ≡ whole → after ≡ whole
+merged_all xs ys whole made after i j end put h = put ∙ (ap (λ (zs : List ℕ). made ++ zs) (taken ∙ sym (left end)) ∙ h)
   where
+    taken : take (length xs - i) (drop i xs) ≡ drop i xs
+    taken = ap (λ (n : ℕ). take n (drop i xs)) (sym (length-drop i xs)) ∙ take-length (drop i xs)
+
     left : (length xs ≤ i) ⊎ (length ys ≤ j) → own (drop i xs) (drop j ys) ≡ drop i xs
     left (inl le) = ap (λ (zs : List ℕ). own zs (drop j ys)) (drop_past xs i le) ∙ sym (drop_past xs i le)
     left (inr le) = ap (own (drop i xs)) (drop_past ys j le) ∙ own_none (drop i xs)

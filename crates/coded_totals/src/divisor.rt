@@ -4,15 +4,21 @@ ghost use Rattle.std.specs.Prelude.{◌≡◌, ◌+◌, ◌∷◌, [], map, leng
 ghost use Rattle.coded_totals.specs.Gains.{literals_in};
 ghost use Rattle.coded_totals.specs.Divisors.{cover_of, Sums};
 
+use crate::comparing::compared;
+use crate::mixing::mixed;
 use sis_base::{Copied, Short};
 use std::alloc::{AllocError, Global};
 use std::cmp::Ordering;
+use std::hash::{Hash, Hasher};
+
+/// So many numbers of a cube need no memory of their own.
+pub(crate) const KEPT_INLINE: usize = 6;
 
 /// The numbers of a cube, in rising order.
-pub type Numbers = Short<u32, 6>;
+pub type Numbers = Short<u32, KEPT_INLINE>;
 
 /// A sum of two cubes, the lesser one first, or one cube, where the second has no number.
-#[derive(Debug, PartialEq, Eq, Hash, Drop)]
+#[derive(Debug, PartialEq, Eq, Drop)]
 pub struct Divisor {
     pub first: Numbers,
     pub second: Numbers,
@@ -24,6 +30,20 @@ impl Copied for Divisor {
             first: self.first.copy(alloc)?,
             second: self.second.copy(alloc)?,
         })
+    }
+}
+
+// By hand, since a sum has some forty numbers, and each look-up hashes it.
+impl Hash for Divisor {
+    ghost use Rattle.coded_totals.specs.Mixing.{divisor_input, divisors_alike};
+
+    ghost hash_input = { divisor_input };
+
+    ghost respects_eq = { divisors_alike };
+
+    fn hash<H: Hasher>(&self, state: &mut H) {
+        state.write_u64(mixed(self.first.as_slice()));
+        state.write_u64(mixed(self.second.as_slice()));
     }
 }
 
@@ -41,10 +61,11 @@ impl Ord for Divisor {
     ghost matches_eq = { divisor_ties };
 
     fn cmp(&self, other: &Divisor) -> Ordering {
-        self.first
-            .as_slice()
-            .cmp(other.first.as_slice())
-            .then(self.second.as_slice().cmp(other.second.as_slice()))
+        let first = compared(self.first.as_slice(), other.first.as_slice());
+        if first.is_ne() {
+            return first;
+        }
+        compared(self.second.as_slice(), other.second.as_slice())
     }
 }
 
@@ -74,7 +95,7 @@ impl Divisor {
     pub fn of_sum(first: Numbers, second: Numbers) -> Divisor
         ensures { Sums first second result }
     {
-        if second.as_slice().cmp(first.as_slice()).is_lt() {
+        if compared(second.as_slice(), first.as_slice()).is_lt() {
             Divisor {
                 first: second,
                 second: first,

@@ -11,9 +11,11 @@
 //! Each error is want of memory, or a total that no machine word holds; behind it any totals may stand.
 #![tactic(auto)]
 
+mod comparing;
 mod divisor;
 mod exchanging;
 mod merging;
+mod mixing;
 mod pairs;
 mod parting;
 mod totals;
