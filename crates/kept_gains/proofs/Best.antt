@@ -18,7 +18,7 @@ use Rattle.name_covers.proofs.Orders.{cover_order}
 use Rattle.pair_gains.specs.Gains.{over_pairs, sum_gain, product_gain, gains}
 use Rattle.pair_gains.proofs.Found.{some_item, some_pair, partners_gain, product_is, gaining_literal}
 use Rattle.alg_div.specs.Cubes.{Has as IsIn}
-use Rattle.signal_codes.specs.Codes.{AreRising, coded, are_coded, IsCoded}
+use Rattle.signal_codes.specs.Codes.{AreRising, coded, are_coded}
 use Rattle.signal_codes.proofs.Carried.{all_has, same_items}
 use Rattle.signal_codes.proofs.Coded.{Known, KnownCube, KnownCover, cover_known, known_cover, sum_known, codes_gains, codes_literals, covers_keep, gaining_coded, number_lists_order}
 use Rattle.kept_gains.specs.Kept.{Kept, total, literals_in, Saves, IsFirst}
@@ -85,12 +85,14 @@ module _ (names : List (List ℕ)) (rising : AreRising names) where
       cases (suc n) e rest =
           let back = cubes_known names rising cubes all.0 in
           let known : KnownCover names (cubes_at names cubes) = cover_known names (cubes_at names cubes) back.0 in
-          let is : IsCoded names numbers =
-          gaining_coded names rising numbers (cubes_at names cubes) known (subst (λ (xs : List (List ℕ)). 0 < gains_of numbers xs) (sym back.1) (omega (arith, e))) in
-          let same : gains_of numbers cubes ≡ gains is.cover (cubes_at names cubes) =
-          ap (λ (xs : List (List ℕ)). gains_of xs cubes) is.is ∙ table_coded is.cover cubes (cover_known names is.cover is.known) all.0 in
-          let literals : numbers_in numbers ≡ literals_in is.cover = ap numbers_in is.is ∙ codes_literals names is.cover in
-          omega (arith, literals, gaining_literal is.cover (cubes_at names cubes) (omega (arith, e, same)))
+          let own =
+          cubes_known names rising numbers
+          (gaining_coded names rising numbers (cubes_at names cubes) known (subst (λ (xs : List (List ℕ)). 0 < gains_of numbers xs) (sym back.1) (omega (arith, e)))) in
+          let cover : NamedCover = cubes_at names numbers in
+          let same : gains_of numbers cubes ≡ gains cover (cubes_at names cubes) =
+          ap (λ (xs : List (List ℕ)). gains_of xs cubes) (sym own.1) ∙ table_coded cover cubes (cover_known names cover own.0) all.0 in
+          let literals : numbers_in numbers ≡ literals_in cover = ap numbers_in (sym own.1) ∙ codes_literals names cover in
+          omega (arith, literals, gaining_literal cover (cubes_at names cubes) (omega (arith, e, same)))
 
 -- ---- better covers
 

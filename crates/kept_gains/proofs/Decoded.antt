@@ -6,10 +6,9 @@ use Rattle.name_covers.specs.Literals.{Cube}
 use Rattle.name_covers.specs.Cubes.{is_over}
 use Rattle.name_covers.specs.declared.literal.Literal.{Literal}
 use Rattle.signal_codes.specs.Codes.{AreRising, place_of, bit_number, code_of, codes_of, coded, is_known, is_code, are_codes, are_coded}
-use Rattle.signal_codes.proofs.Places.{name_at_place, code_below}
+use Rattle.signal_codes.proofs.Places.{name_at_place}
 use Rattle.signal_codes.proofs.Looked.{literal_back}
 use Rattle.kept_gains.specs.Numbers.{literal_at, cubes_at}
-use Rattle.std.proofs.Common.{lt-ltb}
 
 half_of : (place bit : ℕ) → bit < 2 → (2 * place + bit) / 2 ≡ place
 half_of place bit h = omega arith
@@ -46,21 +45,6 @@ cubes_decoded names [] known = refl
 cubes_decoded names (cube ∷ cubes) known =
     let parts = and_parts (is_known names cube) (is_over names cubes) known in
     ap₂ (λ (x : Cube) (xs : List Cube). x ∷ xs) (cube_decoded names cube parts.0) (cubes_decoded names cubes parts.1)
-
--- ---- the numbers of known literals
-
-codes_known : (names : List (List ℕ)) (cube : Cube) → is_known names cube ≡ true → are_codes names (codes_of names cube) ≡ true
-codes_known names [] known = refl
-codes_known names (literal ∷ cube) known =
-    let parts = and_parts (has names literal.name) (is_known names cube) known in
-    and_from (is_code names (code_of names literal)) (are_codes names (codes_of names cube))
-    (lt-ltb (code_of names literal) (2 * length names) (code_below names literal parts.0)) (codes_known names cube parts.1)
-
-pub coded_known : (names : List (List ℕ)) (cubes : List Cube) → is_over names cubes ≡ true → are_coded names (coded names cubes) ≡ true
-coded_known names [] known = refl
-coded_known names (cube ∷ cubes) known =
-    let parts = and_parts (is_known names cube) (is_over names cubes) known in
-    and_from (are_codes names (codes_of names cube)) (are_coded names (coded names cubes)) (codes_known names cube parts.0) (coded_known names cubes parts.1)
 
 -- ---- from numbers to literals and back
 

@@ -13,10 +13,11 @@ use Rattle.name_covers.specs.Literals.{Cube}
 use Rattle.name_covers.proofs.Members.{Has}
 use Rattle.name_covers.proofs.Sorting.{sorted_has, sorted_keeps}
 use Rattle.signal_codes.specs.Codes.{in_order, are_coded}
+use Rattle.signal_codes.proofs.Coded.{coded_known}
 use Rattle.table_algebra.proofs.Divided.{name_order}
 use Rattle.kept_gains.specs.Numbers.{tables_in, cubes_at, AreNumbers, IsCounted, IsKept}
 use Rattle.kept_gains.specs.declared.counted.Counted.{Counted}
-use Rattle.kept_gains.proofs.Decoded.{cubes_decoded, coded_known}
+use Rattle.kept_gains.proofs.Decoded.{cubes_decoded}
 use Rattle.kept_gains.proofs.Numbered.{decided}
 use Rattle.kept_gains.proofs.Summed.{all_set}
 

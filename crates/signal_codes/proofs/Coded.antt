@@ -1,8 +1,8 @@
 -- Codes carry over all that the orders of literals, cubes and covers decide: what two cubes share, sums of two cubes, and the gains of rows.
-use Rattle.std.proofs.Common.{◌≡◌, ℕ, ◌+◌, ◌-◌, ◌<◌, zero, suc, Bool, true, false, not, ◌&&◌, cond, List, [], ◌∷◌, map, length, nat_eq, nat_cmp, is_eq, Equal, refl, sym, ap, ap₂, ◌∙◌, subst, arith, inl, inr}
+use Rattle.std.proofs.Common.{◌≡◌, ℕ, ◌+◌, ◌-◌, ◌*◌, ◌<◌, zero, suc, Bool, true, false, not, ◌&&◌, cond, List, [], ◌∷◌, map, length, nat_eq, nat_cmp, is_eq, Equal, refl, sym, ap, ap₂, ◌∙◌, subst, arith, inl, inr, lt-ltb}
 use Rattle.std.specs.Cmp.{Equal-is, unsigned_ties}
 use Rattle.std.specs.List.{AllByRecursion, list_any, sum_by}
-use Rattle.std.proofs.lemmas.Bool.{and_parts}
+use Rattle.std.proofs.lemmas.Bool.{and_parts, and_from}
 use Rattle.std.proofs.lemmas.Cmp.{nat_cmp_total, ranked}
 use Rattle.std.proofs.lemmas.List.{length-map}
 use Rattle.std.proofs.lemmas.List.Sums.{sum_by-cons}
@@ -16,8 +16,8 @@ use Rattle.name_covers.specs.declared.literal.Literal.{Literal}
 use Rattle.name_covers.proofs.Members.{Has}
 use Rattle.name_covers.proofs.Orders.{IsOrder, lists_order}
 use Rattle.pair_gains.specs.Gains.{over_pairs, same_cover, is_one, sum_of_two, sum_gain, product_gain, gains}
-use Rattle.signal_codes.specs.Codes.{AreRising, code_of, codes_of, coded, is_known, IsCoded}
-use Rattle.signal_codes.proofs.Places.{codes_keep_order}
+use Rattle.signal_codes.specs.Codes.{AreRising, code_of, codes_of, coded, is_known, is_code, are_codes, are_coded}
+use Rattle.signal_codes.proofs.Places.{codes_keep_order, code_below}
 use Rattle.signal_codes.proofs.Carried.{Keeps, all_from_test, test_from_all, all_has, all_filter, all_sorted, lists_keep, map_sorted, map_filter, map_any, map_sum, has_mapped, some_counts}
 
 pub number_order : IsOrder nat_cmp
@@ -51,6 +51,21 @@ known_cube names = test_from_all (λ (literal : Literal). has names literal.name
 
 pub known_cover : (names : List (List ℕ)) (cover : NamedCover) → KnownCover names cover → is_over names cover ≡ true
 known_cover names = test_from_all (is_known names) (KnownCube names) (known_cube names)
+
+-- ---- the numbers of known cubes and covers
+
+codes_known : (names : List (List ℕ)) (cube : Cube) → is_known names cube ≡ true → are_codes names (codes_of names cube) ≡ true
+codes_known names [] known = refl
+codes_known names (literal ∷ cube) known =
+    let parts = and_parts (has names literal.name) (is_known names cube) known in
+    and_from (is_code names (code_of names literal)) (are_codes names (codes_of names cube))
+    (lt-ltb (code_of names literal) (2 * length names) (code_below names literal parts.0)) (codes_known names cube parts.1)
+
+pub coded_known : (names : List (List ℕ)) (cubes : List Cube) → is_over names cubes ≡ true → are_coded names (coded names cubes) ≡ true
+coded_known names [] known = refl
+coded_known names (cube ∷ cubes) known =
+    let parts = and_parts (is_known names cube) (is_over names cubes) known in
+    and_from (are_codes names (codes_of names cube)) (are_coded names (coded names cubes)) (codes_known names cube parts.0) (coded_known names cubes parts.1)
 
 -- ---- pairs
 
@@ -180,37 +195,35 @@ module _ (names : List (List ℕ)) (rising : AreRising names) where
       (λ cube h. map_pairs (Known names) (code_of names) (product_gain cover) (product_gain_of (coded names cover)) (codes_product_gain cover known) cube h) cubes all)
 
   -- a sum of two known cubes, and a product of two literals of one
-  coded_sum : (numbers : List (List ℕ)) (cubes : List Cube) → KnownCover names cubes → 0 < over_number_pairs (sum_gain_of numbers) (coded names cubes) → IsCoded names numbers
+  coded_sum : (numbers : List (List ℕ)) (cubes : List Cube) → KnownCover names cubes → 0 < over_number_pairs (sum_gain_of numbers) (coded names cubes) → are_coded names numbers ≡ true
   coded_sum numbers cubes all h =
       let p = some_pair (sum_gain_of numbers) (coded names cubes) h in
       let one = has_mapped (codes_of names) cubes p.0 p.2 in
       let other = has_mapped (codes_of names) cubes p.1 p.3 in
       let first : KnownCube names one.0 = all_has (KnownCube names) cubes all one.0 one.1 in
-      let second : KnownCube names other.0 = all_has (KnownCube names) cubes all other.0 other.1 in record {
-        cover = sum_of_two one.0 other.0;
-        known = known_cover names (sum_of_two one.0 other.0) (sum_known one.0 other.0 first second);
-        is = sum_told numbers p.0 p.1 p.4 ∙ ap₂ sum_of_lists one.2 other.2 ∙ sym (codes_sum one.0 other.0 first second);
-      }
+      let second : KnownCube names other.0 = all_has (KnownCube names) cubes all other.0 other.1 in
+      let is : numbers ≡ coded names (sum_of_two one.0 other.0) = sum_told numbers p.0 p.1 p.4 ∙ ap₂ sum_of_lists one.2 other.2 ∙ sym (codes_sum one.0 other.0 first second) in
+      ap (are_coded names) is ∙ coded_known names (sum_of_two one.0 other.0) (known_cover names (sum_of_two one.0 other.0) (sum_known one.0 other.0 first second))
 
-  coded_product : (numbers : List (List ℕ)) (cubes : List Cube) → KnownCover names cubes → 0 < sum_by (over_number_pairs (product_gain_of numbers)) (coded names cubes) → IsCoded names numbers
+  coded_product : (numbers : List (List ℕ)) (cubes : List Cube) → KnownCover names cubes → 0 < sum_by (over_number_pairs (product_gain_of numbers)) (coded names cubes) → are_coded names numbers ≡ true
   coded_product numbers cubes all h =
       let p = some_counts (over_number_pairs (product_gain_of numbers)) (coded names cubes) h in
       let cube = has_mapped (codes_of names) cubes p.0 p.1 in
       let known : KnownCube names cube.0 = all_has (KnownCube names) cubes all cube.0 cube.1 in
       let q = some_pair (product_gain_of numbers) p.0 p.2 in
       let one = has_mapped (code_of names) cube.0 q.0 (subst (Has q.0) cube.2 q.2) in
-      let other = has_mapped (code_of names) cube.0 q.1 (subst (Has q.1) cube.2 q.3) in record {
-        cover = (one.0 ∷ other.0 ∷ []) ∷ [];
-        known = known_cover names ((one.0 ∷ other.0 ∷ []) ∷ []) ((all_has (Known names) cube.0 known one.0 one.1, (all_has (Known names) cube.0 known other.0 other.1, tt)), tt);
-        is = product_told numbers q.0 q.1 q.4 ∙ ap₂ (λ (m n : ℕ). (m ∷ n ∷ []) ∷ []) one.2 other.2;
-      }
+      let other = has_mapped (code_of names) cube.0 q.1 (subst (Has q.1) cube.2 q.3) in
+      let is : numbers ≡ coded names ((one.0 ∷ other.0 ∷ []) ∷ []) = product_told numbers q.0 q.1 q.4 ∙ ap₂ (λ (m n : ℕ). (m ∷ n ∷ []) ∷ []) one.2 other.2 in
+      ap (are_coded names) is
+      ∙ coded_known names ((one.0 ∷ other.0 ∷ []) ∷ [])
+      (known_cover names ((one.0 ∷ other.0 ∷ []) ∷ []) ((all_has (Known names) cube.0 known one.0 one.1, (all_has (Known names) cube.0 known other.0 other.1, tt)), tt))
 
-  -- what gains among known cubes is a known cover
-  pub gaining_coded : (numbers : List (List ℕ)) (cubes : List Cube) → KnownCover names cubes → 0 < gains_of numbers (coded names cubes) → IsCoded names numbers
+  -- what gains among known cubes has numbers of literals
+  pub gaining_coded : (numbers : List (List ℕ)) (cubes : List Cube) → KnownCover names cubes → 0 < gains_of numbers (coded names cubes) → are_coded names numbers ≡ true
   unfolding gains_of
   gaining_coded numbers cubes all h = cases (over_number_pairs (sum_gain_of numbers) (coded names cubes)) refl
     where
-      cases : (n : ℕ) → over_number_pairs (sum_gain_of numbers) (coded names cubes) ≡ n → IsCoded names numbers
+      cases : (n : ℕ) → over_number_pairs (sum_gain_of numbers) (coded names cubes) ≡ n → are_coded names numbers ≡ true
       cases zero e = coded_product numbers cubes all (omega (arith, e, h))
       cases (suc n) e = coded_sum numbers cubes all (omega (arith, e))
 

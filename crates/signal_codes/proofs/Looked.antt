@@ -9,8 +9,9 @@ use Rattle.std.proofs.lemmas.List.Sorted.{searchable_from_sorted}
 use Rattle.std.proofs.lemmas.Map.Keys.{Less-from_sorted}
 use Rattle.circuit_model.specs.Names.{has}
 use Rattle.table_algebra.proofs.Divided.{name_order}
+use Rattle.table_fold.proofs.Once.{place_within}
 use Rattle.signal_codes.specs.Codes.{name_cmp, AreRising, place_of, bit_number, code_of, is_code}
-use Rattle.signal_codes.proofs.Places.{place_below, name_at_place, has_at_place, place_of_name}
+use Rattle.signal_codes.proofs.Places.{name_at_place, has_at_place, place_of_name}
 
 pub found_at : (names : List (List ℕ)) (name : List ℕ) (place : ℕ) → AreRising names → place < length names → HoldsAt (λ known. name_cmp known name ≡ Equal) names place
     → (has names name ≡ true) × (place ≡ place_of names name)
@@ -45,7 +46,7 @@ missing_at names name place rising parts = false_from_ne_true (has names name) (
         ap (λ (known : List ℕ). name_cmp known name) (name_at_place names name [] h) ∙ tied_itself name_order.total name
         in elim (sides (place_of names name) place) as (λ _. ⊥) [
           | inl lt ↦ true≢false (sym (ap is_eq same) ∙ ap is_eq (both.0 (place_of names name) [] (omega arith) lt))
-          | inr le ↦ true≢false (sym (ap is_eq same) ∙ ap is_eq (both.1 (place_of names name) [] le (place_below names name h)))
+          | inr le ↦ true≢false (sym (ap is_eq same) ∙ ap is_eq (both.1 (place_of names name) [] le (place_within names name h)))
         ]
 
 halves : (number : ℕ) → 2 * (number / 2) + number % 2 ≡ number

@@ -1,40 +1,24 @@
 -- Places of names in a list: below its length, each name at its own; in a rising list in the order of the names.
-use Rattle.std.proofs.Common.{◌≡◌, ℕ, ◌+◌, ◌*◌, ◌<◌, zero, suc, Bool, true, false, ◌||◌, cond, List, [], ◌∷◌, length, get_or, bytes_eq, Ordering, Less, Equal, Greater, nat_cmp, refl, sym, ap, ap₂, ◌∙◌, subst, arith}
+use Rattle.std.proofs.Common.{◌≡◌, ℕ, ◌+◌, ◌*◌, ◌<◌, zero, suc, Bool, true, false, List, [], ◌∷◌, length, get_or, bytes_eq, Ordering, Less, Equal, Greater, nat_cmp, refl, sym, ap, ap₂, ◌∙◌, subst, arith}
 use Rattle.std.specs.Cmp.{nat_cmp_is}
 use Rattle.std.specs.Ordering.{bool_cmp, ordering_then, ordering_reverse}
-use Rattle.std.proofs.lemmas.Bool.{or_left, or_right, false≢true}
+use Rattle.std.proofs.lemmas.Bool.{or_left, or_right}
 use Rattle.std.proofs.lemmas.Cmp.{ranked, tied_itself}
+use Rattle.std.proofs.lemmas.List.Sums.{passes_at_first}
 use Rattle.std.proofs.lemmas.Map.Keys.{Less-from_sorted}
 use Rattle.std.proofs.lemmas.Slice.Eq.{bytes_eq-Decides}
 use Rattle.circuit_model.specs.Names.{has}
 use Rattle.name_covers.specs.Literals.{literal_cmp}
 use Rattle.name_covers.specs.declared.literal.Literal.{Literal}
 use Rattle.table_algebra.proofs.Divided.{name_order}
+use Rattle.table_fold.proofs.Once.{place_within}
 use Rattle.signal_codes.specs.Codes.{name_cmp, AreRising, place_of, bit_number, code_of}
 
 -- ---- places of names
 
-pub place_below : (names : List (List ℕ)) (name : List ℕ) → has names name ≡ true → place_of names name < length names
-unfolding place_of
-place_below [] name h = absurd (false≢true h)
-place_below (first ∷ names) name h = cases (bytes_eq name first) h (place_below names name)
-  where
-    cases : (b : Bool) → (b || has names name) ≡ true → (has names name ≡ true → place_of names name < length names) → cond b 0 (1 + place_of names name) < length (first ∷ names)
-    cases true k rest = omega arith
-    cases false k rest = let lt : place_of names name < length names = rest k in omega arith
-
-one_more : (n : ℕ) → 1 + n ≡ suc n
-one_more n = omega arith
-
 pub name_at_place : (names : List (List ℕ)) (name other : List ℕ) → has names name ≡ true → get_or names (place_of names name) other ≡ name
-unfolding place_of
-name_at_place [] name other h = absurd (false≢true h)
-name_at_place (first ∷ names) name other h = cases (bytes_eq name first) refl h (name_at_place names name other)
-  where
-    cases : (b : Bool) → bytes_eq name first ≡ b → (b || has names name) ≡ true → (has names name ≡ true → get_or names (place_of names name) other ≡ name)
-        → get_or (first ∷ names) (cond b 0 (1 + place_of names name)) other ≡ name
-    cases true e k rest = sym ((bytes_eq-Decides name first).0 e)
-    cases false e k rest = ap (λ (place : ℕ). get_or (first ∷ names) place other) (one_more (place_of names name)) ∙ rest k
+name_at_place names name other h =
+    sym ((bytes_eq-Decides name (get_or names (place_of names name) other)).0 (passes_at_first (bytes_eq name) names other (place_within names name h)))
 
 pub has_at_place : (names : List (List ℕ)) (place : ℕ) (other : List ℕ) → place < length names → has names (get_or names place other) ≡ true
 has_at_place [] place other h = absurd (omega arith)
@@ -56,7 +40,7 @@ module _ (names : List (List ℕ)) (rising : AreRising names) where
 
   pub places_keep_order : (one other : List ℕ) → has names one ≡ true → has names other ≡ true → nat_cmp (place_of names one) (place_of names other) ≡ name_cmp one other
   places_keep_order one other first second =
-      sym (at_places (place_of names one) (place_of names other) (place_below names one first) (place_below names other second))
+      sym (at_places (place_of names one) (place_of names other) (place_within names one first) (place_within names other second))
       ∙ ap₂ name_cmp (name_at_place names one [] first) (name_at_place names other [] second)
 
   pub place_of_name : (place : ℕ) → place < length names → place_of names (get_or names place []) ≡ place
@@ -64,7 +48,7 @@ module _ (names : List (List ℕ)) (rising : AreRising names) where
       ranked (place_of names (get_or names place [])) place Equal
       (sym (tied_itself name_order.total (get_or names place []))
       ∙ ap (λ (name : List ℕ). name_cmp name (get_or names place [])) (sym (name_at_place names (get_or names place []) [] there))
-      ∙ at_places (place_of names (get_or names place [])) place (place_below names (get_or names place []) there) h)
+      ∙ at_places (place_of names (get_or names place [])) place (place_within names (get_or names place []) there) h)
     where
       there : has names (get_or names place []) ≡ true
       there = has_at_place names place [] h
@@ -104,6 +88,6 @@ codes_keep_order names rising one other first second =
 pub code_below : (names : List (List ℕ)) (literal : Literal) → has names literal.name ≡ true → code_of names literal < 2 * length names
 unfolding code_of
 code_below names literal h =
-    let low : place_of names literal.name < length names = place_below names literal.name h in
+    let low : place_of names literal.name < length names = place_within names literal.name h in
     let bit : bit_number literal.bit < 2 = bit_number_small literal.bit in
     omega arith

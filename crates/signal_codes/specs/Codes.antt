@@ -1,15 +1,14 @@
 -- Numbers for literals of signals, in the order of literals: twice the place of the name among rising names, and one more where the
 -- literal is positive.
 -- Source: the project's own.
-use Rattle.std.specs.Prelude.{◌≡◌, ℕ, ◌+◌, ◌*◌, Bool, true, false, if◌then◌else◌, List, [], ◌∷◌, map, length, nat_lt, bytes_eq}
+use Rattle.std.specs.Prelude.{ℕ, ◌+◌, ◌*◌, Bool, true, false, List, map, length, nat_lt, bytes_eq}
 use Rattle.std.specs.Cmp.Lexicographic.{slice_cmp}
-use Rattle.std.specs.List.{list_all}
+use Rattle.std.specs.List.{list_all, position_or_len}
 use Rattle.std.specs.List.Sorted.{IsStrictlySortedBy}
 use Rattle.std.specs.Ordering.{nat_cmp}
 use Rattle.std.specs.declared.cmp.Ordering.{Ordering}
 use Rattle.circuit_model.specs.Names.{has}
 use Rattle.name_covers.specs.Literals.{Cube, NamedCover, sorted}
-use Rattle.name_covers.specs.Cubes.{is_over}
 use Rattle.name_covers.specs.declared.literal.Literal.{Literal}
 use Rattle.signal_codes.specs.declared.codes.Signal.{Signal}
 
@@ -25,10 +24,9 @@ AreRising names = IsStrictlySortedBy name_cmp names
 abbrev pub in_order : List (List ℕ) → List (List ℕ)
 in_order names = sorted name_cmp names
 
--- how many names stand before a name: its place, where it is one of them
-unfoldable pub place_of : List (List ℕ) → List ℕ → ℕ
-place_of [] name = 0
-place_of (first ∷ names) name = if bytes_eq name first then 0 else 1 + place_of names name
+-- the place of a name, where it is one of them
+abbrev pub place_of : List (List ℕ) → List ℕ → ℕ
+place_of names name = position_or_len (bytes_eq name) names
 
 -- a bit as a number
 abbrev pub bit_number : Bool → ℕ
@@ -63,9 +61,3 @@ are_codes names numbers = list_all (is_code names) numbers
 
 abbrev pub are_coded : List (List ℕ) → List (List ℕ) → Bool
 are_coded names cubes = list_all (are_codes names) cubes
-
--- cubes of numbers that are those of a known cover
-pub record IsCoded (names : List (List ℕ)) (cubes : List (List ℕ)) : Type 0 where
-  pub cover : NamedCover
-  pub known : is_over names cover ≡ true
-  pub is : cubes ≡ coded names cover

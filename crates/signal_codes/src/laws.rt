@@ -11,7 +11,7 @@ ghost use Rattle.name_covers.specs.Cubes.{is_over};
 ghost use Rattle.name_covers.specs.Literals.{Cube, NamedCover, literal_cmp, cube_cmp, cover_cmp, sorted};
 ghost use Rattle.name_covers.specs.declared.literal.Literal.{Literal};
 ghost use Rattle.pair_gains.specs.Gains.{sum_of_two, gains};
-ghost use Rattle.signal_codes.specs.Codes.{AreRising, code_of, codes_of, coded, is_known, is_code, IsCoded};
+ghost use Rattle.signal_codes.specs.Codes.{AreRising, code_of, codes_of, coded, is_known, is_code, are_coded};
 
 /// Numbers stand in the order of their literals, and lists of them in the order of cubes and covers.
 pub fn numbers_keep_orders()
@@ -54,11 +54,11 @@ pub fn numbers_keep_parts()
 {}
 
 /// Known rows save as much by numbers as by names, a cover has as many numbers as literals, and what saves among the numbers of known rows
-/// has the numbers of a known cover.
+/// has numbers of literals of the names alone.
 pub fn numbers_keep_gains()
     ensures gains { (names : List (List ℕ)) (cover : NamedCover) (cubes : List Cube) → AreRising names → is_over names cover ≡ true → is_over names cubes ≡ true
         → gains_of (coded names cover) (coded names cubes) ≡ gains cover cubes }
     ensures literals { (names : List (List ℕ)) (cover : NamedCover) → literals_in (coded names cover) ≡ sum_by length cover }
     ensures covers { (names : List (List ℕ)) (numbers : List (List ℕ)) (cubes : List Cube) → AreRising names → is_over names cubes ≡ true
-        → 0 < gains_of numbers (coded names cubes) → IsCoded names numbers }
+        → 0 < gains_of numbers (coded names cubes) → are_coded names numbers ≡ true }
 {}

@@ -4,9 +4,8 @@ use Rattle.name_covers.proofs.Orders.{cover_order}
 use Rattle.coded_totals.specs.Divisors.{cover_of}
 use Rattle.signal_codes.specs.Codes.{coded, are_coded}
 use Rattle.signal_codes.proofs.Carried.{same_items}
-use Rattle.signal_codes.proofs.Coded.{cover_known, covers_keep, number_lists_order}
+use Rattle.signal_codes.proofs.Coded.{cover_known, coded_known, covers_keep, number_lists_order}
 use Rattle.kept_gains.specs.Numbers.{lists_in}
-use Rattle.kept_gains.proofs.Decoded.{coded_known}
 use Rattle.kept_gains.proofs.passing.passing_cover.Goals as goal
 
 pub returns-in-None : goal.returns-in-None
