@@ -16,6 +16,6 @@ pub record AreMet (met : List ℕ) (marked partners : ℕ → Bool) : Type 0 whe
   pub once : (at : ℕ) → 1 ≤ many (λ place. place == at) met → marked at ≡ true
   pub twice : (at : ℕ) → 2 ≤ many (λ place. place == at) met → partners at ≡ true
 
--- places are met behind those that were met before
-pub record Meets (places : List ℕ) (marked marked_then partners partners_then : ℕ → Bool) : Type 0 where
+-- places are met next, behind those that were met before
+pub record AreMetNext (places : List ℕ) (marked marked_then partners partners_then : ℕ → Bool) : Type 0 where
   pub more : (met : List ℕ) → AreMet met marked partners → AreMet (met ++ places) marked_then partners_then

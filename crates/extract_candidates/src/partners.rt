@@ -7,7 +7,7 @@ ghost use Rattle.std.specs.Prelude.{◌≡◌, ◌≤◌, ◌==◌, ◌||◌, �
 ghost use Rattle.std.specs.BTreeSet.{contains};
 ghost use Rattle.std.specs.Ordering.{nat_cmp};
 ghost use Rattle.extract_candidates.specs.Spots.{told, many};
-ghost use Rattle.extract_candidates.specs.Partners.{is_marked, Meets};
+ghost use Rattle.extract_candidates.specs.Partners.{is_marked, AreMetNext};
 
 use indexmap::IndexMap;
 use name_covers::Literal;
@@ -43,7 +43,7 @@ fn meet(
     mark: usize,
     place: usize,
 ) -> Result<(), AllocError>
-    ensures { OnOk result (Meets (place ∷ []) (is_marked marks.old mark) (is_marked marks.new mark) (contains nat_cmp partners.old) (contains nat_cmp partners.new)) }
+    ensures { OnOk result (AreMetNext (place ∷ []) (is_marked marks.old mark) (is_marked marks.new mark) (contains nat_cmp partners.old) (contains nat_cmp partners.new)) }
 {
     if !mark_place(marks, mark, place) {
         return Ok(());
@@ -58,7 +58,7 @@ fn meet_all(
     mark: usize,
     places: &[usize],
 ) -> Result<(), AllocError>
-    ensures { OnOk result (Meets places.now (is_marked marks.old mark) (is_marked marks.new mark) (contains nat_cmp partners.old) (contains nat_cmp partners.new)) }
+    ensures { OnOk result (AreMetNext places.now (is_marked marks.old mark) (is_marked marks.new mark) (contains nat_cmp partners.old) (contains nat_cmp partners.new)) }
 {
     for place in places {
         meet(marks, partners, mark, *place)?;
@@ -74,7 +74,7 @@ fn meet_told(
     spots: &IndexMap<Literal, Vec<usize>>,
     literal: &Literal,
 ) -> Result<(), AllocError>
-    ensures { OnOk result (Meets (told spots.now literal.now) (is_marked marks.old mark) (is_marked marks.new mark) (contains nat_cmp partners.old) (contains nat_cmp partners.new)) }
+    ensures { OnOk result (AreMetNext (told spots.now literal.now) (is_marked marks.old mark) (is_marked marks.new mark) (contains nat_cmp partners.old) (contains nat_cmp partners.new)) }
 {
     match spots.get(literal) {
         None => Ok(()),
