@@ -34,8 +34,7 @@ module _ (rule : Rule) (circuit : Circuit) (name : List ℕ) (sound : IsSound ci
   pub open_saves : (cover : NamedCover) → IsOpen rule circuit name cover → literals_in cover < lost name cover circuit.tables
       → IsSaving circuit.tables name cover (lost name cover circuit.tables - literals_in cover)
   open_saves cover may more = record {
-    added = may.added;
-    changed = may.changed;
+    narrow = record { added = may.added; changed = may.changed };
     exact = let same : literals_of_table (cover_table name cover) ≡ literals_in cover = own_literals cover may.candidate in
         left (literals_in cover) (lost name cover circuit.tables) (literals_of_table (cover_table name cover)) same more;
     some = rest (literals_in cover) (lost name cover circuit.tables) more;
@@ -61,7 +60,7 @@ module _ (rule : Rule) (circuit : Circuit) (name : List ℕ) (sound : IsSound ci
     listable = listable;
     free = new;
     best = best_from rule circuit name (λ cover. lost name cover circuit.tables) choice.cover (lost_exact rule circuit name sound new)
-        (record { candidate = is; added = first.saving.added; changed = first.saving.changed })
+        (record { candidate = is; added = first.saving.narrow.added; changed = first.saving.narrow.changed })
         (let e : choice.saves + literals_in choice.cover ≡ lost name choice.cover circuit.tables = exact in more_than choice.saves (literals_in choice.cover) (lost name choice.cover circuit.tables) e first.saving.some)
         (λ other may. elim (cases_lt (literals_in other) (lost name other circuit.tables)) as (λ _. lost name other circuit.tables + literals_in choice.cover ≤ lost name choice.cover circuit.tables + literals_in other) [
           | inl more ↦ saved_less (lost name other circuit.tables) (literals_in other) choice.saves (literals_in choice.cover) (lost name choice.cover circuit.tables) exact more

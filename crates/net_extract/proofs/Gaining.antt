@@ -29,9 +29,8 @@ use Rattle.pair_gains.specs.Gains.{gains, over_pairs}
 use Rattle.table_algebra.specs.Dividing.{divided}
 use Rattle.table_tidy.specs.Tidy.{rows_differ}
 use Rattle.net_extract.specs.Known.{cubes_in, IsCounted, AreCounted}
-use Rattle.net_extract.specs.Saving.{literals_in, IsSaving, IsSaved}
+use Rattle.net_extract.specs.Saving.{literals_in, LeavesNarrow}
 use Rattle.net_extract.proofs.Slots.{all_set}
-use Rattle.net_extract.proofs.Found.{open_saves}
 
 -- ---- tables come and change
 
@@ -166,26 +165,23 @@ module _ (now : Placed) (name : List ℕ) (kept : Kept) (sound : IsSound (circui
   exact cover may =
       ap (λ (n : ℕ). literals_after (circuit_of now) name cover + n) (sym (lost_is cover may.candidate)) ∙ lost_exact Fx (circuit_of now) name sound new cover may
 
-  -- a candidate that may be extracted and gains more than its literals passes
-  passes : (cover : NamedCover) → IsOpen Fx (circuit_of now) name cover → Saves kept cover → (number : ℕ) × IsSaving (standing now.slots) name cover number
-  passes cover may saves = (
-    lost name cover (standing now.slots) - literals_in cover,
-    open_saves Fx (circuit_of now) name sound new cover may (subst (λ (n : ℕ). literals_in cover < n) (sym (lost_is cover may.candidate)) saves),
-  )
+  -- a candidate that may be extracted passes
+  passes : (cover : NamedCover) → IsOpen Fx (circuit_of now) name cover → LeavesNarrow (standing now.slots) name cover
+  passes cover may = record { added = may.added; changed = may.changed }
 
-  counted_done : ((cover : NamedCover) → Saves kept cover → (number : ℕ) × IsSaving (standing now.slots) name cover number → ⊥) → IsDone Fx (circuit_of now)
+  counted_done : ((cover : NamedCover) → Saves kept cover → LeavesNarrow (standing now.slots) name cover → ⊥) → IsDone Fx (circuit_of now)
   counted_done none =
       done_from Fx (circuit_of now) name (total kept) (all_listable (standing now.slots)) new exact
       (λ cover may. elim (cases_lt (literals_in cover) (total kept cover)) as (λ _. total kept cover ≤ literals_in cover) [
-        | inl more ↦ absurd (none cover more (passes cover may more))
+        | inl more ↦ absurd (none cover more (passes cover may))
         | inr less ↦ less
       ])
 
-  counted_open : (cover : NamedCover) → Saves kept cover → (number : ℕ) × IsSaving (standing now.slots) name cover number → IsOpen Fx (circuit_of now) name cover
-  counted_open cover saves (number, saving) = record {
+  counted_open : (cover : NamedCover) → Saves kept cover → LeavesNarrow (standing now.slots) name cover → IsOpen Fx (circuit_of now) name cover
+  counted_open cover saves narrow = record {
     candidate = only (standing now.slots) cover (subst (λ (n : ℕ). 0 < n) (total_is cover) (omega (arith, saves)));
-    added = saving.added;
-    changed = saving.changed;
+    added = narrow.added;
+    changed = narrow.changed;
   }
 
   level_less : (other_all other_own all own : ℕ) → own < all → other_all ≤ other_own → other_all + own ≤ all + other_own
@@ -194,30 +190,23 @@ module _ (now : Placed) (name : List ℕ) (kept : Kept) (sound : IsSound (circui
   level_not : (other_all other_own all own : ℕ) → own < all → other_all ≤ other_own → other_all + own ≡ all + other_own → ⊥
   level_not other_all other_own all own saves less same = absurd (omega (arith, saves, less, same))
 
-  counted_next : (cover : NamedCover) → IsFirst (λ (other : NamedCover). (number : ℕ) × IsSaving (standing now.slots) name other number) kept cover → IsNext Fx (circuit_of now) name cover
+  counted_next : (cover : NamedCover) → IsFirst (LeavesNarrow (standing now.slots) name) kept cover → IsNext Fx (circuit_of now) name cover
   counted_next cover is = record {
     listable = all_listable (standing now.slots);
     free = new;
     best = best_from Fx (circuit_of now) name (total kept) cover exact (counted_open cover is.saves is.passes) is.saves
         (λ other may. elim (cases_lt (literals_in other) (total kept other)) as (λ _. total kept other + literals_in cover ≤ total kept cover + literals_in other) [
-          | inl more ↦ is.most other more (passes other may more)
+          | inl more ↦ is.most other more (passes other may)
           | inr less ↦ level_less (total kept other) (literals_in other) (total kept cover) (literals_in cover) is.saves less
         ])
         (λ other may same below. elim (cases_lt (literals_in other) (total kept other)) as (λ _. ⊥) [
-          | inl more ↦ is.first other more (passes other may more) same below
+          | inl more ↦ is.first other more (passes other may) same below
           | inr less ↦ level_not (total kept other) (literals_in other) (total kept cover) (literals_in cover) is.saves less same
         ]);
   }
 
   pub counted_found : (found : Option NamedCover)
-      → MatchOption found ((cover : NamedCover) → Saves kept cover → (number : ℕ) × IsSaving (standing now.slots) name cover number → ⊥)
-      (IsFirst (λ (other : NamedCover). (number : ℕ) × IsSaving (standing now.slots) name other number) kept)
+      → MatchOption found ((cover : NamedCover) → Saves kept cover → LeavesNarrow (standing now.slots) name cover → ⊥) (IsFirst (LeavesNarrow (standing now.slots) name) kept)
       → MatchOption found (IsDone Fx (circuit_of now)) (IsNext Fx (circuit_of now) name)
   counted_found None h = counted_done h
   counted_found (Some cover) h = counted_next cover h
-
--- a cover that saves nothing does not pass
-pub unsaved : (tables : List Table) (name : List ℕ) (cover same : NamedCover) (found : Option ℕ) (some : Bool) → same ≡ cover → some ≡ is_some found → IsSaved tables name same found
-    → some ≡ false → (number : ℕ) × IsSaving tables name cover number → ⊥
-unsaved tables name cover same None some e is saved fails (number, saving) = saved number (subst (λ (c : NamedCover). IsSaving tables name c number) (sym e) saving)
-unsaved tables name cover same (Some found) some e is saved fails (number, saving) = absurd (let both : true ≡ false = sym is ∙ fails in cc)

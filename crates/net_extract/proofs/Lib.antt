@@ -4,6 +4,7 @@ pub mod Naming
 pub mod Reading
 pub mod Losing
 pub mod Tabled
+pub mod Narrowing
 pub mod Places
 pub mod Choices
 pub mod Listed

@@ -47,7 +47,7 @@ module _ (name : List ℕ) (cover : NamedCover) (table : Table) where
   narrow_loss inputs lost shaped once free is test exact = (
     exact,
     elim (divided_or_not name true cover table) as (λ _. IsNarrow name cover table) [
-      | inl way ↦ inr (few (ltb 1000 (length inputs)) refl (ap (λ (names : List (List ℕ)). has names name) is ∙ divided_reads_name name true cover table shaped once free way))
+      | inl way ↦ inr (few (ltb 1000 (length inputs)) refl (ap (λ (names : List (List ℕ)). has names name) is ∙ divided_reads_name name true cover table once free way shaped))
       | inr stays ↦ inl stays
     ],
   )
@@ -97,7 +97,7 @@ module _ (name : List ℕ) (cover : NamedCover) (slots : List (Option Table)) wh
           (all_member (λ place. IsNarrowIn name cover (table_at slots place)) places narrow at (in_has places at (are.all at table there e)))
       cases at table there false e = inl (unread_stays name true cover table e)
 
-  narrow_there : AllByRecursion (IsNarrow name cover) (standing slots) → (at : ℕ) → IsNarrowIn name cover (table_at slots at)
+  pub narrow_there : AllByRecursion (IsNarrow name cover) (standing slots) → (at : ℕ) → IsNarrowIn name cover (table_at slots at)
   narrow_there all at = cases (table_at slots at) refl
     where
       cases : (o : Option Table) → table_at slots at ≡ o → IsNarrowIn name cover o
@@ -112,19 +112,18 @@ module _ (name : List ℕ) (cover : NamedCover) (slots : List (Option Table)) wh
   saved_from places lost (Some more) own are is few losses told =
       let those : AreLosses name cover slots places (Some (more + own)) = subst (AreLosses name cover slots places) told.0 losses in
       record {
-        added = few;
-        changed = all_narrow places are those.1;
+        narrow = record { added = few; changed = all_narrow places are those.1 };
         exact = ap (λ (n : ℕ). more + n) (sym is) ∙ (those.0 ∙ all_lost places are);
         some = told.1;
       }
-  saved_from places None None own are is few losses told = λ number saving. losses.1 (narrow_there saving.changed losses.0)
+  saved_from places None None own are is few losses told = λ number saving. losses.1 (narrow_there saving.narrow.changed losses.0)
   saved_from places (Some lost) None own are is few losses told = λ number saving.
       let bound : lost ≤ own = told lost refl in
       let sum : lost ≡ sum_by (lost_by name cover) (standing slots) = losses.0 ∙ all_lost places are in
       absurd (omega (arith, bound, sum, is, saving.exact, saving.some))
 
   pub saved_wide : 1000 < length (cover_table name cover).inputs → IsSaved (standing slots) name cover None
-  saved_wide many = λ number saving. absurd (omega (arith, many, saving.added))
+  saved_wide many = λ number saving. absurd (omega (arith, many, saving.narrow.added))
 
 -- one place more
 pub losses_next : (name : List ℕ) (cover : NamedCover) (slots : List (Option Table)) (places : List ℕ) (i place d total lost sum : ℕ) → i < length places → place ≡ get_or places i d

@@ -1,5 +1,5 @@
--- A table that is divided reads the signal of the cover.
-use Rattle.std.proofs.Common.{◌≡◌, ℕ, Bool, true, false, ◌||◌, Option, Some, List, [], ◌∷◌, ◌++◌, map, length, refl, sym, ap, ◌∙◌, subst, inl, inr, arith, bytes_eq}
+-- A table that is divided reads the signal of the cover, and at most that name more.
+use Rattle.std.proofs.Common.{◌≡◌, ℕ, ◌+◌, ◌≤◌, Bool, true, false, ◌||◌, Option, Some, List, [], ◌∷◌, ◌++◌, map, length, refl, sym, ap, ◌∙◌, subst, inl, inr, arith, bytes_eq}
 use Rattle.std.specs.List.{list_any}
 use Rattle.std.proofs.lemmas.Bool.{false≢true, or_cases}
 use Rattle.std.proofs.lemmas.List.{map_push, length-append}
@@ -14,7 +14,7 @@ use Rattle.net_core.specs.Tables.{character_of, characters_of}
 use Rattle.table_algebra.specs.Dividing.{rejoined, has_no_cube, divided}
 use Rattle.table_algebra.proofs.Divisions.{joined_rows, rows_of, divisor, found, rejoined_wide}
 use Rattle.table_tidy.specs.Tidy.{IsWide, front_place, used_places, chosen, rows_once, narrowed, with_rows_once, some_row_or_phase_one}
-use Rattle.table_tidy.proofs.Tidied.{tidied_is}
+use Rattle.table_tidy.proofs.Tidied.{tidied_is, chosen_small}
 
 -- an input whose place is marked
 first_chosen : (mark : Bool) (marks : List Bool) (name : List ℕ) (names : List (List ℕ)) → mark ≡ true → has (chosen (mark ∷ marks) (name ∷ names)) name ≡ true
@@ -58,6 +58,12 @@ narrowed_reads name bit table d [] some wide = absurd (false≢true (sym some))
 narrowed_reads name bit table d (cube ∷ q) some wide =
     ended_chosen table.inputs name (characters_of cube) (characters_of (cube ++ Some bit ∷ [])) (character_of (Some bit)) _ (map_push character_of cube (Some bit)) wide.0 (bit_literal bit)
 
+narrowed_few : (name : List ℕ) (bit : Bool) (table : Table) (d q : List (List (Option Bool))) → length (narrowed (with_rows_once (rejoined name bit table d q))).inputs ≤ length table.inputs + 1
+unfolding rejoined narrowed
+narrowed_few name bit table d q =
+    let few : length (narrowed (with_rows_once (rejoined name bit table d q))).inputs ≤ length (table.inputs ++ name ∷ []) = chosen_small _ (table.inputs ++ name ∷ []) in
+    omega (arith, few, length-append table.inputs (name ∷ []))
+
 some_joined : (bit : Bool) (f d q : List (List (Option Bool))) (phase : Bool) → has_no_cube q ≡ false → some_row_or_phase_one (map characters_of (joined_rows bit f d q)) phase ≡ true
 some_joined bit f d [] phase h = absurd (false≢true (sym h))
 some_joined bit f d (cube ∷ q) phase h = refl
@@ -74,11 +80,22 @@ one_more_different names name once free =
           ];
     })
 
-pub divided_reads_name : (name : List ℕ) (bit : Bool) (cover : NamedCover) (table : Table) → IsWide table → all_different table.inputs ≡ true → has table.inputs name ≡ false
-    → IsDivided name bit cover table → has (divided name bit cover table).inputs name ≡ true
-unfolding rejoined
-divided_reads_name name bit cover table wide once free is =
-    ap (λ (t : Table). has t.inputs name) (divided_where name bit cover table is
-    ∙ tidied_is (rejoined name bit table (divisor name bit cover table) (found name bit cover table)) (one_more_different table.inputs name once free)
-    (some_joined bit (rows_of name bit cover table) (divisor name bit cover table) (found name bit cover table) table.phase is.some))
-    ∙ narrowed_reads name bit table (divisor name bit cover table) (found name bit cover table) is.some (rejoined_wide name bit cover table wide)
+module _ (name : List ℕ) (bit : Bool) (cover : NamedCover) (table : Table) (once : all_different table.inputs ≡ true) (free : has table.inputs name ≡ false) (is : IsDivided name bit cover table) where
+  -- some row stands in what it becomes, so that this is no constant
+  divided_narrowed : divided name bit cover table ≡ narrowed (with_rows_once (rejoined name bit table (divisor name bit cover table) (found name bit cover table)))
+  unfolding rejoined
+  divided_narrowed =
+      divided_where name bit cover table is
+      ∙ tidied_is (rejoined name bit table (divisor name bit cover table) (found name bit cover table)) (one_more_different table.inputs name once free)
+      (some_joined bit (rows_of name bit cover table) (divisor name bit cover table) (found name bit cover table) table.phase is.some)
+
+  pub divided_reads_name : IsWide table → has (divided name bit cover table).inputs name ≡ true
+  divided_reads_name wide =
+      ap (λ (t : Table). has t.inputs name) divided_narrowed
+      ∙ narrowed_reads name bit table (divisor name bit cover table) (found name bit cover table) is.some (rejoined_wide name bit cover table wide)
+
+  pub divided_few : length (divided name bit cover table).inputs ≤ length table.inputs + 1
+  divided_few =
+      let same : length (divided name bit cover table).inputs ≡ length (narrowed (with_rows_once (rejoined name bit table (divisor name bit cover table) (found name bit cover table)))).inputs =
+      ap (λ (t : Table). length t.inputs) divided_narrowed in
+      omega (arith, same, narrowed_few name bit table (divisor name bit cover table) (found name bit cover table))

@@ -42,10 +42,14 @@ AreLosses name cover slots places (Some lost) =
 abbrev pub literals_in : NamedCover → ℕ
 literals_in cover = sum_by (λ (cube : Cube). length cube) cover
 
--- a cover that leaves all tables narrow saves so many literals, one or more
-pub record IsSaving (tables : List Table) (name : List ℕ) (cover : NamedCover) (number : ℕ) : Type 0 where
+-- a cover leaves all tables narrow: its own, and each that it divides
+pub record LeavesNarrow (tables : List Table) (name : List ℕ) (cover : NamedCover) : Type 0 where
   pub added : length (cover_table name cover).inputs ≤ 1000
   pub changed : AllByRecursion (IsNarrow name cover) tables
+
+-- a cover that leaves all tables narrow saves so many literals, one or more
+pub record IsSaving (tables : List Table) (name : List ℕ) (cover : NamedCover) (number : ℕ) : Type 0 where
+  pub narrow : LeavesNarrow tables name cover
   pub exact : number + literals_of_table (cover_table name cover) ≡ sum_by (lost_by name cover) tables
   pub some : 1 ≤ number
 

@@ -1,15 +1,14 @@
 //! The best candidate of a network by the gains that are kept.
 
-ghost use Rattle.std.specs.Prelude.{◌≡◌, ℕ, IfOk, MatchOption};
+ghost use Rattle.std.specs.Prelude.{◌≡◌, IfOk, MatchOption};
 ghost use Rattle.circuit_model.specs.Soundness.{IsSound};
 ghost use Rattle.extract_rules.specs.Extracting.{IsNext, IsDone};
 ghost use Rattle.extract_rules.specs.declared.rule.Rule.TheVariants.{Fx as TheFx};
 ghost use Rattle.net_core.specs.Fresh.{IsNewName};
-ghost use Rattle.net_work.specs.Placed.{standing, circuit_of};
-ghost use Rattle.net_extract.specs.Saving.{IsSaving};
+ghost use Rattle.net_work.specs.Placed.{circuit_of};
 ghost use Rattle.net_extract.specs.Known.{IsCounted};
 
-use crate::saving::saving_of;
+use crate::narrow::leaves_narrow;
 use circuit_model::Name;
 use cube_cover::Row;
 use kept_gains::{KeptGains, Trial};
@@ -18,27 +17,25 @@ use net_work::Work;
 use pair_gains::laws::{gains_are_what_tables_lose, what_gains_is_a_candidate};
 use std::alloc::{AllocError, Global};
 
-// Whether covers may be extracted from a network under a name: they save a literal, and no table has too many inputs then.
+// Whether covers may be extracted from a network under a name: no table has too many inputs then. What they save is told by the gains.
 #[derive(Drop)]
-struct SavingTrial<'a, R: Row> {
+struct NarrowTrial<'a, R: Row> {
     work: &'a Work<R>,
     name: &'a Name,
 }
 
-impl<'a, R: Row> Trial for SavingTrial<'a, R> {
-    ghost use Rattle.std.specs.Prelude.{ℕ};
+impl<'a, R: Row> Trial for NarrowTrial<'a, R> {
     ghost use Rattle.circuit_model.specs.Soundness.{IsSound};
     ghost use Rattle.net_core.specs.Fresh.{IsNewName};
     ghost use Rattle.net_work.specs.Placed.{standing, circuit_of};
-    ghost use Rattle.net_extract.specs.Saving.{IsSaving};
+    ghost use Rattle.net_extract.specs.Saving.{LeavesNarrow};
 
     ghost IsReady = { λ t. IsSound (circuit_of t.work.now) × IsNewName (circuit_of t.work.now) t.name.now };
 
-    ghost Passes = { λ t cover. (number : ℕ) × IsSaving (standing t.work.now.slots) t.name.now cover number };
+    ghost Passes = { λ t cover. LeavesNarrow (standing t.work.now.slots) t.name.now cover };
 
     fn passes(&self, alloc: Global, cover: &NamedCover) -> Result<bool, AllocError> {
-        let saved = saving_of(alloc, self.work, self.name, cover.as_slice())?;
-        Ok(saved.is_some())
+        leaves_narrow(alloc, self.work, self.name, cover.as_slice())
     }
 }
 
@@ -56,6 +53,6 @@ pub(crate) fn best_counted<R: Row>(
 {
     gains_are_what_tables_lose();
     what_gains_is_a_candidate();
-    let trial = SavingTrial { work, name };
+    let trial = NarrowTrial { work, name };
     gains.first(alloc, &trial)
 }

@@ -15,6 +15,7 @@ mod fault;
 mod finding;
 mod known;
 mod listing;
+mod narrow;
 mod owned;
 mod saving;
 mod stepping;

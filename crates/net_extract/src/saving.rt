@@ -23,7 +23,7 @@ use table_algebra::{cover_table, divided_table};
 use use_counts::literal_count;
 
 /// How many inputs a table may have that extraction adds or changes.
-const INPUT_LIMIT: usize = 1_000;
+pub(crate) const INPUT_LIMIT: usize = 1_000;
 
 // Whether a name is among names.
 fn has_name(names: &[Name], name: &Name) -> bool
@@ -83,8 +83,8 @@ fn is_wide<R: Row>(table: &Table<R>, name: &Name) -> bool
     INPUT_LIMIT < table.inputs.len() && has_name(table.inputs.as_slice(), name)
 }
 
-// What a table loses where it is divided by a cover; none where it has too many inputs then.
-fn loss_of<R: Row>(
+/// What a table loses where it is divided by a cover; none where it has too many inputs then.
+pub(crate) fn loss_of<R: Row>(
     alloc: Global,
     table: &Table<R>,
     name: &Name,

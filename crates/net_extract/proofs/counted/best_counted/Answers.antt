@@ -1,19 +1,19 @@
-use Rattle.std.proofs.Common.{ℕ, MatchOption}
+use Rattle.std.proofs.Common.{MatchOption}
 use Rattle.std.proofs.lemmas.Result.{IfOk-weaker}
 use Rattle.extract_rules.specs.Extracting.{IsNext, IsDone}
 use Rattle.extract_rules.specs.declared.rule.Rule.TheVariants.{Fx}
 use Rattle.kept_gains.specs.Kept.{Saves, IsFirst}
 use Rattle.name_covers.specs.Literals.{NamedCover}
 use Rattle.net_work.specs.Placed.{standing, circuit_of}
-use Rattle.net_extract.specs.Saving.{IsSaving}
+use Rattle.net_extract.specs.Saving.{LeavesNarrow}
 use Rattle.net_extract.proofs.Gaining.{counted_found}
 use Rattle.net_extract.proofs.counted.best_counted.Goals as goal
 
 pub returns : goal.returns
 returns g c =
     IfOk-weaker c.first.result
-    (λ found. MatchOption found ((cover : NamedCover) → Saves c.args.gains.now cover → (number : ℕ) × IsSaving (standing c.args.work.now.slots) c.args.name.now cover number → ⊥)
-    (IsFirst (λ (cover : NamedCover). (number : ℕ) × IsSaving (standing c.args.work.now.slots) c.args.name.now cover number) c.args.gains.now))
+    (λ found. MatchOption found ((cover : NamedCover) → Saves c.args.gains.now cover → LeavesNarrow (standing c.args.work.now.slots) c.args.name.now cover → ⊥)
+    (IsFirst (LeavesNarrow (standing c.args.work.now.slots) c.args.name.now) c.args.gains.now))
     (λ found. MatchOption found (IsDone Fx (circuit_of c.args.work.now)) (IsNext Fx (circuit_of c.args.work.now) c.args.name.now))
     (counted_found c.args.work.now c.args.name.now c.args.gains.now c.requires.sound c.requires.free c.requires.counted c.gains_are_what_tables_lose.ensures c.what_gains_is_a_candidate.ensures)
     c.first.ensures
