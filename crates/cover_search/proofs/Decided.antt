@@ -8,8 +8,8 @@ use Rattle.cube_cover.specs.Literals.{no_dash, some_contains}
 use Rattle.cube_cover.proofs.Products.{point_of, length-point_of, matches-point_of}
 use Rattle.cube_cover.proofs.Splits.{full_answer, dash_count, fewer_dashes}
 use Rattle.cover_min.specs.Points.{has_point}
-use Rattle.cover_search.specs.Searches.{Aim, AllWide, IsLeft, IsPart, filled_at, SameWithin, grants, grants_all, wanted, wanted_at, is_granted_at, is_positive}
-use Rattle.cover_search.proofs.Granting.{contained_matches}
+use Rattle.cover_search.specs.Searches.{Constraint, AllWide, IsLeft, IsPart, filled_at, SameWithin, satisfies, satisfies_all, wanted, wanted_at, is_satisfied_at, is_positive}
+use Rattle.cover_search.proofs.Satisfying.{contained_matches}
 use Rattle.cover_search.proofs.Halves.{has_point_same, has_point_none, has_point_at, has_point_full, has_point_halves, one_point}
 
 pub none_of : {X : Type 0} (found : Option X) (P : Type 0) (Q : X → Type 0) → found ≡ None → MatchOption found P Q → P
@@ -22,18 +22,18 @@ some_of (Some y) x P Q e h =
     let same : y ≡ x = cc in
     subst Q same h
 
-pub hopeless_answer : (given : List (Option Bool)) (aims : List Aim) → SameWithin given (grants_all aims) (λ point. false) → false ≡ has_point (grants_all aims) given
-hopeless_answer given aims h = sym (has_point_none given (grants_all aims) h)
+pub hopeless_answer : (given : List (Option Bool)) (constraints : List Constraint) → SameWithin given (satisfies_all constraints) (λ point. false) → false ≡ has_point (satisfies_all constraints) given
+hopeless_answer given constraints h = sym (has_point_none given (satisfies_all constraints) h)
 
 -- the same points are asked for of what is left
-pub left_same : (given : List (Option Bool)) (aims left : List Aim) → IsLeft given aims left → has_point (grants_all left) given ≡ has_point (grants_all aims) given
-left_same given aims left h = has_point_same given (grants_all left) (grants_all aims) h.same
+pub left_same : (given : List (Option Bool)) (constraints left : List Constraint) → IsLeft given constraints left → has_point (satisfies_all left) given ≡ has_point (satisfies_all constraints) given
+left_same given constraints left h = has_point_same given (satisfies_all left) (satisfies_all constraints) h.same
 
-pub empty_answer : (given : List (Option Bool)) (aims left : List Aim) → IsLeft given aims left → left ≡ [] → true ≡ has_point (grants_all aims) given
-unfolding grants_all
-empty_answer given aims left h e =
-    let yes : grants_all left (point_of given) ≡ true = ap (λ (x : List Aim). grants_all x (point_of given)) e in
-    sym (has_point_at given (grants_all left) yes) ∙ left_same given aims left h
+pub empty_answer : (given : List (Option Bool)) (constraints left : List Constraint) → IsLeft given constraints left → left ≡ [] → true ≡ has_point (satisfies_all constraints) given
+unfolding satisfies_all
+empty_answer given constraints left h e =
+    let yes : satisfies_all left (point_of given) ≡ true = ap (λ (x : List Constraint). satisfies_all x (point_of given)) e in
+    sym (has_point_at given (satisfies_all left) yes) ∙ left_same given constraints left h
 
 -- a row without a dash
 positive_at : (given : List (Option Bool)) (place : ℕ) → get_or (point_of given) place false ≡ is_positive (get_or given place None)
@@ -55,37 +55,37 @@ contains_same given rows w n = cases (some_contains given rows) (some_matches ro
     cases false false h k = h ∙ sym k
     cases false true h k = (full_answer given rows (some_contains given rows) w n refl).1 (λ p d m. ap (some_matches rows) (one_point given p n d m) ∙ k) ∙ sym k
 
-all_granted_at : (given : List (Option Bool)) (aims : List Aim) → AllWide (length given) aims → no_dash given ≡ true → list_all (is_granted_at given) aims ≡ grants_all aims (point_of given)
-unfolding grants_all AllWide
-all_granted_at given [] w n = refl
-all_granted_at given (aim ∷ aims) w n =
-    let rest : list_all (is_granted_at given) aims ≡ list_all (grants (point_of given)) aims = all_granted_at given aims w.1 n in
-    rw (wanted_same given aim.tie aim.bit, contains_same given aim.rows w.0 n, rest) refl
+all_satisfied_at : (given : List (Option Bool)) (constraints : List Constraint) → AllWide (length given) constraints → no_dash given ≡ true → list_all (is_satisfied_at given) constraints ≡ satisfies_all constraints (point_of given)
+unfolding satisfies_all AllWide
+all_satisfied_at given [] w n = refl
+all_satisfied_at given (constraint ∷ constraints) w n =
+    let rest : list_all (is_satisfied_at given) constraints ≡ list_all (satisfies (point_of given)) constraints = all_satisfied_at given constraints w.1 n in
+    rw (wanted_same given constraint.tie constraint.bit, contains_same given constraint.rows w.0 n, rest) refl
 
-pub full_answer_of : (given : List (Option Bool)) (aims left : List Aim) (answer : Bool) → IsLeft given aims left → no_dash given ≡ true → answer ≡ list_all (is_granted_at given) left → answer ≡ has_point (grants_all aims) given
-full_answer_of given aims left answer h n e =
-    e ∙ all_granted_at given left h.wide n ∙ sym (has_point_full given (grants_all left) n) ∙ left_same given aims left h
+pub full_answer_of : (given : List (Option Bool)) (constraints left : List Constraint) (answer : Bool) → IsLeft given constraints left → no_dash given ≡ true → answer ≡ list_all (is_satisfied_at given) left → answer ≡ has_point (satisfies_all constraints) given
+full_answer_of given constraints left answer h n e =
+    e ∙ all_satisfied_at given left h.wide n ∙ sym (has_point_full given (satisfies_all left) n) ∙ left_same given constraints left h
 
 -- the halves
-pub first_answer : (given first : List (Option Bool)) (aims left : List Aim) (place : ℕ) (bit answer : Bool) → IsLeft given aims left → place < length given → get_or given place None ≡ None → first ≡ set given place (Some bit)
-    → answer ≡ has_point (grants_all left) first → answer ≡ true → answer ≡ has_point (grants_all aims) given
-first_answer given first aims left place bit answer h lt d e a t =
-    let half : has_point (grants_all left) (set given place (Some bit)) ≡ true = ap (has_point (grants_all left)) (sym e) ∙ sym a ∙ t in
-    t ∙ sym (ap (λ (x : Bool). x || has_point (grants_all left) (set given place (Some (not bit)))) half) ∙ sym (has_point_halves given (grants_all left) place bit lt d) ∙ left_same given aims left h
+pub first_answer : (given first : List (Option Bool)) (constraints left : List Constraint) (place : ℕ) (bit answer : Bool) → IsLeft given constraints left → place < length given → get_or given place None ≡ None → first ≡ set given place (Some bit)
+    → answer ≡ has_point (satisfies_all left) first → answer ≡ true → answer ≡ has_point (satisfies_all constraints) given
+first_answer given first constraints left place bit answer h lt d e a t =
+    let half : has_point (satisfies_all left) (set given place (Some bit)) ≡ true = ap (has_point (satisfies_all left)) (sym e) ∙ sym a ∙ t in
+    t ∙ sym (ap (λ (x : Bool). x || has_point (satisfies_all left) (set given place (Some (not bit)))) half) ∙ sym (has_point_halves given (satisfies_all left) place bit lt d) ∙ left_same given constraints left h
 
-pub second_answer : (given first second : List (Option Bool)) (aims left : List Aim) (place : ℕ) (bit before answer : Bool) → IsLeft given aims left → place < length given → get_or given place None ≡ None → first ≡ set given place (Some bit)
-    → second ≡ set given place (Some (not bit)) → before ≡ has_point (grants_all left) first → before ≡ false → answer ≡ has_point (grants_all left) second → answer ≡ has_point (grants_all aims) given
-second_answer given first second aims left place bit before answer h lt d e f b z a =
-    let half : has_point (grants_all left) (set given place (Some bit)) ≡ false = ap (has_point (grants_all left)) (sym e) ∙ sym b ∙ z in
-    let other : answer ≡ has_point (grants_all left) (set given place (Some (not bit))) = a ∙ ap (has_point (grants_all left)) f in
-    other ∙ sym (ap (λ (x : Bool). x || has_point (grants_all left) (set given place (Some (not bit)))) half) ∙ sym (has_point_halves given (grants_all left) place bit lt d) ∙ left_same given aims left h
+pub second_answer : (given first second : List (Option Bool)) (constraints left : List Constraint) (place : ℕ) (bit before answer : Bool) → IsLeft given constraints left → place < length given → get_or given place None ≡ None → first ≡ set given place (Some bit)
+    → second ≡ set given place (Some (not bit)) → before ≡ has_point (satisfies_all left) first → before ≡ false → answer ≡ has_point (satisfies_all left) second → answer ≡ has_point (satisfies_all constraints) given
+second_answer given first second constraints left place bit before answer h lt d e f b z a =
+    let half : has_point (satisfies_all left) (set given place (Some bit)) ≡ false = ap (has_point (satisfies_all left)) (sym e) ∙ sym b ∙ z in
+    let other : answer ≡ has_point (satisfies_all left) (set given place (Some (not bit))) = a ∙ ap (has_point (satisfies_all left)) f in
+    other ∙ sym (ap (λ (x : Bool). x || has_point (satisfies_all left) (set given place (Some (not bit)))) half) ∙ sym (has_point_halves given (satisfies_all left) place bit lt d) ∙ left_same given constraints left h
 
 -- a half has fewer dashes, and the same width
 pub half_smaller : (given half : List (Option Bool)) (place : ℕ) (bit : Bool) → place < length given → get_or given place None ≡ None → half ≡ set given place (Some bit) → dash_count half < dash_count given
 half_smaller given half place bit lt d e = rw e (omega (arith, fewer_dashes given place bit lt d))
 
-pub half_wide : (given half : List (Option Bool)) (aims left : List Aim) (place : ℕ) (bit : Bool) → IsLeft given aims left → half ≡ set given place (Some bit) → AllWide (length half) left
-half_wide given half aims left place bit h e = rw (e, length-set given place (Some bit)) h.wide
+pub half_wide : (given half : List (Option Bool)) (constraints left : List Constraint) (place : ℕ) (bit : Bool) → IsLeft given constraints left → half ≡ set given place (Some bit) → AllWide (length half) left
+half_wide given half constraints left place bit h e = rw (e, length-set given place (Some bit)) h.wide
 
 -- a part of the given row
 pub part_whole : (given row : List (Option Bool)) → row ≡ given → IsPart given row
@@ -117,8 +117,8 @@ part_filled given row after place bit h e =
     let k : IsPart row (filled_at row place bit) = filled_part row place bit in
     rw e (record { width = k.width ∙ h.width; points = λ test t. h.points test (k.points test t) })
 
-pub granted_at_point : (row : List (Option Bool)) (aims : List Aim) (answer : Bool) → AllWide (length row) aims → no_dash row ≡ true → answer ≡ list_all (is_granted_at row) aims → answer ≡ true → has_point (grants_all aims) row ≡ true
-granted_at_point row aims answer w n e t = has_point_at row (grants_all aims) (sym (all_granted_at row aims w n) ∙ sym e ∙ t)
+pub satisfied_at_point : (row : List (Option Bool)) (constraints : List Constraint) (answer : Bool) → AllWide (length row) constraints → no_dash row ≡ true → answer ≡ list_all (is_satisfied_at row) constraints → answer ≡ true → has_point (satisfies_all constraints) row ≡ true
+satisfied_at_point row constraints answer w n e t = has_point_at row (satisfies_all constraints) (sym (all_satisfied_at row constraints w n) ∙ sym e ∙ t)
 
-pub likely_answer : (given : List (Option Bool)) (aims left : List Aim) (answer : Bool) → IsLeft given aims left → (answer ≡ true → has_point (grants_all left) given ≡ true) → answer ≡ true → answer ≡ has_point (grants_all aims) given
-likely_answer given aims left answer h f t = t ∙ sym (f t) ∙ left_same given aims left h
+pub likely_answer : (given : List (Option Bool)) (constraints left : List Constraint) (answer : Bool) → IsLeft given constraints left → (answer ≡ true → has_point (satisfies_all left) given ≡ true) → answer ≡ true → answer ≡ has_point (satisfies_all constraints) given
+likely_answer given constraints left answer h f t = t ∙ sym (f t) ∙ left_same given constraints left h

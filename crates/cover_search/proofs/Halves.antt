@@ -7,7 +7,7 @@ use Rattle.cube_cover.proofs.Points.{and_left, and_right, and_both}
 use Rattle.cube_cover.proofs.Products.{point_of, length-point_of, matches-point_of}
 use Rattle.cover_min.specs.Points.{some_point, has_point}
 use Rattle.cover_search.specs.Searches.{SameWithin}
-use Rattle.cover_search.proofs.Granting.{or_second, same_bit}
+use Rattle.cover_search.proofs.Satisfying.{or_second, same_bit}
 
 some_point_same : (n : ℕ) (test other : List Bool → Bool) → ((point : List Bool) → length point ≡ n → test point ≡ other point) → some_point n test ≡ some_point n other
 unfolding some_point

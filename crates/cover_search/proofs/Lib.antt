@@ -1,4 +1,4 @@
-pub mod Granting
+pub mod Satisfying
 pub mod Halves
 pub mod Decided
 pub mod Tying

@@ -1,6 +1,6 @@
 -- What the search for a point keeps at each of its steps. No public clause needs these definitions.
 -- Source: Davis, Logemann and Loveland, "A machine program for theorem-proving" (Communications of the ACM 5, 1962: what is left to
--- be met at each split); De Micheli, "Synthesis and Optimization of Digital Circuits", chapter 7 (recursion on cofactors).
+-- be satisfied at each split); De Micheli, "Synthesis and Optimization of Digital Circuits", chapter 7 (recursion on cofactors).
 use Rattle.std.specs.Prelude.{◌≡◌, ℕ, Bool, true, false, if◌then◌else◌, Option, Some, None, List, [], ◌∷◌, ◌++◌, length, slice_index_or, slice_set, is_none}
 use Rattle.std.specs.List.{list_all}
 use Rattle.sis_base.specs.Rows.{agrees, matches, some_matches, phase_value, HasWidth, IsPoint}
@@ -10,7 +10,7 @@ use Rattle.cover_min.specs.Points.{has_point}
 use Rattle.cover_search.specs.Ties.{Tie}
 
 -- that rows give a bit, or where there is a tie, the point's bit at its place, turned over where the bit is 0
-pub record Aim : Type 0 where
+pub record Constraint : Type 0 where
   pub tie : Option ℕ
   pub bit : Bool
   pub rows : List (List (Option Bool))
@@ -21,35 +21,35 @@ wanted None bit point = bit
 wanted (Some place) bit point = phase_value bit (slice_index_or point place false)
 
 -- whether the rows have that value
-abbrev pub grants : List Bool → Aim → Bool
-grants point aim = agrees (Some (wanted aim.tie aim.bit point)) (some_matches aim.rows point)
+abbrev pub satisfies : List Bool → Constraint → Bool
+satisfies point constraint = agrees (Some (wanted constraint.tie constraint.bit point)) (some_matches constraint.rows point)
 
--- whether the rows of all aims do
-unfoldable pub grants_all : List Aim → List Bool → Bool
-grants_all aims point = list_all (grants point) aims
+-- whether the rows of all constraints do
+unfoldable pub satisfies_all : List Constraint → List Bool → Bool
+satisfies_all constraints point = list_all (satisfies point) constraints
 
--- the rows of all aims have the width
-unfoldable pub AllWide : ℕ → List Aim → Type 0
+-- the rows of all constraints have the width
+unfoldable pub AllWide : ℕ → List Constraint → Type 0
 AllWide width [] = Unit {0}
-AllWide width (aim ∷ aims) = HasWidth width aim.rows × AllWide width aims
+AllWide width (constraint ∷ constraints) = HasWidth width constraint.rows × AllWide width constraints
 
 -- the rows that have a point of the given one
 unfoldable pub meeting_rows : List (Option Bool) → List (List (Option Bool)) → List (List (Option Bool))
 meeting_rows given [] = []
 meeting_rows given (row ∷ rows) = if rows_intersect row given then row ∷ meeting_rows given rows else meeting_rows given rows
 
--- a tie as an aim, by the rows that have a point of the given one
-abbrev pub aim_of : List (Option Bool) → Tie → Aim
-aim_of given tie = record { tie = Some tie.place; bit = tie.phase; rows = meeting_rows given tie.rows }
+-- a tie as a constraint, by the rows that have a point of the given one
+abbrev pub constraint_of : List (Option Bool) → Tie → Constraint
+constraint_of given tie = record { tie = Some tie.place; bit = tie.phase; rows = meeting_rows given tie.rows }
 
 -- the rows that agree with what stands at a place of the given one
 abbrev pub narrowed_rows : Option Bool → ℕ → List (List (Option Bool)) → List (List (Option Bool))
 narrowed_rows None place rows = rows
 narrowed_rows (Some bit) place rows = agreeing_rows place bit rows
 
--- an aim with the rows that agree with the given one at a place
-abbrev pub narrowed : List (Option Bool) → ℕ → Aim → Aim
-narrowed given place aim = record { tie = aim.tie; bit = aim.bit; rows = narrowed_rows (slice_index_or given place None) place aim.rows }
+-- a constraint with the rows that agree with the given one at a place
+abbrev pub narrowed : List (Option Bool) → ℕ → Constraint → Constraint
+narrowed given place constraint = record { tie = constraint.tie; bit = constraint.bit; rows = narrowed_rows (slice_index_or given place None) place constraint.rows }
 
 -- a bit by a phase, where it is known
 abbrev pub known_by_phase : Bool → Option Bool → Option Bool
@@ -72,23 +72,23 @@ verdict_of None value = None
 verdict_of (Some bit) None = None
 verdict_of (Some bit) (Some value) = Some (agrees (Some bit) value)
 
--- whether an aim is met at all points of the given row, or at none, where that is seen at once
-unfoldable pub verdict_within : List (Option Bool) → Aim → Option Bool
-verdict_within given aim = verdict_of (wanted_within given aim.tie aim.bit) (value_within given aim.rows)
+-- whether a constraint is satisfied at all points of the given row, or at none, where that is seen at once
+unfoldable pub verdict_within : List (Option Bool) → Constraint → Option Bool
+verdict_within given constraint = verdict_of (wanted_within given constraint.tie constraint.bit) (value_within given constraint.rows)
 
--- the aims that are left, and one more where nothing is known of it yet
-abbrev pub with_open : List Aim → Aim → Option Bool → List Aim
-with_open aims aim None = aims ++ aim ∷ []
-with_open aims aim (Some met) = aims
+-- the constraints that are left, and one more where nothing is known of it yet
+abbrev pub with_open : List Constraint → Constraint → Option Bool → List Constraint
+with_open constraints constraint None = constraints ++ constraint ∷ []
+with_open constraints constraint (Some met) = constraints
 
 -- two tests have one answer at each point of the given row
 pub record SameWithin (given : List (Option Bool)) (test other : List Bool → Bool) : Type 0 where
   pub same : (point : List Bool) → IsPoint (length given) point → matches given point ≡ true → test point ≡ other point
 
--- what is left of aims within the given row: as wide, and met at the same points
-pub record IsLeft (given : List (Option Bool)) (aims left : List Aim) : Type 0 where
+-- what is left of constraints within the given row: as wide, and satisfied at the same points
+pub record IsLeft (given : List (Option Bool)) (constraints left : List Constraint) : Type 0 where
   pub wide : AllWide (length given) left
-  pub same : SameWithin given (grants_all left) (grants_all aims)
+  pub same : SameWithin given (satisfies_all left) (satisfies_all constraints)
 
 -- a positive literal
 abbrev pub is_positive : Option Bool → Bool
@@ -101,8 +101,8 @@ wanted_at given None bit = bit
 wanted_at given (Some place) bit = phase_value bit (is_positive (slice_index_or given place None))
 
 -- whether the rows have it there
-abbrev pub is_granted_at : List (Option Bool) → Aim → Bool
-is_granted_at given aim = agrees (Some (wanted_at given aim.tie aim.bit)) (some_contains given aim.rows)
+abbrev pub is_satisfied_at : List (Option Bool) → Constraint → Bool
+is_satisfied_at given constraint = agrees (Some (wanted_at given constraint.tie constraint.bit)) (some_contains given constraint.rows)
 
 -- a row with a literal of a bit at a place where it has a dash
 abbrev pub filled_at : List (Option Bool) → ℕ → Bool → List (Option Bool)

@@ -5,13 +5,13 @@
 //! and chapter 8 (satisfiability don't-cares). `TiedCover` is a cover with ties: a tie says that the bit at a place is the value of
 //! another cover, and a point that breaks one is free (`specs/Ties.antt`). Promised: each answer is exact, and no question is refused.
 //! No clause says how long it takes: the search goes no deeper than there are inputs, makes no list of the points at which a cover is
-//! 0, and chooses places by votes of the rows, so that short rows come first.
+//! 0, and chooses places by weights of literals, so that short rows come first.
 #![tactic(auto)]
 
+mod constraint;
 mod narrow;
 mod search;
 mod tied;
-mod votes;
-mod wish;
+mod weights;
 
 pub use tied::{Tie, TiedCover};

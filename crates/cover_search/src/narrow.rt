@@ -1,18 +1,18 @@
-//! What is left of wishes within a row.
+//! What is left of constraints within a row.
 //!
-//! Source: De Micheli, "Synthesis and Optimization of Digital Circuits", chapter 7 (cofactors with respect to a row). Of a wish's
-//! rows those can go that have no point of the given row. A wish that is met at all points of the given row goes, and one that is
-//! met at none ends the search there. Promised: the wishes that are left are granted at the same points of the given row. Which of
-//! them are decided is seen at once, by a row that has all its points or by the want of rows (`verdict_within` of
-//! `specs/Searches.antt`).
+//! Source: De Micheli, "Synthesis and Optimization of Digital Circuits", chapter 7 (cofactors with respect to a row). Of a
+//! constraint's rows those can go that have no point of the given row. A constraint that is satisfied at all points of the given row
+//! goes, and one that is satisfied at none ends the search there. Promised: the constraints that are left are satisfied at the same
+//! points of the given row. Which of them are decided is seen at once, by a row that has all its points or by the want of rows
+//! (`verdict_within` of `specs/Searches.antt`).
 
 ghost use Rattle.std.specs.Prelude.{◌≡◌, true, false, Some, length, map, slice_index_or, MatchOption, IfOk, OnOk};
 ghost use Rattle.sis_base.specs.Rows.{agrees, phase_value, HasWidth};
 ghost use Rattle.cube_cover.specs.Covers.{agreeing_rows};
 ghost use Rattle.cube_cover.specs.Literals.{row_contains, rows_intersect, some_contains};
-ghost use Rattle.cover_search.specs.Searches.{AllWide, IsLeft, SameWithin, grants_all, meeting_rows, narrowed, narrowed_rows, known_by_phase, wanted_within, value_within, verdict_of, verdict_within, with_open};
+ghost use Rattle.cover_search.specs.Searches.{AllWide, IsLeft, SameWithin, satisfies_all, meeting_rows, narrowed, narrowed_rows, known_by_phase, wanted_within, value_within, verdict_of, verdict_within, with_open};
 
-use crate::wish::Wish;
+use crate::constraint::Constraint;
 use cube_cover::Row;
 use std::alloc::{AllocError, Global};
 
@@ -123,17 +123,22 @@ fn narrowed_to<'a, R: Row>(
     }
 }
 
-// The wish for those of its rows that agree with what stands at a place of the given row.
-fn narrowed_wish<'a, R: Row>(
+// The constraint for those of its rows that agree with what stands at a place of the given row.
+fn narrowed_constraint<'a, R: Row>(
     alloc: Global,
     given: &R,
-    wish: &Wish<'a, R>,
+    constraint: &Constraint<'a, R>,
     place: usize,
-) -> Result<Wish<'a, R>, AllocError>
-    ensures { IfOk result (λ made. made ≡ narrowed (R.literals given.now) place wish.now) }
+) -> Result<Constraint<'a, R>, AllocError>
+    ensures { IfOk result (λ made. made ≡ narrowed (R.literals given.now) place constraint.now) }
 {
-    let rows = narrowed_to(alloc, wish.rows(), place, literal_at(given, place, None))?;
-    Ok(Wish::new(wish.tie(), wish.bit(), rows))
+    let rows = narrowed_to(
+        alloc,
+        constraint.rows(),
+        place,
+        literal_at(given, place, None),
+    )?;
+    Ok(Constraint::new(constraint.tie(), constraint.bit(), rows))
 }
 
 /// Whether one of some rows has each point of the given one.
@@ -174,7 +179,7 @@ fn known_bit(phase: bool, literal: Option<bool>) -> Option<bool>
     }
 }
 
-/// What a wish wants at all points of the given row, where that is one bit.
+/// What a constraint wants at all points of the given row, where that is one bit.
 pub fn known_wanted<R: Row>(given: &R, tie: Option<usize>, bit: bool) -> Option<bool>
     ensures { result ≡ wanted_within (R.literals given.now) tie bit }
 {
@@ -197,17 +202,17 @@ fn compared(wanted: Option<bool>, value: Option<bool>) -> Option<bool>
     }
 }
 
-// Whether a wish is met at all points of the given row, or at none, where that is seen at once.
+// Whether a constraint is satisfied at all points of the given row, or at none, where that is seen at once.
 #[tactic(auto, unfolding(crate::specs::Searches::verdict_within))]
-fn verdict<R: Row>(given: &R, wish: &Wish<R>) -> Option<bool>
-    requires { HasWidth (length (R.literals given.now)) wish.now.rows }
-    ensures { result ≡ verdict_within (R.literals given.now) wish.now }
+fn verdict<R: Row>(given: &R, constraint: &Constraint<R>) -> Option<bool>
+    requires { HasWidth (length (R.literals given.now)) constraint.now.rows }
+    ensures { result ≡ verdict_within (R.literals given.now) constraint.now }
 {
-    let wanted = known_wanted(given, wish.tie(), wish.bit());
-    compared(wanted, known_value(given, wish.rows()))
+    let wanted = known_wanted(given, constraint.tie(), constraint.bit());
+    compared(wanted, known_value(given, constraint.rows()))
 }
 
-// Whether it is known that a wish cannot be met.
+// Whether it is known that a constraint cannot be satisfied.
 fn is_hopeless(verdict: Option<bool>) -> bool
     ensures { (result ≡ true → verdict ≡ Some false) × (verdict ≡ Some false → result ≡ true) }
 {
@@ -217,43 +222,43 @@ fn is_hopeless(verdict: Option<bool>) -> bool
     }
 }
 
-// Puts a wish behind the others, where nothing is known of it.
+// Puts a constraint behind the others, where nothing is known of it.
 fn keep_open<'a, R: Row>(
-    left: &mut Vec<Wish<'a, R>>,
-    wish: Wish<'a, R>,
+    left: &mut Vec<Constraint<'a, R>>,
+    constraint: Constraint<'a, R>,
     verdict: Option<bool>,
 ) -> Result<(), AllocError>
-    ensures { OnOk result (left.new.items ≡ with_open left.old.items wish.entry verdict) }
+    ensures { OnOk result (left.new.items ≡ with_open left.old.items constraint.entry verdict) }
 {
     match verdict {
         None => {
-            left.push(wish)?;
+            left.push(constraint)?;
             Ok(())
         }
         Some(_met) => Ok(()),
     }
 }
 
-/// What is left of wishes within the given row, of whose width their rows are: each with the rows that agree at a place, and
-/// without those that are met. None where it is seen at once that one cannot be met; an error only for want of memory.
-#[tactic(auto, using(crate::proofs::Granting::narrowed_wide))]
-pub fn open_wishes<'a, R: Row>(
+/// What is left of constraints within the given row, of whose width their rows are: each with the rows that agree at a place, and
+/// without those that are satisfied. None where it is seen at once that one cannot be; an error only for want of memory.
+#[tactic(auto, using(crate::proofs::Satisfying::narrowed_wide))]
+pub fn open_constraints<'a, R: Row>(
     alloc: Global,
     given: &R,
-    wishes: &[Wish<'a, R>],
+    constraints: &[Constraint<'a, R>],
     place: usize,
-) -> Result<Option<Vec<Wish<'a, R>>>, AllocError>
-    requires { AllWide (length (R.literals given.now)) wishes.now }
-    ensures { IfOk result (λ found. MatchOption found (SameWithin (R.literals given.now) (grants_all wishes.now) (λ point. false)) (λ left. IsLeft (R.literals given.now) wishes.now left.items)) }
+) -> Result<Option<Vec<Constraint<'a, R>>>, AllocError>
+    requires { AllWide (length (R.literals given.now)) constraints.now }
+    ensures { IfOk result (λ found. MatchOption found (SameWithin (R.literals given.now) (satisfies_all constraints.now) (λ point. false)) (λ left. IsLeft (R.literals given.now) constraints.now left.items)) }
 {
     let mut left = Vec::new(alloc);
-    for wish in wishes {
-        let wish_left = narrowed_wish(alloc, given, wish, place)?;
-        let known = verdict(given, &wish_left);
+    for constraint in constraints {
+        let constraint_left = narrowed_constraint(alloc, given, constraint, place)?;
+        let known = verdict(given, &constraint_left);
         if is_hopeless(known) {
             return Ok(None);
         }
-        keep_open(&mut left, wish_left, known)?;
+        keep_open(&mut left, constraint_left, known)?;
     }
     Ok(Some(left))
 }

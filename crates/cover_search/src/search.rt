@@ -1,21 +1,21 @@
-//! Whether a row has a point at which all wishes are granted.
+//! Whether a row has a point at which all constraints are satisfied.
 //!
 //! Source: Davis, Logemann and Loveland, "A machine program for theorem-proving" (Communications of the ACM 5, 1962), and De
 //! Micheli, "Synthesis and Optimization of Digital Circuits", chapter 7 (recursion on cofactors). Promised: the answer is exact.
-//! A likely point is tried first. Then the search goes down over the dashes of the given row: at each level the wishes are
-//! narrowed to the literal decided last, those that are met go, and one that cannot be met ends the branch; then a place is
-//! chosen by votes, and the likelier bit tried first.
+//! A likely point is tried first. Then the search goes down over the dashes of the given row: at each level the constraints are
+//! narrowed to the literal decided last, those that are satisfied go, and one that cannot be ends the branch; then a place is
+//! chosen by weights of literals, and the likelier bit tried first.
 
 ghost use Rattle.std.specs.Prelude.{◌≡◌, ◌<◌, true, Some, None, length, slice_index_or, slice_set, MatchOption, IfOk};
 ghost use Rattle.std.specs.List.{list_all};
 ghost use Rattle.sis_base.specs.Rows.{HasWidth};
 ghost use Rattle.cube_cover.specs.Literals.{no_dash};
 ghost use Rattle.cover_min.specs.Points.{has_point};
-ghost use Rattle.cover_search.specs.Searches.{AllWide, IsPart, filled_at, grants_all, wanted_at, is_granted_at, is_positive};
+ghost use Rattle.cover_search.specs.Searches.{AllWide, IsPart, filled_at, satisfies_all, wanted_at, is_satisfied_at, is_positive};
 
-use crate::narrow::{by_phase, literal_at, open_wishes, some_row_contains};
-use crate::votes::{choose, places_for_one};
-use crate::wish::Wish;
+use crate::constraint::Constraint;
+use crate::narrow::{by_phase, literal_at, open_constraints, some_row_contains};
+use crate::weights::{choose, places_for_one};
 use cube_cover::Row;
 use std::alloc::{AllocError, Global};
 
@@ -62,7 +62,7 @@ fn positive(literal: Option<bool>) -> bool
     }
 }
 
-// What a wish wants at the one point of a row without a dash.
+// What a constraint wants at the one point of a row without a dash.
 fn wanted<R: Row>(given: &R, tie: Option<usize>, bit: bool) -> bool
     ensures { result ≡ wanted_at (R.literals given.now) tie bit }
 {
@@ -72,23 +72,23 @@ fn wanted<R: Row>(given: &R, tie: Option<usize>, bit: bool) -> bool
     }
 }
 
-// Whether a wish is granted at the one point of a row without a dash.
-fn is_granted<R: Row>(given: &R, wish: &Wish<R>) -> bool
-    requires { HasWidth (length (R.literals given.now)) wish.now.rows }
-    ensures { result ≡ is_granted_at (R.literals given.now) wish.now }
+// Whether a constraint is satisfied at the one point of a row without a dash.
+fn is_satisfied<R: Row>(given: &R, constraint: &Constraint<R>) -> bool
+    requires { HasWidth (length (R.literals given.now)) constraint.now.rows }
+    ensures { result ≡ is_satisfied_at (R.literals given.now) constraint.now }
 {
-    let wanted = wanted(given, wish.tie(), wish.bit());
-    some_row_contains(given, wish.rows()) == wanted
+    let wanted = wanted(given, constraint.tie(), constraint.bit());
+    some_row_contains(given, constraint.rows()) == wanted
 }
 
-// Whether all wishes are granted at the one point of a row without a dash.
-#[tactic(auto, using(crate::proofs::Granting::wide_at))]
-fn are_granted<R: Row>(given: &R, wishes: &[Wish<R>]) -> bool
-    requires { AllWide (length (R.literals given.now)) wishes.now }
-    ensures { result ≡ list_all (is_granted_at (R.literals given.now)) wishes.now }
+// Whether all constraints are satisfied at the one point of a row without a dash.
+#[tactic(auto, using(crate::proofs::Satisfying::wide_at))]
+fn are_satisfied<R: Row>(given: &R, constraints: &[Constraint<R>]) -> bool
+    requires { AllWide (length (R.literals given.now)) constraints.now }
+    ensures { result ≡ list_all (is_satisfied_at (R.literals given.now)) constraints.now }
 {
-    for wish in wishes {
-        if !is_granted(given, wish) {
+    for constraint in constraints {
+        if !is_satisfied(given, constraint) {
             return false;
         }
     }
@@ -104,11 +104,15 @@ fn fill_at<R: Row>(row: &mut R, place: usize, bit: bool)
     }
 }
 
-// A row of likely bits: the given one, with a literal in place of each dash, as the votes of the wishes are.
-fn likely_row<R: Row>(alloc: Global, given: &R, wishes: &[Wish<R>]) -> Result<R, AllocError>
+// A row of likely bits: the given one, with a literal in place of each dash, as the weights of literals are.
+fn likely_row<R: Row>(
+    alloc: Global,
+    given: &R,
+    constraints: &[Constraint<R>],
+) -> Result<R, AllocError>
     ensures { IfOk result (λ made. IsPart (R.literals given.now) (R.literals made)) }
 {
-    let ones = places_for_one(alloc, given, wishes)?;
+    let ones = places_for_one(alloc, given, constraints)?;
     let mut made = given.copy(alloc)?;
     for place in ones.iter() {
         fill_at(&mut made, *place, true);
@@ -119,41 +123,41 @@ fn likely_row<R: Row>(alloc: Global, given: &R, wishes: &[Wish<R>]) -> Result<R,
     Ok(made)
 }
 
-// Whether all wishes are granted at the one point of a row; false where it has a dash.
-fn are_granted_at<R: Row>(row: &R, wishes: &[Wish<R>]) -> bool
-    requires { AllWide (length (R.literals row.now)) wishes.now }
-    ensures { result ≡ true → has_point (grants_all wishes.now) (R.literals row.now) ≡ true }
+// Whether all constraints are satisfied at the one point of a row; false where it has a dash.
+fn are_satisfied_at<R: Row>(row: &R, constraints: &[Constraint<R>]) -> bool
+    requires { AllWide (length (R.literals row.now)) constraints.now }
+    ensures { result ≡ true → has_point (satisfies_all constraints.now) (R.literals row.now) ≡ true }
 {
     match first_dash(row) {
-        None => are_granted(row, wishes),
+        None => are_satisfied(row, constraints),
         Some(_place) => false,
     }
 }
 
-// Whether all wishes are granted at a likely point of the given row, which is the first to be tried.
-fn are_granted_likely<R: Row>(
+// Whether all constraints are satisfied at a likely point of the given row, which is the first to be tried.
+fn are_satisfied_likely<R: Row>(
     alloc: Global,
     given: &R,
-    wishes: &[Wish<R>],
+    constraints: &[Constraint<R>],
 ) -> Result<bool, AllocError>
-    requires { AllWide (length (R.literals given.now)) wishes.now }
-    ensures { IfOk result (λ answer. answer ≡ true → has_point (grants_all wishes.now) (R.literals given.now) ≡ true) }
+    requires { AllWide (length (R.literals given.now)) constraints.now }
+    ensures { IfOk result (λ answer. answer ≡ true → has_point (satisfies_all constraints.now) (R.literals given.now) ≡ true) }
 {
-    let row = likely_row(alloc, given, wishes)?;
-    Ok(are_granted_at(&row, wishes))
+    let row = likely_row(alloc, given, constraints)?;
+    Ok(are_satisfied_at(&row, constraints))
 }
 
-// Whether the row has a point at which all wishes are granted; `last` is the place decided last, of which nothing is asked.
-fn is_met_below<R: Row>(
+// Whether the row has a point at which all constraints are satisfied; `last` is the place decided last, of which nothing is asked.
+fn is_satisfiable_below<R: Row>(
     alloc: Global,
     given: &R,
-    wishes: &[Wish<R>],
+    constraints: &[Constraint<R>],
     last: usize,
 ) -> Result<bool, AllocError>
-    requires { AllWide (length (R.literals given.now)) wishes.now }
-    ensures { IfOk result (λ answer. answer ≡ has_point (grants_all wishes.now) (R.literals given.now)) }
+    requires { AllWide (length (R.literals given.now)) constraints.now }
+    ensures { IfOk result (λ answer. answer ≡ has_point (satisfies_all constraints.now) (R.literals given.now)) }
 {
-    let found = open_wishes(alloc, given, wishes, last)?;
+    let found = open_constraints(alloc, given, constraints, last)?;
     match found {
         None => Ok(false),
         Some(left) => {
@@ -162,15 +166,20 @@ fn is_met_below<R: Row>(
             }
             let choice = choose(alloc, given, left.as_slice())?;
             match dash_of(given, choice.place) {
-                None => Ok(are_granted(given, left.as_slice())),
+                None => Ok(are_satisfied(given, left.as_slice())),
                 Some(place) => {
                     let first = row_with(alloc, given, place, choice.bit)?;
-                    let first_answer = is_met_below(alloc, &first, left.as_slice(), place)?;
+                    let first_answer = is_satisfiable_below(alloc, &first, left.as_slice(), place)?;
                     if first_answer {
                         return Ok(first_answer);
                     }
                     let second = row_with(alloc, given, place, !choice.bit)?;
-                    let second_answer = is_met_below(alloc, &second, left.as_slice(), place)?;
+                    let second_answer = is_satisfiable_below(
+                        alloc,
+                        &second,
+                        left.as_slice(),
+                        place,
+                    )?;
                     Ok(second_answer)
                 }
             }
@@ -178,23 +187,27 @@ fn is_met_below<R: Row>(
     }
 }
 
-/// Whether the row has a point at which all wishes are granted, whose rows are of its width; an error only for want of memory.
-pub fn is_met<R: Row>(alloc: Global, given: &R, wishes: &[Wish<R>]) -> Result<bool, AllocError>
-    requires { AllWide (length (R.literals given.now)) wishes.now }
-    ensures { IfOk result (λ answer. answer ≡ has_point (grants_all wishes.now) (R.literals given.now)) }
+/// Whether the row has a point at which all constraints are satisfied, whose rows are of its width; an error only for want of memory.
+pub fn is_satisfiable<R: Row>(
+    alloc: Global,
+    given: &R,
+    constraints: &[Constraint<R>],
+) -> Result<bool, AllocError>
+    requires { AllWide (length (R.literals given.now)) constraints.now }
+    ensures { IfOk result (λ answer. answer ≡ has_point (satisfies_all constraints.now) (R.literals given.now)) }
 {
-    let found = open_wishes(alloc, given, wishes, 0)?;
+    let found = open_constraints(alloc, given, constraints, 0)?;
     match found {
         None => Ok(false),
         Some(left) => {
             if left.len() == 0 {
                 return Ok(true);
             }
-            let granted = are_granted_likely(alloc, given, left.as_slice())?;
-            if granted {
-                return Ok(granted);
+            let satisfied = are_satisfied_likely(alloc, given, left.as_slice())?;
+            if satisfied {
+                return Ok(satisfied);
             }
-            let answer = is_met_below(alloc, given, left.as_slice(), 0)?;
+            let answer = is_satisfiable_below(alloc, given, left.as_slice(), 0)?;
             Ok(answer)
         }
     }

@@ -9,11 +9,11 @@ ghost use Rattle.sis_base.specs.Rows.{some_matches, HasWidth};
 ghost use Rattle.cover_min.specs.Points.{has_point, has_own_point};
 ghost use Rattle.cover_search.specs.Ties.{AreWide, keeps_all};
 ghost use Rattle.cover_search.specs.Views.{tie_of};
-ghost use Rattle.cover_search.specs.Searches.{aim_of, meeting_rows};
+ghost use Rattle.cover_search.specs.Searches.{constraint_of, meeting_rows};
 
+use crate::constraint::Constraint;
 use crate::narrow::rows_within;
-use crate::search::is_met;
-use crate::wish::Wish;
+use crate::search::is_satisfiable;
 use cover_min::{Oracle, OracleFault};
 use cube_cover::{Cover, Row};
 use std::alloc::{AllocError, Global};
@@ -57,37 +57,37 @@ impl<R: Row> TiedCover<R> {
     }
 }
 
-// The wish that a cover gives a bit, or the bit that a tie wants, within the given row.
-fn wish_within<'a, R: Row>(
+// The constraint that a cover gives a bit, or the bit that a tie wants, within the given row.
+fn constraint_within<'a, R: Row>(
     alloc: Global,
     given: &R,
     cover: &'a Cover<R>,
     tie: Option<usize>,
     bit: bool,
-) -> Result<Wish<'a, R>, AllocError>
+) -> Result<Constraint<'a, R>, AllocError>
     requires { cover.now.width ≡ length (R.literals given.now) }
-    ensures wish { IfOk result (λ wish. wish ≡ record { tie = tie; bit = bit; rows = meeting_rows (R.literals given.now) cover.now.rows }) }
+    ensures constraint { IfOk result (λ constraint. constraint ≡ record { tie = tie; bit = bit; rows = meeting_rows (R.literals given.now) cover.now.rows }) }
     ensures wide { HasWidth (length (R.literals given.now)) cover.now.rows }
 {
     let rows = cover.rows();
     let kept = rows_within(alloc, given, rows)?;
-    Ok(Wish::new(tie, bit, kept))
+    Ok(Constraint::new(tie, bit, kept))
 }
 
-// Puts a wish for each tie behind others.
+// Puts a constraint for each tie behind others.
 fn add_ties<'a, R: Row>(
     alloc: Global,
     given: &R,
     ties: &'a [Tie<R>],
-    wishes: &mut Vec<Wish<'a, R>>,
+    constraints: &mut Vec<Constraint<'a, R>>,
 ) -> Result<(), AllocError>
     requires { AllByRecursion (λ tie. tie.cover.width ≡ length (R.literals given.now)) ties.now }
-    ensures wishes { OnOk result (wishes.new.items ≡ wishes.old.items ++ map (aim_of (R.literals given.now)) (map tie_of ties.now)) }
+    ensures constraints { OnOk result (constraints.new.items ≡ constraints.old.items ++ map (constraint_of (R.literals given.now)) (map tie_of ties.now)) }
     ensures wide { OnOk result (AreWide (length (R.literals given.now)) (map tie_of ties.now)) }
 {
     for tie in ties {
-        let wish = wish_within(alloc, given, &tie.cover, Some(tie.place), tie.phase)?;
-        wishes.push(wish)?;
+        let constraint = constraint_within(alloc, given, &tie.cover, Some(tie.place), tie.phase)?;
+        constraints.push(constraint)?;
     }
     Ok(())
 }
@@ -103,11 +103,11 @@ fn has_off_point<R: Row>(
     requires ties { AllByRecursion (λ tie. tie.cover.width ≡ length (R.literals given.now)) ties.now }
     ensures { IfOk result (λ answer. answer ≡ has_point (λ point. not (some_matches cover.now.rows point) && keeps_all (map tie_of ties.now) point) (R.literals given.now)) }
 {
-    let no_row = wish_within(alloc, given, cover, None, false)?;
-    let mut wishes = Vec::new(alloc);
-    wishes.push(no_row)?;
-    add_ties(alloc, given, ties, &mut wishes)?;
-    let answer = is_met(alloc, given, wishes.as_slice())?;
+    let no_row = constraint_within(alloc, given, cover, None, false)?;
+    let mut constraints = Vec::new(alloc);
+    constraints.push(no_row)?;
+    add_ties(alloc, given, ties, &mut constraints)?;
+    let answer = is_satisfiable(alloc, given, constraints.as_slice())?;
     Ok(answer)
 }
 
@@ -124,13 +124,13 @@ fn has_on_point<R: Row>(
     requires ties { AllByRecursion (λ tie. tie.cover.width ≡ length (R.literals given.now)) ties.now }
     ensures { IfOk result (λ answer. answer ≡ has_own_point (λ point. some_matches cover.now.rows point && keeps_all (map tie_of ties.now) point) (R.literals given.now) others.now.rows) }
 {
-    let no_other = wish_within(alloc, given, others, None, false)?;
-    let some_row = wish_within(alloc, given, cover, None, true)?;
-    let mut wishes = Vec::new(alloc);
-    wishes.push(no_other)?;
-    wishes.push(some_row)?;
-    add_ties(alloc, given, ties, &mut wishes)?;
-    let answer = is_met(alloc, given, wishes.as_slice())?;
+    let no_other = constraint_within(alloc, given, others, None, false)?;
+    let some_row = constraint_within(alloc, given, cover, None, true)?;
+    let mut constraints = Vec::new(alloc);
+    constraints.push(no_other)?;
+    constraints.push(some_row)?;
+    add_ties(alloc, given, ties, &mut constraints)?;
+    let answer = is_satisfiable(alloc, given, constraints.as_slice())?;
     Ok(answer)
 }
 

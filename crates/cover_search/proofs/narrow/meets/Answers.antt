@@ -1,4 +1,4 @@
-use Rattle.cover_search.proofs.Granting.{intersects_by_literals}
+use Rattle.cover_search.proofs.Satisfying.{intersects_by_literals}
 use Rattle.cover_search.proofs.narrow.meets.Goals as goal
 
 pub returns : goal.returns

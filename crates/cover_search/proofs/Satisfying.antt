@@ -1,4 +1,4 @@
--- What is left of aims within a given row.
+-- What is left of constraints within a given row.
 use Rattle.std.proofs.Common.{◌≡◌, ℕ, ◌<◌, ◌+◌, zero, suc, Bool, true, false, ◌&&◌, ◌||◌, if◌then◌else◌, Option, Some, None, List, [], ◌∷◌, ◌++◌, length, get_or, take, refl, sym, ap, ◌∙◌, arith, IsTrue, ◌↔◌}
 use Rattle.std.specs.List.{list_all}
 use Rattle.std.proofs.Math.Bool.{and-true}
@@ -8,7 +8,7 @@ use Rattle.cube_cover.specs.Covers.{Intersects, agreeing_rows}
 use Rattle.cube_cover.specs.Literals.{rows_intersect, row_contains, some_contains}
 use Rattle.cube_cover.proofs.Points.{and_left, and_right}
 use Rattle.cube_cover.proofs.Products.{intersects_from_test, test_from_intersects, contains_at_point}
-use Rattle.cover_search.specs.Searches.{Aim, AllWide, IsLeft, SameWithin, grants, grants_all, wanted, meeting_rows, narrowed, narrowed_rows, known_by_phase, wanted_within, value_within, verdict_of, verdict_within, with_open}
+use Rattle.cover_search.specs.Searches.{Constraint, AllWide, IsLeft, SameWithin, satisfies, satisfies_all, wanted, meeting_rows, narrowed, narrowed_rows, known_by_phase, wanted_within, value_within, verdict_of, verdict_within, with_open}
 
 pub intersects_by_literals : (a b : List (Option Bool)) → length a ≡ length b → (r : Bool) → IsTrue r ↔ Intersects a b → r ≡ rows_intersect a b
 intersects_by_literals a b e r h = cases r (rows_intersect a b) refl refl
@@ -78,8 +78,8 @@ narrowed_rows_same : (given : List (Option Bool)) (rows : List (List (Option Boo
 narrowed_rows_same given rows point place None w d m e = refl
 narrowed_rows_same given rows point place (Some bit) w d m e = agreeing_same given rows point place bit w d m e
 
-pub narrowed_same : (given : List (Option Bool)) (place : ℕ) (aim : Aim) (point : List Bool) → HasWidth (length given) aim.rows → length point ≡ length given → matches given point ≡ true → grants point (narrowed given place aim) ≡ grants point aim
-narrowed_same given place aim point w d m = ap (agrees (Some (wanted aim.tie aim.bit point))) (narrowed_rows_same given aim.rows point place (get_or given place None) w d m refl)
+pub narrowed_same : (given : List (Option Bool)) (place : ℕ) (constraint : Constraint) (point : List Bool) → HasWidth (length given) constraint.rows → length point ≡ length given → matches given point ≡ true → satisfies point (narrowed given place constraint) ≡ satisfies point constraint
+narrowed_same given place constraint point w d m = ap (agrees (Some (wanted constraint.tie constraint.bit point))) (narrowed_rows_same given constraint.rows point place (get_or given place None) w d m refl)
 
 -- the rows that meet the given one
 pub meeting_same : (given : List (Option Bool)) (rows : List (List (Option Bool))) (point : List Bool) → HasWidth (length given) rows → length point ≡ length given → matches given point ≡ true → some_matches (meeting_rows given rows) point ≡ some_matches rows point
@@ -107,7 +107,7 @@ meeting_wide width given (row ∷ rows) h = cases (rows_intersect row given) (me
     cases true rest = (h.0, rest)
     cases false rest = rest
 
--- what is known of an aim within the given row
+-- what is known of a constraint within the given row
 pub or_second : (t s : Bool) → s ≡ true → (t || s) ≡ true
 or_second true s h = refl
 or_second false s h = h
@@ -148,39 +148,39 @@ wanted_is given (Some place) phase point bit d m e = cases (get_or given place (
         let there : get_or point place false ≡ other = read_past given point place other d m h in
         ap (phase_value phase) there ∙ cc
 
-pub verdict_is : (given : List (Option Bool)) (aim : Aim) (point : List Bool) (met : Bool) → HasWidth (length given) aim.rows → length point ≡ length given → matches given point ≡ true → verdict_within given aim ≡ Some met → grants point aim ≡ met
+pub verdict_is : (given : List (Option Bool)) (constraint : Constraint) (point : List Bool) (met : Bool) → HasWidth (length given) constraint.rows → length point ≡ length given → matches given point ≡ true → verdict_within given constraint ≡ Some met → satisfies point constraint ≡ met
 unfolding verdict_within
-verdict_is given aim point met w d m e = cases (wanted_within given aim.tie aim.bit) (value_within given aim.rows) refl refl e
+verdict_is given constraint point met w d m e = cases (wanted_within given constraint.tie constraint.bit) (value_within given constraint.rows) refl refl e
   where
-    cases : (bit value : Option Bool) → wanted_within given aim.tie aim.bit ≡ bit → value_within given aim.rows ≡ value → verdict_of bit value ≡ Some met → grants point aim ≡ met
+    cases : (bit value : Option Bool) → wanted_within given constraint.tie constraint.bit ≡ bit → value_within given constraint.rows ≡ value → verdict_of bit value ≡ Some met → satisfies point constraint ≡ met
     cases None value h k v = cc
     cases (Some bit) None h k v = cc
     cases (Some bit) (Some value) h k v =
-        let first : wanted aim.tie aim.bit point ≡ bit = wanted_is given aim.tie aim.bit point bit d m h in
-        let second : some_matches aim.rows point ≡ value = value_is given aim.rows point value w d m k in
+        let first : wanted constraint.tie constraint.bit point ≡ bit = wanted_is given constraint.tie constraint.bit point bit d m h in
+        let second : some_matches constraint.rows point ≡ value = value_is given constraint.rows point value w d m k in
         rw (first, second) cc
 
--- lists of aims
-pub wide_at : (width : ℕ) (aims : List Aim) (i : ℕ) (aim : Aim) → AllWide width aims → i < length aims → aim ≡ get_or aims i aim → HasWidth width aim.rows
+-- lists of constraints
+pub wide_at : (width : ℕ) (constraints : List Constraint) (i : ℕ) (constraint : Constraint) → AllWide width constraints → i < length constraints → constraint ≡ get_or constraints i constraint → HasWidth width constraint.rows
 unfolding AllWide
-wide_at width [] i aim h lt e = absurd (omega arith)
-wide_at width (first ∷ aims) zero aim h lt e = rw e h.0
-wide_at width (first ∷ aims) (suc i) aim h lt e = wide_at width aims i aim h.1 (omega arith) e
+wide_at width [] i constraint h lt e = absurd (omega arith)
+wide_at width (first ∷ constraints) zero constraint h lt e = rw e h.0
+wide_at width (first ∷ constraints) (suc i) constraint h lt e = wide_at width constraints i constraint h.1 (omega arith) e
 
-pub narrowed_wide : (given : List (Option Bool)) (place : ℕ) (aims : List Aim) (i : ℕ) (aim made : Aim) → AllWide (length given) aims → i < length aims → aim ≡ get_or aims i aim → made ≡ narrowed given place aim → HasWidth (length given) made.rows
-narrowed_wide given place aims i aim made h lt e k = rw k (narrowed_rows_wide (length given) aim.rows place (get_or given place None) (wide_at (length given) aims i aim h lt e))
+pub narrowed_wide : (given : List (Option Bool)) (place : ℕ) (constraints : List Constraint) (i : ℕ) (constraint made : Constraint) → AllWide (length given) constraints → i < length constraints → constraint ≡ get_or constraints i constraint → made ≡ narrowed given place constraint → HasWidth (length given) made.rows
+narrowed_wide given place constraints i constraint made h lt e k = rw k (narrowed_rows_wide (length given) constraint.rows place (get_or given place None) (wide_at (length given) constraints i constraint h lt e))
 
-wide_more : (width : ℕ) (aims : List Aim) (aim : Aim) → AllWide width aims → HasWidth width aim.rows → AllWide width (aims ++ aim ∷ [])
+wide_more : (width : ℕ) (constraints : List Constraint) (constraint : Constraint) → AllWide width constraints → HasWidth width constraint.rows → AllWide width (constraints ++ constraint ∷ [])
 unfolding AllWide
-wide_more width [] aim h w = (w, tt)
-wide_more width (first ∷ aims) aim h w = (h.0, wide_more width aims aim h.1 w)
+wide_more width [] constraint h w = (w, tt)
+wide_more width (first ∷ constraints) constraint h w = (h.0, wide_more width constraints constraint h.1 w)
 
-grants_more : (aims : List Aim) (aim : Aim) (point : List Bool) → grants_all (aims ++ aim ∷ []) point ≡ (grants_all aims point && grants point aim)
-unfolding grants_all
-grants_more [] aim point = and-true (grants point aim)
-grants_more (first ∷ aims) aim point = cases (grants point first) (grants_more aims aim point)
+satisfies_more : (constraints : List Constraint) (constraint : Constraint) (point : List Bool) → satisfies_all (constraints ++ constraint ∷ []) point ≡ (satisfies_all constraints point && satisfies point constraint)
+unfolding satisfies_all
+satisfies_more [] constraint point = and-true (satisfies point constraint)
+satisfies_more (first ∷ constraints) constraint point = cases (satisfies point first) (satisfies_more constraints constraint point)
   where
-    cases : (t : Bool) → list_all (grants point) (aims ++ aim ∷ []) ≡ (list_all (grants point) aims && grants point aim) → (t && list_all (grants point) (aims ++ aim ∷ [])) ≡ ((t && list_all (grants point) aims) && grants point aim)
+    cases : (t : Bool) → list_all (satisfies point) (constraints ++ constraint ∷ []) ≡ (list_all (satisfies point) constraints && satisfies point constraint) → (t && list_all (satisfies point) (constraints ++ constraint ∷ [])) ≡ ((t && list_all (satisfies point) constraints) && satisfies point constraint)
     cases true h = h
     cases false h = refl
 
@@ -188,48 +188,48 @@ pub left_none : (given : List (Option Bool)) → IsLeft given [] []
 unfolding AllWide
 left_none given = record { wide = tt; same = record { same = λ point d m. refl } }
 
--- the next aim, narrowed, is left where nothing is known of it, and goes where it is met
-left_more : (given : List (Option Bool)) (place : ℕ) (aims left : List Aim) (aim : Aim) (verdict : Option Bool) → HasWidth (length given) aim.rows → verdict ≡ verdict_within given (narrowed given place aim) → (verdict ≡ Some false → ⊥)
-    → IsLeft given aims left → IsLeft given (aims ++ aim ∷ []) (with_open left (narrowed given place aim) verdict)
-left_more given place aims left aim None w e possible h = record {
-  wide = wide_more (length given) left (narrowed given place aim) h.wide (narrowed_rows_wide (length given) aim.rows place (get_or given place None) w);
+-- the next constraint, narrowed, is left where nothing is known of it, and goes where it is satisfied
+left_more : (given : List (Option Bool)) (place : ℕ) (constraints left : List Constraint) (constraint : Constraint) (verdict : Option Bool) → HasWidth (length given) constraint.rows → verdict ≡ verdict_within given (narrowed given place constraint) → (verdict ≡ Some false → ⊥)
+    → IsLeft given constraints left → IsLeft given (constraints ++ constraint ∷ []) (with_open left (narrowed given place constraint) verdict)
+left_more given place constraints left constraint None w e possible h = record {
+  wide = wide_more (length given) left (narrowed given place constraint) h.wide (narrowed_rows_wide (length given) constraint.rows place (get_or given place None) w);
   same = record {
     same = λ point d m.
-        grants_more left (narrowed given place aim) point ∙ rw (h.same.same point d m, narrowed_same given place aim point w d m) (sym (grants_more aims aim point));
+        satisfies_more left (narrowed given place constraint) point ∙ rw (h.same.same point d m, narrowed_same given place constraint point w d m) (sym (satisfies_more constraints constraint point));
   };
 }
-left_more given place aims left aim (Some false) w e possible h = absurd (possible refl)
-left_more given place aims left aim (Some true) w e possible h = record {
+left_more given place constraints left constraint (Some false) w e possible h = absurd (possible refl)
+left_more given place constraints left constraint (Some true) w e possible h = record {
   wide = h.wide;
   same = record {
     same = λ point d m.
-        let met : grants point aim ≡ true = sym (narrowed_same given place aim point w d m) ∙ verdict_is given (narrowed given place aim) point true (narrowed_rows_wide (length given) aim.rows place (get_or given place None) w) d m (sym e) in
-        h.same.same point d m ∙ sym (grants_more aims aim point ∙ rw met (and-true (grants_all aims point)));
+        let met : satisfies point constraint ≡ true = sym (narrowed_same given place constraint point w d m) ∙ verdict_is given (narrowed given place constraint) point true (narrowed_rows_wide (length given) constraint.rows place (get_or given place None) w) d m (sym e) in
+        h.same.same point d m ∙ sym (satisfies_more constraints constraint point ∙ rw met (and-true (satisfies_all constraints point)));
   };
 }
 
-pub left_next : (given : List (Option Bool)) (place : ℕ) (aims left after : List Aim) (i : ℕ) (aim made : Aim) (verdict : Option Bool) → AllWide (length given) aims → i < length aims → aim ≡ get_or aims i aim → made ≡ narrowed given place aim
-    → verdict ≡ verdict_within given made → (verdict ≡ Some false → ⊥) → after ≡ with_open left made verdict → IsLeft given (take i aims) left → IsLeft given (take (i + 1) aims) after
-left_next given place aims left after i aim made verdict h lt e k v possible f rest =
-    let more : take (i + 1) aims ≡ take i aims ++ aim ∷ [] = take_more aims i aim lt ∙ ap (λ (x : Aim). take i aims ++ x ∷ []) (sym e) in
-    rw (more, f, k) (left_more given place (take i aims) left aim verdict (wide_at (length given) aims i aim h lt e) (v ∙ ap (verdict_within given) k) possible rest)
+pub left_next : (given : List (Option Bool)) (place : ℕ) (constraints left after : List Constraint) (i : ℕ) (constraint made : Constraint) (verdict : Option Bool) → AllWide (length given) constraints → i < length constraints → constraint ≡ get_or constraints i constraint → made ≡ narrowed given place constraint
+    → verdict ≡ verdict_within given made → (verdict ≡ Some false → ⊥) → after ≡ with_open left made verdict → IsLeft given (take i constraints) left → IsLeft given (take (i + 1) constraints) after
+left_next given place constraints left after i constraint made verdict h lt e k v possible f rest =
+    let more : take (i + 1) constraints ≡ take i constraints ++ constraint ∷ [] = take_more constraints i constraint lt ∙ ap (λ (x : Constraint). take i constraints ++ x ∷ []) (sym e) in
+    rw (more, f, k) (left_more given place (take i constraints) left constraint verdict (wide_at (length given) constraints i constraint h lt e) (v ∙ ap (verdict_within given) k) possible rest)
 
--- an aim that is met nowhere
-none_granted : (aims : List Aim) (i : ℕ) (aim : Aim) (point : List Bool) → i < length aims → aim ≡ get_or aims i aim → grants point aim ≡ false → grants_all aims point ≡ false
-unfolding grants_all
-none_granted [] i aim point lt e h = absurd (omega arith)
-none_granted (first ∷ aims) zero aim point lt e h = rw (ap (grants point) (sym e) ∙ h) refl
-none_granted (first ∷ aims) (suc i) aim point lt e h = cases (grants point first) (none_granted aims i aim point (omega arith) e h)
+-- a constraint that is satisfied nowhere
+none_satisfied : (constraints : List Constraint) (i : ℕ) (constraint : Constraint) (point : List Bool) → i < length constraints → constraint ≡ get_or constraints i constraint → satisfies point constraint ≡ false → satisfies_all constraints point ≡ false
+unfolding satisfies_all
+none_satisfied [] i constraint point lt e h = absurd (omega arith)
+none_satisfied (first ∷ constraints) zero constraint point lt e h = rw (ap (satisfies point) (sym e) ∙ h) refl
+none_satisfied (first ∷ constraints) (suc i) constraint point lt e h = cases (satisfies point first) (none_satisfied constraints i constraint point (omega arith) e h)
   where
-    cases : (t : Bool) → list_all (grants point) aims ≡ false → (t && list_all (grants point) aims) ≡ false
+    cases : (t : Bool) → list_all (satisfies point) constraints ≡ false → (t && list_all (satisfies point) constraints) ≡ false
     cases true k = k
     cases false k = refl
 
-pub hopeless_same : (given : List (Option Bool)) (place : ℕ) (aims : List Aim) (i : ℕ) (aim made : Aim) → AllWide (length given) aims → i < length aims → aim ≡ get_or aims i aim → made ≡ narrowed given place aim → verdict_within given made ≡ Some false
-    → SameWithin given (grants_all aims) (λ point. false)
-hopeless_same given place aims i aim made h lt e k v = record {
+pub hopeless_same : (given : List (Option Bool)) (place : ℕ) (constraints : List Constraint) (i : ℕ) (constraint made : Constraint) → AllWide (length given) constraints → i < length constraints → constraint ≡ get_or constraints i constraint → made ≡ narrowed given place constraint → verdict_within given made ≡ Some false
+    → SameWithin given (satisfies_all constraints) (λ point. false)
+hopeless_same given place constraints i constraint made h lt e k v = record {
   same = λ point d m.
-      let w : HasWidth (length given) aim.rows = wide_at (length given) aims i aim h lt e in
-      none_granted aims i aim point lt e
-      (sym (narrowed_same given place aim point w d m) ∙ verdict_is given (narrowed given place aim) point false (narrowed_rows_wide (length given) aim.rows place (get_or given place None) w) d m (ap (verdict_within given) (sym k) ∙ v));
+      let w : HasWidth (length given) constraint.rows = wide_at (length given) constraints i constraint h lt e in
+      none_satisfied constraints i constraint point lt e
+      (sym (narrowed_same given place constraint point w d m) ∙ verdict_is given (narrowed given place constraint) point false (narrowed_rows_wide (length given) constraint.rows place (get_or given place None) w) d m (ap (verdict_within given) (sym k) ∙ v));
 }

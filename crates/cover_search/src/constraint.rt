@@ -1,4 +1,4 @@
-//! A wish: that some rows give a certain bit at a point, which may be the point's own bit at a place.
+//! A constraint: that some rows give a certain bit at a point, which may be the point's own bit at a place.
 //!
 //! Source: De Micheli, "Synthesis and Optimization of Digital Circuits", chapter 8 (satisfiability don't-care conditions).
 
@@ -8,29 +8,29 @@ use cube_cover::Row;
 use std::marker::Model;
 
 /// That rows, which stay where they are, give `bit`; or where there is a tie, that they give the point's bit at its place, turned
-/// over where `bit` is false. Contracts see it as an `Aim`.
+/// over where `bit` is false. Contracts see it as a `Constraint` of `specs/Searches.antt`.
 #[derive(Drop)]
-pub struct Wish<'a, R: Row> {
+pub struct Constraint<'a, R: Row> {
     tie: Option<usize>,
     bit: bool,
     rows: Vec<&'a R>,
 }
 
-impl<'a, R: Row> Model for Wish<'a, R> {
+impl<'a, R: Row> Model for Constraint<'a, R> {
     ghost use Rattle.std.specs.Prelude.{map};
-    ghost use Rattle.cover_search.specs.Searches.{Aim};
+    ghost use Rattle.cover_search.specs.Searches.{Constraint};
 
-    ghost Value = { Aim };
+    ghost Value = { Constraint };
 
-    ghost view = { λ wish. record { tie = wish.tie; bit = wish.bit; rows = map (λ row. R.literals row.now) wish.rows.items } };
+    ghost view = { λ constraint. record { tie = constraint.tie; bit = constraint.bit; rows = map (λ row. R.literals row.now) constraint.rows.items } };
 }
 
-impl<'a, R: Row> Wish<'a, R> {
-    /// The wish for some rows.
-    pub fn new(tie: Option<usize>, bit: bool, rows: Vec<&'a R>) -> Wish<'a, R>
+impl<'a, R: Row> Constraint<'a, R> {
+    /// The constraint for some rows.
+    pub fn new(tie: Option<usize>, bit: bool, rows: Vec<&'a R>) -> Constraint<'a, R>
         ensures { result ≡ record { tie = tie; bit = bit; rows = map (λ row. R.literals row.now) rows.entry.items } }
     {
-        Wish { tie, bit, rows }
+        Constraint { tie, bit, rows }
     }
 
     /// The place of the tie, if there is one.
