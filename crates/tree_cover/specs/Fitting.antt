@@ -1,4 +1,4 @@
--- A quick test whether a pattern may match a tree: their first two levels fit.
+-- A quick test whether a pattern may match a tree: their first two levels fit. No public clause needs these definitions.
 -- Source: Keutzer, "DAGON: Technology binding and local optimization by DAG matching" (24th Design Automation Conference,
 -- 1987): patterns are told apart by the operators at their roots first.
 use Rattle.std.specs.Prelude.{ℕ, Bool, true, false, ◌&&◌, ◌||◌}
