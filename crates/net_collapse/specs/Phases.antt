@@ -1,5 +1,5 @@
 -- The tables at places while a network is collapsed: first each is taken into its readers, in the order of their places; then the
--- inner ones go.
+-- inner ones go. No public clause needs these definitions.
 -- Source: the SIS report (UCB/ERL M92/41), `collapse`; De Micheli, "Synthesis and Optimization of Digital Circuits", chapter 8
 -- (elimination of vertices, one after the other).
 use Rattle.std.specs.Prelude.{◌≡◌, ℕ, true, if◌then◌else◌, Option, Some, None, List, fold, ltb}

@@ -24,7 +24,7 @@ use Rattle.table_algebra.specs.Taking.{taken_in, take_refusal, refusal_at}
 use Rattle.table_algebra.specs.declared.taking.TakeFault.{TakeFault}
 use Rattle.table_algebra.proofs.Places.{IsFound, found}
 use Rattle.table_algebra.proofs.Taken.{taken_output, taken_once, taken_apart}
-use Rattle.net_elim.specs.Putting.{slots_taken, with_put, IsMade, AreMade, places_of}
+use Rattle.net_elim.specs.Putting.{slots_taken, with_put, IsMade, AreMade, places_made}
 use Rattle.net_elim.specs.declared.putting.Made.{Made}
 use Rattle.net_elim.specs.declared.putting.PutFault.{PutFault}
 use Rattle.net_elim.specs.declared.putting.PutFault.TheVariants.{Refused, Memory}
@@ -102,7 +102,7 @@ module _ {R : Type 0} where
   pub record IsPartly (inner : Written) (left : List (Made R)) (before now : Placed) : Type 0 where
     pub frame : now.frame ≡ before.frame
     pub each : AllByRecursion (IsMade inner before.slots) left
-    pub either : (at : ℕ) → (slice_get now.slots at ≡ slice_get (slots_taken inner before.slots) at) ⊎ ((slice_get now.slots at ≡ slice_get before.slots at) × (is_in (places_of left) at ≡ true))
+    pub either : (at : ℕ) → (slice_get now.slots at ≡ slice_get (slots_taken inner before.slots) at) ⊎ ((slice_get now.slots at ≡ slice_get before.slots at) × (is_in (places_made left) at ≡ true))
 
   pub partly_begun : (inner : Written) (made : List (Made R)) (before : Placed) → AreMade inner before.slots made → IsPartly inner made before before
   partly_begun inner made before are = record {
@@ -117,7 +117,7 @@ module _ {R : Type 0} where
       same (Some (Some t)) apart = ap (λ (u : Written). Some (Some u)) (sym (taken_apart inner t apart))
 
       cases : (at : ℕ) (b : Bool) → has (inputs_at before.slots at) inner.output ≡ b
-          → (slice_get before.slots at ≡ slice_get (slots_taken inner before.slots) at) ⊎ ((slice_get before.slots at ≡ slice_get before.slots at) × (is_in (places_of made) at ≡ true))
+          → (slice_get before.slots at ≡ slice_get (slots_taken inner before.slots) at) ⊎ ((slice_get before.slots at ≡ slice_get before.slots at) × (is_in (places_made made) at ≡ true))
       cases at true reads = inr (refl, are.readers at reads)
       cases at false apart = inl (same (slice_get before.slots at) apart ∙ sym (slice_get-map (option_map (taken_in inner)) before.slots at))
 
@@ -125,12 +125,12 @@ module _ {R : Type 0} where
   front_of P [] one all = (tt, all.0)
   front_of P (first ∷ front) one all = let rest = front_of P front one all.1 in ((all.0, rest.0), rest.1)
 
-  in_front : (front : List (Made R)) (one : Made R) (at : ℕ) → (one.place == at) ≡ false → is_in (places_of (front ++ one ∷ [])) at ≡ true → is_in (places_of front) at ≡ true
+  in_front : (front : List (Made R)) (one : Made R) (at : ℕ) → (one.place == at) ≡ false → is_in (places_made (front ++ one ∷ [])) at ≡ true → is_in (places_made front) at ≡ true
   in_front [] one at other h =
       elim (or_cases (one.place == at) false h) as (λ _. false ≡ true) [ inl e ↦ sym other ∙ e | inr e ↦ e ]
   in_front (first ∷ front) one at other h = cases (first.place == at) h (in_front front one at other)
     where
-      cases : (b : Bool) → (b || is_in (places_of (front ++ one ∷ [])) at) ≡ true → (is_in (places_of (front ++ one ∷ [])) at ≡ true → is_in (places_of front) at ≡ true) → (b || is_in (places_of front) at) ≡ true
+      cases : (b : Bool) → (b || is_in (places_made (front ++ one ∷ [])) at) ≡ true → (is_in (places_made (front ++ one ∷ [])) at ≡ true → is_in (places_made front) at ≡ true) → (b || is_in (places_made front) at) ≡ true
       cases true k more = refl
       cases false k more = more k
 
@@ -165,17 +165,17 @@ module _ {R : Type 0} where
     where
       cases : (t : Written) → slice_get now.slots one.place ≡ Some (Some t) → (outer : Written) → table_at before.slots one.place ≡ Some outer → named t.output one.table ≡ taken_in inner outer → (at : ℕ) (b : Bool) → (one.place == at) ≡ b
           → (slice_get (set now.slots one.place (Some (named t.output one.table))) at ≡ slice_get (slots_taken inner before.slots) at)
-          ⊎ ((slice_get (set now.slots one.place (Some (named t.output one.table))) at ≡ slice_get before.slots at) × (is_in (places_of rest) at ≡ true))
+          ⊎ ((slice_get (set now.slots one.place (Some (named t.output one.table))) at ≡ slice_get before.slots at) × (is_in (places_made rest) at ≡ true))
       cases t there outer e made at true here =
           subst (λ (i : ℕ). (slice_get (set now.slots one.place (Some (named t.output one.table))) i ≡ slice_get (slots_taken inner before.slots) i)
-          ⊎ ((slice_get (set now.slots one.place (Some (named t.output one.table))) i ≡ slice_get before.slots i) × (is_in (places_of rest) i ≡ true))) (eqb-true one.place at here)
+          ⊎ ((slice_get (set now.slots one.place (Some (named t.output one.table))) i ≡ slice_get before.slots i) × (is_in (places_made rest) i ≡ true))) (eqb-true one.place at here)
           (inl (get_set_same now.slots one.place (Some t) (Some (named t.output one.table)) there ∙ (ap (λ (u : Written). Some (Some u)) made ∙ sym (taken_there inner before.slots one.place outer e))))
       cases t there outer e made at false other =
           let stays : slice_get (set now.slots one.place (Some (named t.output one.table))) at ≡ slice_get now.slots at = get_set_other now.slots one.place at (Some (named t.output one.table)) (λ s. eqb-false one.place at other (sym s)) in
           elim (h.either at) as (λ _. (slice_get (set now.slots one.place (Some (named t.output one.table))) at ≡ slice_get (slots_taken inner before.slots) at)
-          ⊎ ((slice_get (set now.slots one.place (Some (named t.output one.table))) at ≡ slice_get before.slots at) × (is_in (places_of rest) at ≡ true))) [
+          ⊎ ((slice_get (set now.slots one.place (Some (named t.output one.table))) at ≡ slice_get before.slots at) × (is_in (places_made rest) at ≡ true))) [
             | inl done ↦ inl (stays ∙ done)
-            | inr wait ↦ inr (stays ∙ wait.0, in_front rest one at other (ap (λ (ms : List (Made R)). is_in (places_of ms) at) (sym split) ∙ wait.1))
+            | inr wait ↦ inr (stays ∙ wait.0, in_front rest one at other (ap (λ (ms : List (Made R)). is_in (places_made ms) at) (sym split) ∙ wait.1))
           ]
 
   pub partly_ended : (inner : Written) (left : List (Made R)) (before now : Placed) → IsPartly inner left before now → left ≡ [] → now ≡ with_put inner before
@@ -183,15 +183,15 @@ module _ {R : Type 0} where
       let slots : now.slots ≡ slots_taken inner before.slots = same_lists now.slots (slots_taken inner before.slots) (λ at. cases at (h.either at)) in
       ap (λ (ss : List (Option Written)). record now { slots = ss }) slots ∙ ap (λ (frame : Circuit). record before { frame = frame; slots = slots_taken inner before.slots }) h.frame
     where
-      cases : (at : ℕ) → (slice_get now.slots at ≡ slice_get (slots_taken inner before.slots) at) ⊎ ((slice_get now.slots at ≡ slice_get before.slots at) × (is_in (places_of left) at ≡ true))
+      cases : (at : ℕ) → (slice_get now.slots at ≡ slice_get (slots_taken inner before.slots) at) ⊎ ((slice_get now.slots at ≡ slice_get before.slots at) × (is_in (places_made left) at ≡ true))
           → slice_get now.slots at ≡ slice_get (slots_taken inner before.slots) at
       cases at (inl done) = done
-      cases at (inr wait) = absurd (false≢true (ap (λ (ms : List (Made R)). is_in (places_of ms) at) (sym none) ∙ wait.1))
+      cases at (inr wait) = absurd (false≢true (ap (λ (ms : List (Made R)). is_in (places_made ms) at) (sym none) ∙ wait.1))
 
 -- the readers of an entry
 module _ {R : Type 0} where
   pub made_all : (placed : Placed) (place : ℕ) (entry : Entry R) (readers : List ℕ) (made : List (Made R)) → Some (written_of entry) ≡ table_at placed.slots place
-      → ((at : ℕ) → is_in readers at ≡ has (inputs_at placed.slots at) entry.output) → places_of made ≡ readers → AllByRecursion (IsMade (written_of entry) placed.slots) made
+      → ((at : ℕ) → is_in readers at ≡ has (inputs_at placed.slots at) entry.output) → places_made made ≡ readers → AllByRecursion (IsMade (written_of entry) placed.slots) made
       → (inner : Written) → table_at placed.slots place ≡ Some inner → AreMade inner placed.slots made
   unfolding named
   made_all placed place entry readers made there are same all inner e =

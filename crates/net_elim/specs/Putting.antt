@@ -1,4 +1,4 @@
--- A table is taken into all that read it, each reader at its place.
+-- A table is taken into all that read it, each reader at its place. No public clause needs these definitions.
 -- Source: Brayton, Rudell, Sangiovanni-Vincentelli and Wang, "MIS: A Multiple-Level Logic Optimization System" (1987), and the SIS
 -- report (UCB/ERL M92/41), `eliminate`; De Micheli, "Synthesis and Optimization of Digital Circuits", chapter 8 (elimination).
 use Rattle.std.specs.Prelude.{◌≡◌, ℕ, true, Option, Some, List, is_some, map}
@@ -32,10 +32,10 @@ pub record IsFit {R : Type 0} (made : Made R) : Type 0 where
   pub once : all_different made.table.inputs ≡ true
 
 -- the places for which something was made
-abbrev pub places_of : {R : Type 0} → List (Made R) → List ℕ
-places_of {R} made = map (λ (one : Made R). one.place) made
+abbrev pub places_made : {R : Type 0} → List (Made R) → List ℕ
+places_made {R} made = map (λ (one : Made R). one.place) made
 
 -- what was made for all that read a table
 pub record AreMade {R : Type 0} (inner : Written) (slots : List (Option Written)) (made : List (Made R)) : Type 0 where
   pub each : AllByRecursion (IsMade inner slots) made
-  pub readers : (at : ℕ) → has (inputs_at slots at) inner.output ≡ true → is_in (places_of made) at ≡ true
+  pub readers : (at : ℕ) → has (inputs_at slots at) inner.output ≡ true → is_in (places_made made) at ≡ true

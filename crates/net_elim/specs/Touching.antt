@@ -1,5 +1,5 @@
 -- Which places an elimination touches: its own, those of the tables that read it, and those of the tables that drive what these
--- read. What any other table is worth stays.
+-- read. What any other table is worth stays. No public clause needs these definitions.
 -- Source: Brayton, Rudell, Sangiovanni-Vincentelli and Wang, "MIS: A Multiple-Level Logic Optimization System" (1987); De Micheli,
 -- "Synthesis and Optimization of Digital Circuits", chapter 8 (the value of a vertex changes with its fanout and its literals).
 use Rattle.std.specs.Prelude.{◌≡◌, ℕ, ◌<◌, ℤ, true, false, Option, Some, List, length}

@@ -1,4 +1,5 @@
--- Which tables wait to be eliminated, and which of them is next: that of least value, the first of several.
+-- Which tables wait to be eliminated, and which of them is next: that of least value, the first of several. No public clause needs
+-- these definitions.
 -- Source: Brayton, Rudell, Sangiovanni-Vincentelli and Wang, "MIS: A Multiple-Level Logic Optimization System" (1987), and the SIS
 -- report (UCB/ERL M92/41), `eliminate`; De Micheli, "Synthesis and Optimization of Digital Circuits", chapter 8 (elimination).
 use Rattle.std.specs.Prelude.{◌≡◌, ℕ, ◌<◌, ℤ, Bool, true, false, not, ◌&&◌, if◌then◌else◌, Option, Some, None, List, length, slice_get, int_lt}

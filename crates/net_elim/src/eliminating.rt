@@ -186,10 +186,10 @@ fn take_steps<R: Row>(
     Ok(())
 }
 
-/// The network in which table after table was eliminated: always the first inner table of least value, not above the threshold, that
-/// all its readers can take in with no list of more than 32,767 rows and no result of more than `rows` rows or 1,000 inputs; until
-/// there is none. An error only for want of memory.
-pub fn eliminated<R: Row>(
+/// Eliminates table after table: always the first inner table of least value, not above the threshold, that all its readers can take
+/// in with no list of more than 32,767 rows and no result of more than `rows` rows or 1,000 inputs; until there is none. An error only
+/// for want of memory, and then the network is lost.
+pub fn eliminate<R: Row>(
     alloc: Global,
     network: Network<R>,
     threshold: i32,

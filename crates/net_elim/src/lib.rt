@@ -14,4 +14,4 @@ mod putting;
 mod touching;
 mod waiting;
 
-pub use eliminating::eliminated;
+pub use eliminating::eliminate;

@@ -13,7 +13,7 @@ ghost use Rattle.net_work.specs.Placed.{standing, circuit_of, table_at};
 ghost use Rattle.net_work.specs.Slots.{inputs_at};
 ghost use Rattle.table_algebra.specs.Taking.{taken_in, take_refusal};
 ghost use Rattle.table_algebra.specs.declared.taking.TakeFault.TheVariants.{Memory as NoMemory};
-ghost use Rattle.net_elim.specs.Putting.{with_put, IsMade, IsFit, AreMade, places_of};
+ghost use Rattle.net_elim.specs.Putting.{with_put, IsMade, IsFit, AreMade, places_made};
 ghost use Rattle.net_elim.specs.declared.putting.PutFault.TheVariants.{Refused, Memory};
 
 use cube_cover::Row;
@@ -116,7 +116,7 @@ fn push_made<R: Row>(
     requires over { IsOverInputs inner.now.table }
     requires once { all_different inner.now.table.inputs ≡ true }
     requires apart { has inner.now.table.inputs inner.now.output ≡ false }
-    ensures places { OnOk result (places_of made.new.items ≡ places_of made.old.items ++ place ∷ []) }
+    ensures places { OnOk result (places_made made.new.items ≡ places_made made.old.items ++ place ∷ []) }
     ensures made { OnOk result (AllByRecursion (IsMade (written_of inner.now) work.now.slots) made.old.items → AllByRecursion (IsMade (written_of inner.now) work.now.slots) made.new.items) }
     ensures fit { OnOk result (AllByRecursion IsFit made.old.items → AllByRecursion IsFit made.new.items) }
     ensures within { OnOk result ((outer : TheWritten) → table_at work.now.slots place ≡ Some outer → take_refusal 32767 rows (written_of inner.now) outer ≡ None) }
@@ -143,7 +143,7 @@ fn all_made<R: Row>(
     requires over { IsOverInputs inner.now.table }
     requires once { all_different inner.now.table.inputs ≡ true }
     requires apart { has inner.now.table.inputs inner.now.output ≡ false }
-    ensures places { IfOk result (λ made. places_of made.items ≡ readers.now) }
+    ensures places { IfOk result (λ made. places_made made.items ≡ readers.now) }
     ensures made { IfOk result (λ made. AllByRecursion (IsMade (written_of inner.now) work.now.slots) made.items) }
     ensures fit { IfOk result (λ made. AllByRecursion IsFit made.items) }
     ensures within { OnOk result ((place : ℕ) (outer : TheWritten) → is_in readers.now place ≡ true → table_at work.now.slots place ≡ Some outer → take_refusal 32767 rows (written_of inner.now) outer ≡ None) }

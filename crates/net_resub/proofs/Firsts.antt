@@ -1,251 +1,203 @@
--- The best of some divisions: one more is looked at, and what the best of all is.
-use Rattle.std.proofs.Common.{◌≡◌, ◌⊎◌, ℕ, ◌+◌, ◌<◌, ◌≤◌, Bool, true, false, ◌||◌, ◌&&◌, cond, ltb, Option, Some, None, List, length, refl, sym, ap, ◌∙◌, subst, inl, inr, arith, eqb, eqb-true}
-use Rattle.std.proofs.lemmas.Bool.{false≢true, ltb-true, ltb-false, eqb-false, or_cases}
-use Rattle.circuit_model.specs.Counts.{literals_of}
-use Rattle.circuit_model.specs.Names.{all_different}
-use Rattle.circuit_model.specs.Soundness.{outputs_of}
-use Rattle.circuit_model.specs.declared.circuit.Table.{Table}
-use Rattle.net_work.specs.Placed.{Placed, standing, circuit_of, table_at}
-use Rattle.resub_rules.specs.Resubbed.{IsCandidate, IsEarlier, IsBest, IsDone, literals_after}
-use Rattle.net_resub.specs.Best.{is_led, worth_at, is_ahead, is_better, bettered, IsAhead, IsFirstOf, IsBestOf, IsBestBelow}
-use Rattle.net_resub.specs.Pairs.{saving_at}
-use Rattle.net_resub.specs.declared.best.Best.{Best}
-use Rattle.net_resub.proofs.Slots.{has_place, place_within, pair_places}
-use Rattle.net_resub.proofs.Graph.{one_place}
-use Rattle.net_resub.proofs.Saving.{after_is, worth_candidate, candidate_worth}
+-- The first division of a set that may be made is the best one.
+use Rattle.std.proofs.Common.{Less, Equal, Greater, ◌≡◌, ◌⊎◌, ℕ, ◌+◌, ◌-◌, ◌^◌, ◌<◌, ◌≤◌, zero, suc, Bool, true, false, ◌||◌, ltb, eqb, List, [], ◌∷◌, ◌++◌, map, refl, sym, ap, ◌∙◌, subst, inl, inr, arith, Bor}
+use Rattle.std.specs.BTreeSet.{BTreeSet, contains, IsOrdered}
+use Rattle.std.specs.List.{list_any, AllByRecursion}
+use Rattle.std.specs.List.Sorted.{IsStrictlySortedBy}
+use Rattle.std.specs.Map.Iter.{deref}
+use Rattle.std.specs.Ordering.{nat_cmp, ordering_then, is_eq}
+use Rattle.std.specs.declared.cmp.Ordering.{Ordering}
+use Rattle.std.proofs.lemmas.Bool.{false≢true, or_cases, and_from, lt-ltb, eq-eqb, ltb-true, eqb-true, and_parts}
+use Rattle.std.proofs.lemmas.Cmp.{ranked}
+use Rattle.net_resub.specs.Best.{IsAhead, IsFirst}
+use Rattle.net_resub.specs.Divisions.{division_cmp, Savings, saving_in, HasJust}
+use Rattle.net_resub.specs.declared.divisions.Division.{Division}
 
--- what is ahead
-ahead_true : (place by : ℕ) (best : Best) → is_ahead place by best ≡ true → IsAhead place by best
-ahead_true place by best e = elim (or_cases (ltb place best.place) (eqb place best.place && ltb by best.by) e) as (λ _. IsAhead place by best) [
-  | inl h ↦ inl (ltb-true place best.place h)
-  | inr h ↦ inr (both (eqb place best.place) refl h)
-]
+-- ---- the order of divisions
+
+-- a division stands before another one
+abbrev pub IsBefore : Division → Division → Type 0
+IsBefore one other = (one.lack < other.lack) ⊎ ((one.lack ≡ other.lack) × IsAhead one.place one.by other)
+
+before_less : (one other : Division) → division_cmp one other ≡ Less → IsBefore one other
+before_less one other h = by (nat_cmp one.lack other.lack) refl (nat_cmp one.place other.place) refl (nat_cmp one.by other.by) refl h
   where
-    both : (b : Bool) → eqb place best.place ≡ b → (b && ltb by best.by) ≡ true → (place ≡ best.place) × (by < best.by)
-    both true f h = (eqb-true place best.place f, ltb-true by best.by h)
-    both false f h = absurd (false≢true h)
+    by : (a : Ordering) → a ≡ nat_cmp one.lack other.lack → (b : Ordering) → b ≡ nat_cmp one.place other.place → (c : Ordering) → c ≡ nat_cmp one.by other.by → ordering_then a (ordering_then b c) ≡ Less → IsBefore one other
+    by Less e b f c g k = inl (ranked one.lack other.lack Less e)
+    by Greater e b f c g k = absurd cc
+    by Equal e Less f c g k = inr (ranked one.lack other.lack Equal e, inl (ranked one.place other.place Less f))
+    by Equal e Greater f c g k = absurd cc
+    by Equal e Equal f Less g k = inr (ranked one.lack other.lack Equal e, inr (ranked one.place other.place Equal f, ranked one.by other.by Less g))
+    by Equal e Equal f Equal g k = absurd cc
+    by Equal e Equal f Greater g k = absurd cc
 
-ahead_false : (place by : ℕ) (best : Best) → is_ahead place by best ≡ false → IsAhead place by best → ⊥
-ahead_false place by best e ahead = cases (ltb place best.place) refl (eqb place best.place) refl (ltb by best.by) refl e ahead
+same_division : (one other : Division) → is_eq (division_cmp one other) ≡ true → one ≡ other
+same_division one other h = by (nat_cmp one.lack other.lack) refl (nat_cmp one.place other.place) refl (nat_cmp one.by other.by) refl h
   where
-    cases : (a : Bool) → ltb place best.place ≡ a → (b : Bool) → eqb place best.place ≡ b → (c : Bool) → ltb by best.by ≡ c → (a || (b && c)) ≡ false → IsAhead place by best → ⊥
-    cases true f b g c h k ahead = false≢true (sym k)
-    cases false f true g true h k ahead = false≢true (sym k)
-    cases false f b g c h k (inl lt) = let le = ltb-false place best.place f in omega (arith, lt, le)
-    cases false f false g c h k (inr (same, lt)) = eqb-false place best.place g same
-    cases false f true g false h k (inr (same, lt)) = let le = ltb-false by best.by h in omega (arith, lt, le)
+    by : (a : Ordering) → a ≡ nat_cmp one.lack other.lack → (b : Ordering) → b ≡ nat_cmp one.place other.place → (c : Ordering) → c ≡ nat_cmp one.by other.by → is_eq (ordering_then a (ordering_then b c)) ≡ true → one ≡ other
+    by Less e b f c g k = absurd (false≢true k)
+    by Greater e b f c g k = absurd (false≢true k)
+    by Equal e Less f c g k = absurd (false≢true k)
+    by Equal e Greater f c g k = absurd (false≢true k)
+    by Equal e Equal f Less g k = absurd (false≢true k)
+    by Equal e Equal f Greater g k = absurd (false≢true k)
+    by Equal e Equal f Equal g k =
+        let lack : one.lack ≡ other.lack = ranked one.lack other.lack Equal e in
+        let place : one.place ≡ other.place = ranked one.place other.place Equal f in
+        let divisor : one.by ≡ other.by = ranked one.by other.by Equal g in
+        λ i. record { lack = lack i; place = place i; by = divisor i }
 
--- two divisions are not ahead of each other
-ahead_through : (place by : ℕ) (best : Best) (worth : ℕ) (other_place other_by : ℕ) → IsAhead place by best → IsAhead other_place other_by (record { saving = worth; place = place; by = by }) → IsAhead other_place other_by best
-ahead_through place by best worth other_place other_by (inl a) (inl b) = inl (omega (arith, a, b))
-ahead_through place by best worth other_place other_by (inl a) (inr (same, b)) = inl (omega (arith, a, same))
-ahead_through place by best worth other_place other_by (inr (same, a)) (inl b) = inl (omega (arith, b, same))
-ahead_through place by best worth other_place other_by (inr (one, a)) (inr (two, b)) = inr (two ∙ one, omega (arith, a, b))
+-- ---- the keys of a set, in their order
 
-ahead_itself : (worth place by : ℕ) → IsAhead place by (record { saving = worth; place = place; by = by }) → ⊥
-ahead_itself worth place by (inl lt) = omega (arith, lt)
-ahead_itself worth place by (inr (same, lt)) = omega (arith, lt)
+module _ (led : ℕ → ℕ → Bool) where
+  -- of some divisions none may be made
+  abbrev pub AreLed : List Division → Type 0
+  AreLed keys = AllByRecursion (λ (division : Division). led division.by division.place ≡ true) keys
 
--- what a better one is
-abbrev pub IsAbove : ℕ → ℕ → ℕ → Best → Type 0
-IsAbove saving place by best = (best.saving < saving) ⊎ ((saving ≡ best.saving) × IsAhead place by best)
+  -- what may be said of a division that stands in a set: it may not be made, or it is one that stands there, or stands behind that
+  abbrev IsPlaced : Division → Division → Type 0
+  IsPlaced division other = (led other.by other.place ≡ true) ⊎ ((division ≡ other) ⊎ IsBefore division other)
 
-above_true : (saving place by : ℕ) (best : Best) → is_better saving place by (Some best) ≡ true → (0 < saving) × IsAbove saving place by best
-above_true saving place by best e = cases (ltb 0 saving) refl (ltb best.saving saving) refl (eqb saving best.saving) refl e
-  where
-    cases : (a : Bool) → ltb 0 saving ≡ a → (b : Bool) → ltb best.saving saving ≡ b → (c : Bool) → eqb saving best.saving ≡ c → (a && (b || (c && is_ahead place by best))) ≡ true
-        → (0 < saving) × IsAbove saving place by best
-    cases false f b g c h k = absurd (false≢true k)
-    cases true f true g c h k = (ltb-true 0 saving f, inl (ltb-true best.saving saving g))
-    cases true f false g false h k = absurd (false≢true k)
-    cases true f false g true h k = (ltb-true 0 saving f, inr (eqb-true saving best.saving h, ahead_true place by best k))
+  among_led : (keys : List Division) (division : Division) → AreLed keys → list_any (λ key. is_eq (division_cmp division key)) keys ≡ true → led division.by division.place ≡ true
+  among_led [] division all h = absurd (false≢true h)
+  among_led (key ∷ keys) division all h = elim (or_cases (is_eq (division_cmp division key)) (list_any (λ one. is_eq (division_cmp division one)) keys) h) as (λ _. led division.by division.place ≡ true) [
+    | inl e ↦ subst (λ (one : Division). led one.by one.place ≡ true) (sym (same_division division key e)) all.0
+    | inr n ↦ among_led keys division all.1 n
+  ]
 
--- one that is no better has no more worth, and if as much, is not ahead
-below_false : (saving place by : ℕ) (best : Best) → 0 < best.saving → is_better saving place by (Some best) ≡ false → (saving ≤ best.saving) × (saving ≡ best.saving → IsAhead place by best → ⊥)
-below_false saving place by best some e = cases (ltb 0 saving) refl (ltb best.saving saving) refl (eqb saving best.saving) refl e
-  where
-    cases : (a : Bool) → ltb 0 saving ≡ a → (b : Bool) → ltb best.saving saving ≡ b → (c : Bool) → eqb saving best.saving ≡ c → (a && (b || (c && is_ahead place by best))) ≡ false
-        → (saving ≤ best.saving) × (saving ≡ best.saving → IsAhead place by best → ⊥)
-    cases false f b g c h k = let none = ltb-false 0 saving f in (omega (arith, none), λ same ahead. omega (arith, none, same, some))
-    cases true f true g c h k = absurd (false≢true (sym k))
-    cases true f false g true h k = (ltb-false best.saving saving g, λ same ahead. ahead_false place by best k ahead)
-    cases true f false g false h k = (ltb-false best.saving saving g, λ same ahead. eqb-false saving best.saving h same)
+  among_behind : (division : Division) (keys : List Division) (other : Division) → AllByRecursion (λ (one : Division). division_cmp division one ≡ Less) keys
+      → list_any (λ key. is_eq (division_cmp other key)) keys ≡ true → IsBefore division other
+  among_behind division [] other all h = absurd (false≢true h)
+  among_behind division (key ∷ keys) other all h = elim (or_cases (is_eq (division_cmp other key)) (list_any (λ one. is_eq (division_cmp other one)) keys) h) as (λ _. IsBefore division other) [
+    | inl e ↦ subst (IsBefore division) (sym (same_division other key e)) (before_less division key all.0)
+    | inr n ↦ among_behind division keys other all.1 n
+  ]
 
--- one more division is looked at
-abbrev pub IsMore : (ℕ → ℕ → Type 0) → ℕ → ℕ → ℕ → ℕ → Type 0
-IsMore Among place by other_place other_by = Among other_place other_by ⊎ ((other_place ≡ place) × (other_by ≡ by))
+  placed : (came : List Division) (division : Division) (rest : List Division) (other : Division) → AreLed came → IsStrictlySortedBy division_cmp (came ++ division ∷ rest)
+      → list_any (λ key. is_eq (division_cmp other key)) (came ++ division ∷ rest) ≡ true → IsPlaced division other
+  unfolding IsStrictlySortedBy
+  placed [] division rest other all rises h = elim (or_cases (is_eq (division_cmp other division)) (list_any (λ one. is_eq (division_cmp other one)) rest) h) as (λ _. IsPlaced division other) [
+    | inl e ↦ inr (inl (sym (same_division other division e)))
+    | inr n ↦ inr (inr (among_behind division rest other rises.0 n))
+  ]
+  placed (first ∷ came) division rest other all rises h = elim (or_cases (is_eq (division_cmp other first)) (list_any (λ one. is_eq (division_cmp other one)) (came ++ division ∷ rest)) h) as (λ _. IsPlaced division other) [
+    | inl e ↦ inl (subst (λ (one : Division). led one.by one.place ≡ true) (sym (same_division other first e)) all.0)
+    | inr n ↦ placed came division rest other all.1 rises.1 n
+  ]
 
-module _ (worth : ℕ → ℕ → ℕ) (Among : ℕ → ℕ → Type 0) (place by : ℕ) where
-  this_best : 0 < worth place by → Best
-  this_best some = record { saving = worth place by; place = place; by = by }
+  pub came_led : (came : List (Bor Division)) → AllByRecursion (λ (division : Bor Division). led division.now.by division.now.place ≡ true) came → AreLed (map deref came)
+  came_led [] all = tt
+  came_led (division ∷ came) all = (all.0, came_led came all.1)
 
-  worth_same : (other_place other_by : ℕ) → other_place ≡ place → other_by ≡ by → worth other_place other_by ≡ worth place by
-  worth_same other_place other_by p q = ap (λ (n : ℕ). worth n other_by) p ∙ ap (worth place) q
+  -- ---- what a set tells that has all divisions that save
 
-  taken_none : 0 < worth place by → ((p q : ℕ) → Among p q → worth p q ≡ 0) → IsFirstOf worth (IsMore Among place by) (record { saving = worth place by; place = place; by = by })
-  taken_none some none = record {
-    is = refl;
-    saves = some;
-    most = λ p q among. elim among as (λ _. worth p q ≤ worth place by) [
-      | inl m ↦ (let z = none p q m in omega (arith, z))
-      | inr e ↦ (let z = worth_same p q e.0 e.1 in omega (arith, z))
-    ];
-    first = λ p q among same ahead. elim among as (λ _. ⊥) [
-      | inl m ↦ (let z = none p q m in omega (arith, z, same, some))
-      | inr e ↦ ahead_itself (worth place by) place by
-          (subst (λ (n : ℕ). IsAhead n by (record { saving = worth place by; place = place; by = by })) e.0
-          (subst (λ (n : ℕ). IsAhead p n (record { saving = worth place by; place = place; by = by })) e.1 ahead))
-    ];
-  }
+  module _ (savings worths : Savings) (none : (place by : ℕ) → led by place ≡ true → worths place by ≡ 0) (whole : (place by : ℕ) → led by place ≡ false → worths place by ≡ savings place by)
+      (divisions : BTreeSet Division) (has : HasJust (λ division. true) savings divisions) where
+    -- the division of places that save
+    abbrev this : ℕ → ℕ → Division
+    this place by = record { lack = 2 ^ 128 - 1 - savings place by; place = place; by = by }
 
-  taken_above : (best : Best) → IsFirstOf worth Among best → (0 < worth place by) × IsAbove (worth place by) place by best
-      → IsFirstOf worth (IsMore Among place by) (record { saving = worth place by; place = place; by = by })
-  taken_above best was (some, above) = record {
-    is = refl;
-    saves = some;
-    most = λ p q among. elim among as (λ _. worth p q ≤ worth place by) [
-      | inl m ↦ (let z = was.most p q m in elim above as (λ _. worth p q ≤ worth place by) [ inl lt ↦ omega (arith, z, lt) | inr e ↦ omega (arith, z, e.0) ])
-      | inr e ↦ (let z = worth_same p q e.0 e.1 in omega (arith, z))
-    ];
-    first = λ p q among same ahead. elim among as (λ _. ⊥) [
-      | inl m ↦ elim above as (λ _. ⊥) [
-        | inl lt ↦ (let z = was.most p q m in omega (arith, z, same, lt))
-        | inr e ↦ was.first p q m (same ∙ e.0) (ahead_through place by best (worth place by) p q e.1 ahead)
-      ]
-      | inr e ↦ ahead_itself (worth place by) place by
-          (subst (λ (n : ℕ). IsAhead n by (record { saving = worth place by; place = place; by = by })) e.0
-          (subst (λ (n : ℕ). IsAhead p n (record { saving = worth place by; place = place; by = by })) e.1 ahead))
-    ];
-  }
+    this_there : (place by : ℕ) → 0 < savings place by → contains division_cmp divisions (this place by) ≡ true
+    this_there place by some =
+        let fits : savings place by < 2 ^ 128 = has.held (this place by) refl in
+        has.just (this place by)
+        ∙ and_from (ltb 0 (savings place by)) (eqb (2 ^ 128 - 1 - savings place by + savings place by) (2 ^ 128 - 1)) (lt-ltb 0 (savings place by) some)
+        (eq-eqb (2 ^ 128 - 1 - savings place by + savings place by) (2 ^ 128 - 1) (omega (arith, fits)))
 
-  left_below : (best : Best) → IsFirstOf worth Among best → (worth place by ≤ best.saving) × (worth place by ≡ best.saving → IsAhead place by best → ⊥) → IsFirstOf worth (IsMore Among place by) best
-  left_below best was (le, not_first) = record {
-    is = was.is;
-    saves = was.saves;
-    most = λ p q among. elim among as (λ _. worth p q ≤ best.saving) [
-      | inl m ↦ was.most p q m
-      | inr e ↦ (let z = worth_same p q e.0 e.1 in omega (arith, z, le))
-    ];
-    first = λ p q among same ahead. elim among as (λ _. ⊥) [
-      | inl m ↦ was.first p q m same ahead
-      | inr e ↦ not_first (sym (worth_same p q e.0 e.1) ∙ same)
-          (subst (λ (n : ℕ). IsAhead n by best) e.0 (subst (λ (n : ℕ). IsAhead p n best) e.1 ahead))
-    ];
-  }
+    -- one that is there saves what it tells
+    told : (division : Division) → contains division_cmp divisions division ≡ true → (0 < saving_in savings division) × (division.lack + saving_in savings division ≡ 2 ^ 128 - 1)
+    told division there =
+        let parts = and_parts (ltb 0 (saving_in savings division)) (eqb (division.lack + saving_in savings division) (2 ^ 128 - 1)) (sym (has.just division) ∙ there) in
+        (ltb-true 0 (saving_in savings division) parts.0, eqb-true (division.lack + saving_in savings division) (2 ^ 128 - 1) parts.1)
 
-  pub best_more : (best : Option Best) → IsBestOf worth Among best → IsBestOf worth (IsMore Among place by) (bettered (worth place by) place by best)
-  best_more None was = cases (ltb 0 (worth place by)) refl
-    where
-      cases : (b : Bool) → ltb 0 (worth place by) ≡ b → IsBestOf worth (IsMore Among place by) (cond b (Some (record { saving = worth place by; place = place; by = by })) None)
-      cases true e = taken_none (ltb-true 0 (worth place by) e) was
-      cases false e = λ p q among. elim among as (λ _. worth p q ≡ 0) [
-        | inl m ↦ was p q m
-        | inr e2 ↦ (let z = worth_same p q e2.0 e2.1 in let le = ltb-false 0 (worth place by) e in omega (arith, z, le))
-      ]
-  best_more (Some best) was = cases (is_better (worth place by) place by (Some best)) refl
-    where
-      cases : (b : Bool) → is_better (worth place by) place by (Some best) ≡ b
-          → IsBestOf worth (IsMore Among place by) (cond b (Some (record { saving = worth place by; place = place; by = by })) (Some best))
-      cases true e = taken_above best was (above_true (worth place by) place by best e)
-      cases false e = left_below best was (below_false (worth place by) place by best was.saves e)
+    pub none_best : AreLed divisions.keys → (place by : ℕ) → worths place by ≡ 0
+    none_best all place by = cases (led by place) refl (savings place by) refl
+      where
+        cases : (b : Bool) → led by place ≡ b → (n : ℕ) → savings place by ≡ n → worths place by ≡ 0
+        cases true e n f = none place by e
+        cases false e zero f = whole place by e ∙ f
+        cases false e (suc n) f = absurd (false≢true (sym e ∙ among_led divisions.keys (this place by) all (this_there place by (omega (arith, f)))))
 
--- more divisions, all others of which are worth nothing
-pub best_wider : (worth : ℕ → ℕ → ℕ) (Among More : ℕ → ℕ → Type 0) (best : Option Best) → ((p q : ℕ) → More p q → Among p q ⊎ (worth p q ≡ 0)) → IsBestOf worth Among best → IsBestOf worth More best
-best_wider worth Among More None wider was = λ p q more. elim (wider p q more) as (λ _. worth p q ≡ 0) [ inl m ↦ was p q m | inr z ↦ z ]
-best_wider worth Among More (Some best) wider was = record {
-  is = was.is;
-  saves = was.saves;
-  most = λ p q more. elim (wider p q more) as (λ _. worth p q ≤ best.saving) [ inl m ↦ was.most p q m | inr z ↦ omega (arith, z) ];
-  first = λ p q more same ahead. elim (wider p q more) as (λ _. ⊥) [ inl m ↦ was.first p q m same ahead | inr z ↦ (let some = was.saves in omega (arith, z, same, some)) ];
-}
+    module _ (came : List Division) (division : Division) (rest : List Division) (split : divisions.keys ≡ came ++ division ∷ rest) (all : AreLed came) (may : led division.by division.place ≡ false)
+        (ordered : IsOrdered division_cmp divisions) where
+      -- it is there itself
+      there : contains division_cmp divisions division ≡ true
+      there = ap (list_any (λ key. is_eq (division_cmp division key))) split ∙ found came
+        where
+          itself : (n : ℕ) → nat_cmp n n ≡ Equal
+          itself n = by (nat_cmp n n) refl
+            where
+              by : (o : Ordering) → o ≡ nat_cmp n n → nat_cmp n n ≡ Equal
+              by Less e = absurd (let lt : n < n = ranked n n Less e in omega (arith, lt))
+              by Equal e = sym e
+              by Greater e = absurd (let lt : n < n = ranked n n Greater e in omega (arith, lt))
 
--- ---- the best of all
+          found : (before : List Division) → list_any (λ key. is_eq (division_cmp division key)) (before ++ division ∷ rest) ≡ true
+          found [] = rw (itself division.lack, itself division.place, itself division.by) refl
+          found (key ∷ before) = either (is_eq (division_cmp division key)) (found before)
+            where
+              either : (a : Bool) {b : Bool} → b ≡ true → (a || b) ≡ true
+              either true e = refl
+              either false e = e
 
-module _ (placed : Placed) (different : all_different (outputs_of (standing placed.slots)) ≡ true) where
-  earlier_ahead : (best : Best) (table divisor other other_by : Table) (p q : ℕ) → table_at placed.slots best.place ≡ Some table → table_at placed.slots best.by ≡ Some divisor
-      → table_at placed.slots p ≡ Some other → table_at placed.slots q ≡ Some other_by → IsEarlier (circuit_of placed) other_by other divisor table → IsAhead p q best
-  earlier_ahead best table divisor other other_by p q here there at_p at_q (inl pair) =
-      let (one, two, below, first, second) = pair_places placed.slots other table pair in
-      let same_one : one ≡ p = one_place placed.slots different one p other other first at_p refl in
-      let same_two : two ≡ best.place = one_place placed.slots different two best.place table table second here refl in
-      inl (omega (arith, below, same_one, same_two))
-  earlier_ahead best table divisor other other_by p q here there at_p at_q (inr (same, pair)) =
-      let (one, two, below, first, second) = pair_places placed.slots other_by divisor pair in
-      let same_one : one ≡ q = one_place placed.slots different one q other_by other_by first at_q refl in
-      let same_two : two ≡ best.by = one_place placed.slots different two best.by divisor divisor second there refl in
-      inr (one_place placed.slots different p best.place other table at_p here (ap (λ (t : Table). t.output) same), omega (arith, below, same_one, same_two))
+      gains : (0 < saving_in savings division) × (division.lack + saving_in savings division ≡ 2 ^ 128 - 1)
+      gains = told division there
 
-  pub best_is : (best : Best) (table divisor : Table) → IsBestBelow placed.slots (length placed.slots) (Some best) → table_at placed.slots best.place ≡ Some table
-      → table_at placed.slots best.by ≡ Some divisor → IsBest (circuit_of placed) divisor table
-  best_is best table divisor is here there =
-      let some : 0 < worth_at placed.slots best.place best.by = (let a = is.is in let b = is.saves in omega (arith, a, b)) in
-      let (may, worth) = worth_candidate placed best.place best.by table divisor different here there some in
-      let after = after_is placed best.place table divisor different here in
-      let least : literals_after (circuit_of placed) divisor table + best.saving ≡ literals_of (circuit_of placed) =
-      (let a = is.is in let b = is.saves in omega (arith, a, b, after, worth)) in
-      record {
-        may = may;
-        saves = (let b = is.saves in omega (arith, least, b));
-        most = λ other_by other allowed. most least other_by other allowed;
-        first = λ other_by other allowed same earlier. first least other_by other allowed same earlier;
-      }
-    where
-      most : literals_after (circuit_of placed) divisor table + best.saving ≡ literals_of (circuit_of placed) → (other_by other : Table) → IsCandidate (circuit_of placed) other_by other
-          → literals_after (circuit_of placed) divisor table ≤ literals_after (circuit_of placed) other_by other
-      most least other_by other may =
-          let (p, at_p) = has_place placed.slots other may.stands in
-          let (q, at_q) = has_place placed.slots other_by may.by_stands in
-          let worth = candidate_worth placed p q other other_by different at_p at_q may in
-          let after = after_is placed p other other_by different at_p in
-          let le = is.most p q (place_within placed.slots p other at_p) in
-          omega (arith, least, worth, after, le)
+      worth_here : saving_in worths division ≡ saving_in savings division
+      worth_here = whole division.place division.by may
 
-      first : literals_after (circuit_of placed) divisor table + best.saving ≡ literals_of (circuit_of placed) → (other_by other : Table) → IsCandidate (circuit_of placed) other_by other
-          → literals_after (circuit_of placed) other_by other ≡ literals_after (circuit_of placed) divisor table → IsEarlier (circuit_of placed) other_by other divisor table → ⊥
-      first least other_by other may same earlier =
-          let (p, at_p) = has_place placed.slots other may.stands in
-          let (q, at_q) = has_place placed.slots other_by may.by_stands in
-          let worth = candidate_worth placed p q other other_by different at_p at_q may in
-          let after = after_is placed p other other_by different at_p in
-          let some = is.saves in
-          let equal : worth_at placed.slots p q ≡ best.saving = omega (arith, least, worth, after, same, some) in
-          is.first p q (place_within placed.slots p other at_p) equal (earlier_ahead best table divisor other other_by p q here there at_p at_q earlier)
+      stands : (place by : ℕ) → 0 < savings place by → IsPlaced division (this place by)
+      stands place by some = placed came division rest (this place by) all (subst (IsStrictlySortedBy division_cmp) split ordered)
+          (sym (ap (list_any (λ key. is_eq (division_cmp (this place by) key))) split) ∙ this_there place by some)
 
-  pub none_done : IsBestBelow placed.slots (length placed.slots) None → IsDone (circuit_of placed)
-  none_done none by table may =
-      let (p, at_p) = has_place placed.slots table may.stands in
-      let (q, at_q) = has_place placed.slots by may.by_stands in
-      let worth = candidate_worth placed p q table by different at_p at_q may in
-      let after = after_is placed p table by different at_p in
-      let zero = none p q (place_within placed.slots p table at_p) in
-      omega (arith, worth, after, zero)
+      most_here : (place by : ℕ) → worths place by ≤ saving_in worths division
+      most_here place by = cases (led by place) refl (savings place by) refl
+        where
+          less : (n : ℕ) → savings place by ≡ suc n → led by place ≡ false → savings place by ≤ saving_in savings division
+          less n f e = elim (stands place by (omega (arith, f))) as (λ _. savings place by ≤ saving_in savings division) [
+            | inl h ↦ absurd (false≢true (sym e ∙ h))
+            | inr k ↦ elim k as (λ _. savings place by ≤ saving_in savings division) [
+              | inl same ↦ (let is : saving_in savings division ≡ savings place by = ap (saving_in savings) same in omega (arith, is))
+              | inr before ↦ (let sum = gains.1 in let fits : savings place by < 2 ^ 128 = has.held (this place by) refl in elim before as (λ _. savings place by ≤ saving_in savings division) [
+                | inl lt ↦ omega (arith, lt, sum)
+                | inr e2 ↦ (let lacks = e2.0 in omega (arith, lacks, sum, fits))
+              ])
+            ]
+          ]
 
--- ---- the better one of the best so far and a division
+          cases : (b : Bool) → led by place ≡ b → (n : ℕ) → savings place by ≡ n → worths place by ≤ saving_in worths division
+          cases true e n f = let z = none place by e in omega (arith, z)
+          cases false e zero f = let z = whole place by e in omega (arith, z, f)
+          cases false e (suc n) f = let z = whole place by e in let le = less n f e in omega (arith, z, le, worth_here)
 
-zero_stays : (place by : ℕ) (best : Option Best) → is_better 0 place by best ≡ false
-zero_stays place by None = refl
-zero_stays place by (Some best) = refl
+      not_both : (place by : ℕ) → IsAhead place by division → IsAhead division.place division.by (this place by) → ⊥
+      not_both place by (inl lt) (inl gt) = omega (arith, lt, gt)
+      not_both place by (inl lt) (inr (same, gt)) = omega (arith, lt, same)
+      not_both place by (inr (same, lt)) (inl gt) = omega (arith, gt, same)
+      not_both place by (inr (same, lt)) (inr (one, gt)) = omega (arith, lt, gt)
 
-stays : (worth place by : ℕ) (best : Option Best) → is_better worth place by best ≡ false → best ≡ bettered worth place by best
-stays worth place by best e = sym (ap (λ (b : Bool). cond b (Some (record { saving = worth; place = place; by = by })) best) e)
+      not_itself : (place by : ℕ) → IsAhead place by (this place by) → ⊥
+      not_itself place by (inl lt) = omega (arith, lt)
+      not_itself place by (inr (same, lt)) = omega (arith, lt)
 
-pub unbettered : (slots : List (Option Table)) (saving place by : ℕ) (best : Option Best) → saving ≡ saving_at slots place by → is_better saving place by best ≡ false → best ≡ bettered (worth_at slots place by) place by best
-unfolding worth_at
-unbettered slots saving place by best is e = stays (worth_at slots place by) place by best (cases (is_led slots by place))
-  where
-    cases : (b : Bool) → is_better (cond {A = ℕ} b 0 (saving_at slots place by)) place by best ≡ false
-    cases true = zero_stays place by best
-    cases false = ap (λ (n : ℕ). is_better n place by best) (sym is) ∙ e
+      first_here : (place by : ℕ) → worths place by ≡ saving_in worths division → IsAhead place by division → ⊥
+      first_here place by equal ahead = cases (led by place) refl
+        where
+          cases : (b : Bool) → led by place ≡ b → ⊥
+          cases true e = let z = none place by e in let some = gains.0 in omega (arith, z, equal, worth_here, some)
+          cases false e =
+              let z = whole place by e in
+              let some = gains.0 in
+              let sum = gains.1 in
+              elim (stands place by (omega (arith, z, equal, worth_here, some))) as (λ _. ⊥) [
+                | inl h ↦ absurd (false≢true (sym e ∙ h))
+                | inr k ↦ elim k as (λ _. ⊥) [
+                  | inl same ↦ not_itself place by (subst (IsAhead place by) same ahead)
+                  | inr before ↦ elim before as (λ _. ⊥) [
+                    | inl lt ↦ omega (arith, lt, sum, z, equal, worth_here)
+                    | inr e2 ↦ not_both place by ahead e2.1
+                  ]
+                ]
+              ]
 
-pub led_unbettered : (slots : List (Option Table)) (place by : ℕ) (best : Option Best) → is_led slots by place ≡ true → best ≡ bettered (worth_at slots place by) place by best
-unfolding worth_at
-led_unbettered slots place by best led =
-    stays (worth_at slots place by) place by best (ap (λ (b : Bool). is_better (cond {A = ℕ} b 0 (saving_at slots place by)) place by best) led ∙ zero_stays place by best)
-
-pub is_bettered : (slots : List (Option Table)) (saving place by : ℕ) (best : Option Best) → saving ≡ saving_at slots place by → is_better saving place by best ≡ true → is_led slots by place ≡ false
-    → Some (record { saving = saving; place = place; by = by }) ≡ bettered (worth_at slots place by) place by best
-unfolding worth_at
-is_bettered slots saving place by best is e unled =
-    let worth : worth_at slots place by ≡ saving = ap (λ (b : Bool). cond {A = ℕ} b 0 (saving_at slots place by)) unled ∙ sym is in
-    subst (λ (n : ℕ). Some (record { saving = saving; place = place; by = by }) ≡ bettered n place by best) (sym worth)
-    (sym (ap (λ (b : Bool). cond b (Some (record { saving = saving; place = place; by = by })) best) e))
+      pub first_best : IsFirst worths division
+      first_best = record { saves = (let some = gains.0 in omega (arith, some, worth_here)); most = most_here; first = first_here }

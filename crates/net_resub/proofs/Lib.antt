@@ -3,6 +3,9 @@ pub mod Graph
 pub mod Rows
 pub mod Saving
 pub mod Over
+pub mod Sets
 pub mod Firsts
+pub mod Worths
 pub mod Steps
 pub mod Visiting
+pub mod Keeping

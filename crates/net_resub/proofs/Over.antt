@@ -1,7 +1,8 @@
 -- Whether all literals of a row are of some names, place by place.
-use Rattle.std.proofs.Common.{◌≡◌, ◌<◌, ◌≤◌, ℕ, zero, suc, Bool, true, ◌&&◌, ◌||◌, not, Option, Some, None, List, [], ◌∷◌, length, map, drop, refl, sym, ap, ◌∙◌, arith, ne_eqb}
+use Rattle.std.proofs.Common.{◌≡◌, ◌<◌, ◌≤◌, ℕ, zero, suc, Bool, true, ◌&&◌, ◌||◌, not, Option, Some, None, List, [], ◌∷◌, length, map, drop, refl, sym, ap, ◌∙◌, arith, inl, inr, ne_eqb}
 use Rattle.std.specs.Prelude.{slice_index_or, is_some}
-use Rattle.std.specs.List.{list_all}
+use Rattle.std.specs.List.{list_all, list_any}
+use Rattle.std.proofs.lemmas.Bool.{false≢true, and_parts, or_cases}
 use Rattle.circuit_model.specs.Names.{has}
 use Rattle.name_covers.specs.Literals.{NamedCover}
 use Rattle.name_covers.specs.Cubes.{cube_over, is_over}
@@ -10,6 +11,7 @@ use Rattle.net_core.specs.Tables.{named, places_of, characters_of}
 use Rattle.net_core.specs.declared.places.Entry.{Entry}
 use Rattle.net_core.proofs.Rows.{places_back}
 use Rattle.resub_rules.specs.Resubbed.{row_cubes}
+use Rattle.net_resub.specs.Candidates.{IsNeeded}
 use Rattle.net_resub.specs.Pairs.{is_cube_over, is_plain}
 
 none_over : (names inputs : List (List ℕ)) → is_cube_over names (cube_over inputs []) ≡ true
@@ -96,6 +98,35 @@ unfolding named
 entry_over literals names inputs rows by same items =
     written_over literals names inputs rows by.table.cover.rows items
     ∙ ap (λ (is : List (List ℕ)). is_over names (map (λ row. cube_over is (places_of row)) (map characters_of by.table.cover.rows))) same
+
+-- names that all literals of rows are of have that of a literal
+row_needs : (names inputs : List (List ℕ)) (row : List (Option Bool)) (i : ℕ) (none : List ℕ) → i < length inputs → is_some (slice_index_or row i None) ≡ true → is_cube_over names (cube_over inputs row) ≡ true
+    → has names (slice_index_or inputs i none) ≡ true
+unfolding cube_over
+row_needs names [] row i none below some over = absurd (omega (arith, below))
+row_needs names (input ∷ inputs) [] i none below some over = absurd (false≢true some)
+row_needs names (input ∷ inputs) (None ∷ row) zero none below some over = absurd (false≢true some)
+row_needs names (input ∷ inputs) (Some bit ∷ row) zero none below some over = (and_parts (has names input) (is_cube_over names (cube_over inputs row)) over).0
+row_needs names (input ∷ inputs) (None ∷ row) (suc i) none below some over = row_needs names inputs row i none (omega (arith, below)) some over
+row_needs names (input ∷ inputs) (Some bit ∷ row) (suc i) none below some over =
+    row_needs names inputs row i none (omega (arith, below)) some (and_parts (has names input) (is_cube_over names (cube_over inputs row)) over).1
+
+rows_need : {R : Type 0} (literals : R → List (Option Bool)) (names inputs : List (List ℕ)) (rows : List R) (i : ℕ) (none : List ℕ) → i < length inputs
+    → list_any (λ row. is_some (slice_index_or (literals row) i None)) rows ≡ true → rows_over literals names inputs rows 0 ≡ true → has names (slice_index_or inputs i none) ≡ true
+rows_need literals names inputs [] i none below some over = absurd (false≢true some)
+rows_need {R} literals names inputs (row ∷ rows) i none below some over =
+    elim (or_cases (is_some (slice_index_or (literals row) i None)) (list_any (λ (one : R). is_some (slice_index_or (literals one) i None)) rows) some) as (λ _. has names (slice_index_or inputs i none) ≡ true) [
+      | inl here ↦ row_needs names inputs (literals row) i none below here both.0
+      | inr later ↦ rows_need literals names inputs rows i none below later both.1
+    ]
+  where
+    both : (is_cube_over names (cube_over inputs (literals row)) ≡ true) × (rows_over literals names inputs rows 0 ≡ true)
+    both = and_parts (is_cube_over names (cube_over inputs (literals row))) (rows_over literals names inputs rows 0) over
+
+pub entry_needs : {R S : Type 0} (literals : R → List (Option Bool)) (inputs : List (List ℕ)) (rows : List R) (by : Entry S) (i : ℕ) (name : List ℕ) → inputs ≡ by.table.inputs → map literals rows ≡ by.table.cover.rows
+    → i < length inputs → name ≡ slice_index_or inputs i name → list_any (λ row. is_some (slice_index_or (literals row) i None)) rows ≡ true → IsNeeded (row_cubes (written_of by)) name
+entry_needs literals inputs rows by i name same items below is some names over =
+    ap (has names) is ∙ rows_need literals names inputs rows i name below some (entry_over literals names inputs rows by same items ∙ over)
 
 -- literals of no names are none
 pub of_no_names : (cover : NamedCover) → is_over [] cover ≡ list_all is_plain cover

@@ -164,13 +164,13 @@ worth_some slots place by some = cases (is_led slots by place) some refl
     cases true h e = absurd (omega (arith, h))
     cases false h e = (e, ap (λ (b : Bool). cond {A = ℕ} b 0 (saving_at slots place by)) e)
 
-pub no_saving : (slots : List (Option Table)) (place by : ℕ) → saving_at slots place by ≡ 0 → worth_at slots place by ≡ 0
+pub led_nothing : (slots : List (Option Table)) (place by : ℕ) → is_led slots by place ≡ true → worth_at slots place by ≡ 0
 unfolding worth_at
-no_saving slots place by none = cases (is_led slots by place)
-  where
-    cases : (b : Bool) → cond {A = ℕ} b 0 (saving_at slots place by) ≡ 0
-    cases true = refl
-    cases false = none
+led_nothing slots place by led = ap (λ (b : Bool). cond {A = ℕ} b 0 (saving_at slots place by)) led
+
+pub unled_whole : (slots : List (Option Table)) (place by : ℕ) → is_led slots by place ≡ false → worth_at slots place by ≡ saving_at slots place by
+unfolding worth_at
+unled_whole slots place by unled = ap (λ (b : Bool). cond {A = ℕ} b 0 (saving_at slots place by)) unled
 
 -- a division that is worth something may be made
 pub worth_candidate : (placed : Placed) (place by : ℕ) (table divisor : Table) → all_different (outputs_of (standing placed.slots)) ≡ true → table_at placed.slots place ≡ Some table
@@ -241,10 +241,14 @@ cubes_over inputs [] = refl
 cubes_over inputs (row ∷ rows) =
     ap (λ (b : Bool). b && is_over inputs (map (λ row. cube_over inputs (places_of row)) rows)) (over_is_over inputs (places_of row)) ∙ cubes_over inputs rows
 
+-- a table that may be divided reads all names of the divisor's literals
+pub saving_over : (by table : Table) → 0 < saving_of by table → is_over table.inputs (row_cubes by) ≡ true
+saving_over by table some = cases (is_over table.inputs (row_cubes by)) refl
+  where
+    cases : (b : Bool) → is_over table.inputs (row_cubes by) ≡ b → b ≡ true
+    cases true e = refl
+    cases false e = absurd (saving_changes by table some (unread_stays by.output by.phase (row_cubes by) table e))
+
 pub saving_reads : (by table : Table) → 0 < saving_of by table → (is_bare by ≡ true) ⊎ AreMet table.inputs by.inputs
 unfolding is_bare
-saving_reads by table some = cases (is_over table.inputs (row_cubes by)) refl
-  where
-    cases : (b : Bool) → is_over table.inputs (row_cubes by) ≡ b → (list_all is_plain (row_cubes by) ≡ true) ⊎ AreMet table.inputs by.inputs
-    cases true e = plain_or table.inputs by.inputs (row_cubes by) e (cubes_over by.inputs by.rows)
-    cases false e = absurd (saving_changes by table some (unread_stays by.output by.phase (row_cubes by) table e))
+saving_reads by table some = plain_or table.inputs by.inputs (row_cubes by) (saving_over by table some) (cubes_over by.inputs by.rows)

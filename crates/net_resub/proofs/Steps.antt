@@ -1,5 +1,5 @@
 -- Steps: a circuit after the best division, its bounds and its literals, and a chain with one step more.
-use Rattle.std.proofs.Common.{◌≡◌, ℕ, ◌<◌, true, Option, Some, List, [], ◌∷◌, ◌++◌, length, set, refl, sym, ap, ◌∙◌, subst, arith}
+use Rattle.std.proofs.Common.{◌≡◌, ℕ, ◌<◌, true, Option, Some, List, [], ◌∷◌, ◌++◌, set, refl, sym, ap, ◌∙◌, subst, arith}
 use Rattle.circuit_model.specs.Counts.{literals_of}
 use Rattle.circuit_model.specs.Names.{all_different}
 use Rattle.circuit_model.specs.Soundness.{outputs_of}
@@ -13,12 +13,12 @@ use Rattle.net_core.specs.Tables.{named}
 use Rattle.net_core.specs.declared.table.Table.{Table as Covered}
 use Rattle.resub_rules.specs.Resubbed.{row_cubes, resubbed, with_resubbed, IsBest, IsStep, IsReached}
 use Rattle.table_algebra.proofs.Divisions.{divided_output}
-use Rattle.net_resub.specs.Best.{IsBestBelow}
+use Rattle.net_resub.specs.Best.{worth_at, IsFirst}
 use Rattle.net_resub.specs.Pairs.{saving_at}
-use Rattle.net_resub.specs.declared.best.Best.{Best}
+use Rattle.net_resub.specs.declared.divisions.Division.{Division}
 use Rattle.net_resub.proofs.Slots.{standing_set, set_all}
 use Rattle.net_resub.proofs.Saving.{saving_places, worth_some}
-use Rattle.net_resub.proofs.Firsts.{best_is}
+use Rattle.net_resub.proofs.Worths.{best_is}
 
 -- the circuit in which the table at a place has given place
 pub resubbed_circuit : (placed next : Placed) (place : ℕ) (table by : Table) → all_different (outputs_of (standing placed.slots)) ≡ true → table_at placed.slots place ≡ Some table
@@ -50,17 +50,13 @@ pub set_is : {R : Type 0} (placed next : Placed) (place by : ℕ) (made : Covere
     → (table other : Table) → table_at placed.slots place ≡ Some table → table_at placed.slots by ≡ Some other → next ≡ with_slot placed place (Some (resubbed other table))
 set_is placed next place by made set is table other here there = set table here ∙ ap (λ (t : Table). with_slot placed place (Some t)) (is table other here there)
 
-pub best_told : (slots : List (Option Table)) (found best : Option Best) → found ≡ best → IsBestBelow slots (length slots) found → IsBestBelow slots (length slots) best
-best_told slots found best is all = subst (λ (one : Option Best). IsBestBelow slots (length slots) one) is all
-
-pub best_saves : (slots : List (Option Table)) (best : Best) → IsBestBelow slots (length slots) (Some best) → 0 < saving_at slots best.place best.by
+pub best_saves : (slots : List (Option Table)) (best : Division) → IsFirst (worth_at slots) best → 0 < saving_at slots best.place best.by
 best_saves slots best first =
-    let is = first.is in
-    let saves = first.saves in
-    let (unled, worth) = worth_some slots best.place best.by (omega (arith, is, saves)) in
-    omega (arith, is, saves, worth)
+    let some : 0 < worth_at slots best.place best.by = first.saves in
+    let (unled, worth) = worth_some slots best.place best.by some in
+    omega (arith, some, worth)
 
-pub step_made : {R : Type 0} (placed next : Placed) (best : Best) (made : Covered R) → all_different (outputs_of (standing placed.slots)) ≡ true → IsBestBelow placed.slots (length placed.slots) (Some best)
+pub step_made : {R : Type 0} (placed next : Placed) (best : Division) (made : Covered R) → all_different (outputs_of (standing placed.slots)) ≡ true → IsFirst (worth_at placed.slots) best
     → ((old : Table) → table_at placed.slots best.place ≡ Some old → next ≡ with_slot placed best.place (Some (named old.output made)))
     → ((table other : Table) → table_at placed.slots best.place ≡ Some table → table_at placed.slots best.by ≡ Some other → named table.output made ≡ resubbed other table)
     → IsStep (circuit_of placed) (circuit_of next)

@@ -1,3 +1,6 @@
 pub mod Best
+pub mod Candidates
+pub mod Divisions
+pub mod Kept
 pub mod Pairs
 pub mod Reaching

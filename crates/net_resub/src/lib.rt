@@ -1,14 +1,19 @@
 //! Resubstitution on a network: tables are divided by others, as long as that saves literals.
 //!
 //! Source: Brayton, Rudell, Sangiovanni-Vincentelli and Wang, "MIS: A Multiple-Level Logic Optimization System" (1987); the SIS report
-//! (UCB/ERL M92/41), `resub`. `pairs` says what one division makes and saves, `reaching` whether a signal leads to another one, `best`
-//! finds the best division, and `resubbing` makes one after the other. A table is tried only with those that read one of its inputs,
-//! and with those that have no literal; no clause says how much work that saves.
+//! (UCB/ERL M92/41), `resub`. `pairs` says what one division makes and saves, `reaching` whether a signal leads to another one,
+//! `divisions` in which order divisions are made, `candidates` which tables may divide which, `kept` keeps the divisions that save while
+//! tables change, `best` finds the best of them that may be made, and `resubbing` makes one after the other. A step looks only at pairs
+//! with the table that changed; no clause says how much work that saves.
 #![tactic(auto)]
 
 mod best;
+mod candidates;
+mod counts;
+mod divisions;
+mod kept;
 mod pairs;
 mod reaching;
 mod resubbing;
 
-pub use resubbing::resubbed;
+pub use resubbing::resubstitute;

@@ -45,8 +45,8 @@ fn row_cubes<R: Row>(alloc: Global, entry: &Entry<R>) -> Result<Vec<Cube>, Alloc
     Ok(cubes)
 }
 
-// What stands at a place of a row; a dash past its last.
-fn item_at<R: Row>(row: &R, place: usize) -> Option<bool>
+/// What stands at a place of a row; a dash past its last.
+pub(crate) fn item_at<R: Row>(row: &R, place: usize) -> Option<bool>
     ensures { result ≡ slice_index_or (R.literals row.now) place None }
 {
     if place < row.width() {

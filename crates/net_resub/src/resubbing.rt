@@ -5,8 +5,10 @@ ghost use Rattle.circuit_model.specs.Soundness.{IsSound};
 ghost use Rattle.net_core.specs.Reads.{HasBounds};
 ghost use Rattle.net_work.specs.Placed.{circuit_of};
 ghost use Rattle.resub_rules.specs.Resubbed.{IsStep, IsDone, IsResubbed};
+ghost use Rattle.net_resub.specs.Kept.{IsKept};
 
 use crate::best::best_division;
+use crate::kept::Kept;
 use crate::pairs::divided_at;
 use cube_cover::Row;
 use net_core::Network;
@@ -14,18 +16,26 @@ use net_work::Work;
 use std::alloc::{AllocError, Global};
 
 // Makes the best division, if one saves literals. Behind an error any network may stand.
-fn resub_once<R: Row>(alloc: Global, work: &mut Work<R>) -> Result<bool, AllocError>
-    requires { IsSound (circuit_of work.old) }
+fn resub_once<R: Row>(
+    alloc: Global,
+    work: &mut Work<R>,
+    kept: &mut Kept,
+) -> Result<bool, AllocError>
+    requires sound { IsSound (circuit_of work.old) }
+    requires kept { IsKept work.old.slots kept.old }
     ensures done { IfOk result (λ made. made ≡ false → (work.new ≡ work.old) × IsDone (circuit_of work.old)) }
     ensures step { IfOk result (λ made. made ≡ true → IsStep (circuit_of work.old) (circuit_of work.new)) }
     ensures sound { IfOk result (λ made. made ≡ true → IsSound (circuit_of work.new)) }
     ensures bounds { IfOk result (λ made. made ≡ true → HasBounds (circuit_of work.old) → HasBounds (circuit_of work.new)) }
+    ensures kept { OnOk result (IsKept work.new.slots kept.new) }
 {
-    match best_division(alloc, work)? {
+    match best_division(alloc, work, &kept.divisions)? {
         None => Ok(false),
         Some(best) => {
             let table = divided_at(alloc, work, best.place, best.by)?;
+            kept.leave(alloc, work, best.place)?;
             work.set(alloc, best.place, table)?;
+            kept.come(alloc, work, best.place)?;
             Ok(true)
         }
     }
@@ -38,14 +48,15 @@ fn resub_all<R: Row>(alloc: Global, work: &mut Work<R>) -> Result<(), AllocError
     ensures resubbed { OnOk result (IsResubbed (circuit_of work.old) (circuit_of work.new)) }
     ensures bounds { OnOk result (HasBounds (circuit_of work.old) → HasBounds (circuit_of work.new)) }
 {
-    while resub_once(alloc, work)? {}
+    let mut kept = Kept::of(alloc, work)?;
+    while resub_once(alloc, work, &mut kept)? {}
     Ok(())
 }
 
 /// Divides tables of a network by the rows of others until no division saves a literal: always the one that saves most, of those that
 /// save as much the one of the first table, and for that table by the first one. An error only for want of memory; the network is lost
 /// with it.
-pub fn resubbed<R: Row>(alloc: Global, network: Network<R>) -> Result<Network<R>, AllocError>
+pub fn resubstitute<R: Row>(alloc: Global, network: Network<R>) -> Result<Network<R>, AllocError>
     ensures resubbed { IfOk result (λ made. IsResubbed network made) }
     ensures bounds { HasBounds network → IfOk result HasBounds }
 {

@@ -368,19 +368,19 @@ machine_saves held (Some to) None name bytes saves = absurd saves
 machine_saves held (Some to) (Some machine) name bytes saves = (machine, ap (λ n. Some n) (sym saves.0), refl, saves.1)
 
 -- what a command writes to a file is the text of what is held
-abbrev IsWritten : Held → Option (List ℕ) → Op → List ℕ → Type 0
-IsWritten held to op bytes = (written : Written) × WritesTo to op written × Holds held written × HasText written bytes
+abbrev IsHeldText : Held → Option (List ℕ) → Op → List ℕ → Type 0
+IsHeldText held to op bytes = (written : Written) × WritesTo to op written × Holds held written × HasText written bytes
 
 circuit_written : (held : Held) (to file : Option (List ℕ)) (bytes : List ℕ) → (circuit : Circuit) × (file ≡ to) × (held.network ≡ Some circuit) × (bytes ≡ text_of circuit)
-    → IsWritten held to (WriteBlif file) bytes
+    → IsHeldText held to (WriteBlif file) bytes
 circuit_written held to file bytes (circuit, same, there, text) = (CircuitWritten circuit, same, there, text)
 
 machine_written : (held : Held) (to file : Option (List ℕ)) (bytes : List ℕ) → (machine : Machine) × (file ≡ to) × (held.machine ≡ Some machine) × (bytes ≡ machine_text_of machine)
-    → IsWritten held to (WriteKiss file) bytes
+    → IsHeldText held to (WriteKiss file) bytes
 machine_written held to file bytes (machine, same, there, text) = (MachineWritten machine, same, there, text)
 
 plan_saves : (depth : ℕ) (held : Held) (op : Op) (plan : Plan) (name bytes : List ℕ) → Plans depth held op plan → IsSave name bytes plan
-    → IsWritten held (Some name) op bytes
+    → IsHeldText held (Some name) op bytes
 plan_saves depth held (Echo words) plan name bytes is saves = absurd (puts_save_nothing held (Ok (echo_line words)) name bytes (subst (IsSave name bytes) is saves))
 plan_saves depth held Quit plan name bytes is saves = absurd (subst (IsSave name bytes) is saves)
 plan_saves depth held (ReadBlif from) plan name bytes is saves = absurd (subst (IsSave name bytes) is saves)
@@ -426,7 +426,7 @@ machine_puts held (Some name) None piece puts = absurd puts
 machine_puts held (Some name) (Some machine) piece puts = absurd puts
 machine_puts held None (Some machine) piece puts = (machine, refl, refl, put_whole held piece (machine_text_of machine) puts)
 
-plan_puts : (depth : ℕ) (held : Held) (op : Op) (plan : Plan) (piece : List ℕ) → IsWriting op → Plans depth held op plan → IsPut piece plan → IsWritten held None op piece
+plan_puts : (depth : ℕ) (held : Held) (op : Op) (plan : Plan) (piece : List ℕ) → IsWriting op → Plans depth held op plan → IsPut piece plan → IsHeldText held None op piece
 plan_puts depth held (WriteBlif file) plan piece writing is puts = circuit_written held None file piece (write_puts held file held.network piece (subst (IsPut piece) is puts))
 plan_puts depth held (WriteKiss file) plan piece writing is puts = machine_written held None file piece (machine_puts held file held.machine piece (subst (IsPut piece) is puts))
 plan_puts depth held (Echo words) plan piece writing is puts = absurd writing

@@ -1,10 +1,11 @@
 -- The texts that the program prints: replies, lines of refusals and of faults.
 -- Source: the SIS manual (UCB/ERL M92/41), `print_stats`; the wording of refusals is the project's own.
-use Rattle.std.specs.Prelude.{ℕ, List, [], ◌∷◌, ◌++◌, length, flat_map, codes, decimal}
+use Rattle.std.specs.Prelude.{ℕ, List, [], ◌∷◌, ◌++◌, flat_map, codes, decimal}
 use Rattle.sis_base.specs.Written.{spaced}
 use Rattle.circuit_model.specs.Counts.{literals_of}
 use Rattle.circuit_model.specs.declared.circuit.Circuit.{Circuit}
 use Rattle.fault_texts.specs.Texts.{blif_text, kiss_text, library_text}
+use Rattle.net_core.specs.Reads.{sizes_of}
 use Rattle.sis_script.specs.declared.command.ScriptFault.{ScriptFault}
 use Rattle.sis_script.specs.declared.command.ScriptFault.TheVariants.{BadCommand, BadOption, MissingWord}
 use Rattle.sis_session.specs.declared.refusal.Refusal.{Refusal}
@@ -18,21 +19,14 @@ echo_line (word ∷ words) = word ++ (flat_map spaced words ++ codes "\n")
 
 -- how large a circuit is, in numbers
 unfoldable pub stats_of : Circuit → Stats
-stats_of circuit = record {
-  inputs = length circuit.inputs;
-  outputs = length circuit.outputs;
-  tables = length circuit.tables;
-  latches = length circuit.latches;
-  lits = literals_of circuit;
-  dont_cares = length circuit.dont_care;
-}
+stats_of circuit = record { sizes = sizes_of circuit; lits = literals_of circuit }
 
 -- a name and numbers: inputs, outputs, tables, latches, literals, don't-care tables
 unfoldable pub numbers_line : List ℕ → Stats → List ℕ
 numbers_line name stats =
-    name ++ (codes " pi=" ++ (decimal stats.inputs ++ (codes " po=" ++ (decimal stats.outputs
-    ++ (codes " nodes=" ++ (decimal stats.tables ++ (codes " latches=" ++ (decimal stats.latches
-    ++ (codes " lits=" ++ (decimal stats.lits ++ (codes " dc=" ++ (decimal stats.dont_cares ++ codes "\n"))))))))))))
+    name ++ (codes " pi=" ++ (decimal stats.sizes.inputs ++ (codes " po=" ++ (decimal stats.sizes.outputs
+    ++ (codes " nodes=" ++ (decimal stats.sizes.tables ++ (codes " latches=" ++ (decimal stats.sizes.latches
+    ++ (codes " lits=" ++ (decimal stats.lits ++ (codes " dc=" ++ (decimal stats.sizes.dont_cares ++ codes "\n"))))))))))))
 
 -- how large a circuit is, behind its name
 abbrev pub stats_line : Circuit → List ℕ

@@ -17,9 +17,9 @@ use extract_rules::Rule as Extraction;
 use net_collapse::{CollapseFault, collapse};
 use net_core::{AddFault, Network};
 use net_decomp::decompose;
-use net_elim::eliminated;
+use net_elim::eliminate;
 use net_extract::{ExtractFault, extract};
-use net_resub::resubbed;
+use net_resub::resubstitute;
 use net_sweep::{SweepFault, swept_copy};
 use sdc_simplify::{SimplifyFault, simplify};
 use sis_script::Change;
@@ -38,7 +38,7 @@ fn eliminated_copy(
 {
     network.sound();
     let copy = network.copy(alloc)?;
-    let new = eliminated(alloc, copy, threshold, rows as usize)?;
+    let new = eliminate(alloc, copy, threshold, rows as usize)?;
     Ok(new)
 }
 
@@ -110,7 +110,7 @@ fn resubbed_copy(
     ensures bounds { IfOk result HasBounds }
 {
     let copy = network.copy(alloc)?;
-    let new = resubbed(alloc, copy)?;
+    let new = resubstitute(alloc, copy)?;
     Ok(new)
 }
 
@@ -134,7 +134,7 @@ fn decomposed_copy(
 
 /// What a change makes of a network: a new one beside it.
 #[tactic(auto, using(crate::proofs::Bounds::bounds_swept))]
-pub fn changed(
+pub fn change_network(
     alloc: Global,
     network: &Network<PlainRow>,
     change: Change,

@@ -28,19 +28,14 @@ pub fn echo(alloc: Global, words: &RawWords) -> Result<Vec<u8>, StepFault>
 }
 
 /// How large a network is; takes no memory.
-#[tactic(auto, unfolding(crate::specs::Replies::stats_of, net_core::specs::Reads::sizes_of))]
+#[tactic(auto, unfolding(crate::specs::Replies::stats_of))]
 pub fn stats_of(network: &Network<PlainRow>) -> Stats
     requires { HasBounds network.now }
     ensures { result ≡ stats_of network.now }
 {
-    let sizes = network.sizes();
     Stats {
-        inputs: sizes.inputs,
-        outputs: sizes.outputs,
-        tables: sizes.tables,
-        latches: sizes.latches,
+        sizes: network.sizes(),
         lits: network.lits(),
-        dont_cares: sizes.dont_cares,
     }
 }
 

@@ -14,7 +14,7 @@ ghost use Rattle.circuit_model.specs.Counts.{IsWithinLimits};
 ghost use Rattle.circuit_model.specs.Soundness.{IsSound};
 
 use crate::algebra::{print_factor, print_kernel};
-use crate::changing::changed;
+use crate::changing::change_network;
 use crate::outside::{load, put_told, send_told, source};
 use crate::printing::{
     echo, machine_told, network_text, print, print_latch, print_stats, stats_of,
@@ -232,7 +232,7 @@ impl Session {
         let Some(network) = &self.network else {
             return Err(StepFault::Refused(Refusal::NoNetwork));
         };
-        let new = changed(alloc, network, change)?;
+        let new = change_network(alloc, network, change)?;
         self.previous = mem::replace(&mut self.network, Some(new));
         Ok(Next::Go)
     }

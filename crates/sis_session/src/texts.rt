@@ -18,21 +18,17 @@ use blif_lines::BlifFault;
 use fault_texts::{put_blif_fault, put_kiss_fault, put_library_fault, put_three, put_two};
 use genlib_format::LibFault;
 use kiss_format::KissFault;
+use net_core::Sizes;
 use sis_script::{RawWord, ScriptFault};
 use sis_text::Word;
 use std::alloc::{AllocError, Global};
 
 /// How large a network is, in numbers.
-#[derive(Clone, Copy, Debug, PartialEq, Eq)]
+#[derive(Clone, Copy)]
 pub struct Stats {
-    pub inputs: usize,
-    pub outputs: usize,
-    pub tables: usize,
-    pub latches: usize,
+    pub sizes: Sizes,
     /// The literals of all tables outside the don't-care part.
     pub lits: u128,
-    /// The tables of the don't-care part.
-    pub dont_cares: usize,
 }
 
 /// Words as a line, with one blank between; an error only for want of memory.
@@ -75,22 +71,24 @@ fn put_count(out: &mut Vec<u8>, alloc: Global, label: &[u8], number: u128) -> Re
 /// Puts the numbers of the ports and the tables.
 #[tactic(auto, using(std::proofs::lemmas::Grind::common_steps))]
 fn put_first_counts(out: &mut Vec<u8>, alloc: Global, stats: Stats) -> Result<(), AllocError>
-    ensures { OnOk result (out.new.items ≡ out.old.items ++ (codes " pi=" ++ (decimal stats.inputs ++ (codes " po=" ++ (decimal stats.outputs ++ (codes " nodes=" ++ decimal stats.tables)))))) }
+    ensures { OnOk result (out.new.items ≡ out.old.items ++ (codes " pi=" ++ (decimal stats.sizes.inputs ++ (codes " po=" ++ (decimal stats.sizes.outputs ++ (codes " nodes=" ++ decimal stats.sizes.tables)))))) }
 {
-    put_count(out, alloc, b" pi=".as_slice(), stats.inputs as u128)?;
-    put_count(out, alloc, b" po=".as_slice(), stats.outputs as u128)?;
-    put_count(out, alloc, b" nodes=".as_slice(), stats.tables as u128)?;
+    let sizes = stats.sizes;
+    put_count(out, alloc, b" pi=".as_slice(), sizes.inputs as u128)?;
+    put_count(out, alloc, b" po=".as_slice(), sizes.outputs as u128)?;
+    put_count(out, alloc, b" nodes=".as_slice(), sizes.tables as u128)?;
     Ok(())
 }
 
 /// Puts the numbers of the latches, the literals and the don't-care tables.
 #[tactic(auto, using(std::proofs::lemmas::Grind::common_steps))]
 fn put_last_counts(out: &mut Vec<u8>, alloc: Global, stats: Stats) -> Result<(), AllocError>
-    ensures { OnOk result (out.new.items ≡ out.old.items ++ (codes " latches=" ++ (decimal stats.latches ++ (codes " lits=" ++ (decimal stats.lits ++ (codes " dc=" ++ decimal stats.dont_cares)))))) }
+    ensures { OnOk result (out.new.items ≡ out.old.items ++ (codes " latches=" ++ (decimal stats.sizes.latches ++ (codes " lits=" ++ (decimal stats.lits ++ (codes " dc=" ++ decimal stats.sizes.dont_cares)))))) }
 {
-    put_count(out, alloc, b" latches=".as_slice(), stats.latches as u128)?;
+    let sizes = stats.sizes;
+    put_count(out, alloc, b" latches=".as_slice(), sizes.latches as u128)?;
     put_count(out, alloc, b" lits=".as_slice(), stats.lits)?;
-    put_count(out, alloc, b" dc=".as_slice(), stats.dont_cares as u128)?;
+    put_count(out, alloc, b" dc=".as_slice(), sizes.dont_cares as u128)?;
     Ok(())
 }
 

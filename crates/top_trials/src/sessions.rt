@@ -5,7 +5,7 @@ use crate::outside::Outside;
 use crate::parts::{Part, parts};
 use crate::wanting::TrialStore;
 use blif_read::ReadFault;
-use sis_session::{Refusal, Session, StepFault, error_text, load, refusal_text};
+use sis_session::{Refusal, Session, Stats, StepFault, error_text, load, refusal_text};
 use sis_text::Word;
 use std::alloc::Global;
 use trial_cases::{Case, CaseFault, number_of, unescaped};
@@ -44,10 +44,7 @@ fn line_answer(
     let (word, rest) = line.split_once(' ').unwrap_or((line, ""));
     match word {
         "read" => read(alloc, session, rest),
-        "stats" => {
-            let stats = session.stats();
-            Ok(format!(in alloc; "{stats:?}\n")?.as_bytes().to_vec(alloc)?)
-        }
+        "stats" => stats_answer(alloc, session.stats()),
         "undo" => {
             let undone = session.undo();
             Ok(format!(in alloc; "{undone}\n")?.as_bytes().to_vec(alloc)?)
@@ -60,6 +57,19 @@ fn line_answer(
         "long_script" => Ok(refusal_text(alloc, 0, &Refusal::LongScript)?),
         _ => Err(CaseFault::Bad),
     }
+}
+
+/// The numbers of a network, or that there is none.
+fn stats_answer(alloc: Global, stats: Option<Stats>) -> Result<Vec<u8>, CaseFault> {
+    let Some(stats) = stats else {
+        return Ok(b"no network\n".as_slice().to_vec(alloc)?);
+    };
+    let sizes = stats.sizes;
+    let line = format!(in alloc;
+        "inputs {}, outputs {}, tables {}, latches {}, literals {}, don't-cares {}\n",
+        sizes.inputs, sizes.outputs, sizes.tables, sizes.latches, stats.lits, sizes.dont_cares
+    )?;
+    Ok(line.as_bytes().to_vec(alloc)?)
 }
 
 /// Reads a text into a session.

@@ -5,12 +5,12 @@ use Rattle.input_readers.specs.Readers.{is_in}
 use Rattle.net_core.specs.Places.{written_of}
 use Rattle.net_work.specs.Placed.{table_at}
 use Rattle.table_algebra.specs.Taking.{take_refusal}
-use Rattle.net_elim.specs.Putting.{IsMade, IsFit, places_of}
+use Rattle.net_elim.specs.Putting.{IsMade, IsFit, places_made}
 use Rattle.net_elim.proofs.putting.all_made.Given as goal
 
 abbrev pub invariant-loop-place : goal.invariant-loop-place
 invariant-loop-place g l = record {
-  places : places_of l.made.items ≡ take l.place-index l.readers;
+  places : places_made l.made.items ≡ take l.place-index l.readers;
   made : AllByRecursion (IsMade (written_of l.inner) l.work.slots) l.made.items;
   fit : AllByRecursion IsFit l.made.items;
   within : (place : ℕ) (outer : TheWritten) → is_in (take l.place-index l.readers) place ≡ true → table_at l.work.slots place ≡ Some outer → take_refusal 32767 l.rows (written_of l.inner) outer ≡ None;

@@ -8,7 +8,7 @@ use Rattle.net_core.specs.Places.{written_of}
 use Rattle.net_core.specs.Tables.{named}
 use Rattle.net_work.specs.Placed.{circuit_of, table_at}
 use Rattle.table_algebra.specs.Taking.{take_refusal}
-use Rattle.net_elim.specs.Putting.{IsMade, AreMade, places_of}
+use Rattle.net_elim.specs.Putting.{IsMade, AreMade, places_made}
 use Rattle.net_elim.specs.declared.putting.PutFault.TheVariants.{Refused, Memory}
 use Rattle.net_elim.proofs.Places.{ok_both}
 use Rattle.net_elim.proofs.Readers.{own_apart, made_all, entry_takes, entry_refused}
@@ -20,7 +20,7 @@ all_made-requires-clause-apart g c = own_apart c.args.work.now c.args.place (wri
 
 pub returns-clause-made : goal.returns-clause-made
 returns-clause-made g c =
-    ok_both c.all_made.result (λ made. places_of made.items ≡ c.as_slice.result.now) (λ made. AllByRecursion (IsMade (written_of c.in-Some.inner.now) c.args.work.now.slots) made.items)
+    ok_both c.all_made.result (λ made. places_made made.items ≡ c.as_slice.result.now) (λ made. AllByRecursion (IsMade (written_of c.in-Some.inner.now) c.args.work.now.slots) made.items)
     (λ made. (inner : TheWritten) → table_at c.args.work.now.slots c.args.place ≡ Some inner → AreMade inner c.args.work.now.slots made.items)
     (λ made places all.
     made_all c.args.work.now c.args.place c.in-Some.inner.now c.as_slice.result.now made.items c.in-Some.ensures.table

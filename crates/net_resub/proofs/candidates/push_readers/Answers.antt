@@ -1,7 +1,7 @@
 use Rattle.std.proofs.Common.{ℕ, List, ap, ◌∙◌}
 use Rattle.input_readers.specs.Readers.{is_in}
 use Rattle.net_resub.proofs.Visiting.{joined_next}
-use Rattle.net_resub.proofs.best.push_readers.Goals as goal
+use Rattle.net_resub.proofs.candidates.push_readers.Goals as goal
 
 pub loop-name-preserved : goal.loop-name-preserved
 loop-name-preserved g c =
