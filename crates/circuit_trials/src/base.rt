@@ -1,6 +1,6 @@
 //! Lists: names, which keep short ones in themselves, and sequences of any items.
 
-use crate::parts::{letters, name, truth};
+use circuit_cases::{letters, name, truth};
 use circuit_model::{Name, Names};
 use indexmap::IndexSet;
 use sis_base::{Copied, Sequence};

@@ -4,7 +4,7 @@
 ghost use Rattle.std.specs.Prelude.{◌≡◌, ℕ, List, nat_lt, length};
 ghost use Rattle.std.specs.List.{list_all};
 
-use crate::parts::line;
+use circuit_cases::line;
 use graph_cycles::first_cyclic;
 use sis_base::Sequence;
 use std::alloc::{AllocError, Global};

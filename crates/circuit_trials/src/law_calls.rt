@@ -1,6 +1,6 @@
 //! Laws, each of which is a call that does nothing but end.
 
-use crate::parts::line;
+use circuit_cases::line;
 use circuit_laws::{edits, order, sameness, soundness, valuations};
 use std::alloc::Global;
 use trial_cases::{Case, CaseFault};

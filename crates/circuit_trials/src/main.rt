@@ -1,28 +1,23 @@
-//! Answers cases about circuits: what they are, and what a change of them stands on.
+//! Answers cases about circuits and what is asked of them.
 //!
 //! The first line of a case is a crate and one of its public calls, with short arguments; circuits, tables and graphs
-//! stand below it, in the forms of `parts`, and texts in those of trial_cases. What is in `stdin` and `stdout` is worked
+//! stand below it, in the forms of circuit_cases, and texts in those of trial_cases. What is in `stdin` and `stdout` is worked
 //! out by hand from the definitions, and each call stands there at least once.
 #![tactic(auto)]
 
-mod aliases;
 mod base;
 mod checks;
 mod graphs;
 mod law_calls;
 mod model;
-mod needed;
-mod parts;
-mod readers;
-mod tables;
 
 use std::alloc::{AllocError, Global};
 use std::io;
 use std::io::{Read, Write};
 use trial_cases::{Case, CaseFault, cases, put_answer};
 
-/// The answer to a case of one of the lower crates.
-fn lower_answer(alloc: Global, case: &Case<'_>) -> Result<Vec<u8>, CaseFault> {
+/// The answer to a case.
+fn answer(alloc: Global, case: &Case<'_>) -> Result<Vec<u8>, CaseFault> {
     match case.word(0) {
         "sis_base" => base::answer(alloc, case),
         "circuit_model" => model::answer(alloc, case),
@@ -30,17 +25,6 @@ fn lower_answer(alloc: Global, case: &Case<'_>) -> Result<Vec<u8>, CaseFault> {
         "circuit_checks" => checks::answer(alloc, case),
         "laws" => law_calls::answer(alloc, case),
         _ => Err(CaseFault::Bad),
-    }
-}
-
-/// The answer to a case.
-fn answer(alloc: Global, case: &Case<'_>) -> Result<Vec<u8>, CaseFault> {
-    match case.word(0) {
-        "tables" => tables::answer(alloc, case),
-        "input_readers" => readers::answer(alloc, case),
-        "net_needed" => needed::answer(alloc, case),
-        "net_wires" => aliases::answer(alloc, case),
-        _ => lower_answer(alloc, case),
     }
 }
 

@@ -1,7 +1,7 @@
 //! Circuits: their runs, their copies, and when two are the same.
 
-use crate::parts::{bit_of, circuit, line};
 use blif_write::circuit_text;
+use circuit_cases::{bit_of, circuit, line};
 use circuit_model::{Bits, Circuit, SimFault, timing_copied};
 use sis_base::{Copied, Sequence};
 use std::alloc::{AllocError, Global};

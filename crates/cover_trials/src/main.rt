@@ -22,15 +22,6 @@ use cube_cover::PlainRow;
 use std::alloc::{AllocError, Global};
 use std::io;
 
-// The words of a line.
-fn words_of<'a>(alloc: Global, line: &'a str) -> Result<Vec<&'a str>, AllocError> {
-    let mut words = Vec::new(alloc);
-    for word in line.split(' ') {
-        words.push(word)?;
-    }
-    Ok(words)
-}
-
 // The first answer that there is, of the calls of one crate after the other.
 fn answer(alloc: Global, words: &[&str]) -> Result<Option<String>, AllocError> {
     if let Some(text) = rows::answer::<PlainRow>(alloc, words)? {
@@ -53,7 +44,7 @@ fn answer(alloc: Global, words: &[&str]) -> Result<Option<String>, AllocError> {
 
 // The answer to a line.
 fn answer_line(alloc: Global, line: &str) -> Result<String, AllocError> {
-    let words = words_of(alloc, line)?;
+    let words: Vec<&str> = line.split(' ').collect(alloc)?;
     match answer(alloc, words.as_slice())? {
         Some(text) => Ok(text),
         None => String::from_str(alloc, "bad case"),

@@ -4,9 +4,10 @@ ghost use Rattle.std.specs.Prelude.{◌≡◌, true, IfOk};
 ghost use Rattle.circuit_model.specs.Names.{all_different};
 ghost use Rattle.net_needed.specs.Reading.{held_by};
 
-use crate::checks::{are_different, have_one_driver};
-use crate::parts::{bit_of, circuit, line, name, name_of, put_table, truth};
 use blif_write::circuit_text;
+use circuit_cases::{
+    are_different, bit_of, circuit, have_one_driver, line, name, name_of, put_table, truth,
+};
 use circuit_model::{Circuit, Latch, Name, Names, Table};
 use indexmap::{IndexMap, IndexSet};
 use net_needed::{

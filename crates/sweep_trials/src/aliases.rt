@@ -3,11 +3,11 @@
 //! (who reads signals) and `show` (each table, its inputs and the constant that it is written as). The circuit that is
 //! left ends the answer.
 
-use crate::parts::{
+use blif_write::circuit_text;
+use circuit_cases::{
     bit_of, circuit, circuit_lines, letters, name, name_of, put_table, rows, table, word_at,
     words_of,
 };
-use blif_write::circuit_text;
 use circuit_model::{Name, Table};
 use net_wires::{AliasedTables, rows_over};
 use std::alloc::{AllocError, Global};

@@ -2,7 +2,9 @@
 //! order; `ask` tells of each signal whether it is read, how many places read it, and which; `change` puts another table at
 //! a place.
 
-use crate::parts::{circuit, circuit_lines, letters, name_of, put_names, table, word_at, words_of};
+use circuit_cases::{
+    circuit, circuit_lines, letters, name_of, put_names, table, word_at, words_of,
+};
 use circuit_model::{Name, Table};
 use input_readers::Readers;
 use std::alloc::{AllocError, Global};

@@ -1,7 +1,6 @@
 //! Tables: folded, tidied, and in their order.
 
-use crate::checks::have_one_driver;
-use crate::parts::{put_names, put_table, tables};
+use circuit_cases::{have_one_driver, put_names, put_table, tables};
 use circuit_model::{Name, Table, Tables};
 use std::alloc::{AllocError, Global};
 use table_fold::fold_table;
