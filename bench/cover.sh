@@ -1,8 +1,8 @@
 #!/usr/bin/env bash
 # Covers of random circuits by the gates of two libraries: (a) 20 gates of up to four literals, (b) the products and sums of up to
 # six literals, each as it is and complemented, and an inverter. The trial program of trees reads, makes the forest and covers it;
-# reported are the processor time and the peak memory of each part, and what Debian's berkeley-abc takes for `map -a` (which maps
-# the shared graph and not its trees) in the same run, where it is installed.
+# reported are the processor time and the peak memory of each part, the heap that the forest and its covers take, and what Debian's
+# berkeley-abc takes for `map -a` (which maps the shared graph and not its trees) in the same run, where it is installed.
 # Usage: bench/cover.sh [PROGRAM [TABLES ..]]   (crates/tree_trials/out/tree_trials where none is named, which `cd crates/tree_trials
 # && rt run` proves and builds; without numbers 3400 and 20000 tables)
 set -u
@@ -77,6 +77,34 @@ print(f"       {whole[2][0]}")
 PY
 }
 
+# What the heap comes to behind the circuit that was read: how far it rises again once reading, which takes most, is over. That is the
+# memory of the forest and of its covers, told for each vertex. By valgrind's massif, where it is installed.
+heap() { # the library
+  if ! command -v valgrind >/dev/null; then
+    echo "       heap not told: valgrind is not installed"
+    return
+  fi
+  python3 - "$program" "$work" "$1" <<'PY'
+import re, subprocess, sys
+program, work, name = sys.argv[1:]
+def escaped(file): return open(f"{work}/{file}").read().replace("\\", "\\\\").replace("\n", "\\n") + "\n"
+def run(text, told):
+    open(f"{work}/case", "w").write(text)
+    tool = ["valgrind", "-q", "--tool=massif", "--max-snapshots=1000", "--detailed-freq=1000", f"--massif-out-file={work}/massif"] if told else []
+    return subprocess.run(tool + [program], stdin=open(f"{work}/case"), capture_output=True, text=True).stdout
+circuit = escaped("a.blif")
+vertices = int(run(f"vertices\n{circuit}==\n", False).split("\n")[1])
+run(f"totals\n{escaped(name + '.genlib')}and\n{circuit}==\n", True)
+held = [int(a) + int(b) for a, b in re.findall(r"mem_heap_B=(\d+)\nmem_heap_extra_B=(\d+)", open(f"{work}/massif").read())]
+most = held.index(max(held))
+least, rise, stands = held[most], 0, 0
+for bytes in held[most:]:
+    least = min(least, bytes)
+    if bytes - least > rise: rise, stands = bytes - least, least
+print(f"       heap, bytes a vertex: at most {held[most] // vertices}, the circuit {stands // vertices}, the forest and its covers {rise // vertices}")
+PY
+}
+
 # The same library and circuit in ABC: to the graph that is mapped, and mapped for area.
 abc() { # the library
   if ! command -v berkeley-abc >/dev/null; then
@@ -104,6 +132,7 @@ for tables in ${*:-3400 20000}; do
   for name in a b; do
     echo "$tables random tables, library $name"
     cover "$name"
+    heap "$name"
     abc "$name"
   done
 done

@@ -1,6 +1,6 @@
 #!/usr/bin/env bash
 # Extracts, resubstitutes and decomposes with `sis`, and reports the time and the peak memory beside `sweep` on the same file: random circuits
-# of two-input tables, as they are and after `eliminate`, and tables of random rows. `fx` stands beside ABC's `fx` (Debian's berkeley-abc), which
+# of two-input tables, as they are and after `eliminate`, tables of random rows, and pairs of tables of which one divides the other. `fx` stands beside ABC's `fx` (Debian's berkeley-abc), which
 # looks at two-cube and two-literal divisors as well, with weights of its own; ABC has no command like the others: `st`, by which it makes a graph
 # of two-input nodes of the same file, stands beside them, told as what it is.
 # Usage: bench/extract.sh [TABLES ..]   (2000 and 20000 where none is named)
@@ -39,6 +39,20 @@ print(".end")
 PY
 }
 
+pairs() { # how many pairs; one table of each divides the other, which reads two inputs more: its own, or the same for all ("common")
+  awk -v pairs="$1" -v common="${2:-}" 'BEGIN {
+    printf ".model pairs\n.inputs"
+    for (i = 0; i < pairs; i++) { printf " a%d b%d", i, i; if (!common || i == 0) printf " c%d d%d", i, i }
+    printf "\n.outputs"; for (i = 0; i < pairs; i++) printf " g%d f%d", i, i
+    printf "\n"
+    for (i = 0; i < pairs; i++) {
+      k = common ? 0 : i
+      printf ".names a%d b%d g%d\n1- 1\n-1 1\n.names a%d b%d c%d d%d f%d\n1-11 1\n-111 1\n", i, i, i, i, i, k, k, i
+    }
+    print ".end"
+  }'
+}
+
 for tables in "${sizes[@]}"; do
   random "$tables" >"$work/a.blif"
   each "random circuit of $tables tables" sweep fx gkx gcx resub decomp tech_decomp
@@ -57,3 +71,10 @@ done
 
 rows 20 400 67 >"$work/a.blif"
 each "a table of 20 inputs and 400 random rows" sweep decomp tech_decomp
+
+for count in "${sizes[@]}"; do
+  pairs "$count" >"$work/a.blif"
+  each "$count pairs of tables, of which one divides the other" sweep resub
+done
+pairs 2000 common >"$work/a.blif"
+each "2000 such pairs that read two common inputs besides" sweep resub
