@@ -1,4 +1,4 @@
--- The divisions that are kept: all of them at the start, those with a table that leave and come, and the tables without literals.
+-- The divisions that are kept: all of them at the start, those with a table that leave and come, and the lists of tables.
 use Rattle.std.proofs.Common.{◌≡◌, ℕ, ◌+◌, ◌≤◌, ◌==◌, Bool, true, false, ◌||◌, ◌&&◌, not, cond, ltb, eqb-true, Option, Some, List, [], set, length, refl, sym, ap, ◌∙◌, subst, arith}
 use Rattle.std.specs.BTreeSet.{BTreeSet}
 use Rattle.std.proofs.lemmas.Bool.{lt-ltb, le-ltb, eqb-false, or_parts, not-true, ltb-true, ltb-false}
@@ -81,7 +81,7 @@ saving_stays slots place slot division apart =
 beside_set : (slots : List (Option Table)) (place : ℕ) (slot : Option Table) (kept : Kept) → IsKeptBeside place slots kept → IsKeptBeside place (set slots place slot) kept
 beside_set slots place slot kept is = record {
   divisions = just_moved (λ division. not (is_with place division)) (saving_at slots) (saving_at (set slots place slot)) kept.divisions (saving_stays slots place slot) is.divisions;
-  bare = λ at table apart there plain. is.bare at table apart (sym (table_stays slots place slot at apart) ∙ there) plain;
+  lists = λ at table other there. is.lists at table other (sym (table_stays slots place slot at (λ same. eqb-false place at (not-true (place == at) other) (sym same))) ∙ there);
 }
 
 pub kept_set : (placed next : Placed) (place : ℕ) (table : Table) (kept : Kept) → next ≡ with_slot placed place (Some table) → IsKeptBeside place placed.slots kept → IsKeptBeside place next.slots kept

@@ -7,5 +7,6 @@ pub mod Sets
 pub mod Firsts
 pub mod Worths
 pub mod Steps
+pub mod Listing
 pub mod Visiting
 pub mod Keeping

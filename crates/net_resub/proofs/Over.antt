@@ -1,18 +1,17 @@
 -- Whether all literals of a row are of some names, place by place.
-use Rattle.std.proofs.Common.{◌≡◌, ◌<◌, ◌≤◌, ℕ, zero, suc, Bool, true, ◌&&◌, ◌||◌, not, Option, Some, None, List, [], ◌∷◌, length, map, drop, refl, sym, ap, ◌∙◌, arith, inl, inr, ne_eqb}
+use Rattle.std.proofs.Common.{◌≡◌, ◌<◌, ◌≤◌, ℕ, zero, suc, Bool, true, ◌&&◌, ◌||◌, not, Option, Some, None, List, [], ◌∷◌, length, map, drop, refl, sym, ap, ◌∙◌, arith, inl, inr}
 use Rattle.std.specs.Prelude.{slice_index_or, is_some}
 use Rattle.std.specs.List.{list_all, list_any}
 use Rattle.std.proofs.lemmas.Bool.{false≢true, and_parts, or_cases}
 use Rattle.circuit_model.specs.Names.{has}
-use Rattle.name_covers.specs.Literals.{NamedCover}
 use Rattle.name_covers.specs.Cubes.{cube_over, is_over}
 use Rattle.net_core.specs.Places.{written_of}
 use Rattle.net_core.specs.Tables.{named, places_of, characters_of}
 use Rattle.net_core.specs.declared.places.Entry.{Entry}
 use Rattle.net_core.proofs.Rows.{places_back}
 use Rattle.resub_rules.specs.Resubbed.{row_cubes}
-use Rattle.net_resub.specs.Candidates.{IsNeeded}
-use Rattle.net_resub.specs.Pairs.{is_cube_over, is_plain}
+use Rattle.net_resub.specs.Listed.{IsNeeded}
+use Rattle.net_resub.specs.Pairs.{is_cube_over}
 
 none_over : (names inputs : List (List ℕ)) → is_cube_over names (cube_over inputs []) ≡ true
 unfolding cube_over
@@ -127,9 +126,3 @@ pub entry_needs : {R S : Type 0} (literals : R → List (Option Bool)) (inputs :
     → i < length inputs → name ≡ slice_index_or inputs i name → list_any (λ row. is_some (slice_index_or (literals row) i None)) rows ≡ true → IsNeeded (row_cubes (written_of by)) name
 entry_needs literals inputs rows by i name same items below is some names over =
     ap (has names) is ∙ rows_need literals names inputs rows i name below some (entry_over literals names inputs rows by same items ∙ over)
-
--- literals of no names are none
-pub of_no_names : (cover : NamedCover) → is_over [] cover ≡ list_all is_plain cover
-of_no_names [] = refl
-of_no_names ([] ∷ cover) = of_no_names cover
-of_no_names ((literal ∷ cube) ∷ cover) = sym (ap (λ (b : Bool). b && list_all is_plain cover) (ne_eqb (suc (length cube)) 0 (λ e. omega (arith, e))))

@@ -1,25 +1,19 @@
 -- What a division saves: where it may be made, and which tables may be divided by which.
-use Rattle.std.proofs.Common.{◌≡◌, ◌≢◌, ◌⊎◌, ℕ, ◌+◌, ◌-◌, ◌<◌, ◌≤◌, zero, suc, Bool, true, false, ◌||◌, ◌&&◌, cond, ltb, Option, Some, None, List, [], ◌∷◌, length, map, refl, sym, ap, ◌∙◌, inl, inr, arith, eqb, ne_eqb, slice_set}
-use Rattle.std.specs.List.{list_all}
+use Rattle.std.proofs.Common.{◌≡◌, ◌≢◌, ℕ, ◌+◌, ◌-◌, ◌<◌, ◌≤◌, zero, suc, Bool, true, false, ◌||◌, cond, ltb, Option, Some, None, List, length, refl, sym, ap, ◌∙◌, arith, eqb, ne_eqb, slice_set}
 use Rattle.std.proofs.lemmas.Bool.{false≢true, le-ltb, ltb-false, eqb-false, eq-eqb}
 use Rattle.std.proofs.lemmas.Option.{same_Some}
 use Rattle.circuit_model.specs.Counts.{literals_of, literals_of_table}
 use Rattle.circuit_model.specs.Names.{has, all_different}
 use Rattle.circuit_model.specs.Soundness.{outputs_of, Leads}
-use Rattle.circuit_model.specs.declared.circuit.Tri.{Tri}
 use Rattle.circuit_model.specs.declared.circuit.Table.{Table}
 use Rattle.circuit_laws.specs.Edits.{with_tables, with_replaced}
-use Rattle.name_covers.specs.Literals.{NamedCover}
-use Rattle.name_covers.specs.Cubes.{cube_over, is_over}
-use Rattle.name_covers.specs.declared.literal.Literal.{Literal}
-use Rattle.name_covers.proofs.Names.{over_is_over}
-use Rattle.net_core.specs.Tables.{places_of}
+use Rattle.name_covers.specs.Cubes.{is_over}
 use Rattle.net_work.specs.Placed.{Placed, standing, circuit_of, table_at}
 use Rattle.resub_rules.specs.Resubbed.{row_cubes, resubbed, IsCandidate, literals_after}
 use Rattle.table_algebra.proofs.Divided.{unread_stays}
 use Rattle.table_algebra.proofs.Divisions.{divided_output}
 use Rattle.net_resub.specs.Best.{is_led, worth_at}
-use Rattle.net_resub.specs.Pairs.{saving_of, saving_between, saving_at, is_plain, is_bare}
+use Rattle.net_resub.specs.Pairs.{saving_of, saving_between, saving_at}
 use Rattle.net_resub.proofs.Slots.{standing_set, literals_set, place_has}
 use Rattle.net_resub.proofs.Graph.{one_place, led_leads, leads_led}
 
@@ -215,32 +209,6 @@ candidate_worth placed place by table divisor different here there may =
 
 -- ---- which tables may divide a table
 
-abbrev pub AreMet : List (List ℕ) → List (List ℕ) → Type 0
-AreMet names inputs = (name : List ℕ) × (has names name ≡ true) × (has inputs name ≡ true)
-
-and_left : (a b : Bool) → (a && b) ≡ true → a ≡ true
-and_left true b e = refl
-and_left false b e = e
-
-and_right : (a b : Bool) → (a && b) ≡ true → b ≡ true
-and_right true b e = e
-and_right false b e = absurd (false≢true e)
-
-plain_or : (names inputs : List (List ℕ)) (cover : NamedCover) → is_over names cover ≡ true → is_over inputs cover ≡ true → (list_all is_plain cover ≡ true) ⊎ AreMet names inputs
-plain_or names inputs [] over both = inl refl
-plain_or names inputs ([] ∷ cover) over both = plain_or names inputs cover over both
-plain_or names inputs ((literal ∷ cube) ∷ cover) over both = inr (literal.name, first names over, first inputs both)
-  where
-    first : (them : List (List ℕ)) → is_over them ((literal ∷ cube) ∷ cover) ≡ true → has them literal.name ≡ true
-    first them e =
-        and_left (has them literal.name) (list_all (λ (one : Literal). has them one.name) cube)
-        (and_left (has them literal.name && list_all (λ (one : Literal). has them one.name) cube) (is_over them cover) e)
-
-cubes_over : (inputs : List (List ℕ)) (rows : List (List Tri)) → is_over inputs (map (λ row. cube_over inputs (places_of row)) rows) ≡ true
-cubes_over inputs [] = refl
-cubes_over inputs (row ∷ rows) =
-    ap (λ (b : Bool). b && is_over inputs (map (λ row. cube_over inputs (places_of row)) rows)) (over_is_over inputs (places_of row)) ∙ cubes_over inputs rows
-
 -- a table that may be divided reads all names of the divisor's literals
 pub saving_over : (by table : Table) → 0 < saving_of by table → is_over table.inputs (row_cubes by) ≡ true
 saving_over by table some = cases (is_over table.inputs (row_cubes by)) refl
@@ -248,7 +216,3 @@ saving_over by table some = cases (is_over table.inputs (row_cubes by)) refl
     cases : (b : Bool) → is_over table.inputs (row_cubes by) ≡ b → b ≡ true
     cases true e = refl
     cases false e = absurd (saving_changes by table some (unread_stays by.output by.phase (row_cubes by) table e))
-
-pub saving_reads : (by table : Table) → 0 < saving_of by table → (is_bare by ≡ true) ⊎ AreMet table.inputs by.inputs
-unfolding is_bare
-saving_reads by table some = plain_or table.inputs by.inputs (row_cubes by) (saving_over by table some) (cubes_over by.inputs by.rows)

@@ -1,5 +1,5 @@
--- Places that are visited: the tables without literals, the divisors of a table, the tables that it may divide, and the pairs of them.
-use Rattle.std.proofs.Common.{◌≡◌, ◌⊎◌, ℕ, ◌+◌, ◌<◌, ◌≤◌, ◌==◌, zero, suc, Bool, true, false, ◌||◌, ◌&&◌, Option, Some, None, List, [], ◌∷◌, ◌++◌, length, get_or, take, bytes_eq, eqb, eqb-true, refl, sym, ap, ◌∙◌, subst, inl, inr, arith, take_all}
+-- Places that are visited: the divisors of a table, the tables that it may divide, and the pairs of them.
+use Rattle.std.proofs.Common.{◌≡◌, ℕ, ◌+◌, ◌<◌, ◌≤◌, ◌==◌, zero, suc, Bool, true, false, ◌||◌, ◌&&◌, Option, Some, None, List, [], ◌∷◌, ◌++◌, length, get_or, take, eqb, eqb-true, refl, sym, ap, ◌∙◌, subst, inl, inr, arith, take_all}
 use Rattle.std.specs.List.{Contains, dedup}
 use Rattle.std.specs.List.Sorted.{IsPermutation}
 use Rattle.std.proofs.lemmas.Bool.{false≢true, or_cases, eq-eqb, eqb-false, or_left, or_right}
@@ -10,89 +10,21 @@ use Rattle.std.proofs.lemmas.List.Sorted.{list_any-IsPermutation}
 use Rattle.std.proofs.lemmas.Option.{none-some, same_Some}
 use Rattle.circuit_model.specs.Names.{has}
 use Rattle.circuit_model.specs.declared.circuit.Table.{Table}
-use Rattle.circuit_laws.proofs.Names.{same_name, has_either}
 use Rattle.input_readers.specs.Readers.{is_in}
 use Rattle.net_work.specs.Placed.{table_at}
 use Rattle.net_work.specs.Slots.{inputs_in, inputs_at}
 use Rattle.name_covers.specs.Cubes.{is_over}
 use Rattle.resub_rules.specs.Resubbed.{row_cubes}
-use Rattle.net_resub.specs.Candidates.{AreBare, AreBareBeside, AreJoined, AreDivisors, AreDividends, IsNeeded, is_by, is_with}
+use Rattle.net_resub.specs.Candidates.{AreDivisors, AreDividends, is_by, is_with}
 use Rattle.net_resub.specs.Divisions.{is_of, is_among, AreJust}
-use Rattle.net_resub.specs.Pairs.{saving_at, is_bare}
+use Rattle.net_resub.specs.Listed.{IsNeeded, is_under, AreJoined, AreListed}
+use Rattle.net_resub.specs.Pairs.{saving_at}
 use Rattle.net_resub.specs.declared.divisions.Division.{Division}
 use Rattle.net_resub.specs.declared.divisions.Pair.{Pair}
+use Rattle.net_resub.specs.declared.listed.DivisorLists.{DivisorLists}
+use Rattle.net_resub.proofs.Listing.{in_append, in_front, in_back, one_in}
 use Rattle.net_resub.proofs.Slots.{place_within}
-use Rattle.net_resub.proofs.Saving.{saving_places, saving_reads, saving_over}
-
--- places behind others
-pub in_append : (xs ys : List ℕ) (at : ℕ) → is_in (xs ++ ys) at ≡ (is_in xs at || is_in ys at)
-in_append xs ys at = list_any-append (λ (other : ℕ). eqb other at) xs ys
-
-pub in_front : (xs ys : List ℕ) (at : ℕ) → is_in xs at ≡ true → is_in (xs ++ ys) at ≡ true
-in_front xs ys at m = in_append xs ys at ∙ or_left (is_in xs at) (is_in ys at) m
-
-pub in_back : (xs ys : List ℕ) (at : ℕ) → is_in ys at ≡ true → is_in (xs ++ ys) at ≡ true
-in_back xs ys at m = in_append xs ys at ∙ or_right (is_in xs at) (is_in ys at) m
-
-pub in_either : (xs ys : List ℕ) (at : ℕ) → is_in (xs ++ ys) at ≡ true → (is_in xs at ≡ true) ⊎ (is_in ys at ≡ true)
-in_either xs ys at m = or_cases (is_in xs at) (is_in ys at) (sym (in_append xs ys at) ∙ m)
-
-pub in_one : (place at : ℕ) → is_in (place ∷ []) at ≡ true → place ≡ at
-in_one place at m = elim (or_cases (eqb place at) false m) as (λ _. place ≡ at) [ inl e ↦ eqb-true place at e | inr e ↦ absurd (false≢true e) ]
-
-one_in : (place : ℕ) → is_in (place ∷ []) place ≡ true
-one_in place = ap (λ (b : Bool). b || false) (eq-eqb place place refl)
-
--- the tables without literals at the first places
-abbrev pub AreBareBelow : List (Option Table) → ℕ → List ℕ → Type 0
-AreBareBelow slots count places = (at : ℕ) (table : Table) → at < count → table_at slots at ≡ Some table → is_bare table ≡ true → is_in places at ≡ true
-
-pub bare_none : (slots : List (Option Table)) → AreBareBelow slots 0 []
-bare_none slots at table below there bare = absurd (omega (arith, below))
-
-pub bare_put : (slots : List (Option Table)) (place : ℕ) (places new : List ℕ) → AreBareBelow slots place places → new ≡ places ++ place ∷ [] → AreBareBelow slots (place + 1) new
-bare_put slots place places new are is at table below there bare = cases (eqb at place) refl
-  where
-    cases : (b : Bool) → eqb at place ≡ b → is_in new at ≡ true
-    cases true e =
-        ap (λ (ps : List ℕ). is_in ps at) is ∙ in_back places (place ∷ []) at (ap (is_in (place ∷ [])) (eqb-true at place e) ∙ one_in place)
-    cases false e = ap (λ (ps : List ℕ). is_in ps at) is ∙ in_front places (place ∷ []) at (are at table (let apart = eqb-false at place e in omega (arith, below, apart)) there bare)
-
-pub bare_passed : (slots : List (Option Table)) (place : ℕ) (places : List ℕ) (bare : Bool) → AreBareBelow slots place places → ((table : Table) → table_at slots place ≡ Some table → bare ≡ is_bare table)
-    → bare ≡ false → AreBareBelow slots (place + 1) places
-bare_passed slots place places bare are is none at table below there full = cases (eqb at place) refl
-  where
-    cases : (b : Bool) → eqb at place ≡ b → is_in places at ≡ true
-    cases true e = absurd (false≢true (sym none ∙ (is table (ap (table_at slots) (sym (eqb-true at place e)) ∙ there) ∙ full)))
-    cases false e = are at table (let apart = eqb-false at place e in omega (arith, below, apart)) there full
-
-pub bare_all : (slots : List (Option Table)) (count : ℕ) (places : List ℕ) → length slots ≤ count → AreBareBelow slots count places → AreBare slots places
-bare_all slots count places long are at table there bare = are at table (let below = place_within slots at table there in omega (arith, below, long)) there bare
-
--- the readers of names
-pub joined_none : (slots : List (Option Table)) (places : List ℕ) → AreJoined slots [] places places
-joined_none slots places = record { more = λ at m. m; readers = λ at name among reads. absurd (false≢true among) }
-
-pub joined_more : (slots : List (Option Table)) (names : List (List ℕ)) (name : List ℕ) (before places readers new : List ℕ) → AreJoined slots names before places
-    → ((at : ℕ) → is_in readers at ≡ has (inputs_at slots at) name) → new ≡ places ++ readers → AreJoined slots (names ++ name ∷ []) before new
-joined_more slots names name before places readers new are told is = record {
-  more = λ at m. ap (λ (ps : List ℕ). is_in ps at) is ∙ in_front places readers at (are.more at m);
-  readers = λ at other among reads.
-      ap (λ (ps : List ℕ). is_in ps at) is
-      ∙ elim (has_either names (name ∷ []) other among) as (λ _. is_in (places ++ readers) at ≡ true) [
-        | inl m ↦ in_front places readers at (are.readers at other m reads)
-        | inr m ↦ in_back places readers at (told at ∙ (ap (has (inputs_at slots at)) (sym (same other m)) ∙ reads))
-      ];
-}
-  where
-    same : (other : List ℕ) → has (name ∷ []) other ≡ true → other ≡ name
-    same other m = elim (or_cases (bytes_eq other name) false m) as (λ _. other ≡ name) [ inl e ↦ same_name other name e | inr e ↦ absurd (false≢true e) ]
-
-pub joined_next : (slots : List (Option Table)) (names : List (List ℕ)) (i : ℕ) (name : List ℕ) (before places readers new : List ℕ) → i < length names → name ≡ get_or names i name
-    → AreJoined slots (take i names) before places → ((at : ℕ) → is_in readers at ≡ has (inputs_at slots at) name) → new ≡ places ++ readers → AreJoined slots (take (i + 1) names) before new
-joined_next slots names i name before places readers new below is are told put =
-    subst (λ (ns : List (List ℕ)). AreJoined slots ns before new) (ap (λ (n : List ℕ). take i names ++ n ∷ []) is ∙ sym (take_more names i name below))
-    (joined_more slots (take i names) name before places readers new are told put)
+use Rattle.net_resub.proofs.Saving.{saving_places, saving_over}
 
 -- the divisors of a table
 pub divisors_none : (slots : List (Option Table)) (place : ℕ) (places : List ℕ) → table_at slots place ≡ None → AreDivisors slots place places
@@ -100,15 +32,15 @@ divisors_none slots place places none by some =
     let at = saving_places slots place by some in
     absurd (none-some at.table (sym none ∙ at.here))
 
-pub divisors_joined : (slots : List (Option Table)) (place : ℕ) (table : Table) (bare before places : List ℕ) → table_at slots place ≡ Some table → AreBare slots bare → before ≡ [] ++ bare
-    → AreJoined slots table.inputs before places → AreDivisors slots place places
-divisors_joined slots place table bare before places here are is joined by some =
+pub divisors_joined : (slots : List (Option Table)) (place : ℕ) (table : Table) (lists : DivisorLists) (before places : List ℕ) → table_at slots place ≡ Some table → AreListed (λ at. true) slots lists
+    → before ≡ [] ++ lists.unnamed.items → AreJoined (is_under lists) table.inputs before places → AreDivisors slots place places
+divisors_joined slots place table lists before places here are is joined by some =
     let at = saving_places slots place by some in
     let same : at.table ≡ table = same_Some at.table table (sym at.here ∙ here) in
-    elim (saving_reads at.divisor at.table (subst (λ (n : ℕ). 0 < n) at.is some)) as (λ _. is_in places by ≡ true) [
-      | inl plain ↦ joined.more by (ap (λ (ps : List ℕ). is_in ps by) is ∙ are by at.divisor at.there plain)
-      | inr met ↦ (let (name, one, other) = met in
-          joined.readers by name (ap (λ (t : Table). has t.inputs name) (sym same) ∙ one) (ap (λ (o : Option Table). has (inputs_in o) name) at.there ∙ other))
+    let over : is_over at.table.inputs (row_cubes at.divisor) ≡ true = saving_over at.divisor at.table (subst (λ (n : ℕ). 0 < n) at.is some) in
+    elim (are by at.divisor refl at.there) as (λ _. is_in places by ≡ true) [
+      | inl unnamed ↦ joined.more by (ap (λ (ps : List ℕ). is_in ps by) is ∙ unnamed)
+      | inr named ↦ (let (name, needed, under) = named in joined.listed by name (ap (λ (t : Table). has t.inputs name) (sym same) ∙ needed at.table.inputs over) under)
     ]
 
 -- places that are sorted, each once
@@ -131,22 +63,6 @@ risen_all places sorted risen same once at h =
 
 pub divisors_risen : (slots : List (Option Table)) (place : ℕ) (places risen : List ℕ) → AreDivisors slots place places → ((at : ℕ) → is_in places at ≡ true → is_in risen at ≡ true) → AreDivisors slots place risen
 divisors_risen slots place places risen are all by some = all by (are by some)
-
--- a place more without literals, or none
-pub bare_beside : (slots : List (Option Table)) (place : ℕ) (places : List ℕ) (bare : Bool) → AreBareBeside place slots places → ((table : Table) → table_at slots place ≡ Some table → bare ≡ is_bare table) → bare ≡ false
-    → AreBare slots places
-bare_beside slots place places bare are is none at table there plain = cases (eqb at place) refl
-  where
-    cases : (b : Bool) → eqb at place ≡ b → is_in places at ≡ true
-    cases true e = absurd (false≢true (sym none ∙ (is table (ap (table_at slots) (sym (eqb-true at place e)) ∙ there) ∙ plain)))
-    cases false e = are at table (eqb-false at place e) there plain
-
-pub bare_came : (slots : List (Option Table)) (place : ℕ) (places new : List ℕ) → AreBareBeside place slots places → new ≡ places ++ place ∷ [] → AreBare slots new
-bare_came slots place places new are is at table there plain = ap (λ (ps : List ℕ). is_in ps at) is ∙ cases (eqb at place) refl
-  where
-    cases : (b : Bool) → eqb at place ≡ b → is_in (places ++ place ∷ []) at ≡ true
-    cases true e = in_back places (place ∷ []) at (ap (is_in (place ∷ [])) (eqb-true at place e) ∙ one_in place)
-    cases false e = in_front places (place ∷ []) at (are at table (eqb-false at place e) there plain)
 
 -- the tables that a table may divide
 pub dividends_none : (slots : List (Option Table)) (by : ℕ) (places : List ℕ) → table_at slots by ≡ None → AreDividends slots by places

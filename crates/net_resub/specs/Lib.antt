@@ -2,5 +2,6 @@ pub mod Best
 pub mod Candidates
 pub mod Divisions
 pub mod Kept
+pub mod Listed
 pub mod Pairs
 pub mod Reaching

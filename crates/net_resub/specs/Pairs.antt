@@ -9,7 +9,7 @@ use Rattle.circuit_model.specs.declared.circuit.Table.{Table}
 use Rattle.name_covers.specs.Literals.{Cube}
 use Rattle.name_covers.specs.declared.literal.Literal.{Literal}
 use Rattle.net_work.specs.Placed.{table_at}
-use Rattle.resub_rules.specs.Resubbed.{row_cubes, resubbed}
+use Rattle.resub_rules.specs.Resubbed.{resubbed}
 
 -- how many literals go where a table is divided by another one; none where it reads that one's signal already, or becomes too wide
 unfoldable pub saving_of : Table → Table → ℕ
@@ -29,11 +29,3 @@ saving_at slots place by = if place == by then 0 else saving_between (table_at s
 -- whether all literals of a cube are of names
 abbrev pub is_cube_over : List (List ℕ) → Cube → Bool
 is_cube_over names cube = list_all (λ (literal : Literal). has names literal.name) cube
-
--- whether a cube has no literal
-abbrev pub is_plain : Cube → Bool
-is_plain cube = length cube == 0
-
--- whether the rows of a table have no literal
-unfoldable pub is_bare : Table → Bool
-is_bare table = list_all is_plain (row_cubes table)

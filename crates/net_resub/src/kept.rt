@@ -7,21 +7,20 @@ ghost use Rattle.net_resub.specs.Kept.{IsKept, IsKeptBeside};
 ghost use Rattle.net_resub.specs.Pairs.{saving_at as saved_at};
 ghost use Rattle.net_resub.specs.declared.divisions.Division.{Division as TheDivision};
 
-use crate::candidates::{bare_places, pairs_by, pairs_with, push_bare};
-use crate::counts::ReaderCounts;
+use crate::candidates::{pairs_by, pairs_with};
 use crate::divisions::{Division, Pair, put, take};
+use crate::listed::DivisorLists;
 use crate::pairs::saving_at;
 use cube_cover::Row;
 use net_work::Work;
 use std::alloc::{AllocError, Global};
 use std::collections::BTreeSet;
 
-/// The divisions of a network that save literals, in their order, and the places of its tables without literals.
+/// The divisions of a network that save literals, in their order, and its tables as they are listed to be found as divisors.
 #[derive(Drop)]
 pub(crate) struct Kept {
     pub(crate) divisions: BTreeSet<Division>,
-    pub(crate) bare: Vec<usize>,
-    pub(crate) counts: ReaderCounts,
+    pub(crate) lists: DivisorLists,
 }
 
 // Puts the division of a pair into a set, if it saves literals.
@@ -86,16 +85,12 @@ fn take_pairs<R: Row>(
 }
 
 // All divisions of a network that save literals.
-fn all_divisions<R: Row>(
-    alloc: Global,
-    work: &Work<R>,
-    counts: &ReaderCounts,
-) -> Result<BTreeSet<Division>, AllocError>
+fn all_divisions<R: Row>(alloc: Global, work: &Work<R>) -> Result<BTreeSet<Division>, AllocError>
     ensures { IfOk result (HasJust (λ division. true) (saved_at work.now.slots)) }
 {
     let mut divisions = BTreeSet::new(alloc);
     for by in 0..work.len() {
-        let pairs = pairs_by(alloc, work, by, counts)?;
+        let pairs = pairs_by(alloc, work, by)?;
         put_pairs(alloc, work, pairs.as_slice(), &mut divisions)?;
     }
     Ok(divisions)
@@ -106,14 +101,9 @@ impl Kept {
     pub(crate) fn of<R: Row>(alloc: Global, work: &Work<R>) -> Result<Kept, AllocError>
         ensures { IfOk result (IsKept work.now.slots) }
     {
-        let counts = ReaderCounts::of(alloc, work)?;
-        let bare = bare_places(alloc, work)?;
-        let divisions = all_divisions(alloc, work, &counts)?;
-        Ok(Kept {
-            divisions,
-            bare,
-            counts,
-        })
+        let lists = DivisorLists::of(alloc, work)?;
+        let divisions = all_divisions(alloc, work)?;
+        Ok(Kept { divisions, lists })
     }
 
     /// The divisions with the table at a place leave, which is about to change; an error only for want of memory, and then anything may
@@ -127,7 +117,7 @@ impl Kept {
         requires { IsKept work.now.slots self.old }
         ensures { OnOk result (IsKeptBeside place work.now.slots self.new) }
     {
-        let pairs = pairs_with(alloc, work, place, self.bare.as_slice(), &self.counts)?;
+        let pairs = pairs_with(alloc, work, place, &self.lists)?;
         take_pairs(alloc, work, pairs.as_slice(), &mut self.divisions)
     }
 
@@ -141,8 +131,8 @@ impl Kept {
         requires { IsKeptBeside place work.now.slots self.old }
         ensures { OnOk result (IsKept work.now.slots self.new) }
     {
-        push_bare(work, place, &mut self.bare)?;
-        let pairs = pairs_with(alloc, work, place, self.bare.as_slice(), &self.counts)?;
+        self.lists.list_divisor(alloc, work, place)?;
+        let pairs = pairs_with(alloc, work, place, &self.lists)?;
         put_pairs(alloc, work, pairs.as_slice(), &mut self.divisions)
     }
 }

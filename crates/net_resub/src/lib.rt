@@ -2,16 +2,17 @@
 //!
 //! Source: Brayton, Rudell, Sangiovanni-Vincentelli and Wang, "MIS: A Multiple-Level Logic Optimization System" (1987); the SIS report
 //! (UCB/ERL M92/41), `resub`. `pairs` says what one division makes and saves, `reaching` whether a signal leads to another one,
-//! `divisions` in which order divisions are made, `candidates` which tables may divide which, `kept` keeps the divisions that save while
-//! tables change, `best` finds the best of them that may be made, and `resubbing` makes one after the other. A step looks only at pairs
-//! with the table that changed; no clause says how much work that saves.
+//! `divisions` in which order divisions are made, `listed` keeps the places of tables under one name of each, `candidates` says which
+//! tables may divide which, `kept` keeps the divisions that save while tables change, `best` finds the best of them that may be made, and
+//! `resubbing` makes one after the other. A step looks only at pairs with the table that changed, and there only at those divisors whose
+//! name it reads; no clause says how much work that saves.
 #![tactic(auto)]
 
 mod best;
 mod candidates;
-mod counts;
 mod divisions;
 mod kept;
+mod listed;
 mod pairs;
 mod reaching;
 mod resubbing;

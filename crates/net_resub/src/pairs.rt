@@ -10,7 +10,7 @@ ghost use Rattle.net_core.specs.Tables.{named, IsOverInputs};
 ghost use Rattle.net_work.specs.Placed.{table_at};
 ghost use Rattle.resub_rules.specs.Resubbed.{row_cubes as cubes_of_rows, resubbed as resubbed_by};
 ghost use Rattle.name_covers.specs.Cubes.{cube_over as cube_from, is_over};
-ghost use Rattle.net_resub.specs.Pairs.{saving_of as saved_of, saving_at as saved_at, is_cube_over, is_bare as is_without};
+ghost use Rattle.net_resub.specs.Pairs.{saving_of as saved_of, saving_at as saved_at, is_cube_over};
 
 use crate::reaching::has_name;
 use alg_div::literals_of;
@@ -87,13 +87,6 @@ fn is_table_over<R: Row>(names: &[Name], by: &Entry<R>) -> bool
         }
     }
     true
-}
-
-/// Whether the rows of a table have no literal: all that they have are of no names.
-pub(crate) fn is_bare<R: Row>(entry: &Entry<R>) -> bool
-    ensures { result ≡ is_without (written_of entry.now) }
-{
-    is_table_over(&[], entry)
 }
 
 // What a table becomes where it is divided by another one; none where it stays.

@@ -132,6 +132,11 @@ impl<R: Row> Work<R> {
         self.links.readers.places(alloc, name)
     }
 
+    /// How many tables read a name, which no clause says: it serves to choose between ways, for speed alone.
+    pub fn reader_count(&self, name: &Name) -> usize {
+        self.links.readers.count(name)
+    }
+
     /// What the table at a place is worth: n * l - n - l for its n uses and its l literals; an error only for want of memory.
     pub fn value(&self, place: usize) -> Result<i128, AllocError>
         ensures { IfOk result (λ value. (table : TheWritten) → table_at self.now.slots place ≡ Some table → value ≡ value_of (standing self.now.slots) table.output) }

@@ -1,10 +1,10 @@
 use Rattle.std.proofs.Common.{ℕ, Option, IfSome, List, Bor, sym, subst}
 use Rattle.net_core.specs.Places.{written_of}
 use Rattle.resub_rules.specs.Resubbed.{row_cubes}
-use Rattle.net_resub.specs.Candidates.{IsNeeded}
+use Rattle.net_resub.specs.Listed.{IsNeeded}
 use Rattle.net_resub.proofs.Over.{entry_needs}
-use Rattle.net_resub.proofs.candidates.rarest_name.Goals as goal
-use Rattle.net_resub.proofs.candidates.rarest_name.Goals.{then-has_literal+then-is_rarer, else-has_literal}
+use Rattle.net_resub.proofs.listed.rarest_name.Goals as goal
+use Rattle.net_resub.proofs.listed.rarest_name.Goals.{then-has_literal+then-is_rarer, else-has_literal}
 
 pub loop-place-preserved : goal.loop-place-preserved
 loop-place-preserved g c =

@@ -1,0 +1,186 @@
+//! Tables listed by name, to be found as divisors: each stands under that name of its literals which fewest tables read. Only a table
+//! that reads this name may be divided by it, so the divisors of a table stand in the lists under its inputs.
+//!
+//! Source: Brayton, Rudell, Sangiovanni-Vincentelli and Wang, "MIS: A Multiple-Level Logic Optimization System" (1987): a divisor's literals
+//! are among those of the table that it divides. Promised: the place of each table stands in the list under such a name, or among those
+//! without a name, and perhaps other places stand there too (`specs/Listed.antt`, `AreListed`). A table that changes is listed anew, and
+//! nothing leaves a list; no clause says how much work the lists save.
+
+ghost use Rattle.std.specs.Prelude.{◌≡◌, ◌==◌, ◌||◌, ℕ, Bool, true, Some, None, List, bytes_eq, is_some, slice_index_or, if◌then◌else◌, IfOk, IfSome, OnOk};
+ghost use Rattle.std.specs.List.{list_any};
+ghost use Rattle.indexmap.specs.IndexMap.{get};
+ghost use Rattle.input_readers.specs.Readers.{is_in};
+ghost use Rattle.net_core.specs.Places.{written_of};
+ghost use Rattle.resub_rules.specs.Resubbed.{row_cubes as cubes_of_rows};
+ghost use Rattle.net_resub.specs.Listed.{IsNeeded, places_in, in_list, is_under, HasPut, HasPutUnder, AreJoined, AreListed};
+
+use crate::pairs::item_at;
+use circuit_model::Name;
+use cube_cover::Row;
+use indexmap::IndexMap;
+use net_core::Entry;
+use net_work::Work;
+use sis_base::Copied;
+use std::alloc::{AllocError, Global};
+
+/// The places of tables, each in the list under a name, or among those without one where no row has a literal.
+#[derive(Drop)]
+pub(crate) struct DivisorLists {
+    pub(crate) unnamed: Vec<usize>,
+    pub(crate) named: IndexMap<Name, Vec<usize>>,
+}
+
+// Whether a row has a literal at a place.
+fn has_literal<R: Row>(rows: &[R], place: usize) -> bool
+    ensures { result ≡ true → list_any (λ row. is_some (slice_index_or (R.literals row) place None)) rows.now ≡ true }
+{
+    for row in rows {
+        if item_at(row, place).is_some() {
+            return true;
+        }
+    }
+    false
+}
+
+// Whether fewer tables read a name than another one, if there is another one.
+fn is_rarer<R: Row>(work: &Work<R>, name: &Name, other: Option<&Name>) -> bool {
+    match other {
+        None => true,
+        Some(other) => work.reader_count(name) < work.reader_count(other),
+    }
+}
+
+/// The input of which a row of a table has a literal and that fewest tables read, if a row has a literal; else none.
+pub(crate) fn rarest_name<'a, R: Row>(work: &Work<R>, entry: &'a Entry<R>) -> Option<&'a Name>
+    ensures { IfSome result (λ name. IsNeeded (cubes_of_rows (written_of entry.now)) name.now) }
+{
+    let inputs = entry.table.inputs.as_slice();
+    let rows = entry.table.cover.rows();
+    let mut rarest = None;
+    for (place, input) in inputs.iter().enumerate() {
+        if has_literal(rows, place) && is_rarer(work, input, rarest) {
+            rarest = Some(input);
+        }
+    }
+    rarest
+}
+
+// Whether a place is the last of some.
+fn is_last(places: &[usize], place: usize) -> bool
+    ensures { result ≡ true → is_in places.now place ≡ true }
+{
+    match places.last() {
+        None => false,
+        Some(last) => *last == place,
+    }
+}
+
+// Puts a place behind others, unless it is the last of them.
+fn push_place(places: &mut Vec<usize>, place: usize) -> Result<(), AllocError>
+    ensures { OnOk result (HasPut place places.old.items places.new.items) }
+{
+    if !is_last(places.as_slice(), place) {
+        places.push(place)?;
+    }
+    Ok(())
+}
+
+// Takes the list under a name out; where there is none, it is empty.
+fn take_list(alloc: Global, named: &mut IndexMap<Name, Vec<usize>>, name: &Name) -> Vec<usize>
+    ensures places { result.items ≡ places_in (get bytes_eq named.old name.now) }
+    ensures rest { (other : List ℕ) → get bytes_eq named.new other ≡ (if bytes_eq name.now other then None else get bytes_eq named.old other) }
+{
+    match named.swap_remove(name) {
+        Some(list) => list,
+        None => Vec::new(alloc),
+    }
+}
+
+// Puts the list under a name in.
+fn put_list(
+    named: &mut IndexMap<Name, Vec<usize>>,
+    name: Name,
+    list: Vec<usize>,
+) -> Result<(), AllocError>
+    ensures { OnOk result ((other : List ℕ) → get bytes_eq named.new other ≡ (if bytes_eq name other then Some list else get bytes_eq named.old other)) }
+{
+    let _list = named.insert(name, list)?;
+    Ok(())
+}
+
+// Puts a place into the list under a name.
+fn put_under(
+    alloc: Global,
+    named: &mut IndexMap<Name, Vec<usize>>,
+    name: &Name,
+    place: usize,
+) -> Result<(), AllocError>
+    ensures { OnOk result (HasPutUnder name.now place (λ other at. in_list (get bytes_eq named.old other) at) (λ other at. in_list (get bytes_eq named.new other) at)) }
+{
+    let key = name.copy(alloc)?;
+    let mut list = take_list(alloc, named, name);
+    push_place(&mut list, place)?;
+    put_list(named, key, list)
+}
+
+// Puts the places under a name behind others.
+fn push_under(
+    named: &IndexMap<Name, Vec<usize>>,
+    name: &Name,
+    places: &mut Vec<usize>,
+) -> Result<(), AllocError>
+    ensures { OnOk result ((at : ℕ) → is_in places.new.items at ≡ (is_in places.old.items at || in_list (get bytes_eq named.now name.now) at)) }
+{
+    if let Some(list) = named.get(name) {
+        places.extend_from_slice(list.as_slice())?;
+    }
+    Ok(())
+}
+
+impl DivisorLists {
+    /// The lists of all tables of a network; an error only for want of memory.
+    pub(crate) fn of<R: Row>(alloc: Global, work: &Work<R>) -> Result<DivisorLists, AllocError>
+        ensures { IfOk result (AreListed (λ at. true) work.now.slots) }
+    {
+        let mut lists = DivisorLists {
+            unnamed: Vec::new(alloc),
+            named: IndexMap::new(alloc),
+        };
+        for place in 0..work.len() {
+            lists.list_divisor(alloc, work, place)?;
+        }
+        Ok(lists)
+    }
+
+    /// Lists the table at a place, if one stands there; an error only for want of memory, and then anything may be listed.
+    pub(crate) fn list_divisor<R: Row>(
+        &mut self,
+        alloc: Global,
+        work: &Work<R>,
+        place: usize,
+    ) -> Result<(), AllocError>
+        ensures { OnOk result ((test : ℕ → Bool) → AreListed test work.now.slots self.old → AreListed (λ at. test at || place == at) work.now.slots self.new) }
+    {
+        match work.entry(place) {
+            None => Ok(()),
+            Some(entry) => match rarest_name(work, entry) {
+                None => push_place(&mut self.unnamed, place),
+                Some(name) => put_under(alloc, &mut self.named, name, place),
+            },
+        }
+    }
+
+    /// Puts the places that are listed under some names behind others; an error only for want of memory.
+    pub(crate) fn push_listed(
+        &self,
+        names: &[Name],
+        places: &mut Vec<usize>,
+    ) -> Result<(), AllocError>
+        ensures { OnOk result (AreJoined (is_under self.now) names.now places.old.items places.new.items) }
+    {
+        for name in names {
+            push_under(&self.named, name, places)?;
+        }
+        Ok(())
+    }
+}
