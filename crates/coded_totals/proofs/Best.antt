@@ -14,7 +14,7 @@ use Rattle.coded_totals.specs.Gains.{numbers_cmp, lists_cmp, literals_in}
 use Rattle.coded_totals.specs.Orders.{divisor_ties, divisor_total}
 use Rattle.coded_totals.specs.Totals.{total_of, total_at, ranks, ranked_cmp, IsRanked, better_cmp, AreBest}
 use Rattle.coded_totals.specs.declared.divisor.Divisor.{Divisor}
-use Rattle.coded_totals.specs.declared.divisor.Ranked.{Ranked}
+use Rattle.coded_totals.specs.declared.totals.Ranked.{Ranked}
 use Rattle.coded_totals.proofs.Noting.{Is, divisor_told, total_told, total_none, cover_is}
 use Rattle.coded_totals.proofs.Ranks.{ranked_at, is_equal, divisor_same, ranks_here}
 

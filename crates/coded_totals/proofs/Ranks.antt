@@ -12,7 +12,7 @@ use Rattle.coded_totals.specs.Gains.{numbers_cmp}
 use Rattle.coded_totals.specs.Orders.{divisor_eq, divisor_ties, divisor_total}
 use Rattle.coded_totals.specs.Totals.{ranks, ranked_cmp}
 use Rattle.coded_totals.specs.declared.divisor.Divisor.{Divisor}
-use Rattle.coded_totals.specs.declared.divisor.Ranked.{Ranked}
+use Rattle.coded_totals.specs.declared.totals.Ranked.{Ranked}
 
 pub is_equal : (o : Ordering) → is_eq o ≡ true → o ≡ Equal
 is_equal Less h = absurd (false≢true h)

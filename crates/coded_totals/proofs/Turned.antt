@@ -7,7 +7,7 @@ use Rattle.coded_totals.specs.Orders.{divisor_eq}
 use Rattle.coded_totals.specs.Totals.{total_of, total_at, Changes, Allows, ranks, ranked_cmp, IsRanked}
 use Rattle.coded_totals.specs.Turning.{Saving, saved_by, IsKept, AreAllowed, IsTurned, IsPartly}
 use Rattle.coded_totals.specs.declared.divisor.Divisor.{Divisor}
-use Rattle.coded_totals.specs.declared.divisor.Ranked.{Ranked}
+use Rattle.coded_totals.specs.declared.totals.Ranked.{Ranked}
 use Rattle.coded_totals.specs.declared.totals.Change.{Change}
 use Rattle.coded_totals.specs.declared.totals.Change.TheVariants.{Comes, Goes}
 use Rattle.coded_totals.specs.declared.totals.Noted.{Noted}

@@ -1,7 +1,7 @@
 -- The laws that the order of divisors keeps. No public clause needs them.
 use Rattle.std.specs.Prelude.{◌≡◌, ◌&&◌, Bool, nat_eq}
-use Rattle.std.specs.Cmp.{IsTotalOrder, IsPartialOrder, po, on_total, then_total, both_tied}
-use Rattle.std.specs.Cmp.Lexicographic.{pointwise, nat_list_cmp_total, texts_ties}
+use Rattle.std.specs.Cmp.{IsTotalOrder, IsPartialOrder, IsEquivalence, IsPartialEquivalence, po, on_total, then_total, both_tied, on_equiv, and_equiv, nat_eq_equiv, partial_equiv_from_equiv}
+use Rattle.std.specs.Cmp.Lexicographic.{pointwise, lists_equiv, nat_list_cmp_total, texts_ties}
 use Rattle.std.specs.Ordering.{eq_by_cmp, as_partial_cmp}
 use Rattle.coded_totals.specs.Gains.{numbers_cmp}
 use Rattle.coded_totals.specs.Divisors.{divisor_cmp}
@@ -21,3 +21,9 @@ divisor_ties one other =
 
 pub divisor_partial : IsPartialOrder divisor_eq (as_partial_cmp divisor_cmp)
 divisor_partial = po divisor_total divisor_ties
+
+pub divisors_equiv : IsEquivalence divisor_eq
+divisors_equiv = and_equiv (on_equiv (λ (divisor : Divisor). divisor.first) (lists_equiv nat_eq_equiv)) (on_equiv (λ (divisor : Divisor). divisor.second) (lists_equiv nat_eq_equiv))
+
+pub divisors_per : IsPartialEquivalence divisor_eq
+divisors_per = partial_equiv_from_equiv divisors_equiv

@@ -12,7 +12,7 @@ use Rattle.coded_totals.specs.Gains.{lists_cmp, same_lists, literals_in}
 use Rattle.coded_totals.specs.Divisors.{cover_of, divisor_cmp}
 use Rattle.coded_totals.specs.Orders.{divisor_eq}
 use Rattle.coded_totals.specs.declared.divisor.Divisor.{Divisor}
-use Rattle.coded_totals.specs.declared.divisor.Ranked.{Ranked}
+use Rattle.coded_totals.specs.declared.totals.Ranked.{Ranked}
 use Rattle.coded_totals.specs.declared.totals.Change.{Change}
 use Rattle.coded_totals.specs.declared.totals.Change.TheVariants.{Comes, Goes}
 

@@ -6,13 +6,13 @@ ghost use Rattle.coded_totals.specs.Divisors.{cover_of, Sums};
 
 use crate::comparing::compared;
 use crate::mixing::mixed;
-use sis_base::{Copied, Short};
+use sis_base::Short;
 use std::alloc::{AllocError, Global};
 use std::cmp::Ordering;
 use std::hash::{Hash, Hasher};
 
 /// So many numbers of a cube need no memory of their own.
-pub(crate) const KEPT_INLINE: usize = 6;
+pub(crate) const KEPT_INLINE: usize = 20;
 
 /// The numbers of a cube, in rising order.
 pub type Numbers = Short<u32, KEPT_INLINE>;
@@ -22,15 +22,6 @@ pub type Numbers = Short<u32, KEPT_INLINE>;
 pub struct Divisor {
     pub first: Numbers,
     pub second: Numbers,
-}
-
-impl Copied for Divisor {
-    fn copy(&self, alloc: Global) -> Result<Divisor, AllocError> {
-        Ok(Divisor {
-            first: self.first.copy(alloc)?,
-            second: self.second.copy(alloc)?,
-        })
-    }
 }
 
 // By hand, since a sum has some forty numbers, and each look-up hashes it.
@@ -83,13 +74,6 @@ impl PartialOrd for Divisor {
     }
 }
 
-/// A divisor behind what its saving lacks of the greatest number: the first saves most; of several that save as much it is the least.
-#[derive(Debug, PartialEq, Eq, PartialOrd, Ord, Drop)]
-pub struct Ranked {
-    pub lack: u64,
-    pub divisor: Divisor,
-}
-
 impl Divisor {
     /// The sum of two cubes that differ.
     pub fn of_sum(first: Numbers, second: Numbers) -> Divisor
@@ -113,24 +97,5 @@ impl Divisor {
             first: Numbers::from_slice(alloc, &[one, other])?,
             second: Numbers::new(alloc),
         })
-    }
-
-    /// The cubes, each by its numbers; an error only for want of memory.
-    pub fn cubes(&self, alloc: Global) -> Result<Vec<Vec<u32>>, AllocError>
-        ensures { IfOk result (λ cubes. map (λ cube. cube.items) cubes.items ≡ cover_of self.now) }
-    {
-        let mut cubes = Vec::with_capacity(alloc, 2)?;
-        cubes.push(Vec::from_slice(alloc, self.first.as_slice())?)?;
-        if !self.second.is_empty() {
-            cubes.push(Vec::from_slice(alloc, self.second.as_slice())?)?;
-        }
-        Ok(cubes)
-    }
-
-    /// How many literals there are.
-    pub fn literals(&self) -> u64
-        ensures { result ≡ literals_in (cover_of self.now) }
-    {
-        self.first.as_slice().len() as u64 + self.second.as_slice().len() as u64
     }
 }

@@ -6,10 +6,9 @@ ghost use Rattle.coded_totals.specs.Divisors.{cover_of};
 ghost use Rattle.coded_totals.specs.Gains.{gains};
 ghost use Rattle.coded_totals.specs.Totals.{total_of, AreBest, AreCubes, IsRanked};
 
-use crate::divisor::Ranked;
 use crate::pairs::note_with;
 use crate::parting::parts_of;
-use crate::totals::{Change, Noted};
+use crate::totals::{Change, Noted, Ranked};
 use std::alloc::{AllocError, Global};
 use std::collections::BTreeSet;
 use std::marker::Model;

@@ -18,7 +18,10 @@ mod merging;
 mod mixing;
 mod pairs;
 mod parting;
+mod shared;
 mod totals;
 
-pub use divisor::{Divisor, Numbers, Ranked};
+pub use divisor::{Divisor, Numbers};
 pub use exchanging::Totals;
+pub use shared::SharedDivisor;
+pub use totals::Ranked;

@@ -1,6 +1,6 @@
 //! Totals of divisors, and the order of those that save more than they cost.
 
-ghost use Rattle.std.specs.Prelude.{◌≡◌, ◌<◌, ◌≤◌, ◌^◌, ℕ, false, List, [], IfOk, OnOk, if◌then◌else◌};
+ghost use Rattle.std.specs.Prelude.{◌≡◌, ◌<◌, ◌≤◌, ◌^◌, ℕ, false, Some, List, [], slice_get, IfOk, OnOk, if◌then◌else◌};
 ghost use Rattle.std.specs.BTreeSet.{contains};
 ghost use Rattle.indexmap.specs.IndexMap.{get};
 ghost use Rattle.coded_totals.specs.Divisors.{cover_of};
@@ -9,9 +9,10 @@ ghost use Rattle.coded_totals.specs.Orders.{divisor_eq};
 ghost use Rattle.coded_totals.specs.Totals.{noted as noted_in, total_of, total_at, Changes, Allows, ranks, ranked_cmp, IsRanked};
 ghost use Rattle.coded_totals.specs.Turning.{saved_by, IsKept, AreAllowed, IsTurned};
 ghost use Rattle.coded_totals.specs.declared.divisor.Divisor.{Divisor as TheDivisor};
-ghost use Rattle.coded_totals.specs.declared.divisor.Ranked.{Ranked as TheRanked};
+ghost use Rattle.coded_totals.specs.declared.totals.Ranked.{Ranked as TheRanked};
 
-use crate::divisor::{Divisor, Ranked};
+use crate::divisor::Divisor;
+use crate::shared::SharedDivisor;
 use indexmap::IndexMap;
 use sis_base::Copied;
 use std::alloc::{AllocError, Global};
@@ -24,10 +25,17 @@ pub(crate) enum Change {
     Goes,
 }
 
+/// A divisor behind what its saving lacks of the greatest number: the first saves most; of several that save as much it is the least.
+#[derive(Debug, PartialEq, Eq, PartialOrd, Ord, Drop)]
+pub struct Ranked {
+    pub lack: u64,
+    pub divisor: SharedDivisor,
+}
+
 /// Totals, and the divisors among them that save more than they cost.
 #[derive(Drop)]
 pub(crate) struct Noted {
-    pub(crate) totals: IndexMap<Divisor, u64>,
+    pub(crate) totals: IndexMap<SharedDivisor, u64>,
     pub(crate) ranking: BTreeSet<Ranked>,
 }
 
@@ -43,44 +51,82 @@ fn changed(change: Change, total: u64, saving: u64) -> Result<u64, AllocError>
     }
 }
 
-// Changes the total of a divisor; answers what it was and what it is.
-fn change_total(
-    alloc: Global,
-    totals: &mut IndexMap<Divisor, u64>,
-    divisor: &Divisor,
-    change: Change,
-    saving: u64,
-) -> Result<(u64, u64), AllocError>
-    requires { Allows change (noted_in (get divisor_eq totals.old divisor.now)) saving }
-    ensures before { IfOk result (λ pair. pair.0 ≡ noted_in (get divisor_eq totals.old divisor.now)) }
-    ensures after { IfOk result (λ pair. Changes change pair.0 saving pair.1) }
-    ensures fits { IfOk result (λ pair. pair.1 < 2 ^ 64) }
-    ensures totals { IfOk result (λ pair. (other : TheDivisor) → noted_in (get divisor_eq totals.new other) ≡ (if divisor_eq divisor.now other then pair.1 else noted_in (get divisor_eq totals.old other))) }
-{
-    if let Some(total) = totals.get_mut(divisor) {
-        let before = *total;
-        let after = changed(change, before, saving)?;
-        *total = after;
-        return Ok((before, after));
-    }
-    let after = changed(change, 0, saving)?;
-    let key = divisor.copy(alloc)?;
-    let _none = totals.insert(key, after)?;
-    Ok((0, after))
+/// A divisor whose total has changed: what it was, and what it is.
+#[derive(Drop)]
+pub(crate) struct TotalChange {
+    pub(crate) divisor: SharedDivisor,
+    pub(crate) before: u64,
+    pub(crate) after: u64,
 }
 
-// Takes the entry of a divisor out where its total is 0, for the sake of memory.
-fn let_go(totals: &mut IndexMap<Divisor, u64>, divisor: &Divisor, total: u64)
-    requires { noted_in (get divisor_eq totals.old divisor.now) ≡ total }
-    ensures { (other : TheDivisor) → noted_in (get divisor_eq totals.new other) ≡ noted_in (get divisor_eq totals.old other) }
+// Sets the total at an index, which is that of a divisor; where it is 0 the entry goes, for the sake of memory.
+fn set_total(totals: &mut IndexMap<SharedDivisor, u64>, index: usize, total: u64)
+    ensures { (divisor : TheDivisor) (before : ℕ) → slice_get totals.old.entries index ≡ Some (divisor, before) → (other : TheDivisor) → noted_in (get divisor_eq totals.new other) ≡ (if divisor_eq divisor other then total else noted_in (get divisor_eq totals.old other)) }
 {
     if total == 0 {
-        totals.swap_remove(divisor);
+        totals.swap_remove_index(index);
+    } else if let Some(place) = totals.get_index_mut(index) {
+        *place = total;
+    }
+}
+
+// A divisor comes to totals that have none of it.
+fn put_total(
+    alloc: Global,
+    totals: &mut IndexMap<SharedDivisor, u64>,
+    divisor: Divisor,
+    total: u64,
+) -> Result<SharedDivisor, AllocError>
+    ensures same { IfOk result (λ made. made ≡ divisor) }
+    ensures totals { OnOk result ((other : TheDivisor) → noted_in (get divisor_eq totals.new other) ≡ (if divisor_eq divisor other then total else noted_in (get divisor_eq totals.old other))) }
+{
+    let shared = SharedDivisor::new(alloc, divisor)?;
+    let key = shared.copy(alloc)?;
+    let _none = totals.insert(key, total)?;
+    Ok(shared)
+}
+
+// Changes the total of a divisor, by one look-up where it has one.
+fn change_total(
+    alloc: Global,
+    totals: &mut IndexMap<SharedDivisor, u64>,
+    divisor: Divisor,
+    change: Change,
+    saving: u64,
+) -> Result<TotalChange, AllocError>
+    requires { Allows change (noted_in (get divisor_eq totals.old divisor)) saving }
+    ensures divisor { IfOk result (λ changed. changed.divisor ≡ divisor) }
+    ensures before { IfOk result (λ changed. changed.before ≡ noted_in (get divisor_eq totals.old divisor)) }
+    ensures after { IfOk result (λ changed. Changes change changed.before saving changed.after) }
+    ensures fits { IfOk result (λ changed. changed.after < 2 ^ 64) }
+    ensures totals { IfOk result (λ changed. (other : TheDivisor) → noted_in (get divisor_eq totals.new other) ≡ (if divisor_eq divisor other then changed.after else noted_in (get divisor_eq totals.old other))) }
+{
+    match totals.get_full(&divisor) {
+        None => {
+            let after = changed(change, 0, saving)?;
+            let divisor = put_total(alloc, totals, divisor, after)?;
+            Ok(TotalChange {
+                divisor,
+                before: 0,
+                after,
+            })
+        }
+        Some((index, key, total)) => {
+            let before = *total;
+            let after = changed(change, before, saving)?;
+            let divisor = key.copy(alloc)?;
+            set_total(totals, index, after);
+            Ok(TotalChange {
+                divisor,
+                before,
+                after,
+            })
+        }
     }
 }
 
 // Takes a divisor, whose total is given, out of the ranking, and hands it back.
-fn unrank(ranking: &mut BTreeSet<Ranked>, divisor: Divisor, total: u64) -> Divisor
+fn unrank(ranking: &mut BTreeSet<Ranked>, divisor: SharedDivisor, total: u64) -> SharedDivisor
     ensures same { result ≡ divisor }
     ensures ranking { ((lack : ℕ) → contains ranked_cmp ranking.old (record { lack = lack; divisor = divisor }) ≡ ranks lack (literals_in (cover_of divisor)) total)
         → (ranked : TheRanked) → contains ranked_cmp ranking.new ranked ≡ (if divisor_eq divisor ranked.divisor then false else contains ranked_cmp ranking.old ranked) }
@@ -98,7 +144,11 @@ fn unrank(ranking: &mut BTreeSet<Ranked>, divisor: Divisor, total: u64) -> Divis
 }
 
 // Puts a divisor into a ranking that does not have it, if its total is more than its literals.
-fn rank(ranking: &mut BTreeSet<Ranked>, divisor: Divisor, total: u64) -> Result<(), AllocError>
+fn rank(
+    ranking: &mut BTreeSet<Ranked>,
+    divisor: SharedDivisor,
+    total: u64,
+) -> Result<(), AllocError>
     requires { (lack : ℕ) → contains ranked_cmp ranking.old (record { lack = lack; divisor = divisor }) ≡ false }
     ensures { OnOk result ((ranked : TheRanked) → contains ranked_cmp ranking.new ranked
         ≡ (if divisor_eq divisor ranked.divisor then ranks ranked.lack (literals_in (cover_of divisor)) total else contains ranked_cmp ranking.old ranked)) }
@@ -136,8 +186,7 @@ pub(crate) fn note(
     requires allowed { AreAllowed change noted.old (saved_by divisor saving) }
     ensures { OnOk result (IsTurned change noted.old noted.new (saved_by divisor saving)) }
 {
-    let (before, after) = change_total(alloc, &mut noted.totals, &divisor, change, saving)?;
-    let_go(&mut noted.totals, &divisor, after);
-    let divisor = unrank(&mut noted.ranking, divisor, before);
-    rank(&mut noted.ranking, divisor, after)
+    let made = change_total(alloc, &mut noted.totals, divisor, change, saving)?;
+    let divisor = unrank(&mut noted.ranking, made.divisor, made.before);
+    rank(&mut noted.ranking, divisor, made.after)
 }

@@ -10,7 +10,7 @@ use Rattle.std.proofs.lemmas.List.Sums.{sum_by-cons}
 use Rattle.coded_totals.specs.Gains.{lists_cmp, gains as gains_of, literals_in as numbers_in}
 use Rattle.coded_totals.specs.Divisors.{cover_of}
 use Rattle.coded_totals.specs.Totals.{total_of, better_cmp, AreBest}
-use Rattle.coded_totals.specs.declared.divisor.Ranked.{Ranked}
+use Rattle.coded_totals.specs.declared.totals.Ranked.{Ranked}
 use Rattle.extract_rules.proofs.Usable.{all_pair}
 use Rattle.name_covers.specs.Literals.{Cube, NamedCover, cover_cmp}
 use Rattle.name_covers.proofs.Members.{Has, contains_has, has_contains}

@@ -6,7 +6,7 @@ ghost use Rattle.coded_totals.specs.Gains.{literals_in as numbers_in};
 ghost use Rattle.kept_gains.specs.Numbers.{Fails, DoesPass};
 
 use crate::trial::Trial;
-use coded_totals::Divisor;
+use coded_totals::SharedDivisor;
 use name_covers::NamedCover;
 use signal_codes::Codes;
 use std::alloc::{AllocError, Global};
@@ -16,7 +16,7 @@ pub(crate) fn passing_cover<T: Trial>(
     alloc: Global,
     codes: &Codes,
     trial: &T,
-    divisor: &Divisor,
+    divisor: &SharedDivisor,
 ) -> Result<Option<NamedCover>, AllocError>
     requires ready { T.IsReady trial.now }
     requires some { 1 ≤ numbers_in (cover_of divisor.now) }

@@ -1,14 +1,19 @@
-use Rattle.std.proofs.Common.{cond, ap, ◌∙◌}
+use Rattle.std.proofs.Common.{cond, sym, ap, ◌∙◌, ◌≡◌}
+use Rattle.std.proofs.lemmas.Map.Made.{lookup_key_passes}
 use Rattle.indexmap.specs.IndexMap.{get}
 use Rattle.coded_totals.specs.Orders.{divisor_eq}
 use Rattle.coded_totals.specs.Totals.{noted}
 use Rattle.coded_totals.specs.declared.divisor.Divisor.{Divisor}
-use Rattle.coded_totals.proofs.Noting.{noted_if}
+use Rattle.coded_totals.proofs.Ranks.{divisor_same}
 use Rattle.coded_totals.proofs.totals.change_total.Goals as goal
 
-pub returns-clause-totals : goal.returns-clause-totals
-returns-clause-totals c = λ other.
-    ap noted (c.in_ok-_none.ensures.updates.0 other)
-    ∙ (noted_if (divisor_eq c.in_ok-key.key other) c.in_ok-after-2.after (get divisor_eq c.get_mut.follows.lender-at-none other)
-    ∙ (ap (λ (d : Divisor). cond (divisor_eq d other) c.in_ok-after-2.after (noted (get divisor_eq c.get_mut.follows.lender-at-none other))) c.in_ok-key.ensures
-    ∙ ap (λ m. cond (divisor_eq c.args.divisor.now other) c.in_ok-after-2.after (noted (get divisor_eq m other))) c.get_mut.follows.holds-at-none))
+same : (c : goal.After-drop-divisor-in-Some-2) → c.args.divisor ≡ c.in-Some.key.now
+same c = divisor_same c.args.divisor c.in-Some.key.now (lookup_key_passes (divisor_eq c.args.divisor) c.args.totals.now.entries c.in-Some.key.now (sym c.in-Some.ensures.key))
+
+pub returns-in_ok-divisor-in-Some-clause-divisor : goal.returns-in_ok-divisor-in-Some-clause-divisor
+returns-in_ok-divisor-in-Some-clause-divisor c = c.in_ok-divisor-in-Some.ensures ∙ sym (same c)
+
+pub returns-in_ok-divisor-in-Some-clause-totals : goal.returns-in_ok-divisor-in-Some-clause-totals
+returns-in_ok-divisor-in-Some-clause-totals c = λ other.
+    c.set_total.ensures c.in-Some.key.now c.in-Some.total.now c.in-Some.ensures.entry other
+    ∙ ap (λ (d : Divisor). cond (divisor_eq d other) c.in_ok-after-in-Some.after (noted (get divisor_eq c.args.totals.now other))) (sym (same c))

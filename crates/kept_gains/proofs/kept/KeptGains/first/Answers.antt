@@ -3,7 +3,7 @@ use Rattle.std.specs.Map.Iter.{deref}
 use Rattle.std.proofs.lemmas.Map.Iter.{rest_more, rest_so_far, iter_end}
 use Rattle.circuit_laws.proofs.Sound.{all_append}
 use Rattle.coded_totals.specs.Divisors.{cover_of}
-use Rattle.coded_totals.specs.declared.divisor.Ranked.{Ranked}
+use Rattle.coded_totals.specs.declared.totals.Ranked.{Ranked}
 use Rattle.kept_gains.specs.Numbers.{Fails}
 use Rattle.kept_gains.proofs.Best.{turn_long, turn_first, end_none}
 use Rattle.kept_gains.proofs.kept.KeptGains.first.Goals as goal

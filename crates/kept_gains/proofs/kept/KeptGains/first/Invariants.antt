@@ -1,7 +1,7 @@
 use Rattle.std.proofs.Common.{Bor}
 use Rattle.std.specs.List.{AllByRecursion}
 use Rattle.coded_totals.specs.Divisors.{cover_of}
-use Rattle.coded_totals.specs.declared.divisor.Ranked.{Ranked}
+use Rattle.coded_totals.specs.declared.totals.Ranked.{Ranked}
 use Rattle.kept_gains.specs.Numbers.{Fails}
 use Rattle.kept_gains.proofs.kept.KeptGains.first.Given as goal
 
