@@ -1,5 +1,5 @@
 -- The best of all candidates is next, and where none saves a literal the circuit is done.
-use Rattle.std.proofs.Common.{◌≡◌, ℕ, ◌+◌, ◌-◌, ◌<◌, ◌≤◌, Option, None, List, ◌++◌, map, sym, ap, ◌∙◌, subst, inl, inr, arith}
+use Rattle.std.proofs.Common.{◌≡◌, ℕ, ◌+◌, ◌-◌, ◌<◌, ◌≤◌, Option, None, List, ◌++◌, map, Less, sym, ap, ◌∙◌, subst, inl, inr, arith}
 use Rattle.std.specs.List.{AllByRecursion}
 use Rattle.std.proofs.lemmas.Bool.{cases_lt}
 use Rattle.circuit_model.specs.Counts.{literals_of_table}
@@ -13,7 +13,7 @@ use Rattle.extract_rules.proofs.Divisors.{cover_table_literals}
 use Rattle.extract_rules.proofs.Proper.{candidate_literal}
 use Rattle.extract_rules.proofs.Totals.{lost, lost_exact, best_from, done_from}
 use Rattle.extract_rules.proofs.Usable.{tables_read, candidate_usable}
-use Rattle.name_covers.specs.Literals.{NamedCover}
+use Rattle.name_covers.specs.Literals.{NamedCover, cover_cmp}
 use Rattle.net_core.specs.Fresh.{IsNewName}
 use Rattle.table_algebra.specs.Dividing.{cover_table}
 use Rattle.net_extract.specs.Saving.{literals_in, IsSaving}
@@ -46,39 +46,41 @@ module _ (rule : Rule) (circuit : Circuit) (name : List ℕ) (sound : IsSound ci
       rest : (own all : ℕ) → own < all → 1 ≤ all - own
       rest own all less = omega (arith, less)
 
-  pub found_done : (covers : List NamedCover) → AreCandidates rule circuit.tables covers → AllByRecursion (IsListable rule) circuit.tables → IsChosen circuit.tables name covers None → IsDone rule circuit
-  found_done covers are listable none =
+  pub none_done : AllByRecursion (IsListable rule) circuit.tables → ((other : NamedCover) (number : ℕ) → IsCandidate rule circuit.tables other → IsSaving circuit.tables name other number → ⊥) → IsDone rule circuit
+  none_done listable none =
       done_from rule circuit name (λ cover. lost name cover circuit.tables) listable new (lost_exact rule circuit name sound new)
       (λ cover may. elim (cases_lt (literals_in cover) (lost name cover circuit.tables)) as (λ _. lost name cover circuit.tables ≤ literals_in cover) [
-        | inl more ↦ absurd (none cover (lost name cover circuit.tables - literals_in cover) (are.all cover may.candidate) (open_saves cover may more))
+        | inl more ↦ absurd (none cover (lost name cover circuit.tables - literals_in cover) may.candidate (open_saves cover may more))
         | inr less ↦ less
       ])
 
-  pub found_next : (covers : List NamedCover) (choice : Choice) → AreCandidates rule circuit.tables covers → AllByRecursion (IsListable rule) circuit.tables → IsFirst circuit.tables name covers choice
-      → IsNext rule circuit name choice.cover
-  found_next covers choice are listable first = record {
+  pub found_done : (covers : List NamedCover) → AreCandidates rule circuit.tables covers → AllByRecursion (IsListable rule) circuit.tables → IsChosen circuit.tables name covers None → IsDone rule circuit
+  found_done covers are listable none = none_done listable (λ other number is. none other number (are.all other is))
+
+  pub best_next : (cover : NamedCover) (saves : ℕ) → IsCandidate rule circuit.tables cover → AllByRecursion (IsListable rule) circuit.tables → IsSaving circuit.tables name cover saves
+      → ((other : NamedCover) (number : ℕ) → IsCandidate rule circuit.tables other → IsSaving circuit.tables name other number → number ≤ saves)
+      → ((other : NamedCover) (number : ℕ) → IsCandidate rule circuit.tables other → IsSaving circuit.tables name other number → number ≡ saves → cover_cmp other cover ≡ Less → ⊥)
+      → IsNext rule circuit name cover
+  best_next cover saves is listable saving most first = record {
     listable = listable;
     free = new;
-    best = best_from rule circuit name (λ cover. lost name cover circuit.tables) choice.cover (lost_exact rule circuit name sound new)
-        (record { candidate = is; added = first.saving.narrow.added; changed = first.saving.narrow.changed })
-        (let e : choice.saves + literals_in choice.cover ≡ lost name choice.cover circuit.tables = exact in more_than choice.saves (literals_in choice.cover) (lost name choice.cover circuit.tables) e first.saving.some)
-        (λ other may. elim (cases_lt (literals_in other) (lost name other circuit.tables)) as (λ _. lost name other circuit.tables + literals_in choice.cover ≤ lost name choice.cover circuit.tables + literals_in other) [
-          | inl more ↦ saved_less (lost name other circuit.tables) (literals_in other) choice.saves (literals_in choice.cover) (lost name choice.cover circuit.tables) exact more
-              (first.most other (lost name other circuit.tables - literals_in other) (are.all other may.candidate) (open_saves other may more))
-          | inr less ↦ unsaved_less (lost name other circuit.tables) (literals_in other) choice.saves (literals_in choice.cover) (lost name choice.cover circuit.tables) exact less
+    best = best_from rule circuit name (λ cover. lost name cover circuit.tables) cover (lost_exact rule circuit name sound new)
+        (record { candidate = is; added = saving.narrow.added; changed = saving.narrow.changed })
+        (let e : saves + literals_in cover ≡ lost name cover circuit.tables = exact in more_than saves (literals_in cover) (lost name cover circuit.tables) e saving.some)
+        (λ other may. elim (cases_lt (literals_in other) (lost name other circuit.tables)) as (λ _. lost name other circuit.tables + literals_in cover ≤ lost name cover circuit.tables + literals_in other) [
+          | inl more ↦ saved_less (lost name other circuit.tables) (literals_in other) saves (literals_in cover) (lost name cover circuit.tables) exact more
+              (most other (lost name other circuit.tables - literals_in other) may.candidate (open_saves other may more))
+          | inr less ↦ unsaved_less (lost name other circuit.tables) (literals_in other) saves (literals_in cover) (lost name cover circuit.tables) exact less
         ])
         (λ other may same below. elim (cases_lt (literals_in other) (lost name other circuit.tables)) as (λ _. ⊥) [
-          | inl more ↦ first.first other (lost name other circuit.tables - literals_in other) (are.all other may.candidate) (open_saves other may more)
-              (saved_same (lost name other circuit.tables) (literals_in other) choice.saves (literals_in choice.cover) (lost name choice.cover circuit.tables) exact more same) below
-          | inr less ↦ unsaved_not (lost name other circuit.tables) (literals_in other) choice.saves (literals_in choice.cover) (lost name choice.cover circuit.tables) exact first.saving.some less same
+          | inl more ↦ first other (lost name other circuit.tables - literals_in other) may.candidate (open_saves other may more)
+              (saved_same (lost name other circuit.tables) (literals_in other) saves (literals_in cover) (lost name cover circuit.tables) exact more same) below
+          | inr less ↦ unsaved_not (lost name other circuit.tables) (literals_in other) saves (literals_in cover) (lost name cover circuit.tables) exact saving.some less same
         ]);
   }
     where
-      is : IsCandidate rule circuit.tables choice.cover
-      is = are.listed choice.cover first.among
-
-      exact : choice.saves + literals_in choice.cover ≡ lost name choice.cover circuit.tables
-      exact = ap (λ (n : ℕ). choice.saves + n) (sym (own_literals choice.cover is)) ∙ first.saving.exact
+      exact : saves + literals_in cover ≡ lost name cover circuit.tables
+      exact = ap (λ (n : ℕ). saves + n) (sym (own_literals cover is)) ∙ saving.exact
 
       more_than : (saves own all : ℕ) → saves + own ≡ all → 1 ≤ saves → own < all
       more_than saves own all e some = omega (arith, e, some)
@@ -94,6 +96,12 @@ module _ (rule : Rule) (circuit : Circuit) (name : List ℕ) (sound : IsSound ci
 
       unsaved_not : (other_all other_own saves own all : ℕ) → saves + own ≡ all → 1 ≤ saves → other_all ≤ other_own → other_all + own ≡ all + other_own → ⊥
       unsaved_not other_all other_own saves own all e some less same = absurd (omega (arith, e, some, less, same))
+
+  pub found_next : (covers : List NamedCover) (choice : Choice) → AreCandidates rule circuit.tables covers → AllByRecursion (IsListable rule) circuit.tables → IsFirst circuit.tables name covers choice
+      → IsNext rule circuit name choice.cover
+  found_next covers choice are listable chosen =
+      best_next choice.cover choice.saves (are.listed choice.cover chosen.among) listable chosen.saving (λ other number is. chosen.most other number (are.all other is))
+      (λ other number is. chosen.first other number (are.all other is))
 
 -- what is chosen of the covers of all places, read as a slice, and of those that tables share
 pub chosen_read : {X : Type 0} (f : X → List NamedCover) (tables : List Table) (name : List ℕ) (listing slice : List X) (shared covers : List NamedCover) (found : Option Choice) → slice ≡ listing → covers ≡ shared

@@ -15,7 +15,7 @@ use Rattle.net_extract.specs.Known.{AreKept, StayKept}
 use Rattle.net_extract.specs.Listing.{AreOwn, IsListing}
 
 -- what is left once a place is cleared
-cleared : (lists : List (Option (Vec NamedCover))) (place at : ℕ) (covers : Vec NamedCover) → slice_get (set lists place None) at ≡ Some (Some covers)
+pub cleared : (lists : List (Option (Vec NamedCover))) (place at : ℕ) (covers : Vec NamedCover) → slice_get (set lists place None) at ≡ Some (Some covers)
     → (slice_get lists at ≡ Some (Some covers)) × (at ≡ place → ⊥)
 cleared [] place at covers e = absurd (none-some (Some covers) e)
 cleared (first ∷ lists) zero zero covers e = absurd (none-some covers (same_Some None (Some covers) e))
@@ -25,12 +25,12 @@ cleared (first ∷ lists) (suc place) (suc at) covers e =
     let rest = cleared lists place at covers e in
     (rest.0, λ same. rest.1 (omega (arith, same)))
 
-within : {X : Type 0} (xs : List X) (at : ℕ) (x : X) → slice_get xs at ≡ Some x → at < length xs
+pub within : {X : Type 0} (xs : List X) (at : ℕ) (x : X) → slice_get xs at ≡ Some x → at < length xs
 within [] at x e = absurd (none-some x e)
 within (first ∷ xs) zero x e = omega arith
 within (first ∷ xs) (suc at) x e = let below : at < length xs = within xs at x e in omega (arith, below)
 
-before : (slots : List (Option Table)) (slot : Option Table) (at : ℕ) → at < length slots → table_at (slots ++ slot ∷ []) at ≡ table_at slots at
+pub before : (slots : List (Option Table)) (slot : Option Table) (at : ℕ) → at < length slots → table_at (slots ++ slot ∷ []) at ≡ table_at slots at
 before [] slot at below = absurd (omega (arith, below))
 before (first ∷ slots) slot zero below = refl
 before (first ∷ slots) slot (suc at) below = before slots slot at (omega (arith, below))
@@ -47,7 +47,7 @@ module _ (rule : Rule) (slots : List (Option Table)) (lists : List (Option (Vec 
         each = λ at covers e. kept.each at covers (cleared lists place at covers e).0;
       })
 
-  kept_set : (place : ℕ) (slot : Option Table) → AreKept rule (set slots place slot) (set lists place None)
+  pub kept_set : (place : ℕ) (slot : Option Table) → AreKept rule (set slots place slot) (set lists place None)
   kept_set place slot = record {
     long = (let long : length (set lists place None) ≡ length lists = length-set lists place None in
         let other : length (set slots place slot) ≡ length slots = length-set slots place slot in
@@ -57,7 +57,7 @@ module _ (rule : Rule) (slots : List (Option Table)) (lists : List (Option (Vec 
         subst (λ (s : Option Table). AreOwn rule s covers.items) (sym (ap joined (get_set_other slots place at slot left.1))) (kept.each at covers left.0));
   }
 
-  kept_push : (slot : Option Table) → AreKept rule (slots ++ slot ∷ []) lists
+  pub kept_push : (slot : Option Table) → AreKept rule (slots ++ slot ∷ []) lists
   kept_push slot = record {
     long = omega (arith, kept.long, length-append slots (slot ∷ []));
     each = λ at covers e.

@@ -2,6 +2,9 @@ pub mod Slots
 pub mod Summing
 pub mod Naming
 pub mod Reading
+pub mod Nameless
+pub mod Untouched
+pub mod Notes
 pub mod Losing
 pub mod Tabled
 pub mod Narrowing
@@ -12,3 +15,6 @@ pub mod Found
 pub mod Steps
 pub mod Gaining
 pub mod KeptLists
+pub mod NotesKept
+pub mod Refreshed
+pub mod FirstSaved

@@ -82,7 +82,7 @@ one_more_different names name once free =
 
 module _ (name : List ℕ) (bit : Bool) (cover : NamedCover) (table : Table) (once : all_different table.inputs ≡ true) (free : has table.inputs name ≡ false) (is : IsDivided name bit cover table) where
   -- some row stands in what it becomes, so that this is no constant
-  divided_narrowed : divided name bit cover table ≡ narrowed (with_rows_once (rejoined name bit table (divisor name bit cover table) (found name bit cover table)))
+  pub divided_narrowed : divided name bit cover table ≡ narrowed (with_rows_once (rejoined name bit table (divisor name bit cover table) (found name bit cover table)))
   unfolding rejoined
   divided_narrowed =
       divided_where name bit cover table is

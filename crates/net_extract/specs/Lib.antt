@@ -5,3 +5,4 @@ pub mod Listing
 pub mod Dividing
 pub mod Going
 pub mod Known
+pub mod Savings

@@ -12,13 +12,16 @@ ghost use Rattle.net_extract.specs.Choosing.{IsChosen};
 ghost use Rattle.net_extract.specs.Listing.{all_of};
 ghost use Rattle.net_extract.specs.Going.{IsStopped};
 ghost use Rattle.net_extract.specs.Known.{AreCounted, AreKept};
+ghost use Rattle.net_extract.specs.Savings.{AreSaved};
 
 use crate::choosing::{Choice, best_of};
 use crate::counted::best_counted;
 use crate::fault::ExtractFault;
+use crate::kept::without_stale;
 use crate::known::Known;
 use crate::listing::{listing_of, shared_of};
 use crate::owned::{OwnLists, known_lists};
+use crate::saved::best_saved;
 use circuit_model::Name;
 use cube_cover::Row;
 use extract_rules::Rule;
@@ -72,8 +75,8 @@ fn best<R: Row>(
     }
 }
 
-/// The best candidate of a network under a new name: by the gains where they are known and asked for, else of all that are listed. None
-/// where none saves a literal. `KernelLimit` with the name of the first table that has too many kernels; else an error is want of memory.
+/// The best candidate of a network under a new name: by the gains or the savings where they are known and asked for, else of all that are
+/// listed. None where none saves a literal. `KernelLimit` with the name of the first table that has too many kernels; else an error is want of memory.
 pub(crate) fn best_known<R: Row>(
     alloc: Global,
     work: &Work<R>,
@@ -85,8 +88,10 @@ pub(crate) fn best_known<R: Row>(
     requires free { IsNewName (circuit_of work.now) name.now }
     requires known { AreCounted work.now.slots known.old.gains }
     requires lists { AreKept rule work.now.slots known.old.own.items }
+    requires saved { AreSaved work.now known.old.kept }
     ensures known { OnOk result (AreCounted work.now.slots known.new.gains) }
     ensures lists { OnOk result (AreKept rule work.now.slots known.new.own.items) }
+    ensures saved { OnOk result (AreSaved work.now known.new.kept) }
     ensures found { IfOk result (λ found. MatchOption found (IsDone rule (circuit_of work.now)) (IsNext rule (circuit_of work.now) name.now)) }
     ensures stopped { IfErr result (IsStopped rule (circuit_of work.now)) }
 {
@@ -98,6 +103,15 @@ pub(crate) fn best_known<R: Row>(
                 Ok(found)
             }
         },
-        Rule::Gkx | Rule::Gcx => best(alloc, work, rule, name, &mut known.own),
+        Rule::Gkx => match known.kept.take() {
+            None => best(alloc, work, rule, name, &mut known.own),
+            Some(kept) => {
+                let mut kept = without_stale(alloc, work, kept)?;
+                let found = best_saved(alloc, work, name, &mut kept)?;
+                known.kept = Some(kept);
+                Ok(found)
+            }
+        },
+        Rule::Gcx => best(alloc, work, rule, name, &mut known.own),
     }
 }

@@ -6,8 +6,10 @@ ghost use Rattle.circuit_model.specs.declared.circuit.Table.{Table as TheTable};
 ghost use Rattle.net_core.specs.Tables.{named, IsOverInputs};
 ghost use Rattle.net_work.specs.Placed.{table_at, with_slot, AddsLast};
 ghost use Rattle.net_extract.specs.Known.{AreCounted, StayKept};
+ghost use Rattle.net_extract.specs.Savings.{AreSaved};
 
 use crate::counting::count;
+use crate::kept::{KeptSavings, begin_savings, changed_savings, pushed_savings};
 use crate::owned::{OwnLists, taken};
 use circuit_model::Name;
 use cube_cover::Row;
@@ -22,8 +24,10 @@ use std::alloc::{AllocError, Global};
 pub(crate) struct Known {
     /// What divisors gain in all tables, where it is counted.
     pub(crate) gains: Option<KeptGains>,
-    /// What tables give by themselves.
+    /// What tables give by themselves, where all candidates are listed.
     pub(crate) own: OwnLists,
+    /// What candidates save, where it is kept.
+    pub(crate) kept: Option<KeptSavings>,
 }
 
 impl Known {
@@ -31,10 +35,12 @@ impl Known {
     pub(crate) fn nothing(alloc: Global) -> Known
         ensures gains { result.gains ≡ None }
         ensures own { result.own.items ≡ [] }
+        ensures kept { result.kept ≡ None }
     {
         Known {
             gains: None,
             own: Vec::new(alloc),
+            kept: None,
         }
     }
 }
@@ -99,8 +105,10 @@ pub(crate) fn add_known<R: Row>(
     ensures added { AddsLast work.old table work.new result }
     ensures known { IfOk result (λ _. AreCounted work.new.slots known.new.gains) }
     ensures lists { IfOk result (λ _. StayKept work.old.slots known.old.own.items work.new.slots known.new.own.items) }
+    ensures saved { IfOk result (λ _. AreSaved work.old known.old.kept → AreSaved work.new known.new.kept) }
 {
     known.gains = pushed(alloc, known.gains.take(), &table)?;
+    known.kept = pushed_savings(alloc, known.kept.take(), work, &table)?;
     work.add(alloc, table)
 }
 
@@ -119,8 +127,10 @@ pub(crate) fn set_known<R: Row>(
     ensures set { OnOk result ((old : TheTable) → table_at work.old.slots place ≡ Some old → work.new ≡ with_slot work.old place (Some (named old.output table))) }
     ensures known { OnOk result (AreCounted work.new.slots known.new.gains) }
     ensures lists { OnOk result (StayKept work.old.slots known.old.own.items work.new.slots known.new.own.items) }
+    ensures saved { OnOk result (AreSaved work.old known.old.kept → AreSaved work.new known.new.kept) }
 {
     known.gains = changed(alloc, known.gains.take(), place, &table)?;
+    known.kept = changed_savings(alloc, known.kept.take(), work, place, &table)?;
     let _old = taken(&mut known.own, place);
     work.set(alloc, place, table)
 }
@@ -132,12 +142,17 @@ pub(crate) fn know<R: Row>(
     rule: Rule,
     known: &mut Known,
 ) -> Result<(), AllocError>
-    requires { AreCounted work.now.slots known.old.gains }
+    requires known { AreCounted work.now.slots known.old.gains }
+    requires saved { AreSaved work.now known.old.kept }
     ensures known { OnOk result (AreCounted work.now.slots known.new.gains) }
     ensures lists { known.new.own ≡ known.old.own }
+    ensures saved { OnOk result (AreSaved work.now known.new.kept) }
 {
     if rule == Rule::Fx && known.gains.is_none() {
         known.gains = count(alloc, work)?;
+    }
+    if rule == Rule::Gkx && known.kept.is_none() {
+        known.kept = Some(begin_savings(alloc, work)?);
     }
     Ok(())
 }

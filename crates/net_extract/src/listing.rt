@@ -46,8 +46,8 @@ fn own_of<R: Row>(
     }
 }
 
-// What the table at a place gives by itself.
-fn own_at<R: Row>(
+/// What the table at a place gives by itself.
+pub(crate) fn own_at<R: Row>(
     alloc: Global,
     work: &Work<R>,
     rule: Rule,

@@ -1,12 +1,14 @@
 //! What a candidate saves: what the tables that can be divided by it lose, without the literals of its own table.
 
-ghost use Rattle.std.specs.Prelude.{◌≡◌, ℕ, ◌+◌, ◌-◌, ◌≤◌, ◌<◌, ltb, ◌&&◌, true, false, Option, Some, List, length, IfOk, MatchOption};
+ghost use Rattle.std.specs.Prelude.{◌≡◌, ℕ, ◌+◌, ◌-◌, ◌≤◌, ◌<◌, ltb, ◌&&◌, ◌⊎◌, true, false, Option, Some, List, length, IfOk, MatchOption};
 ghost use Rattle.std.specs.List.Sorted.{IsStrictlyIncreasing};
 ghost use Rattle.circuit_model.specs.Names.{has, all_different};
 ghost use Rattle.circuit_model.specs.Soundness.{IsSound};
 ghost use Rattle.circuit_model.specs.declared.circuit.Table.{Table as TheTable};
+ghost use Rattle.alg_div.specs.Cubes.{Has};
 ghost use Rattle.input_readers.specs.Readers.{is_in};
 ghost use Rattle.name_covers.specs.Cubes.{is_over, names_in};
+ghost use Rattle.name_covers.specs.declared.literal.Literal.{Literal as TheLiteral};
 ghost use Rattle.net_core.specs.Fresh.{IsNewName};
 ghost use Rattle.net_core.specs.Tables.{named, IsOverInputs};
 ghost use Rattle.net_work.specs.Placed.{standing, circuit_of, table_at};
@@ -15,7 +17,7 @@ ghost use Rattle.net_extract.specs.Saving.{literals_in, IsLoss, AreLosses, IsSav
 use circuit_model::Name;
 use cube_cover::Row;
 use input_readers::Places;
-use name_covers::Cube;
+use name_covers::{Cube, Literal};
 use net_core::Table;
 use net_work::Work;
 use std::alloc::{AllocError, Global};
@@ -44,6 +46,39 @@ fn first_name(cover: &[Cube]) -> Option<&Name>
     None
 }
 
+// The one of two names that fewer tables read, the second where as many do.
+fn rarer<'a, R: Row>(work: &Work<R>, one: &'a Name, other: &'a Name) -> &'a Name
+    ensures { (result.now ≡ one.now) ⊎ (result.now ≡ other.now) }
+{
+    if work.reader_count(one) < work.reader_count(other) {
+        one
+    } else {
+        other
+    }
+}
+
+// Of a name and those of a cube's literals the one that fewest tables read.
+fn rarest_in<'a, R: Row>(work: &Work<R>, cube: &'a [Literal], name: &'a Name) -> &'a Name
+    ensures { (result.now ≡ name.now) ⊎ ((literal : TheLiteral) × Has literal cube.now × (literal.name ≡ result.now)) }
+{
+    let mut rarest = name;
+    for literal in cube {
+        rarest = rarer(work, &literal.name, rarest);
+    }
+    rarest
+}
+
+/// The name of a cover's literals that fewest tables read.
+pub(crate) fn rarest_name<'a, R: Row>(work: &Work<R>, cover: &'a [Cube]) -> Option<&'a Name>
+    ensures { MatchOption result (literals_in cover.now ≡ 0) (λ name. has (names_in cover.now) name.now ≡ true) }
+{
+    let mut rarest = first_name(cover)?;
+    for cube in cover {
+        rarest = rarest_in(work, cube.as_slice(), rarest);
+    }
+    Some(rarest)
+}
+
 // Places in rising order, each once.
 fn risen(places: Places) -> Vec<usize>
     ensures rising { IsStrictlyIncreasing result.items }
@@ -67,7 +102,7 @@ pub(crate) fn places_for<R: Row>(
     ensures within { IfOk result (λ places. (at : ℕ) → is_in places.items at ≡ true → at < length work.now.slots) }
     ensures all { IfOk result (λ places. (at : ℕ) (table : TheTable) → table_at work.now.slots at ≡ Some table → is_over table.inputs cover.now ≡ true → is_in places.items at ≡ true) }
 {
-    match first_name(cover) {
+    match rarest_name(work, cover) {
         None => unreachable!(),
         Some(name) => {
             let readers = work.readers(alloc, name)?;

@@ -14,6 +14,7 @@ ghost use Rattle.net_extract.specs.Saving.{literals_in};
 ghost use Rattle.net_extract.specs.Dividing.{divided_slot, with_divided, IsMade, IsMadeAt, IsAdded};
 ghost use Rattle.net_extract.specs.Going.{IsStopped, IsNotAdded, IsPut, IsTaken};
 ghost use Rattle.net_extract.specs.Known.{AreCounted, AreKept, StayKept};
+ghost use Rattle.net_extract.specs.Savings.{AreSaved};
 
 use crate::fault::ExtractFault;
 use crate::finding::best_known;
@@ -56,6 +57,7 @@ fn add_table<R: Row>(
     ensures added { IfOk result (λ name. IsAdded cover.now name work.old work.new) }
     ensures known { IfOk result (λ _. AreCounted work.new.slots known.new.gains) }
     ensures lists { IfOk result (λ _. StayKept work.old.slots known.old.own.items work.new.slots known.new.own.items) }
+    ensures saved { IfOk result (λ _. AreSaved work.old known.old.kept → AreSaved work.new known.new.kept) }
     ensures fault { IfErr result (IsNotAdded (circuit_of work.old)) }
 {
     let made = cover_table(alloc, cover)?;
@@ -115,6 +117,7 @@ fn divide_at<R: Row>(
     requires known { AreCounted work.old.slots known.old.gains }
     ensures known { OnOk result (AreCounted work.new.slots known.new.gains) }
     ensures lists { OnOk result (StayKept work.old.slots known.old.own.items work.new.slots known.new.own.items) }
+    ensures saved { OnOk result (AreSaved work.old known.old.kept → AreSaved work.new known.new.kept) }
     ensures divided { OnOk result (work.new ≡ with_slot work.old place (divided_slot name.now cover.now (table_at work.old.slots place))) }
     ensures bounded { OnOk result (AllByRecursion IsBounded (standing work.old.slots) → AllByRecursion IsBounded (standing work.new.slots)) }
 {
@@ -136,6 +139,7 @@ fn divide_places<R: Row>(
     requires known { AreCounted work.old.slots known.old.gains }
     ensures known { OnOk result (AreCounted work.new.slots known.new.gains) }
     ensures lists { OnOk result (StayKept work.old.slots known.old.own.items work.new.slots known.new.own.items) }
+    ensures saved { OnOk result (AreSaved work.old known.old.kept → AreSaved work.new known.new.kept) }
     ensures divided { OnOk result (work.new ≡ with_divided name.now cover.now places.now work.old) }
     ensures bounded { OnOk result (AllByRecursion IsBounded (standing work.old.slots) → AllByRecursion IsBounded (standing work.new.slots)) }
 {
@@ -158,6 +162,7 @@ fn put<R: Row>(
     ensures put { OnOk result (IsPut cover.now work.old work.new) }
     ensures known { OnOk result (AreCounted work.new.slots known.new.gains) }
     ensures lists { OnOk result (StayKept work.old.slots known.old.own.items work.new.slots known.new.own.items) }
+    ensures saved { OnOk result (AreSaved work.old known.old.kept → AreSaved work.new known.new.kept) }
     ensures fault { IfErr result (IsNotAdded (circuit_of work.old)) }
 {
     let places = places_for(alloc, work, cover)?;
@@ -176,8 +181,10 @@ pub(crate) fn step<R: Row>(
     requires sound { IsSound (circuit_of work.old) }
     requires known { AreCounted work.old.slots known.old.gains }
     requires lists { AreKept rule work.old.slots known.old.own.items }
+    requires saved { AreSaved work.old known.old.kept }
     ensures known { OnOk result (AreCounted work.new.slots known.new.gains) }
     ensures lists { OnOk result (AreKept rule work.new.slots known.new.own.items) }
+    ensures saved { OnOk result (AreSaved work.new known.new.kept) }
     ensures done { IfOk result (λ taken. taken ≡ false → (work.new ≡ work.old) × IsDone rule (circuit_of work.old)) }
     ensures taken { IfOk result (λ taken. taken ≡ true → IsTaken rule work.old work.new) }
     ensures stopped { IfErr result (IsStopped rule (circuit_of work.old)) }

@@ -11,6 +11,7 @@ loop-place-preserved g c = record {
   bounded = λ all. c.in_ok-divide_at.ensures.bounded (c.loop-place.invariant.bounded all);
   known = c.in_ok-divide_at.ensures.known;
   lists = λ rule kept. c.in_ok-divide_at.ensures.lists rule (c.loop-place.invariant.lists rule kept);
+  saved = λ saved. c.in_ok-divide_at.ensures.saved (c.loop-place.invariant.saved saved);
 }
 
 pub returns-clause-divided : goal.returns-clause-divided

@@ -1,0 +1,10 @@
+use Rattle.std.proofs.Common.{Bor}
+use Rattle.std.specs.List.{AllByRecursion}
+use Rattle.extract_rules.specs.Candidates.{IsCandidate}
+use Rattle.extract_rules.specs.declared.rule.Rule.TheVariants.{Gkx}
+use Rattle.net_work.specs.Placed.{standing}
+use Rattle.ranked_covers.specs.declared.ranked.RankedCover.{RankedCover}
+use Rattle.net_extract.proofs.saved.first_saved.Given as goal
+
+abbrev pub invariant-loop-ranked : goal.invariant-loop-ranked
+invariant-loop-ranked g l = AllByRecursion (λ (ranked : Bor RankedCover). IsCandidate Gkx (standing l.work.slots) ranked.now.cover → ⊥) l.yielded
