@@ -1,5 +1,8 @@
 //! What the commands make of the network that change it: a new one beside the old one, within the bounds in which literals are
 //! counted.
+//!
+//! Each takes a copy, since the crates below own the network that they change, and an error loses it: the old one stays as it was where a
+//! command is refused, and is kept for `undo` where it is done. `change_network` is the one call that the session makes.
 
 ghost use Rattle.std.specs.Prelude.{◌≡◌, IfOk};
 ghost use Rattle.circuit_laws.specs.Chains.{Chain};

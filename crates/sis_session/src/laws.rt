@@ -1,4 +1,7 @@
 //! Laws on the steps of the command machine.
+//!
+//! They follow from the definitions of plans and steps alone, whatever the code does, so their functions are empty. They are all that
+//! sis_top knows of a command: a new one adds its case to their proofs, and the run and its proof stay as they are.
 
 ghost use Rattle.std.specs.Prelude.{◌≡◌, ◌⊎◌, List, None, Option, Result, Some, ℕ};
 ghost use Rattle.sis_outside.specs.Calls.{PutCall, Save};

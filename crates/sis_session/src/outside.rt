@@ -1,4 +1,7 @@
 //! The calls that a step makes on the outside.
+//!
+//! Each is parted from what is done with its answer, so that its contract says which call was made and how it ended, over every object of
+//! its kind. What a command tells is handed in as it was made, or as the reason why it was not: then nothing is asked of the outside.
 
 ghost use Rattle.std.specs.Prelude.{◌≡◌, ◌≤◌, IfOk, List, ℕ, None, Result, length};
 ghost use Rattle.sis_outside.specs.Calls.{Follows};

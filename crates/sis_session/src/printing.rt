@@ -1,4 +1,7 @@
 //! What the commands tell that print or write.
+//!
+//! A text is made whole before the outside is asked for anything, so that a command that fails leaves nothing half printed, and a
+//! command that prints is one function here and one arm of the step.
 
 ghost use Rattle.std.specs.Prelude.{◌≡◌, Ok, flat_map, IfSome};
 ghost use Rattle.sis_base.specs.Written.{lines_text};

@@ -1,7 +1,9 @@
 //! The session: what is held between two commands, and one step of the command machine.
 //!
 //! Only `Ok` changes what is held. What a command makes is made first and told to the outside next; it is moved in last,
-//! when nothing can fail any more.
+//! when nothing can fail any more. A relation of each trait of the outside says what one call with its answer may do to the object.
+//! `Steps` says by cases on a command's plan what it asked and how it ended; `step` adds that each object went by just those calls (`Did`).
+//! The methods below it promise a computing form, by cases on the plan and the ending, so that no witness has to be found in them.
 
 ghost use Rattle.std.specs.Prelude.{◌≡◌, ◌<◌, IfOk, IfSome, OnOk, OnErr, option_map};
 ghost use Rattle.sis_outside.specs.Calls.{Follows};

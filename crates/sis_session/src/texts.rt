@@ -1,4 +1,7 @@
 //! The texts that the program prints: replies, lines of refusals and of faults.
+//!
+//! Each stands here once and is promised byte by byte (`specs/Replies`), so that a script may rely on what it reads. The texts of faults in
+//! files are those of fault_texts.
 
 ghost use Rattle.std.specs.Prelude.{◌≡◌, ◌++◌, flat_map, codes, decimal, IfOk, OnOk};
 ghost use Rattle.sis_base.specs.Written.{spaced};

@@ -1,4 +1,6 @@
 //! The script that the words ask for, begun: its commands come next.
+//!
+//! It stands in a word, in a file or on the input; all three come to one text, of no more bytes than are run, that one call cuts into commands.
 
 ghost use Rattle.std.specs.Prelude.{◌≤◌, IfOk, length, nat_le, if◌then◌else◌};
 ghost use Rattle.sis_outside.specs.Calls.{Follows};

@@ -1,4 +1,7 @@
 //! Laws on the runs of the command machine.
+//!
+//! They follow by induction over the turns from the laws of the session over one step, so their functions are empty, and no command but
+//! `write_blif` and no table is named in their proofs.
 
 ghost use Rattle.std.specs.Prelude.{◌≡◌, Bool, List, [], false};
 ghost use Rattle.std.specs.List.{AllByRecursion};

@@ -1,5 +1,10 @@
 //! The run: the works that are due, one after the other, each a step of the session; a refusal puts its line on the
 //! error output.
+//!
+//! `take_turn` makes a turn of one step; the loop's invariant is that some turns led from the begin to a machine at which this is held and
+//! due. The measure is the sum of a weight of the works: a script has fewer commands than the weight grows for each level of nesting. What
+//! holds of all runs (faithful turns, what is kept, served runs, one run) are lemmas over the definitions alone, and stand on the session's laws
+//! over one step: so a new command leaves the run as it is.
 
 ghost use Rattle.std.specs.Prelude.{◌≡◌, ◌≤◌, ◌<◌, ◌+◌, ◌-◌, ◌++◌, ◌∷◌, ◌||◌, [], Bool, OnErr, OnOk, IfErr, IfOk, reverse, if◌then◌else◌};
 ghost use Rattle.sis_outside.specs.Calls.{Follows};

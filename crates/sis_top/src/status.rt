@@ -1,4 +1,6 @@
-//! How a call of the program ended.
+//! How a call of the program ended, and the number that a shell sees.
+//!
+//! Behind a refusal a run may have gone on, where it was asked to; behind a failure or want of memory no later command was done.
 
 ghost use Rattle.std.specs.Prelude.{◌≡◌};
 ghost use Rattle.sis_top.specs.Call.{code_of};

@@ -1,4 +1,7 @@
 //! The top call: the words of the command line, the run of the script that they ask for, and the last line.
+//!
+//! It is laid in three calls: one that makes the turns and promises how each object went (`run_words`), one that adds what each tells and
+//! counts, which follows from the calls by the law of each trait (`stores_went`, `sources_went`, `sinks_went`), and one that states all of it.
 
 ghost use Rattle.std.specs.Prelude.{◌≡◌, ◌⊎◌, IsTrue, None};
 ghost use Rattle.sis_outside.specs.Calls.{Follows, SinkWent, SourceWent, StoreWent};
