@@ -78,7 +78,8 @@ PY
 }
 
 # What the heap comes to behind the circuit that was read: how far it rises again once reading, which takes most, is over. That is the
-# memory of the forest and of its covers, told for each vertex. By valgrind's massif, where it is installed.
+# memory of the forest, of its covers and of the library's patterns, which are made then. What the library takes is the most that the heap
+# holds of it beside a circuit of one table; the rest is told for each vertex. By valgrind's massif, where it is installed.
 heap() { # the library
   if ! command -v valgrind >/dev/null; then
     echo "       heap not told: valgrind is not installed"
@@ -87,21 +88,25 @@ heap() { # the library
   python3 - "$program" "$work" "$1" <<'PY'
 import re, subprocess, sys
 program, work, name = sys.argv[1:]
-def escaped(file): return open(f"{work}/{file}").read().replace("\\", "\\\\").replace("\n", "\\n") + "\n"
-def run(text, told):
+def escaped(text): return text.replace("\\", "\\\\").replace("\n", "\\n") + "\n"
+circuit, library = escaped(open(f"{work}/a.blif").read()), escaped(open(f"{work}/{name}.genlib").read())
+one = escaped(".model one\n.inputs a b\n.outputs y\n.names a b y\n11 1\n.end\n")
+def run(text, tool):
     open(f"{work}/case", "w").write(text)
-    tool = ["valgrind", "-q", "--tool=massif", "--max-snapshots=1000", "--detailed-freq=1000", f"--massif-out-file={work}/massif"] if told else []
     return subprocess.run(tool + [program], stdin=open(f"{work}/case"), capture_output=True, text=True).stdout
-circuit = escaped("a.blif")
-vertices = int(run(f"vertices\n{circuit}==\n", False).split("\n")[1])
-run(f"totals\n{escaped(name + '.genlib')}and\n{circuit}==\n", True)
-held = [int(a) + int(b) for a, b in re.findall(r"mem_heap_B=(\d+)\nmem_heap_extra_B=(\d+)", open(f"{work}/massif").read())]
-most = held.index(max(held))
-least, rise, stands = held[most], 0, 0
-for bytes in held[most:]:
+def held(circuit): # the heap from step to step
+    massif = ["valgrind", "-q", "--tool=massif", "--max-snapshots=1000", "--detailed-freq=1000", f"--massif-out-file={work}/massif"]
+    run(f"totals\n{library}and\n{circuit}==\n", massif)
+    return [int(a) + int(b) for a, b in re.findall(r"mem_heap_B=(\d+)\nmem_heap_extra_B=(\d+)", open(f"{work}/massif").read())]
+vertices = int(run(f"vertices\n{circuit}==\n", []).split("\n")[1])
+patterns, steps = max(held(one)), held(circuit)
+most = steps.index(max(steps))
+least, rise, stands = steps[most], 0, 0
+for bytes in steps[most:]:
     least = min(least, bytes)
     if bytes - least > rise: rise, stands = bytes - least, least
-print(f"       heap, bytes a vertex: at most {held[most] // vertices}, the circuit {stands // vertices}, the forest and its covers {rise // vertices}")
+print(f"       heap, bytes a vertex: at most {steps[most] // vertices}, the circuit {stands // vertices}, the forest and its covers"
+      f" {(rise - patterns) // vertices}; the library {patterns // 1000} kB")
 PY
 }
 

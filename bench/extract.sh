@@ -1,6 +1,7 @@
 #!/usr/bin/env bash
 # Extracts, resubstitutes and decomposes with `sis`, and reports the time and the peak memory beside `sweep` on the same file: random circuits
-# of two-input tables, as they are and after `eliminate`, tables of random rows, and pairs of tables of which one divides the other. `fx` stands beside ABC's `fx` (Debian's berkeley-abc), which
+# of two-input tables, as they are and after `eliminate`, tables of random rows, pairs of tables of which one divides the other, and blocks of
+# tables that share a sum or a product. `fx` stands beside ABC's `fx` (Debian's berkeley-abc), which
 # looks at two-cube and two-literal divisors as well, with weights of its own; ABC has no command like the others: `st`, by which it makes a graph
 # of two-input nodes of the same file, stands beside them, told as what it is.
 # Usage: bench/extract.sh [TABLES ..]   (2000 and 20000 where none is named)
@@ -53,6 +54,20 @@ pairs() { # how many pairs; one table of each divides the other, which reads two
   }'
 }
 
+blocks() { # how many blocks of two tables, and what both have: a sum of two inputs, or ("cube") a product of two, of which all tables read one
+  awk -v blocks="$1" -v cube="${2:-}" 'BEGIN {
+    printf ".model blocks\n.inputs a"
+    for (i = 0; i < blocks; i++) printf " a%d b%d c%d d%d e%d", i, i, i, i, i
+    printf "\n.outputs"; for (i = 0; i < blocks; i++) printf " f%d g%d", i, i
+    printf "\n"
+    for (i = 0; i < blocks; i++) {
+      if (cube) printf ".names a b%d c%d d%d f%d\n111- 1\n11-1 1\n.names a b%d e%d g%d\n111 1\n", i, i, i, i, i, i, i
+      else printf ".names a%d b%d c%d d%d f%d\n1-1- 1\n-11- 1\n1--1 1\n-1-1 1\n.names a%d b%d e%d g%d\n1-1 1\n-11 1\n", i, i, i, i, i, i, i, i, i
+    }
+    print ".end"
+  }'
+}
+
 for tables in "${sizes[@]}"; do
   random "$tables" >"$work/a.blif"
   each "random circuit of $tables tables" sweep fx gkx gcx resub decomp tech_decomp
@@ -78,3 +93,10 @@ for count in "${sizes[@]}"; do
 done
 pairs 2000 common >"$work/a.blif"
 each "2000 such pairs that read two common inputs besides" sweep resub
+
+for count in 500 1000 2000; do
+  blocks "$count" >"$work/a.blif"
+  each "$count blocks of two tables that share a sum of two inputs" sweep fx gkx gcx resub decomp tech_decomp
+  blocks "$count" cube >"$work/a.blif"
+  each "$count blocks of two tables that share a product of two inputs, one of which all tables read" sweep fx gkx gcx resub decomp tech_decomp
+done
