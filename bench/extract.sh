@@ -54,16 +54,21 @@ pairs() { # how many pairs; one table of each divides the other, which reads two
   }'
 }
 
-blocks() { # how many blocks of two tables, and what both have: a sum of two inputs, or ("cube") a product of two, of which all tables read one
-  awk -v blocks="$1" -v cube="${2:-}" 'BEGIN {
+# How many blocks of two tables, and what both have: a sum of two inputs ("sum", or "twice" beside one more table that has a row twice), or a
+# product of two ("own"), of which all tables read one ("common").
+blocks() {
+  awk -v blocks="$1" -v kind="$2" 'BEGIN {
     printf ".model blocks\n.inputs a"
     for (i = 0; i < blocks; i++) printf " a%d b%d c%d d%d e%d", i, i, i, i, i
     printf "\n.outputs"; for (i = 0; i < blocks; i++) printf " f%d g%d", i, i
+    if (kind == "twice") printf " h"
     printf "\n"
     for (i = 0; i < blocks; i++) {
-      if (cube) printf ".names a b%d c%d d%d f%d\n111- 1\n11-1 1\n.names a b%d e%d g%d\n111 1\n", i, i, i, i, i, i, i
+      first = kind == "common" ? "a" : "a" i
+      if (kind == "common" || kind == "own") printf ".names %s b%d c%d d%d f%d\n111- 1\n11-1 1\n.names %s b%d e%d g%d\n111 1\n", first, i, i, i, i, first, i, i, i
       else printf ".names a%d b%d c%d d%d f%d\n1-1- 1\n-11- 1\n1--1 1\n-1-1 1\n.names a%d b%d e%d g%d\n1-1 1\n-11 1\n", i, i, i, i, i, i, i, i, i
     }
+    if (kind == "twice") print ".names a a0 h\n11 1\n11 1"
     print ".end"
   }'
 }
@@ -95,8 +100,12 @@ pairs 2000 common >"$work/a.blif"
 each "2000 such pairs that read two common inputs besides" sweep resub
 
 for count in 500 1000 2000; do
-  blocks "$count" >"$work/a.blif"
+  blocks "$count" sum >"$work/a.blif"
   each "$count blocks of two tables that share a sum of two inputs" sweep fx gkx gcx resub decomp tech_decomp
-  blocks "$count" cube >"$work/a.blif"
+  blocks "$count" twice >"$work/a.blif"
+  each "the same beside a table with a row twice" fx
+  blocks "$count" own >"$work/a.blif"
+  each "$count blocks of two tables that share a product of two inputs" sweep fx gkx gcx
+  blocks "$count" common >"$work/a.blif"
   each "$count blocks of two tables that share a product of two inputs, one of which all tables read" sweep fx gkx gcx resub decomp tech_decomp
 done

@@ -21,13 +21,13 @@ use Rattle.extract_candidates.proofs.Made.{mapped_has, has_mapped}
 literal_from : List ℕ → Bool → Literal
 literal_from name bit = record { name = name; bit = bit }
 
-same_is : (one other : Literal) → same_literal one other ≡ true → one ≡ other
+pub same_is : (one other : Literal) → same_literal one other ≡ true → one ≡ other
 unfolding literal_from
 same_is one other h =
     let parts = and_parts (bytes_eq one.name other.name) (beq one.bit other.bit) h in
     ap₂ literal_from (same_name one.name other.name parts.0) ((booleans_Decides one.bit other.bit).0 parts.1)
 
-itself : (one : Literal) → same_literal one one ≡ true
+pub itself : (one : Literal) → same_literal one one ≡ true
 itself one = and_from (bytes_eq one.name one.name) (beq one.bit one.bit) (name_itself one.name) ((booleans_Decides one.bit one.bit).1 refl)
 
 literal_decides : (one other : Literal) → Decides (same_literal one other) (one ≡ other)
@@ -42,7 +42,7 @@ cover_same one other h = (slice_eq-Decides cube_decides one other (pointwise (po
 -- ---- a key put in
 
 module _ {X : Type 0} (eq : X → X → Bool) (same : (x y : X) → eq x y ≡ true → x ≡ y) where
-  any_has : (keys : List X) (key : X) → list_any (eq key) keys ≡ true → Has key keys
+  pub any_has : (keys : List X) (key : X) → list_any (eq key) keys ≡ true → Has key keys
   any_has [] key h = absurd (false≢true h)
   any_has (first ∷ keys) key h =
       elim (or_cases (eq key first) (list_any (eq key) keys) h) as (λ _. Has key (first ∷ keys)) [
@@ -82,13 +82,13 @@ found_put old new found made is e cover = (
     some_is : Some cover ≡ Some made → cover ≡ made
     some_is h = cc
 
--- what a set has after some places, one place more
-abbrev pub HasFound : (ℕ → Option NamedCover) → List ℕ → List NamedCover → List NamedCover → Type 0
+-- what a set has after some items, as places, one item more
+abbrev pub HasFound : {X : Type 0} → (X → Option NamedCover) → List X → List NamedCover → List NamedCover → Type 0
 HasFound gives places old new = (cover : NamedCover) → Has cover new ↔ (Has cover old ⊎ Has cover (filter_map gives places))
 
-found_more : (gives : ℕ → Option NamedCover) (places : List ℕ) (place : ℕ) (found : Option NamedCover) (old mid new : List NamedCover) → found ≡ gives place → HasFound gives places old mid
+pub found_more : {X : Type 0} (gives : X → Option NamedCover) (places : List X) (place : X) (found : Option NamedCover) (old mid new : List NamedCover) → found ≡ gives place → HasFound gives places old mid
     → ((cover : NamedCover) → Has cover new ↔ (Has cover mid ⊎ (found ≡ Some cover))) → HasFound gives (places ++ place ∷ []) old new
-found_more gives places place found old mid new e before put cover = (to, from)
+found_more {X} gives places place found old mid new e before put cover = (to, from)
   where
     to : Has cover new → Has cover old ⊎ Has cover (filter_map gives (places ++ place ∷ []))
     to m =
@@ -100,7 +100,7 @@ found_more gives places place found old mid new e before put cover = (to, from)
           | inr k ↦ inr (has_mapped gives (places ++ place ∷ []) place cover (Has-right place places (place ∷ []) (inl refl)) (sym e ∙ k))
         ]
 
-    at : ((z : ℕ) × Has z (places ++ place ∷ []) × (gives z ≡ Some cover)) → Has cover new
+    at : ((z : X) × Has z (places ++ place ∷ []) × (gives z ≡ Some cover)) → Has cover new
     at p =
         elim (Has-append p.0 places (place ∷ []) p.1) as (λ _. Has cover new) [
           | inl k ↦ (put cover).1 (inl ((before cover).1 (inr (has_mapped gives places p.0 cover k p.2))))

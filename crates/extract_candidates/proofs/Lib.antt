@@ -4,3 +4,8 @@ pub mod OfTables
 pub mod Counting
 pub mod Keeping
 pub mod Listing
+pub mod SharedNames
+pub mod WithOthers
+pub mod ByTwo
+pub mod JustShared
+pub mod Turned

@@ -89,7 +89,7 @@ long_made cube cover e = cases (ltb (length cube) 2) refl e
     cases true h k = absurd cc
     cases false h k = (omega (arith, ltb-false (length cube) 2 h), cc)
 
-long_is : (cube : Cube) (cover : NamedCover) → 2 ≤ length cube → cover ≡ cube ∷ [] → long_cover cube ≡ Some cover
+pub long_is : (cube : Cube) (cover : NamedCover) → 2 ≤ length cube → cover ≡ cube ∷ [] → long_cover cube ≡ Some cover
 long_is cube cover two e =
     ap (λ (b : Bool). if b then None else Some (cube ∷ [])) (le-ltb (length cube) 2 two) ∙ ap (λ (v : NamedCover). Some v) (sym e)
 

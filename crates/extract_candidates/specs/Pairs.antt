@@ -1,10 +1,10 @@
--- What each two items of a list make, the earlier one first, and what two cubes and two literals make. No public clause needs these
--- definitions: they say by what way the candidates are listed.
+-- What each two items of a list make, the earlier one first, what two cubes and two literals make, and what cubes share. No public clause
+-- needs these definitions: they say by what way the candidates are listed.
 -- Source: Rajski and Vasudevamurthy (IEEE Transactions on CAD 11, 1992).
-use Rattle.std.specs.Prelude.{if◌then◌else◌, Option, Some, None, ℕ, List, [], ◌∷◌, ◌++◌, length, slice_get}
-use Rattle.std.specs.List.{filter_map}
+use Rattle.std.specs.Prelude.{◌≡◌, ◌⊎◌, if◌then◌else◌, Bool, Option, Some, None, ℕ, List, [], ◌∷◌, ◌++◌, flat_map, length, slice_get}
+use Rattle.std.specs.List.{filter_map, list_all, list_any}
 use Rattle.std.proofs.Common.{ltb}
-use Rattle.extract_rules.specs.Candidates.{own, shared}
+use Rattle.extract_rules.specs.Candidates.{same_literal, own, shared}
 use Rattle.name_covers.specs.Literals.{Cube, NamedCover, cube_cmp, sorted}
 use Rattle.name_covers.specs.declared.literal.Literal.{Literal}
 
@@ -37,3 +37,21 @@ found_with (Some other) cube = shared_of other cube
 
 abbrev pub shared_at : List Cube → Cube → ℕ → Option NamedCover
 shared_at earlier cube at = found_with (slice_get earlier at) cube
+
+-- what each of some cubes shares with each of some others
+abbrev pub shared_by_each : List Cube → List Cube → List NamedCover
+shared_by_each others cubes = flat_map (λ (cube : Cube). filter_map (shared_of cube) others) cubes
+
+-- whether a cube has all literals of another one
+abbrev pub has_all : Cube → Cube → Bool
+has_all cube one = list_all (λ (literal : Literal). list_any (same_literal literal) one) cube
+
+-- what a cube shares with one of some others is a cube
+abbrev pub IsSharedWithSome : List Cube → Cube → Cube → Type 0
+IsSharedWithSome [] one cube = ⊥
+IsSharedWithSome (other ∷ others) one cube = (shared one other ≡ cube) ⊎ IsSharedWithSome others one cube
+
+-- what two of some cubes share, the earlier one first, is a cube
+abbrev pub IsSharedByTwo : List Cube → Cube → Type 0
+IsSharedByTwo [] cube = ⊥
+IsSharedByTwo (one ∷ others) cube = IsSharedWithSome others one cube ⊎ IsSharedByTwo others cube

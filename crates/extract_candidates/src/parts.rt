@@ -9,8 +9,8 @@ use name_covers::{Cube, Literal, NamedCover, sorted_cover};
 use sis_base::{Copied, Sequence};
 use std::alloc::{AllocError, Global};
 
-// Whether a cube has a literal.
-fn has_literal(cube: &[Literal], literal: &Literal) -> bool
+/// Whether a cube has a literal.
+pub fn has_literal(cube: &[Literal], literal: &Literal) -> bool
     ensures { result ≡ list_any (same_literal literal.now) cube.now }
 {
     cube.iter().any(|other| *literal == *other)

@@ -20,8 +20,12 @@ use sis_base::Sequence;
 use std::alloc::{AllocError, Global};
 use std::collections::BTreeSet;
 
-// What two cubes share, where it is two literals or more.
-fn shared_of_two(alloc: Global, one: &Cube, other: &Cube) -> Result<Option<NamedCover>, AllocError>
+/// What two cubes share, where it is two literals or more; an error only for want of memory.
+pub fn shared_of_two(
+    alloc: Global,
+    one: &Cube,
+    other: &Cube,
+) -> Result<Option<NamedCover>, AllocError>
     ensures { IfOk result (λ found. found ≡ shared_of one.now other.now) }
 {
     let cube = shared_literals(alloc, one, other)?;
@@ -34,7 +38,7 @@ fn shared_of_two(alloc: Global, one: &Cube, other: &Cube) -> Result<Option<Named
 }
 
 // What a cube shares with the earlier one at a place, where there is one.
-fn shared_with(
+fn shared_with_earlier(
     alloc: Global,
     earlier: &[Cube],
     cube: &Cube,
@@ -48,8 +52,11 @@ fn shared_with(
     }
 }
 
-// Puts a cover in, if there is one and it is new.
-fn add_found(made: &mut IndexSet<NamedCover>, found: Option<NamedCover>) -> Result<(), AllocError>
+/// Puts a cover in, if there is one and it is new; an error only for want of memory.
+pub fn add_found(
+    made: &mut IndexSet<NamedCover>,
+    found: Option<NamedCover>,
+) -> Result<(), AllocError>
     ensures { OnOk result ((cover : TheCover) → Has cover made.new.keys ↔ (Has cover made.old.keys ⊎ (found ≡ Some cover))) }
 {
     if let Some(cover) = found {
@@ -69,14 +76,14 @@ fn add_shared(
     ensures { OnOk result ((cover : TheCover) → Has cover made.new.keys ↔ (Has cover made.old.keys ⊎ Has cover (filter_map (shared_at earlier.now cube.now) partners.now.keys))) }
 {
     for place in partners.iter() {
-        let found = shared_with(alloc, earlier, cube, *place)?;
+        let found = shared_with_earlier(alloc, earlier, cube, *place)?;
         add_found(made, found)?;
     }
     Ok(())
 }
 
-// What two of some cubes share, where it is two literals or more, each once.
-fn shared_covers(alloc: Global, cubes: &[Cube]) -> Result<IndexSet<NamedCover>, AllocError>
+/// What two of some cubes share, where it is two literals or more, each once; an error only for want of memory.
+pub fn shared_covers(alloc: Global, cubes: &[Cube]) -> Result<IndexSet<NamedCover>, AllocError>
     ensures { IfOk result (λ made. (cover : TheCover) → Has cover made.keys ↔ IsSharedOf cubes.now cover) }
 {
     let mut made = IndexSet::new(alloc);
@@ -91,11 +98,13 @@ fn shared_covers(alloc: Global, cubes: &[Cube]) -> Result<IndexSet<NamedCover>, 
     Ok(made)
 }
 
-/// What two of some cubes share, where it is two literals or more; an error only for want of memory.
-pub fn shared_candidates(alloc: Global, cubes: &[Cube]) -> Result<Vec<NamedCover>, AllocError>
-    ensures { IfOk result (λ made. (cover : TheCover) → Has cover made.items ↔ IsSharedOf cubes.now cover) }
+/// The covers of a set, in its order; an error only for want of memory.
+pub fn list_covers(
+    alloc: Global,
+    covers: IndexSet<NamedCover>,
+) -> Result<Vec<NamedCover>, AllocError>
+    ensures { IfOk result (λ made. made.items ≡ covers.keys) }
 {
-    let covers = shared_covers(alloc, cubes)?;
     let mut made = Vec::with_capacity(alloc, covers.len())?;
     for cover in covers {
         made.push(cover)?;

@@ -28,9 +28,10 @@ use Rattle.net_work.proofs.Standing.{standing_push}
 use Rattle.pair_gains.specs.Gains.{gains, over_pairs}
 use Rattle.table_algebra.specs.Dividing.{divided}
 use Rattle.table_tidy.specs.Tidy.{rows_differ}
-use Rattle.net_extract.specs.Known.{cubes_in, IsCounted, AreCounted}
-use Rattle.net_extract.specs.Saving.{literals_in, LeavesNarrow}
-use Rattle.net_extract.proofs.Slots.{all_set}
+use Rattle.kept_savings.specs.Sharing.{cubes_in}
+use Rattle.net_extract.specs.Known.{IsCounted, AreCounted}
+use Rattle.kept_savings.specs.Saving.{literals_in, LeavesNarrow}
+use Rattle.kept_savings.proofs.Slots.{all_set}
 
 -- ---- tables come and change
 

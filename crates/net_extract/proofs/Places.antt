@@ -10,8 +10,8 @@ use Rattle.name_covers.specs.Literals.{NamedCover}
 use Rattle.net_core.proofs.Lookups.{get_set_other}
 use Rattle.net_work.specs.Placed.{Placed, joined, table_at, with_slot}
 use Rattle.net_extract.specs.Dividing.{divided_slot, turned_at, with_divided}
-use Rattle.net_extract.proofs.Losing.{AreAll, stays}
-use Rattle.net_extract.proofs.Summing.{in_has}
+use Rattle.kept_savings.proofs.Losing.{AreAll, stays}
+use Rattle.kept_savings.proofs.Summing.{in_has}
 
 -- a place among places
 pub has_in : (places : List ℕ) (at : ℕ) → Has at places → is_in places at ≡ true

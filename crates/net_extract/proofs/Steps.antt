@@ -24,12 +24,15 @@ use Rattle.net_work.proofs.Standing.{standing_push}
 use Rattle.table_algebra.specs.Dividing.{divided, cover_table}
 use Rattle.net_extract.specs.Extract.{HasExtracted}
 use Rattle.net_extract.specs.Dividing.{divided_slot, with_divided, IsAdded}
-use Rattle.net_extract.specs.Going.{IsStopped, IsNotAdded, IsPut, IsTaken, IsAlong, IsEnd}
+use Rattle.net_extract.specs.Going.{fault_of, IsStopped, IsNotAdded, IsPut, IsTaken, IsAlong, IsEnd}
+use Rattle.kept_savings.specs.Listing.{IsUnlisted}
+use Rattle.kept_savings.specs.declared.fault.SavingsFault.{SavingsFault}
+use Rattle.kept_savings.specs.declared.fault.SavingsFault.TheVariants.{ManyKernels, Memory as SavingsMemory}
 use Rattle.net_extract.specs.declared.fault.ExtractFault.{ExtractFault}
 use Rattle.net_extract.specs.declared.fault.ExtractFault.TheVariants.{KernelLimit, NodeLimit, Memory}
-use Rattle.net_extract.proofs.Slots.{standing_turned}
-use Rattle.net_extract.proofs.Summing.{rising_once}
-use Rattle.net_extract.proofs.Losing.{AreAll}
+use Rattle.kept_savings.proofs.Slots.{standing_turned}
+use Rattle.kept_savings.proofs.Summing.{rising_once}
+use Rattle.kept_savings.proofs.Losing.{AreAll}
 use Rattle.net_extract.proofs.Places.{divided_all}
 
 -- ---- a cover extracted
@@ -79,6 +82,14 @@ pub put_stopped : (rule : Rule) (now : Placed) (name : List ℕ) (cover : NamedC
 put_stopped rule now name cover (KernelLimit many) next h = absurd h
 put_stopped rule now name cover NodeLimit next h = record { name = name; cover = cover; next = next; over = h }
 put_stopped rule now name cover Memory next h = tt
+
+-- what is not listed stops extraction
+pub unlisted_stopped : (rule : Rule) (circuit : Circuit) (savings : SavingsFault) (fault : ExtractFault) → fault ≡ fault_of savings → IsUnlisted rule circuit savings → IsStopped rule circuit fault
+unlisted_stopped rule circuit savings fault e unlisted = subst (IsStopped rule circuit) (sym e) (cases savings unlisted)
+  where
+    cases : (one : SavingsFault) → IsUnlisted rule circuit one → IsStopped rule circuit (fault_of one)
+    cases (ManyKernels name) h = h
+    cases SavingsMemory h = tt
 
 -- ---- steps
 

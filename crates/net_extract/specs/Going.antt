@@ -1,16 +1,16 @@
--- Steps of extraction on a working network, and where they stop. No public clause needs these definitions.
+-- Steps of extraction on a working network, and where they stop. No public clause needs these definitions but `fault_of`.
 -- Source: Brayton, Rudell, Sangiovanni-Vincentelli and Wang, "MIS: A Multiple-Level Logic Optimization System" (1987): a command applies
 -- an operation to one node after the other.
-use Rattle.std.specs.Prelude.{◌≡◌, ℕ, ◌≤◌, ◌<◌, Err, List, ◌∷◌, ◌++◌}
+use Rattle.std.specs.Prelude.{◌≡◌, ℕ, ◌≤◌, ◌<◌, Err, List}
 use Rattle.std.specs.List.{AllByRecursion}
 use Rattle.circuit_model.specs.Counts.{literals_of}
 use Rattle.circuit_model.specs.Soundness.{IsSound}
-use Rattle.circuit_model.specs.declared.circuit.Table.{Table}
 use Rattle.circuit_model.specs.declared.circuit.Circuit.{Circuit}
-use Rattle.alg_div.specs.Cubes.{Has}
-use Rattle.extract_candidates.specs.Listed.{IsOwn}
-use Rattle.extract_rules.specs.Extracting.{extracted, HasManyKernels, IsListable, IsNext, IsStep, IsReached}
+use Rattle.extract_rules.specs.Extracting.{extracted, IsNext, IsStep, IsReached}
 use Rattle.extract_rules.specs.declared.rule.Rule.{Rule}
+use Rattle.kept_savings.specs.Listing.{IsFirstMany}
+use Rattle.kept_savings.specs.declared.fault.SavingsFault.{SavingsFault}
+use Rattle.kept_savings.specs.declared.fault.SavingsFault.TheVariants.{ManyKernels, Memory as SavingsMemory}
 use Rattle.name_covers.specs.Literals.{NamedCover}
 use Rattle.net_core.specs.Fresh.{IsNewName, node_count}
 use Rattle.net_core.specs.Reads.{IsBounded, HasBounds}
@@ -18,22 +18,6 @@ use Rattle.net_work.specs.Placed.{Placed, standing, circuit_of}
 use Rattle.net_extract.specs.Extract.{HasExtracted}
 use Rattle.net_extract.specs.declared.fault.ExtractFault.{ExtractFault}
 use Rattle.net_extract.specs.declared.fault.ExtractFault.TheVariants.{KernelLimit, NodeLimit, Memory}
-
--- a cover is what one of some tables gives by itself
-pub record IsOwnOf (rule : Rule) (tables : List Table) (cover : NamedCover) : Type 0 where
-  pub table : Table
-  pub among : Has table tables
-  pub own : IsOwn rule table cover
-
--- the first of some tables with too many kernels has a name
-pub record IsFirstMany (rule : Rule) (tables : List Table) (name : List ℕ) : Type 0 where
-  pub before : List Table
-  pub table : Table
-  pub after : List Table
-  pub tables_are : tables ≡ before ++ table ∷ after
-  pub first : AllByRecursion (IsListable rule) before
-  pub many : HasManyKernels rule table
-  pub named : table.output ≡ name
 
 -- what is next has no room
 pub record IsOver (rule : Rule) (circuit : Circuit) : Type 0 where
@@ -47,6 +31,11 @@ abbrev pub IsStopped : Rule → Circuit → ExtractFault → Type 0
 IsStopped rule circuit (KernelLimit name) = IsFirstMany rule circuit.tables name
 IsStopped rule circuit NodeLimit = IsOver rule circuit
 IsStopped rule circuit Memory = Unit {0}
+
+-- why nothing is extracted where the candidates are not listed
+abbrev pub fault_of : SavingsFault → ExtractFault
+fault_of (ManyKernels name) = KernelLimit name
+fault_of SavingsMemory = Memory
 
 -- why a table is not added; want of memory is free
 abbrev pub IsNotAdded : Circuit → ExtractFault → Type 0

@@ -8,10 +8,10 @@ ghost use Rattle.net_core.specs.Fresh.{IsNewName};
 ghost use Rattle.net_work.specs.Placed.{circuit_of};
 ghost use Rattle.net_extract.specs.Known.{IsCounted};
 
-use crate::narrow::leaves_narrow;
 use circuit_model::Name;
 use cube_cover::Row;
 use kept_gains::{KeptGains, Trial};
+use kept_savings::leaves_narrow;
 use name_covers::NamedCover;
 use net_work::Work;
 use pair_gains::laws::{gains_are_what_tables_lose, what_gains_is_a_candidate};
@@ -28,7 +28,7 @@ impl<'a, R: Row> Trial for NarrowTrial<'a, R> {
     ghost use Rattle.circuit_model.specs.Soundness.{IsSound};
     ghost use Rattle.net_core.specs.Fresh.{IsNewName};
     ghost use Rattle.net_work.specs.Placed.{standing, circuit_of};
-    ghost use Rattle.net_extract.specs.Saving.{LeavesNarrow};
+    ghost use Rattle.kept_savings.specs.Saving.{LeavesNarrow};
 
     ghost IsReady = { λ t. IsSound (circuit_of t.work.now) × IsNewName (circuit_of t.work.now) t.name.now };
 

@@ -63,7 +63,7 @@ fn names_of<R: Row>(alloc: Global, work: &Work<R>) -> Result<Vec<Name>, AllocErr
     Ok(names)
 }
 
-// The table at a place comes behind those before it; false where there is none, or it has a row twice.
+// The table at a place comes behind those before it; false where there is none, it has a row twice, or an input has no number.
 fn count_at<R: Row>(
     alloc: Global,
     work: &Work<R>,
@@ -78,8 +78,8 @@ fn count_at<R: Row>(
     }
 }
 
-/// The gains of all tables, counted; none where a place is empty or a table has a row twice. An error only for want of memory, or of
-/// numbers for the totals.
+/// The gains of all tables, counted; none where a place is empty, a table has a row twice, or an input has no number, which no clause says. An
+/// error only for want of memory, or of numbers for the totals.
 pub(crate) fn count<R: Row>(alloc: Global, work: &Work<R>) -> Result<Option<KeptGains>, AllocError>
     ensures { IfOk result (λ found. AreCounted work.now.slots found) }
 {

@@ -9,7 +9,7 @@ ghost use Rattle.net_extract.specs.Going.{IsEnd};
 ghost use Rattle.net_extract.specs.Extract.{HasExtracted};
 
 use crate::fault::ExtractFault;
-use crate::known::Known;
+use crate::known::known_of;
 use crate::stepping::step;
 use cube_cover::Row;
 use extract_rules::Rule;
@@ -25,7 +25,7 @@ fn take_steps<R: Row>(alloc: Global, work: &mut Work<R>, rule: Rule) -> Result<(
     ensures bounds { OnOk result (HasBounds (circuit_of work.old) → HasBounds (circuit_of work.new)) }
     ensures stopped { IfErr result (IsEnd rule (circuit_of work.old)) }
 {
-    let mut known = Known::nothing(alloc);
+    let mut known = known_of(alloc, work, rule)?;
     while step(alloc, work, &mut known, rule)? {}
     Ok(())
 }

@@ -1,6 +1,7 @@
 //! Why nothing is extracted.
 
 use circuit_model::Name;
+use kept_savings::SavingsFault;
 use std::alloc::AllocError;
 
 /// Why a network is not extracted.
@@ -22,5 +23,19 @@ impl From<AllocError> for ExtractFault {
 
     fn from(_error: AllocError) -> ExtractFault {
         ExtractFault::Memory
+    }
+}
+
+impl From<SavingsFault> for ExtractFault {
+    ghost use Rattle.std.specs.Prelude.{◌≡◌};
+    ghost use Rattle.net_extract.specs.Going.{fault_of};
+
+    ghost from_gives = { λ savings fault. fault ≡ fault_of savings };
+
+    fn from(savings: SavingsFault) -> ExtractFault {
+        match savings {
+            SavingsFault::ManyKernels(name) => ExtractFault::KernelLimit(name),
+            SavingsFault::Memory => ExtractFault::Memory,
+        }
     }
 }

@@ -3,18 +3,17 @@
 ghost use Rattle.std.specs.Prelude.{◌≡◌, ◌<◌, ℕ, true, Option, Some, None, List, [], ◌∷◌, ◌++◌, length, is_some, slice_set, IfOk, OnOk, IfSome};
 ghost use Rattle.circuit_model.specs.Names.{all_different};
 ghost use Rattle.circuit_model.specs.declared.circuit.Table.{Table as TheTable};
+ghost use Rattle.extract_rules.specs.declared.rule.Rule.{Rule as TheRule};
 ghost use Rattle.net_core.specs.Tables.{named, IsOverInputs};
-ghost use Rattle.net_work.specs.Placed.{table_at, with_slot, AddsLast};
-ghost use Rattle.net_extract.specs.Known.{AreCounted, StayKept};
-ghost use Rattle.net_extract.specs.Savings.{AreSaved};
+ghost use Rattle.net_work.specs.Placed.{table_at, with_slot, with_last, AddsLast};
+ghost use Rattle.net_extract.specs.Known.{AreCounted, AreSaved, StaySaved};
 
 use crate::counting::count;
-use crate::kept::{KeptSavings, begin_savings, changed_savings, pushed_savings};
-use crate::owned::{OwnLists, taken};
 use circuit_model::Name;
 use cube_cover::Row;
 use extract_rules::Rule;
 use kept_gains::KeptGains;
+use kept_savings::KeptSavings;
 use net_core::{AddFault, Table};
 use net_work::Work;
 use std::alloc::{AllocError, Global};
@@ -22,27 +21,10 @@ use std::alloc::{AllocError, Global};
 /// What is known of the tables of a network.
 #[derive(Drop)]
 pub(crate) struct Known {
-    /// What divisors gain in all tables, where it is counted.
+    /// What divisors of `fx` gain in all tables, where it is counted.
     pub(crate) gains: Option<KeptGains>,
-    /// What tables give by themselves, where all candidates are listed.
-    pub(crate) own: OwnLists,
     /// What candidates save, where it is kept.
-    pub(crate) kept: Option<KeptSavings>,
-}
-
-impl Known {
-    /// Nothing is known.
-    pub(crate) fn nothing(alloc: Global) -> Known
-        ensures gains { result.gains ≡ None }
-        ensures own { result.own.items ≡ [] }
-        ensures kept { result.kept ≡ None }
-    {
-        Known {
-            gains: None,
-            own: Vec::new(alloc),
-            kept: None,
-        }
-    }
+    pub(crate) savings: Option<KeptSavings>,
 }
 
 // Gains once a table has come behind the others; none where it cannot be counted.
@@ -91,6 +73,44 @@ fn changed<R: Row>(
     }
 }
 
+// Savings once a table has come behind the last.
+fn pushed_savings<R: Row>(
+    alloc: Global,
+    savings: Option<KeptSavings>,
+    work: &Work<R>,
+    table: &Table<R>,
+) -> Result<Option<KeptSavings>, AllocError>
+    ensures { IfOk result (λ new. (rule : TheRule) (output : List ℕ) → AreSaved rule work.now savings → AreSaved rule (with_last work.now (named output table.now)) new) }
+{
+    match savings {
+        None => Ok(None),
+        Some(mut kept) => {
+            kept.push(alloc, work, table)?;
+            Ok(Some(kept))
+        }
+    }
+}
+
+// Savings once the table at a place has changed.
+fn changed_savings<R: Row>(
+    alloc: Global,
+    savings: Option<KeptSavings>,
+    work: &Work<R>,
+    place: usize,
+    table: &Table<R>,
+) -> Result<Option<KeptSavings>, AllocError>
+    ensures { IfOk result (λ new. (rule : TheRule) (old : TheTable) → table_at work.now.slots place ≡ Some old → AreSaved rule work.now savings
+        → AreSaved rule (with_slot work.now place (Some (named old.output table.now))) new) }
+{
+    match savings {
+        None => Ok(None),
+        Some(mut kept) => {
+            kept.set(alloc, work, place, table)?;
+            Ok(Some(kept))
+        }
+    }
+}
+
 /// A table comes behind the last under the least name in brackets that is free; refused where there is no room. Behind an error any
 /// network may stand.
 pub(crate) fn add_known<R: Row>(
@@ -104,11 +124,10 @@ pub(crate) fn add_known<R: Row>(
     requires known { AreCounted work.old.slots known.old.gains }
     ensures added { AddsLast work.old table work.new result }
     ensures known { IfOk result (λ _. AreCounted work.new.slots known.new.gains) }
-    ensures lists { IfOk result (λ _. StayKept work.old.slots known.old.own.items work.new.slots known.new.own.items) }
-    ensures saved { IfOk result (λ _. AreSaved work.old known.old.kept → AreSaved work.new known.new.kept) }
+    ensures saved { IfOk result (λ _. StaySaved work.old known.old.savings work.new known.new.savings) }
 {
     known.gains = pushed(alloc, known.gains.take(), &table)?;
-    known.kept = pushed_savings(alloc, known.kept.take(), work, &table)?;
+    known.savings = pushed_savings(alloc, known.savings.take(), work, &table)?;
     work.add(alloc, table)
 }
 
@@ -126,33 +145,29 @@ pub(crate) fn set_known<R: Row>(
     requires known { AreCounted work.old.slots known.old.gains }
     ensures set { OnOk result ((old : TheTable) → table_at work.old.slots place ≡ Some old → work.new ≡ with_slot work.old place (Some (named old.output table))) }
     ensures known { OnOk result (AreCounted work.new.slots known.new.gains) }
-    ensures lists { OnOk result (StayKept work.old.slots known.old.own.items work.new.slots known.new.own.items) }
-    ensures saved { OnOk result (AreSaved work.old known.old.kept → AreSaved work.new known.new.kept) }
+    ensures saved { OnOk result (StaySaved work.old known.old.savings work.new known.new.savings) }
 {
     known.gains = changed(alloc, known.gains.take(), place, &table)?;
-    known.kept = changed_savings(alloc, known.kept.take(), work, place, &table)?;
-    let _old = taken(&mut known.own, place);
+    known.savings = changed_savings(alloc, known.savings.take(), work, place, &table)?;
     work.set(alloc, place, table)
 }
 
-/// What a rule asks for is made known of a network, unless it is known; an error only for want of memory.
-pub(crate) fn know<R: Row>(
+/// What is known of a network before the first step: for `fx` the gains, where they can be counted; else nothing. An error only for want of
+/// memory.
+pub(crate) fn known_of<R: Row>(
     alloc: Global,
     work: &Work<R>,
     rule: Rule,
-    known: &mut Known,
-) -> Result<(), AllocError>
-    requires known { AreCounted work.now.slots known.old.gains }
-    requires saved { AreSaved work.now known.old.kept }
-    ensures known { OnOk result (AreCounted work.now.slots known.new.gains) }
-    ensures lists { known.new.own ≡ known.old.own }
-    ensures saved { OnOk result (AreSaved work.now known.new.kept) }
+) -> Result<Known, AllocError>
+    ensures gains { IfOk result (λ known. AreCounted work.now.slots known.gains) }
+    ensures savings { IfOk result (λ known. known.savings ≡ None) }
 {
-    if rule == Rule::Fx && known.gains.is_none() {
-        known.gains = count(alloc, work)?;
-    }
-    if rule == Rule::Gkx && known.kept.is_none() {
-        known.kept = Some(begin_savings(alloc, work)?);
-    }
-    Ok(())
+    let gains = match rule {
+        Rule::Fx => count(alloc, work)?,
+        _ => None,
+    };
+    Ok(Known {
+        gains,
+        savings: None,
+    })
 }

@@ -10,19 +10,18 @@ ghost use Rattle.net_core.specs.Reads.{IsBounded};
 ghost use Rattle.net_core.specs.Tables.{named, IsOverInputs};
 ghost use Rattle.table_algebra.specs.Dividing.{divided};
 ghost use Rattle.net_work.specs.Placed.{standing, circuit_of, table_at, with_slot};
-ghost use Rattle.net_extract.specs.Saving.{literals_in};
+ghost use Rattle.kept_savings.specs.Saving.{literals_in};
 ghost use Rattle.net_extract.specs.Dividing.{divided_slot, with_divided, IsMade, IsMadeAt, IsAdded};
 ghost use Rattle.net_extract.specs.Going.{IsStopped, IsNotAdded, IsPut, IsTaken};
-ghost use Rattle.net_extract.specs.Known.{AreCounted, AreKept, StayKept};
-ghost use Rattle.net_extract.specs.Savings.{AreSaved};
+ghost use Rattle.net_extract.specs.Known.{AreCounted, AreSaved, StaySaved};
 
 use crate::fault::ExtractFault;
 use crate::finding::best_known;
-use crate::known::{Known, add_known, know, set_known};
-use crate::saving::places_for;
+use crate::known::{Known, add_known, set_known};
 use circuit_model::Name;
 use cube_cover::Row;
 use extract_rules::Rule;
+use kept_savings::places_for;
 use name_covers::Cube;
 use net_core::{AddFault, Entry, Table};
 use net_work::Work;
@@ -56,8 +55,7 @@ fn add_table<R: Row>(
     requires known { AreCounted work.old.slots known.old.gains }
     ensures added { IfOk result (λ name. IsAdded cover.now name work.old work.new) }
     ensures known { IfOk result (λ _. AreCounted work.new.slots known.new.gains) }
-    ensures lists { IfOk result (λ _. StayKept work.old.slots known.old.own.items work.new.slots known.new.own.items) }
-    ensures saved { IfOk result (λ _. AreSaved work.old known.old.kept → AreSaved work.new known.new.kept) }
+    ensures saved { IfOk result (λ _. StaySaved work.old known.old.savings work.new known.new.savings) }
     ensures fault { IfErr result (IsNotAdded (circuit_of work.old)) }
 {
     let made = cover_table(alloc, cover)?;
@@ -116,8 +114,7 @@ fn divide_at<R: Row>(
 ) -> Result<(), AllocError>
     requires known { AreCounted work.old.slots known.old.gains }
     ensures known { OnOk result (AreCounted work.new.slots known.new.gains) }
-    ensures lists { OnOk result (StayKept work.old.slots known.old.own.items work.new.slots known.new.own.items) }
-    ensures saved { OnOk result (AreSaved work.old known.old.kept → AreSaved work.new known.new.kept) }
+    ensures saved { OnOk result (StaySaved work.old known.old.savings work.new known.new.savings) }
     ensures divided { OnOk result (work.new ≡ with_slot work.old place (divided_slot name.now cover.now (table_at work.old.slots place))) }
     ensures bounded { OnOk result (AllByRecursion IsBounded (standing work.old.slots) → AllByRecursion IsBounded (standing work.new.slots)) }
 {
@@ -138,8 +135,7 @@ fn divide_places<R: Row>(
 ) -> Result<(), AllocError>
     requires known { AreCounted work.old.slots known.old.gains }
     ensures known { OnOk result (AreCounted work.new.slots known.new.gains) }
-    ensures lists { OnOk result (StayKept work.old.slots known.old.own.items work.new.slots known.new.own.items) }
-    ensures saved { OnOk result (AreSaved work.old known.old.kept → AreSaved work.new known.new.kept) }
+    ensures saved { OnOk result (StaySaved work.old known.old.savings work.new known.new.savings) }
     ensures divided { OnOk result (work.new ≡ with_divided name.now cover.now places.now work.old) }
     ensures bounded { OnOk result (AllByRecursion IsBounded (standing work.old.slots) → AllByRecursion IsBounded (standing work.new.slots)) }
 {
@@ -161,8 +157,7 @@ fn put<R: Row>(
     requires known { AreCounted work.old.slots known.old.gains }
     ensures put { OnOk result (IsPut cover.now work.old work.new) }
     ensures known { OnOk result (AreCounted work.new.slots known.new.gains) }
-    ensures lists { OnOk result (StayKept work.old.slots known.old.own.items work.new.slots known.new.own.items) }
-    ensures saved { OnOk result (AreSaved work.old known.old.kept → AreSaved work.new known.new.kept) }
+    ensures saved { OnOk result (StaySaved work.old known.old.savings work.new known.new.savings) }
     ensures fault { IfErr result (IsNotAdded (circuit_of work.old)) }
 {
     let places = places_for(alloc, work, cover)?;
@@ -180,17 +175,14 @@ pub(crate) fn step<R: Row>(
 ) -> Result<bool, ExtractFault>
     requires sound { IsSound (circuit_of work.old) }
     requires known { AreCounted work.old.slots known.old.gains }
-    requires lists { AreKept rule work.old.slots known.old.own.items }
-    requires saved { AreSaved work.old known.old.kept }
+    requires saved { AreSaved rule work.old known.old.savings }
     ensures known { OnOk result (AreCounted work.new.slots known.new.gains) }
-    ensures lists { OnOk result (AreKept rule work.new.slots known.new.own.items) }
-    ensures saved { OnOk result (AreSaved work.new known.new.kept) }
+    ensures saved { OnOk result (AreSaved rule work.new known.new.savings) }
     ensures done { IfOk result (λ taken. taken ≡ false → (work.new ≡ work.old) × IsDone rule (circuit_of work.old)) }
     ensures taken { IfOk result (λ taken. taken ≡ true → IsTaken rule work.old work.new) }
     ensures stopped { IfErr result (IsStopped rule (circuit_of work.old)) }
 {
     let name = work.new_name(alloc)?;
-    know(alloc, work, rule, known)?;
     match best_known(alloc, work, rule, &name, known)? {
         None => Ok(false),
         Some(cover) => {

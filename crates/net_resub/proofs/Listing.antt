@@ -1,5 +1,7 @@
 -- Places in lists under names: one more, those under some names, and the tables at places.
-use Rattle.std.proofs.Common.{◌≡◌, ℕ, ◌+◌, ◌<◌, ◌≤◌, ◌==◌, Bool, true, false, ◌||◌, not, Option, Some, List, [], ◌∷◌, ◌++◌, length, get_or, take, bytes_eq, eqb, ltb, eqb-true, refl, sym, ap, ◌∙◌, subst, inl, inr, arith}
+use Rattle.std.proofs.Common.{◌≡◌, ℕ, ◌+◌, ◌-◌, ◌<◌, ◌≤◌, ◌==◌, ◌↔◌, Bool, true, false, ◌||◌, not, Option, Some, None, List, [], ◌∷◌, ◌++◌, length, get_or, slice_get, take, bytes_eq, eqb, ltb, eqb-true, refl, sym, ap, ◌∙◌, subst, inl, inr, arith}
+use Rattle.std.specs.Prelude.{IsTrue}
+use Rattle.std.specs.List.{last_or}
 use Rattle.std.proofs.lemmas.Bool.{false≢true, or_cases, eq-eqb, or_left, or_right, ltb-true, ltb-false, lt-ltb}
 use Rattle.std.proofs.lemmas.List.{take_more}
 use Rattle.std.proofs.lemmas.List.Folds.{list_any-append}
@@ -8,6 +10,7 @@ use Rattle.circuit_model.specs.Names.{has}
 use Rattle.circuit_model.specs.declared.circuit.Table.{Table}
 use Rattle.circuit_laws.proofs.Names.{same_name, has_either}
 use Rattle.input_readers.specs.Readers.{is_in}
+use Rattle.name_covers.specs.Cubes.{is_over}
 use Rattle.net_work.specs.Placed.{table_at}
 use Rattle.resub_rules.specs.Resubbed.{row_cubes}
 use Rattle.net_resub.specs.Listed.{IsNeeded, HasPut, HasPutUnder, AreJoined, IsListed, AreListed, is_under}
@@ -26,6 +29,29 @@ in_back xs ys at m = in_append xs ys at ∙ or_right (is_in xs at) (is_in ys at)
 
 pub one_in : (place : ℕ) → is_in (place ∷ []) place ≡ true
 one_in place = ap (λ (b : Bool). b || false) (eq-eqb place place refl)
+
+-- the last place of some
+last_from : (before : Option ℕ) (x : ℕ) (xs : List ℕ) → last_or before (x ∷ xs) ≡ slice_get (x ∷ xs) (length xs)
+last_from before x [] = refl
+last_from before x (y ∷ ys) = last_from (Some x) y ys
+
+last_at : (xs : List ℕ) → last_or None xs ≡ slice_get xs (length xs - 1)
+last_at [] = refl
+last_at (x ∷ xs) = last_from None x xs ∙ ap (slice_get (x ∷ xs)) (omega arith)
+
+pub is_last_told : (xs : List ℕ) (place last : ℕ) → Some last ≡ slice_get xs (length xs - 1) → IsTrue (last == place) ↔ (last_or None xs ≡ Some place)
+is_last_told xs place last is = (
+  (λ (same : IsTrue (last == place)). last_at xs ∙ (sym is ∙ ap (λ (n : ℕ). Some n) (eqb-true last place same))),
+  (λ (ends : last_or None xs ≡ Some place). eq-eqb last place (same_Some last place (is ∙ (sym (last_at xs) ∙ ends)))),
+)
+
+last_among : (before : Option ℕ) (x : ℕ) (xs : List ℕ) (place : ℕ) → last_or before (x ∷ xs) ≡ Some place → is_in (x ∷ xs) place ≡ true
+last_among before x [] place ends = ap (λ (n : ℕ). is_in (n ∷ []) place) (same_Some x place ends) ∙ one_in place
+last_among before x (y ∷ ys) place ends = or_right (eqb x place) (is_in (y ∷ ys) place) (last_among (Some x) y ys place ends)
+
+pub last_in : (xs : List ℕ) (place : ℕ) → last_or None xs ≡ Some place → is_in xs place ≡ true
+last_in [] place ends = absurd (let none = ends in cc)
+last_in (x ∷ xs) place ends = last_among None x xs place ends
 
 -- those under one more name
 joined_more : (under : List ℕ → ℕ → Bool) (names : List (List ℕ)) (name : List ℕ) (before places new : List ℕ) → AreJoined under names before places
@@ -57,13 +83,16 @@ one_more test slots old new place are still here at table may there = elim (or_c
   | inr same ↦ (let e : place ≡ at = eqb-true place at same in subst (λ (n : ℕ). IsListed new n table) e (here table (ap (table_at slots) e ∙ there)))
 ]
 
-pub unnamed_listed : (test : ℕ → Bool) (slots : List (Option Table)) (old new : DivisorLists) (place : ℕ) → HasPut place old.unnamed.items new.unnamed.items
+pub unnamed_listed : (test : ℕ → Bool) (slots : List (Option Table)) (old new : DivisorLists) (place : ℕ) (table : Table) → table_at slots place ≡ Some table → is_over [] (row_cubes table) ≡ true → HasPut place old.unnamed.items new.unnamed.items
     → ((name : List ℕ) (at : ℕ) → is_under old name at ≡ true → is_under new name at ≡ true) → AreListed test slots old → AreListed (λ at. test at || place == at) slots new
-unnamed_listed test slots old new place put keeps are = one_more test slots old new place are still (λ table there. inl put.here)
+unnamed_listed test slots old new place table there empty put keeps are = one_more test slots old new place are still here
   where
-    still : (at : ℕ) (table : Table) → IsListed old at table → IsListed new at table
-    still at table (inl m) = inl (put.still at m)
-    still at table (inr (name, needed, under)) = inr (name, needed, keeps name at under)
+    still : (at : ℕ) (one : Table) → IsListed old at one → IsListed new at one
+    still at one (inl (m, none)) = inl (put.still at m, none)
+    still at one (inr (name, needed, under)) = inr (name, needed, keeps name at under)
+
+    here : (one : Table) → table_at slots place ≡ Some one → IsListed new place one
+    here one at = inl (put.here, subst (λ (t : Table). is_over [] (row_cubes t) ≡ true) (same_Some table one (sym there ∙ at)) empty)
 
 pub named_listed : (test : ℕ → Bool) (slots : List (Option Table)) (old new : DivisorLists) (place : ℕ) (table : Table) (name : List ℕ) → table_at slots place ≡ Some table → IsNeeded (row_cubes table) name
     → ((at : ℕ) → is_in old.unnamed.items at ≡ true → is_in new.unnamed.items at ≡ true) → HasPutUnder name place (is_under old) (is_under new) → AreListed test slots old
@@ -71,7 +100,7 @@ pub named_listed : (test : ℕ → Bool) (slots : List (Option Table)) (old new 
 named_listed test slots old new place table name there needed keeps put are = one_more test slots old new place are still here
   where
     still : (at : ℕ) (one : Table) → IsListed old at one → IsListed new at one
-    still at one (inl m) = inl (keeps at m)
+    still at one (inl (m, none)) = inl (keeps at m, none)
     still at one (inr (other, need, under)) = inr (other, need, put.still other at under)
 
     here : (one : Table) → table_at slots place ≡ Some one → IsListed new place one

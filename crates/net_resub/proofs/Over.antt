@@ -1,8 +1,8 @@
 -- Whether all literals of a row are of some names, place by place.
-use Rattle.std.proofs.Common.{◌≡◌, ◌<◌, ◌≤◌, ℕ, zero, suc, Bool, true, ◌&&◌, ◌||◌, not, Option, Some, None, List, [], ◌∷◌, length, map, drop, refl, sym, ap, ◌∙◌, arith, inl, inr}
+use Rattle.std.proofs.Common.{◌≡◌, ◌<◌, ◌≤◌, ℕ, zero, suc, Bool, true, false, ◌&&◌, ◌||◌, not, Option, Some, None, List, [], ◌∷◌, length, map, drop, refl, sym, ap, ◌∙◌, arith, inl, inr}
 use Rattle.std.specs.Prelude.{slice_index_or, is_some}
 use Rattle.std.specs.List.{list_all, list_any}
-use Rattle.std.proofs.lemmas.Bool.{false≢true, and_parts, or_cases}
+use Rattle.std.proofs.lemmas.Bool.{false≢true, and_parts, or_parts, or_cases}
 use Rattle.circuit_model.specs.Names.{has}
 use Rattle.name_covers.specs.Cubes.{cube_over, is_over}
 use Rattle.net_core.specs.Places.{written_of}
@@ -126,3 +126,26 @@ pub entry_needs : {R S : Type 0} (literals : R → List (Option Bool)) (inputs :
     → i < length inputs → name ≡ slice_index_or inputs i name → list_any (λ row. is_some (slice_index_or (literals row) i None)) rows ≡ true → IsNeeded (row_cubes (written_of by)) name
 entry_needs literals inputs rows by i name same items below is some names over =
     ap (has names) is ∙ rows_need literals names inputs rows i name below some (entry_over literals names inputs rows by same items ∙ over)
+
+-- a row with no literal at any place of the inputs is of any names
+row_none : (names inputs : List (List ℕ)) (row : List (Option Bool)) → ((i : ℕ) → i < length inputs → is_some (slice_index_or row i None) ≡ false) → is_cube_over names (cube_over inputs row) ≡ true
+unfolding cube_over
+row_none names [] row empty = refl
+row_none names (input ∷ inputs) [] empty = refl
+row_none names (input ∷ inputs) (None ∷ row) empty = row_none names inputs row (λ i below. empty (suc i) (omega (arith, below)))
+row_none names (input ∷ inputs) (Some bit ∷ row) empty = absurd (false≢true (sym (empty 0 (omega arith))))
+
+rows_none : {R : Type 0} (literals : R → List (Option Bool)) (names inputs : List (List ℕ)) (rows : List R)
+    → ((i : ℕ) → i < length inputs → list_any (λ row. is_some (slice_index_or (literals row) i None)) rows ≡ false) → rows_over literals names inputs rows 0 ≡ true
+rows_none literals names inputs [] empty = refl
+rows_none {R} literals names inputs (row ∷ rows) empty =
+    ap (λ (b : Bool). b && rows_over literals names inputs rows 0) (row_none names inputs (literals row) (λ i below. (both i below).0))
+    ∙ rows_none literals names inputs rows (λ i below. (both i below).1)
+  where
+    both : (i : ℕ) → i < length inputs → (is_some (slice_index_or (literals row) i None) ≡ false) × (list_any (λ (one : R). is_some (slice_index_or (literals one) i None)) rows ≡ false)
+    both i below = or_parts (is_some (slice_index_or (literals row) i None)) (list_any (λ (one : R). is_some (slice_index_or (literals one) i None)) rows) (empty i below)
+
+-- where no row has a literal at any place of the inputs, the literals are of no names
+pub entry_none : {R S : Type 0} (literals : R → List (Option Bool)) (inputs : List (List ℕ)) (rows : List R) (by : Entry S) → inputs ≡ by.table.inputs → map literals rows ≡ by.table.cover.rows
+    → ((i : ℕ) → i < length inputs → list_any (λ row. is_some (slice_index_or (literals row) i None)) rows ≡ false) → is_over [] (row_cubes (written_of by)) ≡ true
+entry_none literals inputs rows by same items empty = sym (entry_over literals [] inputs rows by same items) ∙ rows_none literals [] inputs rows empty

@@ -39,7 +39,7 @@ divisors_joined slots place table lists before places here are is joined by some
     let same : at.table ≡ table = same_Some at.table table (sym at.here ∙ here) in
     let over : is_over at.table.inputs (row_cubes at.divisor) ≡ true = saving_over at.divisor at.table (subst (λ (n : ℕ). 0 < n) at.is some) in
     elim (are by at.divisor refl at.there) as (λ _. is_in places by ≡ true) [
-      | inl unnamed ↦ joined.more by (ap (λ (ps : List ℕ). is_in ps by) is ∙ unnamed)
+      | inl unnamed ↦ joined.more by (ap (λ (ps : List ℕ). is_in ps by) is ∙ unnamed.0)
       | inr named ↦ (let (name, needed, under) = named in joined.listed by name (ap (λ (t : Table). has t.inputs name) (sym same) ∙ needed at.table.inputs over) under)
     ]
 

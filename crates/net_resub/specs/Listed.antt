@@ -44,9 +44,9 @@ pub record AreJoined (under : List ℕ → ℕ → Bool) (names : List (List ℕ
   pub more : (at : ℕ) → is_in before at ≡ true → is_in after at ≡ true
   pub listed : (at : ℕ) (name : List ℕ) → has names name ≡ true → under name at ≡ true → is_in after at ≡ true
 
--- the place of a table stands among those without a name, or under one that its literals need
+-- the place of a table stands among those without a name, if no row has a literal, or under one that its literals need
 abbrev pub IsListed : DivisorLists → ℕ → Table → Type 0
-IsListed lists at table = (is_in lists.unnamed.items at ≡ true) ⊎ ((name : List ℕ) × IsNeeded (row_cubes table) name × (is_under lists name at ≡ true))
+IsListed lists at table = ((is_in lists.unnamed.items at ≡ true) × (is_over [] (row_cubes table) ≡ true)) ⊎ ((name : List ℕ) × IsNeeded (row_cubes table) name × (is_under lists name at ≡ true))
 
 -- so do those of all tables at places of which a test is true
 abbrev pub AreListed : (ℕ → Bool) → List (Option Table) → DivisorLists → Type 0

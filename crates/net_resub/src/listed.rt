@@ -2,14 +2,15 @@
 //! that reads this name may be divided by it, so the divisors of a table stand in the lists under its inputs.
 //!
 //! Source: Brayton, Rudell, Sangiovanni-Vincentelli and Wang, "MIS: A Multiple-Level Logic Optimization System" (1987): a divisor's literals
-//! are among those of the table that it divides. Promised: the place of each table stands in the list under such a name, or among those
-//! without a name, and perhaps other places stand there too (`specs/Listed.antt`, `AreListed`). A table that changes is listed anew, and
-//! nothing leaves a list; no clause says how much work the lists save.
+//! are among those of the table that it divides. Promised: the place of each table stands in the list under such a name, or, where no row
+//! has a literal, among those without a name, and perhaps other places stand there too (`specs/Listed.antt`, `AreListed`). A table that
+//! changes is listed anew, and nothing leaves a list; no clause says how much work the lists save.
 
-ghost use Rattle.std.specs.Prelude.{◌≡◌, ◌==◌, ◌||◌, ℕ, Bool, true, Some, None, List, bytes_eq, is_some, slice_index_or, if◌then◌else◌, IfOk, IfSome, OnOk};
-ghost use Rattle.std.specs.List.{list_any};
+ghost use Rattle.std.specs.Prelude.{◌≡◌, ◌==◌, ◌||◌, ◌↔◌, ℕ, Bool, true, Some, None, List, [], bytes_eq, is_some, slice_index_or, if◌then◌else◌, IfOk, IfSome, OnOk, IsTrue};
+ghost use Rattle.std.specs.List.{list_any, last_or};
 ghost use Rattle.indexmap.specs.IndexMap.{get};
 ghost use Rattle.input_readers.specs.Readers.{is_in};
+ghost use Rattle.name_covers.specs.Cubes.{is_over};
 ghost use Rattle.net_core.specs.Places.{written_of};
 ghost use Rattle.resub_rules.specs.Resubbed.{row_cubes as cubes_of_rows};
 ghost use Rattle.net_resub.specs.Listed.{IsNeeded, places_in, in_list, is_under, HasPut, HasPutUnder, AreJoined, AreListed};
@@ -32,7 +33,7 @@ pub(crate) struct DivisorLists {
 
 // Whether a row has a literal at a place.
 fn has_literal<R: Row>(rows: &[R], place: usize) -> bool
-    ensures { result ≡ true → list_any (λ row. is_some (slice_index_or (R.literals row) place None)) rows.now ≡ true }
+    ensures { result ≡ list_any (λ row. is_some (slice_index_or (R.literals row) place None)) rows.now }
 {
     for row in rows {
         if item_at(row, place).is_some() {
@@ -43,7 +44,9 @@ fn has_literal<R: Row>(rows: &[R], place: usize) -> bool
 }
 
 // Whether fewer tables read a name than another one, if there is another one.
-fn is_rarer<R: Row>(work: &Work<R>, name: &Name, other: Option<&Name>) -> bool {
+fn is_rarer<R: Row>(work: &Work<R>, name: &Name, other: Option<&Name>) -> bool
+    ensures { other.entry ≡ None → result ≡ true }
+{
     match other {
         None => true,
         Some(other) => work.reader_count(name) < work.reader_count(other),
@@ -52,7 +55,8 @@ fn is_rarer<R: Row>(work: &Work<R>, name: &Name, other: Option<&Name>) -> bool {
 
 /// The input of which a row of a table has a literal and that fewest tables read, if a row has a literal; else none.
 pub(crate) fn rarest_name<'a, R: Row>(work: &Work<R>, entry: &'a Entry<R>) -> Option<&'a Name>
-    ensures { IfSome result (λ name. IsNeeded (cubes_of_rows (written_of entry.now)) name.now) }
+    ensures some { IfSome result (λ name. IsNeeded (cubes_of_rows (written_of entry.now)) name.now) }
+    ensures none { result ≡ None → is_over [] (cubes_of_rows (written_of entry.now)) ≡ true }
 {
     let inputs = entry.table.inputs.as_slice();
     let rows = entry.table.cover.rows();
@@ -67,7 +71,7 @@ pub(crate) fn rarest_name<'a, R: Row>(work: &Work<R>, entry: &'a Entry<R>) -> Op
 
 // Whether a place is the last of some.
 fn is_last(places: &[usize], place: usize) -> bool
-    ensures { result ≡ true → is_in places.now place ≡ true }
+    ensures { IsTrue result ↔ (last_or None places.now ≡ Some place) }
 {
     match places.last() {
         None => false,

@@ -5,7 +5,7 @@ use Rattle.extract_rules.specs.declared.rule.Rule.TheVariants.{Fx}
 use Rattle.kept_gains.specs.Kept.{Saves, IsFirst}
 use Rattle.name_covers.specs.Literals.{NamedCover}
 use Rattle.net_work.specs.Placed.{standing, circuit_of}
-use Rattle.net_extract.specs.Saving.{LeavesNarrow}
+use Rattle.kept_savings.specs.Saving.{LeavesNarrow}
 use Rattle.net_extract.proofs.Gaining.{counted_found}
 use Rattle.net_extract.proofs.counted.best_counted.Goals as goal
 

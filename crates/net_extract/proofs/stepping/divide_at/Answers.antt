@@ -1,5 +1,5 @@
 use Rattle.std.proofs.lemmas.Result.{on_ok_weaker}
-use Rattle.net_extract.proofs.Tabled.{none_set, made_bounded}
+use Rattle.net_extract.proofs.Made.{none_set, made_bounded}
 use Rattle.net_extract.proofs.stepping.divide_at.Goals as goal
 
 pub returns-in-None-clause-divided : goal.returns-in-None-clause-divided

@@ -10,8 +10,7 @@ loop-place-preserved g c = record {
       c.loop-place-test.true c.loop-place.invariant.divided c.in_ok-divide_at.ensures.divided;
   bounded = λ all. c.in_ok-divide_at.ensures.bounded (c.loop-place.invariant.bounded all);
   known = c.in_ok-divide_at.ensures.known;
-  lists = λ rule kept. c.in_ok-divide_at.ensures.lists rule (c.loop-place.invariant.lists rule kept);
-  saved = λ saved. c.in_ok-divide_at.ensures.saved (c.loop-place.invariant.saved saved);
+  saved = λ rule saved. c.in_ok-divide_at.ensures.saved rule (c.loop-place.invariant.saved rule saved);
 }
 
 pub returns-clause-divided : goal.returns-clause-divided

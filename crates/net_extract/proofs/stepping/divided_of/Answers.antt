@@ -1,4 +1,4 @@
-use Rattle.net_extract.proofs.Tabled.{made_is}
+use Rattle.net_extract.proofs.Made.{made_is}
 use Rattle.net_extract.proofs.stepping.divided_of.Goals as goal
 
 pub returns-in_ok-table-in-Some : goal.returns-in_ok-table-in-Some

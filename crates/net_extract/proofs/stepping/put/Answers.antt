@@ -9,5 +9,5 @@ returns-clause-put g c =
     c.in_ok-places.ensures.all c.in_ok-name.ensures.added
     (c.in_ok-divide_places.ensures.divided ∙ ap (λ (places : List ℕ). with_divided c.in_ok-name.name c.args.cover.now places c.add_table.new.work) c.as_slice.ensures.value) c.in_ok-divide_places.ensures.bounded
 
-pub returns-clause-lists : goal.returns-clause-lists
-returns-clause-lists g c = λ rule kept. c.in_ok-divide_places.ensures.lists rule (c.in_ok-name.ensures.lists rule kept)
+pub returns-clause-saved : goal.returns-clause-saved
+returns-clause-saved g c = λ rule saved. c.in_ok-divide_places.ensures.saved rule (c.in_ok-name.ensures.saved rule saved)

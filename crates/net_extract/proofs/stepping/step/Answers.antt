@@ -1,8 +1,8 @@
 use Rattle.std.proofs.Common.{◌≤◌, sym, subst}
 use Rattle.name_covers.specs.Literals.{NamedCover}
 use Rattle.net_work.specs.Placed.{circuit_of}
-use Rattle.net_extract.specs.Saving.{literals_in}
-use Rattle.net_extract.proofs.Found.{candidate_some}
+use Rattle.kept_savings.specs.Saving.{literals_in}
+use Rattle.kept_savings.proofs.Found.{candidate_some}
 use Rattle.net_extract.proofs.stepping.step.Goals as goal
 
 pub put-requires-clause-some : goal.put-requires-clause-some
@@ -11,5 +11,5 @@ put-requires-clause-some g c =
     subst (λ (cover : NamedCover). 1 ≤ literals_in cover) (sym c.as_slice.ensures)
     (candidate_some c.args.rule (circuit_of c.args.work.now) c.in_ok-name.name c.requires.sound c.in_ok-name.ensures c.in-Some.cover next.best.may.candidate)
 
-pub returns-clause-lists : goal.returns-clause-lists
-returns-clause-lists g c = c.in_ok-put-in-Some.ensures.lists c.args.rule c.in_ok-best_known.ensures.lists
+pub returns-clause-saved : goal.returns-clause-saved
+returns-clause-saved g c = c.in_ok-put-in-Some.ensures.saved c.args.rule c.in_ok-best_known.ensures.saved

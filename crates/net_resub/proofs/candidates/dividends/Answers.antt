@@ -17,5 +17,5 @@ returns-in-None-rarest_name g c =
 
 pub returns-in_ok-readers-in-Some-rarest_name : goal.returns-in_ok-readers-in-Some-rarest_name
 returns-in_ok-readers-in-Some-rarest_name g c =
-    dividends_readers c.args.work.now.slots c.args.by (written_of c.in-Some.entry.now) c.in-Some-rarest_name.name.now c.into_vec.result.items (sym c.in-Some.ensures.table) c.in-Some-rarest_name.ensures
+    dividends_readers c.args.work.now.slots c.args.by (written_of c.in-Some.entry.now) c.in-Some-rarest_name.name.now c.into_vec.result.items (sym c.in-Some.ensures.table) c.in-Some-rarest_name.ensures.some
     (λ at. ap (λ (places : List ℕ). is_in places at) c.into_vec.ensures ∙ c.in_ok-readers-in-Some-rarest_name.ensures at)

@@ -1,4 +1,4 @@
-use Rattle.std.proofs.Common.{sym}
+use Rattle.std.proofs.Common.{refl, sym}
 use Rattle.input_readers.proofs.Sets.{on_ok}
 use Rattle.net_core.specs.Places.{written_of}
 use Rattle.net_resub.specs.Listed.{HasPut, HasPutUnder, is_under}
@@ -11,7 +11,9 @@ returns-in-None-rarest_name g c =
     let made : DivisorLists = record { unnamed = c.push_place.new.places; named = c.args.self.now.named } in
     on_ok c.push_place.result
     (λ (put : HasPut c.args.place c.args.self.now.unnamed.items c.push_place.new.places.items).
-    λ test are. unnamed_listed test c.args.work.now.slots c.args.self.now made c.args.place put (λ name at m. m) are)
+    λ test are.
+    unnamed_listed test c.args.work.now.slots c.args.self.now made c.args.place (written_of c.in-Some.entry.now) (sym c.in-Some.ensures.table) (c.in-None-rarest_name.ensures.none refl) put
+    (λ name at m. m) are)
     c.push_place.ensures
 
 pub returns-in-Some-rarest_name : goal.returns-in-Some-rarest_name
@@ -20,6 +22,6 @@ returns-in-Some-rarest_name g c =
     on_ok c.put_under.result
     (λ (put : HasPutUnder c.in-Some-rarest_name.name.now c.args.place (is_under c.args.self.now) (is_under made)).
     λ test are.
-    named_listed test c.args.work.now.slots c.args.self.now made c.args.place (written_of c.in-Some.entry.now) c.in-Some-rarest_name.name.now (sym c.in-Some.ensures.table) c.in-Some-rarest_name.ensures
+    named_listed test c.args.work.now.slots c.args.self.now made c.args.place (written_of c.in-Some.entry.now) c.in-Some-rarest_name.name.now (sym c.in-Some.ensures.table) c.in-Some-rarest_name.ensures.some
     (λ at m. m) put are)
     c.put_under.ensures

@@ -1,0 +1,4 @@
+pub mod Saving
+pub mod Listing
+pub mod Sharing
+pub mod Savings

@@ -1,0 +1,49 @@
+-- Tables of the code that are divided stand at their places.
+use Rattle.std.proofs.Common.{◌≡◌, ℕ, true, Option, Some, is_some, List, sym, ap, ◌∙◌, subst}
+use Rattle.std.specs.List.{AllByRecursion}
+use Rattle.circuit_model.specs.Names.{all_different}
+use Rattle.circuit_model.specs.declared.circuit.Table.{Table as Written}
+use Rattle.name_covers.specs.Literals.{NamedCover}
+use Rattle.net_core.specs.Places.{written_of}
+use Rattle.net_core.specs.Reads.{IsBounded}
+use Rattle.net_core.specs.Tables.{named, IsOverInputs}
+use Rattle.net_core.specs.declared.places.Entry.{Entry}
+use Rattle.net_core.specs.declared.table.Table.{Table}
+use Rattle.net_work.specs.Placed.{Placed, standing, table_at, with_slot}
+use Rattle.table_algebra.specs.Dividing.{divided}
+use Rattle.kept_savings.proofs.Slots.{all_set, set_same}
+use Rattle.kept_savings.proofs.Tabled.{made_once}
+use Rattle.net_extract.specs.Dividing.{divided_slot, IsMade, IsMadeAt}
+
+module _ {R : Type 0} (name : List ℕ) (cover : NamedCover) where
+  pub made_is : (entry : Entry R) (made table : Table R) → ((output : List ℕ) → named output made ≡ divided name true cover (named output entry.table)) → IsOverInputs made
+      → all_different entry.table.inputs ≡ true → (table ≡ made) × ((output : List ℕ) → IsBounded (named output made)) → IsMade name cover (written_of entry) table
+  unfolding named
+  made_is entry made table some over once bounded = record {
+    over = subst (λ (t : Table R). IsOverInputs t) (sym bounded.0) over;
+    once = ap (λ (t : Table R). all_different t.inputs) bounded.0 ∙ made_once name cover entry.table made some once;
+    is = ap (λ (t : Table R). named entry.output t) bounded.0 ∙ some entry.output;
+    bounded = subst IsBounded (some entry.output) (bounded.1 entry.output);
+  }
+
+  module _ (now new : Placed) (place : ℕ) where
+    pub made_set : (made : Table R) → IsMadeAt name cover now.slots place made → ((old : Written) → table_at now.slots place ≡ Some old → new ≡ with_slot now place (Some (named old.output made)))
+        → new ≡ with_slot now place (divided_slot name cover (table_at now.slots place))
+    made_set made is set_is =
+        set_is is.table is.there
+        ∙ ap (λ (slot : Option Written). with_slot now place slot) (ap (λ (t : Written). Some t) is.made_of.is ∙ sym (ap (divided_slot name cover) is.there))
+
+    pub made_bounded : (made : Table R) → IsMadeAt name cover now.slots place made → ((old : Written) → table_at now.slots place ≡ Some old → new ≡ with_slot now place (Some (named old.output made)))
+        → AllByRecursion IsBounded (standing now.slots) → AllByRecursion IsBounded (standing new.slots)
+    made_bounded made is set_is all =
+        subst (λ (p : Placed). AllByRecursion IsBounded (standing p.slots))
+        (sym (set_is is.table is.there ∙ ap (λ (t : Written). with_slot now place (Some t)) is.made_of.is))
+        (all_set IsBounded now.slots place (divided name true cover is.table) is.made_of.bounded all)
+
+  pub made_there : (slots : List (Option Written)) (place : ℕ) (made : Table R) → IsMadeAt name cover slots place made → is_some (table_at slots place) ≡ true
+  made_there slots place made is = ap is_some is.there
+
+-- a place whose table stays as it is
+pub none_set : (name : List ℕ) (cover : NamedCover) (now : Placed) (place : ℕ) → divided_slot name cover (table_at now.slots place) ≡ table_at now.slots place
+    → now ≡ with_slot now place (divided_slot name cover (table_at now.slots place))
+none_set name cover now place stays = ap (λ (slots : List (Option Written)). record now { slots = slots }) (sym (set_same now.slots place (divided_slot name cover (table_at now.slots place)) stays))
