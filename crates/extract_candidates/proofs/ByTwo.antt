@@ -162,11 +162,6 @@ shared_by_holders cubes holders cube two are = (
       (pair_two k.pair.before k.pair.between k.pair.after k.one k.other cube (cube_is (shared k.one k.other) cube k.is)))),
 )
 
-pub short_apart : (cubes : List Cube) (cube : Cube) → length cube < 2 → IsSharedOf cubes (cube ∷ []) → ⊥
-short_apart cubes cube short k =
-    let two : 2 ≤ length cube = subst (λ (x : Cube). 2 ≤ length x) (cube_is (shared k.one k.other) cube k.is) k.two in
-    omega (arith, short, two)
-
 -- ---- a loop over cubes behind references
 
 pub two_here : (cubes : List (Bor Cube)) (i : ℕ) (one : Bor Cube) (cube : Cube) → i < length cubes → one ≡ get_or cubes i one

@@ -26,11 +26,6 @@ use Rattle.kept_savings.proofs.Summing.{in_has, sum_places}
 use Rattle.kept_savings.proofs.Reading.{divided_reads_name}
 
 module _ (name : List ℕ) (cover : NamedCover) (table : Table) where
-  pub undivided_loss : divided name true cover table ≡ table → IsLoss name cover (Some table) (Some 0)
-  undivided_loss stays =
-      let same : literals_of_table (divided name true cover table) ≡ literals_of_table table = ap literals_of_table stays in
-      (omega (arith, same), inl stays)
-
   pub wide_loss : (inputs : List (List ℕ)) → has table.inputs name ≡ false → inputs ≡ (divided name true cover table).inputs → (ltb 1000 (length inputs) && has inputs name) ≡ true
       → IsLoss name cover (Some table) None
   wide_loss inputs free is wide narrow =

@@ -1,10 +1,8 @@
 -- The tables that read all that a cover reads read the name of its first literal; places in order, each once.
-use Rattle.std.proofs.Common.{◌≡◌, ℕ, ◌+◌, ◌<◌, ◌==◌, zero, suc, eqb, cond, Bool, true, false, Option, Some, List, [], ◌∷◌, ◌++◌, length, take, slice_get, get_or, refl, sym, ap, ◌∙◌, subst, inl, inr, arith}
+use Rattle.std.proofs.Common.{◌≡◌, ℕ, ◌<◌, ◌==◌, zero, suc, eqb, cond, Bool, true, false, Option, Some, List, [], ◌∷◌, length, slice_get, refl, sym, ap, ◌∙◌, subst, inl, inr, arith}
 use Rattle.std.specs.List.{dedup, dedup_from}
 use Rattle.std.proofs.lemmas.Bool.{false≢true, eqb-true, or_left, or_right, or_cases}
 use Rattle.std.proofs.lemmas.Option.{none-some, same_Some}
-use Rattle.std.proofs.lemmas.List.{take_more}
-use Rattle.std.proofs.lemmas.List.Sums.{sum_by_push}
 use Rattle.circuit_model.specs.Names.{has}
 use Rattle.circuit_model.specs.declared.circuit.Table.{Table}
 use Rattle.circuit_laws.proofs.Names.{has_head, has_tail, has_front, has_back}
@@ -17,7 +15,6 @@ use Rattle.name_covers.proofs.Worth.{names_of}
 use Rattle.net_work.specs.Placed.{table_at}
 use Rattle.net_work.specs.Slots.{inputs_in, inputs_at}
 use Rattle.table_algebra.proofs.CoverTables.{over_names}
-use Rattle.kept_savings.specs.Saving.{literals_in}
 
 -- the name of a literal of a cube of a cover
 cube_named : (cube : Cube) (literal : Literal) → Has literal cube → has (names_of cube) literal.name ≡ true
@@ -37,13 +34,6 @@ literal_named (first ∷ cover) cube literal m k = elim m as (λ _. has (names_i
 pub first_has : (cube : Cube) (literal : Literal) → Some literal ≡ slice_get cube 0 → Has literal cube
 first_has [] literal h = absurd (none-some literal (sym h))
 first_has (first ∷ cube) literal h = inl (same_Some literal first h)
-
--- a cube more without literals
-pub literals_none : (cover : NamedCover) (i : ℕ) (cube d : Cube) → i < length cover → cube ≡ get_or cover i d → length cube ≡ 0 → literals_in (take i cover) ≡ 0 → literals_in (take (i + 1) cover) ≡ 0
-literals_none cover i cube d below is empty before =
-    let more : take (i + 1) cover ≡ take i cover ++ cube ∷ [] = take_more cover i d below ∙ ap (λ (c : Cube). take i cover ++ c ∷ []) (sym is) in
-    let split : literals_in (take (i + 1) cover) ≡ literals_in (take i cover) + length cube = ap literals_in more ∙ sum_by_push (λ (c : Cube). length c) (take i cover) cube in
-    omega (arith, before, empty, split)
 
 -- the readers of a name of the cover
 pub readers_all : (slots : List (Option Table)) (cover : NamedCover) (name : List ℕ) (readers places : List ℕ) → has (names_in cover) name ≡ true

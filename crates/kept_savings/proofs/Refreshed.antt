@@ -30,9 +30,6 @@ use Rattle.kept_savings.proofs.Owning.{own_candidate}
 
 -- ---- more is noted
 
-pub grown_itself : (placed : Placed) (known : KnownCovers) → IsGrown placed known known
-grown_itself placed known = record { right = λ cover right. right; noted = λ cover noted. noted; found = λ found. found; anew = λ name cover m. inl m }
-
 pub grown_both : (placed : Placed) (old between new : KnownCovers) → IsGrown placed old between → IsGrown placed between new → IsGrown placed old new
 grown_both placed old between new one other = record {
   right = λ cover right. other.right cover (one.right cover right);

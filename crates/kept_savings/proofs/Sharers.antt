@@ -26,9 +26,6 @@ pair_none {X} x y k = cases k.before k.among
 pub pair_first : {X : Type 0} (xs : List X) (x y : X) → ArePair xs x y → Has x xs
 pair_first xs x y k = subst (Has x) (sym k.among) (Has-right x k.before (x ∷ (k.between ++ y ∷ k.after)) (inl refl))
 
-pub pair_second : {X : Type 0} (xs : List X) (x y : X) → ArePair xs x y → Has y xs
-pair_second xs x y k = subst (Has y) (sym k.among) (Has-right y k.before (x ∷ (k.between ++ y ∷ k.after)) (inr (Has-right y k.between (y ∷ k.after) (inl refl))))
-
 pair_left : {X : Type 0} (xs ys : List X) (x y : X) → ArePair xs x y → ArePair (xs ++ ys) x y
 pair_left {X} xs ys x y k = record {
   before = k.before;

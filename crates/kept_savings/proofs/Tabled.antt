@@ -21,13 +21,10 @@ use Rattle.table_algebra.proofs.Taken.{characters_wide}
 use Rattle.circuit_laws.proofs.Names.{has_not}
 use Rattle.std.proofs.lemmas.Bool.{false≢true}
 use Rattle.kept_savings.specs.Saving.{IsLoss}
-use Rattle.kept_savings.proofs.Losing.{undivided_loss, wide_loss, narrow_loss}
+use Rattle.kept_savings.proofs.Losing.{wide_loss, narrow_loss}
 use Rattle.kept_savings.proofs.Slots.{all_at}
 
 module _ {R : Type 0} (name : List ℕ) (cover : NamedCover) (table : Table R) where
-  pub loss_none : ((output : List ℕ) → divided name true cover (named output table) ≡ named output table) → (output : List ℕ) → IsLoss name cover (Some (named output table)) (Some 0)
-  loss_none stays output = undivided_loss name cover (named output table) (stays output)
-
   module _ (made : Table R) (some : (output : List ℕ) → named output made ≡ divided name true cover (named output table)) where
     made_inputs : (output : List ℕ) → made.inputs ≡ (divided name true cover (named output table)).inputs
     unfolding named

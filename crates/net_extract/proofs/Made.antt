@@ -1,5 +1,5 @@
 -- Tables of the code that are divided stand at their places.
-use Rattle.std.proofs.Common.{◌≡◌, ℕ, true, Option, Some, is_some, List, sym, ap, ◌∙◌, subst}
+use Rattle.std.proofs.Common.{◌≡◌, ℕ, true, Option, Some, List, sym, ap, ◌∙◌, subst}
 use Rattle.std.specs.List.{AllByRecursion}
 use Rattle.circuit_model.specs.Names.{all_different}
 use Rattle.circuit_model.specs.declared.circuit.Table.{Table as Written}
@@ -27,21 +27,12 @@ module _ {R : Type 0} (name : List ℕ) (cover : NamedCover) where
   }
 
   module _ (now new : Placed) (place : ℕ) where
-    pub made_set : (made : Table R) → IsMadeAt name cover now.slots place made → ((old : Written) → table_at now.slots place ≡ Some old → new ≡ with_slot now place (Some (named old.output made)))
-        → new ≡ with_slot now place (divided_slot name cover (table_at now.slots place))
-    made_set made is set_is =
-        set_is is.table is.there
-        ∙ ap (λ (slot : Option Written). with_slot now place slot) (ap (λ (t : Written). Some t) is.made_of.is ∙ sym (ap (divided_slot name cover) is.there))
-
     pub made_bounded : (made : Table R) → IsMadeAt name cover now.slots place made → ((old : Written) → table_at now.slots place ≡ Some old → new ≡ with_slot now place (Some (named old.output made)))
         → AllByRecursion IsBounded (standing now.slots) → AllByRecursion IsBounded (standing new.slots)
     made_bounded made is set_is all =
         subst (λ (p : Placed). AllByRecursion IsBounded (standing p.slots))
         (sym (set_is is.table is.there ∙ ap (λ (t : Written). with_slot now place (Some t)) is.made_of.is))
         (all_set IsBounded now.slots place (divided name true cover is.table) is.made_of.bounded all)
-
-  pub made_there : (slots : List (Option Written)) (place : ℕ) (made : Table R) → IsMadeAt name cover slots place made → is_some (table_at slots place) ≡ true
-  made_there slots place made is = ap is_some is.there
 
 -- a place whose table stays as it is
 pub none_set : (name : List ℕ) (cover : NamedCover) (now : Placed) (place : ℕ) → divided_slot name cover (table_at now.slots place) ≡ table_at now.slots place
