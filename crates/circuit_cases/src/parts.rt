@@ -1,47 +1,47 @@
-//! Circuits and their parts, each on a line of its own.
+//! Circuits and their parts, each on a line of its own, in which one blank parts the words.
 //!
 //! A name is one character, and a list of names a word of them; `.` is the empty word. A table is its output, its
 //! inputs, its phase, and its rows; a latch its input, its output and its first value. Lines of a circuit begin with
 //! `name`, `inputs`, `outputs`, `clocks`, `timing` (a kind, and a control or `NIL`), `latch`, `table` or `dont_care`.
 
-use blif_write::table_text;
-use circuit_model::{Circuit, Kind, Latch, Name, Names, Row, Rows, Table, Tables, Timing, Tri};
+use circuit_model::{
+    Bits, Circuit, Kind, Latch, Name, Names, Row, Rows, Table, Tables, Timing, Tri,
+};
 use sis_base::Sequence;
 use std::alloc::{AllocError, Global};
-use trial_cases::{CaseFault, put_line};
+use trial_cases::CaseFault;
+
+/// The first word of a text, and the text behind it.
+pub fn cut(text: &str) -> (&str, &str) {
+    text.split_once(' ').unwrap_or((text, ""))
+}
 
 /// The characters of a word; none where it is `.`.
 pub fn letters(word: &str) -> &str {
     if word == "." { "" } else { word }
 }
 
-/// The name of some bytes.
-pub fn name_of(alloc: Global, bytes: &[u8]) -> Result<Name, AllocError> {
-    Ok(Name::from_vec(bytes.to_vec(alloc)?))
-}
-
 /// The name that a word is.
 pub fn name(alloc: Global, word: &str) -> Result<Name, AllocError> {
-    name_of(alloc, letters(word).as_bytes())
+    Name::from_slice(alloc, letters(word).as_bytes())
 }
 
 /// The names of one character each of a word.
 pub fn names(alloc: Global, word: &str) -> Result<Names, AllocError> {
     let mut made = Sequence::new(alloc);
     for byte in letters(word).as_bytes() {
-        made.push(name_of(alloc, &[*byte])?)?;
+        made.push(Name::from_slice(alloc, &[*byte])?)?;
     }
     Ok(made)
 }
 
-/// The words of a line.
-pub fn words_of(alloc: Global, line: &str) -> Result<Vec<&str>, AllocError> {
-    line.split_whitespace().collect(alloc)
-}
-
-/// The word at a place.
-pub fn word_at<'a>(words: &[&'a str], place: usize) -> Result<&'a str, CaseFault> {
-    words.get(place).copied().ok_or(CaseFault::Bad)
+/// The bits of a word.
+pub fn bits(alloc: Global, word: &str) -> Result<Bits, AllocError> {
+    let mut made = Sequence::new(alloc);
+    for byte in letters(word).as_bytes() {
+        made.push(*byte == b'1')?;
+    }
+    Ok(made)
 }
 
 /// The bit that a word is.
@@ -71,36 +71,54 @@ fn row(alloc: Global, word: &str) -> Result<Row, AllocError> {
     Ok(made)
 }
 
-/// The rows that the words from a place on are.
-pub fn rows(alloc: Global, words: &[&str]) -> Result<Rows, AllocError> {
+/// The rows that the words of a text are.
+pub fn rows(alloc: Global, text: &str) -> Result<Rows, AllocError> {
     let mut made = Sequence::new(alloc);
-    for word in words {
+    for word in text.split_whitespace() {
         made.push(row(alloc, word)?)?;
     }
     Ok(made)
 }
 
-/// The table that words are.
-pub fn table(alloc: Global, words: &[&str]) -> Result<Table, CaseFault> {
+/// The table that a text is.
+pub fn table(alloc: Global, text: &str) -> Result<Table, CaseFault> {
+    let (output, rest) = cut(text);
+    let (inputs, rest) = cut(rest);
+    let (phase, rest) = cut(rest);
+    let phase = bit_of(phase)?;
+    let output = name(alloc, output)?;
+    let inputs = names(alloc, inputs)?;
     Ok(Table {
-        output: name(alloc, word_at(words, 0)?)?,
-        inputs: names(alloc, word_at(words, 1)?)?,
-        phase: bit_of(word_at(words, 2)?)?,
-        rows: rows(alloc, words.get(3..).unwrap_or(&[]))?,
+        output,
+        inputs,
+        phase,
+        rows: rows(alloc, rest)?,
     })
+}
+
+/// Takes a table behind others.
+fn take_table(alloc: Global, taken: &mut Tables, text: &str) -> Result<(), CaseFault> {
+    taken.push(table(alloc, text)?)?;
+    Ok(())
+}
+
+/// Takes the tables of lines behind others.
+fn take_tables(alloc: Global, taken: &mut Tables, lines: &[&str]) -> Result<(), CaseFault> {
+    for line in lines {
+        take_table(alloc, taken, line)?;
+    }
+    Ok(())
 }
 
 /// The tables of lines.
 pub fn tables(alloc: Global, lines: &[&str]) -> Result<Tables, CaseFault> {
     let mut made = Sequence::new(alloc);
-    for line in lines {
-        made.push(table(alloc, words_of(alloc, line)?.as_slice())?)?;
-    }
+    take_tables(alloc, &mut made, lines)?;
     Ok(made)
 }
 
 /// The first value that a word is.
-fn init(word: &str) -> Result<u8, CaseFault> {
+fn first_value(word: &str) -> Result<u8, CaseFault> {
     match word {
         "0" => Ok(0),
         "1" => Ok(1),
@@ -110,17 +128,21 @@ fn init(word: &str) -> Result<u8, CaseFault> {
     }
 }
 
-/// The latch that words are.
-fn latch(alloc: Global, words: &[&str]) -> Result<Latch, CaseFault> {
+/// The latch that a text is.
+fn latch(alloc: Global, text: &str) -> Result<Latch, CaseFault> {
+    let (input, rest) = cut(text);
+    let (output, init) = cut(rest);
+    let init = first_value(init)?;
+    let input = name(alloc, input)?;
     Ok(Latch {
-        input: name(alloc, word_at(words, 0)?)?,
-        output: name(alloc, word_at(words, 1)?)?,
-        init: init(word_at(words, 2)?)?,
+        input,
+        output: name(alloc, output)?,
+        init,
     })
 }
 
 /// The kind that a word is.
-fn kind(word: &str) -> Result<Kind, CaseFault> {
+fn kind_of(word: &str) -> Result<Kind, CaseFault> {
     match word {
         "fe" => Ok(Kind::Fe),
         "re" => Ok(Kind::Re),
@@ -131,18 +153,19 @@ fn kind(word: &str) -> Result<Kind, CaseFault> {
 }
 
 /// The control that a word is.
-fn control(alloc: Global, word: &str) -> Result<Option<Name>, AllocError> {
+fn control_of(alloc: Global, word: &str) -> Result<Option<Name>, AllocError> {
     if word == "NIL" {
         return Ok(None);
     }
     Ok(Some(name(alloc, word)?))
 }
 
-/// The timing that words are.
-fn timing(alloc: Global, words: &[&str]) -> Result<Timing, CaseFault> {
+/// The timing that a text is.
+fn timing(alloc: Global, text: &str) -> Result<Timing, CaseFault> {
+    let (kind, control) = cut(text);
     Ok(Timing {
-        kind: kind(word_at(words, 0)?)?,
-        control: control(alloc, word_at(words, 1)?)?,
+        kind: kind_of(kind)?,
+        control: control_of(alloc, control)?,
     })
 }
 
@@ -160,36 +183,45 @@ fn empty_circuit(alloc: Global) -> Circuit {
     }
 }
 
-/// Puts lists of names in, and the timing.
-fn put_ports(
+/// Takes names in place of others.
+fn take_names(alloc: Global, taken: &mut Names, word: &str) -> Result<(), CaseFault> {
+    *taken = names(alloc, word)?;
+    Ok(())
+}
+
+/// Takes a name, a timing or a latch into a circuit.
+fn take_other(
     alloc: Global,
     circuit: &mut Circuit,
     first: &str,
-    words: &[&str],
+    rest: &str,
 ) -> Result<(), CaseFault> {
     match first {
-        "name" => circuit.name = name(alloc, word_at(words, 0)?)?,
-        "inputs" => circuit.inputs = names(alloc, word_at(words, 0)?)?,
-        "outputs" => circuit.outputs = names(alloc, word_at(words, 0)?)?,
-        "clocks" => circuit.clocks = names(alloc, word_at(words, 0)?)?,
-        "timing" => circuit.timing = Some(timing(alloc, words)?),
+        "name" => circuit.name = name(alloc, rest)?,
+        "timing" => circuit.timing = Some(timing(alloc, rest)?),
+        "latch" => circuit.latches.push(latch(alloc, rest)?)?,
         _ => return Err(CaseFault::Bad),
     }
     Ok(())
 }
 
-/// Puts a part of a circuit in.
-fn put_part(
-    alloc: Global,
-    circuit: &mut Circuit,
-    first: &str,
-    words: &[&str],
-) -> Result<(), CaseFault> {
+/// Takes the part of a circuit that a line is.
+fn take_part(alloc: Global, circuit: &mut Circuit, line: &str) -> Result<(), CaseFault> {
+    let (first, rest) = cut(line);
     match first {
-        "latch" => circuit.latches.push(latch(alloc, words)?)?,
-        "table" => circuit.tables.push(table(alloc, words)?)?,
-        "dont_care" => circuit.dont_care.push(table(alloc, words)?)?,
-        _ => return put_ports(alloc, circuit, first, words),
+        "inputs" => take_names(alloc, &mut circuit.inputs, rest),
+        "outputs" => take_names(alloc, &mut circuit.outputs, rest),
+        "clocks" => take_names(alloc, &mut circuit.clocks, rest),
+        "table" => take_table(alloc, &mut circuit.tables, rest),
+        "dont_care" => take_table(alloc, &mut circuit.dont_care, rest),
+        _ => take_other(alloc, circuit, first, rest),
+    }
+}
+
+/// Takes the parts of a circuit that lines are.
+fn take_parts(alloc: Global, circuit: &mut Circuit, lines: &[&str]) -> Result<(), CaseFault> {
+    for line in lines {
+        take_part(alloc, circuit, line)?;
     }
     Ok(())
 }
@@ -197,64 +229,39 @@ fn put_part(
 /// The circuit of lines.
 pub fn circuit(alloc: Global, lines: &[&str]) -> Result<Circuit, CaseFault> {
     let mut made = empty_circuit(alloc);
-    for line in lines {
-        let words = words_of(alloc, line)?;
-        let (first, rest) = words.as_slice().split_first().ok_or(CaseFault::Bad)?;
-        put_part(alloc, &mut made, first, rest)?;
-    }
+    take_parts(alloc, &mut made, lines)?;
     Ok(made)
 }
 
-/// The lines before the first that is not of a circuit, and those from it on.
-pub fn circuit_lines<'a, 'b>(lines: &'b [&'a str]) -> (&'b [&'a str], &'b [&'a str]) {
-    let count = lines.iter().take_while(|line| is_part(line)).count();
-    lines.split_at(count.min(lines.len()))
+/// Takes a circuit without anything behind others.
+fn take_empty(alloc: Global, taken: &mut Vec<Circuit>) -> Result<(), CaseFault> {
+    taken.push(empty_circuit(alloc))?;
+    Ok(())
 }
 
-/// Whether a line is of a circuit.
-fn is_part(line: &str) -> bool {
-    [
-        "name",
-        "inputs",
-        "outputs",
-        "clocks",
-        "timing",
-        "latch",
-        "table",
-        "dont_care",
-    ]
-    .iter()
-    .any(|word| line.starts_with(*word))
-}
-
-/// Puts names on a line.
-pub fn put_names(out: &mut Vec<u8>, names: &[Name]) -> Result<(), AllocError> {
-    for (place, name) in names.iter().enumerate() {
-        if place > 0 {
-            out.push(b' ')?;
-        }
-        out.extend_from_slice(name.as_slice())?;
+/// Takes a line of circuits, into the last one or as the end of it.
+fn take_line(alloc: Global, taken: &mut Vec<Circuit>, line: &str) -> Result<(), CaseFault> {
+    if line == "and" {
+        return take_empty(alloc, taken);
     }
-    put_line(out, b"")
-}
-
-/// Puts a table; one without rows with its phase, which its text does not tell.
-pub fn put_table(alloc: Global, out: &mut Vec<u8>, table: &Table) -> Result<(), AllocError> {
-    out.extend_from_slice(table_text(alloc, table)?.as_slice())?;
-    if !table.rows.is_empty() {
-        return Ok(());
+    match taken.last_mut() {
+        Some(last) => take_part(alloc, last, line),
+        None => Err(CaseFault::Bad),
     }
-    put_line(out, if table.phase { b"phase 1" } else { b"phase 0" })
 }
 
-/// A line of its own.
-pub fn line(alloc: Global, text: &str) -> Result<Vec<u8>, AllocError> {
-    let mut out = Vec::new(alloc);
-    put_line(&mut out, text.as_bytes())?;
-    Ok(out)
+/// Takes the circuits of lines behind others.
+fn take_circuits(alloc: Global, taken: &mut Vec<Circuit>, lines: &[&str]) -> Result<(), CaseFault> {
+    take_empty(alloc, taken)?;
+    for line in lines {
+        take_line(alloc, taken, line)?;
+    }
+    Ok(())
 }
 
-/// A line that says whether something holds.
-pub fn truth(alloc: Global, holds: bool) -> Result<Vec<u8>, AllocError> {
-    line(alloc, if holds { "true" } else { "false" })
+/// The circuits of lines, which lines `and` part.
+pub fn circuits(alloc: Global, lines: &[&str]) -> Result<Vec<Circuit>, CaseFault> {
+    let mut made = Vec::new(alloc);
+    take_circuits(alloc, &mut made, lines)?;
+    Ok(made)
 }

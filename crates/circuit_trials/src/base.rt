@@ -1,23 +1,19 @@
 //! Lists: names, which keep short ones in themselves, and sequences of any items.
 
-use circuit_cases::{letters, name, truth};
+use circuit_cases::{letters, put_truth};
 use circuit_model::{Name, Names};
 use indexmap::IndexSet;
 use sis_base::{Copied, Sequence};
 use std::alloc::{AllocError, Global};
-use trial_cases::{Case, CaseFault};
+use std::fmt::Debug;
+use trial_cases::{Case, CaseFault, put_line};
 
-/// The answer to a case of sis_base.
-pub fn answer(alloc: Global, case: &Case<'_>) -> Result<Vec<u8>, CaseFault> {
-    let words = case.words.as_slice().get(2..).unwrap_or(&[]);
+/// Puts the answer to a case of sis_base.
+pub fn answer(alloc: Global, out: &mut Vec<u8>, case: &Case<'_>) -> Result<(), CaseFault> {
     match case.word(1) {
-        "short" => Ok(short_answer(alloc, case.word(2))?),
-        "short_copies" => Ok(truth(alloc, are_short_copies(alloc, case.word(2))?)?),
-        "sequence" => Ok(sequence_answer(alloc, words)?),
-        "sequence_copies" => Ok(truth(alloc, are_copies(alloc, words)?)?),
-        "sequence_differs" => Ok(truth(alloc, differs(alloc, words)?)?),
-        "hash" => Ok(truth(alloc, is_one_key(alloc, words)?)?),
-        _ => Err(CaseFault::Bad),
+        "short" => put_short(alloc, out, case.word(2)),
+        "short_copies" => put_short_copies(alloc, out, case.word(2)),
+        _ => put_of_names(alloc, out, case),
     }
 }
 
@@ -30,27 +26,6 @@ fn pushed(alloc: Global, word: &str) -> Result<Name, AllocError> {
     Ok(made)
 }
 
-/// A name's items, how many they are, and whether there are none.
-fn short_answer(alloc: Global, word: &str) -> Result<Vec<u8>, AllocError> {
-    let made = pushed(alloc, word)?;
-    let text = format!(in alloc; "{made:?} {} {}\n", made.len(), made.is_empty())?;
-    text.as_bytes().to_vec(alloc)
-}
-
-/// A copy, by the trait alone.
-fn copied<T: Copied>(alloc: Global, value: &T) -> Result<T, AllocError> {
-    value.copy(alloc)
-}
-
-/// Whether a name that is pushed, one of a vector, one of a slice and a copy are the same.
-fn are_short_copies(alloc: Global, word: &str) -> Result<bool, AllocError> {
-    let first = pushed(alloc, word)?;
-    let second = Name::from_vec(letters(word).as_bytes().to_vec(alloc)?);
-    let third = name(alloc, word)?;
-    let fourth = copied(alloc, &first)?;
-    Ok(first == second && second == third && third == fourth)
-}
-
 /// The names of words.
 fn names_of(alloc: Global, words: &[&str]) -> Result<Names, AllocError> {
     let mut made = Sequence::new(alloc);
@@ -60,34 +35,79 @@ fn names_of(alloc: Global, words: &[&str]) -> Result<Names, AllocError> {
     Ok(made)
 }
 
-/// A sequence's items, how many they are, and whether there are none.
-fn sequence_answer(alloc: Global, words: &[&str]) -> Result<Vec<u8>, AllocError> {
-    let made = names_of(alloc, words)?;
-    let text = format!(in alloc; "{made:?} {} {}\n", made.len(), made.is_empty())?;
-    text.as_bytes().to_vec(alloc)
+/// Puts a list's items, how many they are, and whether there are none.
+fn put_list<T: Debug>(
+    alloc: Global,
+    out: &mut Vec<u8>,
+    list: &T,
+    count: usize,
+    is_empty: bool,
+) -> Result<(), CaseFault> {
+    put_line(
+        out,
+        format!(in alloc; "{list:?} {count} {is_empty}")?.as_bytes(),
+    )?;
+    Ok(())
 }
 
-/// Whether a copy of names and their vector make the same sequence.
-fn are_copies(alloc: Global, words: &[&str]) -> Result<bool, AllocError> {
-    let first = names_of(alloc, words)?;
-    let second = copied(alloc, &first)?;
-    let third = Sequence::from_vec(names_of(alloc, words)?.into_vec());
-    Ok(first == second && third.as_slice() == first.as_slice())
+/// Puts what a name is.
+fn put_short(alloc: Global, out: &mut Vec<u8>, word: &str) -> Result<(), CaseFault> {
+    let made = pushed(alloc, word)?;
+    put_list(alloc, out, &made, made.len(), made.is_empty())
 }
 
-/// Whether names differ from the same with one behind them.
-fn differs(alloc: Global, words: &[&str]) -> Result<bool, AllocError> {
-    let first = names_of(alloc, words)?;
-    let mut second = copied(alloc, &first)?;
-    second.push(Name::new(alloc))?;
-    Ok(first != second)
+/// Puts whether a name that is pushed, one of a vector and a copy are the same.
+fn put_short_copies(alloc: Global, out: &mut Vec<u8>, word: &str) -> Result<(), CaseFault> {
+    let first = pushed(alloc, word)?;
+    let second = Name::from_vec(letters(word).as_bytes().to_vec(alloc)?);
+    put_same(alloc, out, &first, &second)
 }
 
-/// Whether a copy of names is the same key of a hash table.
-fn is_one_key(alloc: Global, words: &[&str]) -> Result<bool, AllocError> {
-    let first = names_of(alloc, words)?;
-    let second = copied(alloc, &first)?;
+/// Puts whether two names and a copy are the same.
+fn put_same(
+    alloc: Global,
+    out: &mut Vec<u8>,
+    first: &Name,
+    second: &Name,
+) -> Result<(), CaseFault> {
+    let third = first.copy(alloc)?;
+    put_truth(out, *first == *second && *second == third)
+}
+
+/// Puts the answer about the names of a case.
+fn put_of_names(alloc: Global, out: &mut Vec<u8>, case: &Case<'_>) -> Result<(), CaseFault> {
+    let made = names_of(alloc, case.words.as_slice().get(2..).unwrap_or(&[]))?;
+    put_about(alloc, out, case.word(1), &made)
+}
+
+/// Puts the answer about names.
+fn put_about(alloc: Global, out: &mut Vec<u8>, call: &str, names: &Names) -> Result<(), CaseFault> {
+    match call {
+        "sequence" => put_list(alloc, out, names, names.len(), names.is_empty()),
+        "sequence_copies" => put_copies(alloc, out, names),
+        "sequence_differs" => put_differs(alloc, out, names),
+        "hash" => put_hash(alloc, out, names),
+        _ => Err(CaseFault::Bad),
+    }
+}
+
+/// Puts whether the vector of a copy of names makes the same sequence.
+fn put_copies(alloc: Global, out: &mut Vec<u8>, names: &Names) -> Result<(), CaseFault> {
+    let again = Sequence::from_vec(names.copy(alloc)?.into_vec());
+    put_truth(out, *names == again && again.as_slice() == names.as_slice())
+}
+
+/// Puts whether names differ from the same with one behind them.
+fn put_differs(alloc: Global, out: &mut Vec<u8>, names: &Names) -> Result<(), CaseFault> {
+    let mut longer = names.copy(alloc)?;
+    longer.push(Name::new(alloc))?;
+    put_truth(out, *names != longer)
+}
+
+/// Puts whether names are the same key of a hash table as a copy.
+fn put_hash(alloc: Global, out: &mut Vec<u8>, names: &Names) -> Result<(), CaseFault> {
+    let copy = names.copy(alloc)?;
     let mut keys = IndexSet::new(alloc);
-    keys.insert(first)?;
-    Ok(keys.contains(&second))
+    keys.insert(copy)?;
+    put_truth(out, keys.contains(names))
 }

@@ -4,26 +4,30 @@
 ghost use Rattle.std.specs.Prelude.{◌≡◌, ℕ, List, nat_lt, length};
 ghost use Rattle.std.specs.List.{list_all};
 
-use circuit_cases::line;
+use circuit_cases::{letters, put_value};
 use graph_cycles::first_cyclic;
 use sis_base::Sequence;
-use std::alloc::{AllocError, Global};
+use std::alloc::Global;
 use trial_cases::{Case, CaseFault, number_of};
 
-/// The answer to a case of graph_cycles.
-pub fn answer(alloc: Global, case: &Case<'_>) -> Result<Vec<u8>, CaseFault> {
+/// Puts the answer to a case of graph_cycles.
+pub fn answer(alloc: Global, out: &mut Vec<u8>, case: &Case<'_>) -> Result<(), CaseFault> {
     if case.word(1) != "first_cyclic" {
         return Err(CaseFault::Bad);
     }
-    let graph = graph_of(alloc, case.lines.as_slice())?;
-    found_answer(alloc, graph.as_slice())
+    let mut graph = Sequence::new(alloc);
+    take_lines(alloc, &mut graph, case.lines.as_slice())?;
+    put_first_cyclic(alloc, out, graph.as_slice())
 }
 
-/// The first place of a graph that is reached from itself.
-fn found_answer(alloc: Global, graph: &[Sequence<usize>]) -> Result<Vec<u8>, CaseFault> {
+/// Puts the first place of a graph that is reached from itself.
+fn put_first_cyclic(
+    alloc: Global,
+    out: &mut Vec<u8>,
+    graph: &[Sequence<usize>],
+) -> Result<(), CaseFault> {
     if is_graph(graph) {
-        let found = first_cyclic(alloc, graph)?;
-        return Ok(line(alloc, format!(in alloc; "{found:?}")?.as_str())?);
+        return put_value(alloc, out, &first_cyclic(alloc, graph)?);
     }
     Err(CaseFault::Bad)
 }
@@ -46,43 +50,36 @@ fn is_graph(graph: &[Sequence<usize>]) -> bool
 /// The places of a line.
 fn places(alloc: Global, text: &str) -> Result<Sequence<usize>, CaseFault> {
     let mut made = Sequence::new(alloc);
-    if text == "." {
-        return Ok(made);
-    }
-    for word in text.split_whitespace() {
+    for word in letters(text).split_whitespace() {
         made.push(number_of(word)?)?;
     }
     Ok(made)
 }
 
-/// A place that reads one place.
-fn reader_of(alloc: Global, place: usize) -> Result<Sequence<usize>, AllocError> {
-    let mut made = Sequence::new(alloc);
-    made.push(place)?;
-    Ok(made)
-}
-
-/// Puts so many places, each of which reads the next one, behind the last.
-fn put_row(
+/// Takes so many places, each of which reads the next one, behind the last.
+fn take_row(
     alloc: Global,
     graph: &mut Sequence<Sequence<usize>>,
     count: usize,
 ) -> Result<(), CaseFault> {
     for _ in 0..count {
         let next = graph.len().checked_add(1).ok_or(CaseFault::Bad)?;
-        graph.push(reader_of(alloc, next)?)?;
+        graph.push(Sequence::from_vec([next].to_vec(alloc)?))?;
     }
     Ok(())
 }
 
-/// The graph of some lines.
-fn graph_of(alloc: Global, lines: &[&str]) -> Result<Sequence<Sequence<usize>>, CaseFault> {
-    let mut graph = Sequence::new(alloc);
+/// Takes the places of some lines.
+fn take_lines(
+    alloc: Global,
+    graph: &mut Sequence<Sequence<usize>>,
+    lines: &[&str],
+) -> Result<(), CaseFault> {
     for line in lines {
         match line.strip_prefix("row ") {
-            Some(count) => put_row(alloc, &mut graph, number_of(count)?)?,
+            Some(count) => take_row(alloc, graph, number_of(count)?)?,
             None => graph.push(places(alloc, line)?)?,
         }
     }
-    Ok(graph)
+    Ok(())
 }

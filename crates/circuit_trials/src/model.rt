@@ -1,94 +1,97 @@
 //! Circuits: their runs, their copies, and when two are the same.
 
-use blif_write::circuit_text;
-use circuit_cases::{bit_of, circuit, line};
-use circuit_model::{Bits, Circuit, SimFault, timing_copied};
-use sis_base::{Copied, Sequence};
-use std::alloc::{AllocError, Global};
-use trial_cases::{Case, CaseFault, put_line};
+use circuit_cases::{bits, circuits, put_circuit, put_either, put_value};
+use circuit_model::{Bits, Circuit, SimFault, Simulated, timing_copied};
+use sis_base::Copied;
+use std::alloc::Global;
+use trial_cases::{Case, CaseFault};
 
-/// The answer to a case of circuit_model.
-pub fn answer(alloc: Global, case: &Case<'_>) -> Result<Vec<u8>, CaseFault> {
-    match case.word(1) {
-        "simulate" => simulate_answer(alloc, case),
-        "equal" => equal_answer(alloc, case.lines.as_slice()),
-        "copy" => copy_answer(alloc, case.lines.as_slice()),
-        "timing" => timing_answer(alloc, case.lines.as_slice()),
+/// Puts the answer to a case of circuit_model.
+pub fn answer(alloc: Global, out: &mut Vec<u8>, case: &Case<'_>) -> Result<(), CaseFault> {
+    let made = circuits(alloc, case.lines.as_slice())?;
+    put_about(alloc, out, case, made.as_slice())
+}
+
+/// Puts the answer about circuits.
+fn put_about(
+    alloc: Global,
+    out: &mut Vec<u8>,
+    case: &Case<'_>,
+    made: &[Circuit],
+) -> Result<(), CaseFault> {
+    match (case.word(1), made) {
+        ("simulate", [one]) => put_simulated(alloc, out, one, case),
+        ("equal", [first, ..]) => put_equal(out, first, made),
+        ("copy", [one]) => put_copy(alloc, out, one),
+        ("timing", [one]) => put_timing(alloc, out, one),
         _ => Err(CaseFault::Bad),
     }
 }
 
-/// The bits of a word; none of `.`.
-fn bits(alloc: Global, word: &str) -> Result<Bits, CaseFault> {
-    let mut made = Sequence::new(alloc);
-    if word == "." {
-        return Ok(made);
-    }
-    for byte in word.as_bytes() {
-        made.push(*byte == b'1')?;
-    }
-    Ok(made)
-}
-
-/// Rows of bits, one for each word.
-fn bit_rows(alloc: Global, words: &[&str]) -> Result<Sequence<Bits>, CaseFault> {
-    let mut made = Sequence::new(alloc);
+/// The bits of each word.
+fn bit_rows(alloc: Global, words: &[&str]) -> Result<Vec<Bits>, CaseFault> {
+    let mut made = Vec::new(alloc);
     for word in words {
         made.push(bits(alloc, word)?)?;
     }
     Ok(made)
 }
 
-/// What a circuit shows from a start, over rows: the words behind the call.
-fn simulate_answer(alloc: Global, case: &Case<'_>) -> Result<Vec<u8>, CaseFault> {
-    let made = circuit(alloc, case.lines.as_slice())?;
-    let start = bits(alloc, case.word(2))?;
-    let rows = bit_rows(alloc, case.words.as_slice().get(3..).unwrap_or(&[]))?;
-    let shown = made.simulate(alloc, start.as_slice(), rows.as_slice());
-    if shown == Err(SimFault::Memory) {
-        return Err(CaseFault::Memory);
-    }
-    Ok(line(alloc, format!(in alloc; "{shown:?}")?.as_str())?)
+/// Puts what a circuit shows from a start, over rows: the words behind the call.
+fn put_simulated(
+    alloc: Global,
+    out: &mut Vec<u8>,
+    circuit: &Circuit,
+    case: &Case<'_>,
+) -> Result<(), CaseFault> {
+    let made = bit_rows(alloc, case.words.as_slice().get(2..).unwrap_or(&[]))?;
+    put_run(alloc, out, circuit, made.as_slice())
 }
 
-/// The circuits of lines, which lines `and` part.
-fn circuits(alloc: Global, lines: &[&str]) -> Result<Vec<Circuit>, CaseFault> {
-    let mut made = Vec::new(alloc);
-    let mut some = Vec::new(alloc);
-    for line in lines {
-        if *line == "and" {
-            made.push(circuit(alloc, some.as_slice())?)?;
-            some = Vec::new(alloc);
-        } else {
-            some.push(*line)?;
+/// Puts what a circuit shows from the first bits, over the others.
+fn put_run(
+    alloc: Global,
+    out: &mut Vec<u8>,
+    circuit: &Circuit,
+    all: &[Bits],
+) -> Result<(), CaseFault> {
+    match all {
+        [start, rows @ ..] => {
+            let shown = circuit.simulate(alloc, start.as_slice(), rows);
+            put_outcome(alloc, out, &shown)
         }
+        [] => Err(CaseFault::Bad),
     }
-    made.push(circuit(alloc, some.as_slice())?)?;
-    Ok(made)
 }
 
-/// For each circuit whether it is the same as the first.
-fn equal_answer(alloc: Global, lines: &[&str]) -> Result<Vec<u8>, CaseFault> {
-    let all = circuits(alloc, lines)?;
-    let first = all.as_slice().first().ok_or(CaseFault::Bad)?;
-    let mut out = Vec::new(alloc);
-    for one in all.as_slice() {
-        put_line(&mut out, if one == first { b"same" } else { b"different" })?;
+/// Puts what a circuit shows, or that widths do not fit.
+fn put_outcome(
+    alloc: Global,
+    out: &mut Vec<u8>,
+    shown: &Result<Simulated, SimFault>,
+) -> Result<(), CaseFault> {
+    match shown {
+        Err(SimFault::Memory) => Err(CaseFault::Memory),
+        _ => put_value(alloc, out, shown),
     }
-    Ok(out)
 }
 
-/// The text of a copy of a circuit.
-fn copy_answer(alloc: Global, lines: &[&str]) -> Result<Vec<u8>, CaseFault> {
-    let copy = circuit(alloc, lines)?.copy(alloc)?;
-    let mut out = Vec::new(alloc);
-    circuit_text(alloc, &copy, &mut out)?;
-    Ok(out)
+/// Puts for each circuit whether it is the same as the first.
+fn put_equal(out: &mut Vec<u8>, first: &Circuit, all: &[Circuit]) -> Result<(), CaseFault> {
+    for one in all {
+        put_either(out, one == first, b"same", b"different")?;
+    }
+    Ok(())
 }
 
-/// A copy of a circuit's timing.
-fn timing_answer(alloc: Global, lines: &[&str]) -> Result<Vec<u8>, CaseFault> {
-    let made = circuit(alloc, lines)?;
-    let timing = timing_copied(alloc, &made.timing)?;
-    Ok(line(alloc, format!(in alloc; "{timing:?}")?.as_str())?)
+/// Puts the text of a copy of a circuit.
+fn put_copy(alloc: Global, out: &mut Vec<u8>, circuit: &Circuit) -> Result<(), CaseFault> {
+    let copy = circuit.copy(alloc)?;
+    put_circuit(alloc, out, &copy)
+}
+
+/// Puts a copy of a circuit's timing.
+fn put_timing(alloc: Global, out: &mut Vec<u8>, circuit: &Circuit) -> Result<(), CaseFault> {
+    let timing = timing_copied(alloc, &circuit.timing)?;
+    put_value(alloc, out, &timing)
 }

@@ -1,94 +1,101 @@
 //! Calls on factored forms of covers. The inputs are named a, b, c and so on.
 
-use crate::texts::{cover, tell_cover, tell_number, tell_text, word};
+ghost use Rattle.std.specs.Prelude.{◌≤◌};
+ghost use Rattle.alg_factor.specs.Forms.{form_literals};
+ghost use Rattle.cube_cover.specs.Literals.{cover_literals};
+
+use crate::texts::{tell, tell_rows, tell_text, word};
 use alg_factor::{Factored, factor};
 use circuit_model::Name;
 use cube_cover::{Cover, Row};
 use std::alloc::{AllocError, Global};
+use trial_cases::CaseFault;
 
-/// The answer of a call on the factored form of the cover that is its first argument.
-pub fn answer<R: Row>(alloc: Global, words: &[&str]) -> Result<Option<String>, AllocError> {
-    let Some(f) = cover::<R>(alloc, word(words, 1))? else {
-        return Ok(None);
-    };
+/// Puts the answer to a call on the factored form of a cover.
+pub fn answer<R: Row>(
+    alloc: Global,
+    out: &mut Vec<u8>,
+    f: &Cover<R>,
+    words: &[&str],
+) -> Result<(), CaseFault> {
+    let form = factor(alloc, f)?;
+    answer_form(alloc, out, f, &form, words)
+}
+
+/// Puts the answer to a call on a factored form, which has no more literals than a cover.
+fn answer_form<R: Row>(
+    alloc: Global,
+    out: &mut Vec<u8>,
+    f: &Cover<R>,
+    form: &Factored<R>,
+    words: &[&str],
+) -> Result<(), CaseFault>
+    requires { form_literals form.now.form ≤ cover_literals f.now.rows }
+{
     match word(words, 0) {
-        "factor" => form_text(alloc, &f),
-        "form_width" => form_width(alloc, &f),
-        "literals" => form_literals(alloc, &f),
-        "expand" => expansion(alloc, &f),
-        "expand_rows" => expansion_count(alloc, &f),
-        _ => Ok(None),
+        "factor" => text(alloc, out, form),
+        "form_width" => tell(alloc, out, &form.width()),
+        "literals" => literals(alloc, out, f, form),
+        "expand" | "expand_rows" => expansion(alloc, out, form, words),
+        _ => Err(CaseFault::Bad),
     }
 }
 
-// The name of one letter.
-fn name(alloc: Global, letter: u8) -> Result<Name, AllocError> {
-    let mut made = Name::new(alloc);
-    made.push(letter)?;
-    Ok(made)
+/// Puts the name of one letter behind others.
+fn push_name(alloc: Global, names: &mut Vec<Name>, letter: u8) -> Result<(), AllocError> {
+    names.push(Name::from_slice(alloc, &[letter])?)?;
+    Ok(())
 }
 
-// The names of the first inputs, each of one letter, as far as there are letters.
-fn names(alloc: Global, width: usize) -> Result<Vec<Name>, AllocError> {
-    let mut made = Vec::new(alloc);
+/// Tells the text of a form, whose inputs are named by letters, as far as there are letters.
+fn text<R: Row>(alloc: Global, out: &mut Vec<u8>, form: &Factored<R>) -> Result<(), CaseFault> {
+    let mut names = Vec::new(alloc);
     for letter in b"abcdefghijklmnopqrstuvwxyz" {
-        if made.len() < width {
-            made.push(name(alloc, *letter)?)?;
+        if names.len() < form.width() {
+            push_name(alloc, &mut names, *letter)?;
         }
     }
-    Ok(made)
+    named_text(alloc, out, form, names.as_slice())
 }
 
-// The text of a form with given names.
+/// Tells the text of a form with a name for each input.
 fn named_text<R: Row>(
     alloc: Global,
+    out: &mut Vec<u8>,
     form: &Factored<R>,
     names: &[Name],
-) -> Result<Option<String>, AllocError> {
+) -> Result<(), CaseFault> {
     if names.len() != form.width() {
-        return Ok(None);
+        return Err(CaseFault::Bad);
     }
-    let bytes = form.print(alloc, names)?;
-    match str::from_utf8(bytes.as_slice()) {
-        Ok(text) => tell_text(alloc, text),
-        Err(_) => Ok(None),
-    }
+    let text = form.print(alloc, names)?;
+    tell_text(out, text.as_slice())
 }
 
-// The text of a cover's factored form.
-fn form_text<R: Row>(alloc: Global, f: &Cover<R>) -> Result<Option<String>, AllocError> {
-    let form = factor(alloc, f)?;
-    let names = names(alloc, form.width())?;
-    named_text(alloc, &form, names.as_slice())
-}
-
-// How many inputs a cover's factored form is over.
-fn form_width<R: Row>(alloc: Global, f: &Cover<R>) -> Result<Option<String>, AllocError> {
-    let form = factor(alloc, f)?;
-    tell_number(alloc, form.width() as u64)
-}
-
-// How many literals a factored form has, of a cover so small that they are surely fewer than 2^64.
-fn form_literals<R: Row>(alloc: Global, f: &Cover<R>) -> Result<Option<String>, AllocError> {
-    let form = factor(alloc, f)?;
+/// Tells how many literals a factored form has, of a cover so small that they are surely fewer than 2^64.
+fn literals<R: Row>(
+    alloc: Global,
+    out: &mut Vec<u8>,
+    f: &Cover<R>,
+    form: &Factored<R>,
+) -> Result<(), CaseFault>
+    requires { form_literals form.now.form ≤ cover_literals f.now.rows }
+{
     let width = f.width();
     let rows = f.rows();
     if width < 4294967296 && rows.len() < 4294967296 {
-        return tell_number(alloc, form.literals());
+        return tell(alloc, out, &form.literals());
     }
-    Ok(None)
+    Err(CaseFault::Bad)
 }
 
-// A cover's factored form multiplied out.
-fn expansion<R: Row>(alloc: Global, f: &Cover<R>) -> Result<Option<String>, AllocError> {
-    let form = factor(alloc, f)?;
+/// Tells a factored form multiplied out.
+fn expansion<R: Row>(
+    alloc: Global,
+    out: &mut Vec<u8>,
+    form: &Factored<R>,
+    words: &[&str],
+) -> Result<(), CaseFault> {
     let made = form.expand(alloc)?;
-    tell_cover(alloc, &made)
-}
-
-// How many rows a cover's factored form multiplied out has.
-fn expansion_count<R: Row>(alloc: Global, f: &Cover<R>) -> Result<Option<String>, AllocError> {
-    let form = factor(alloc, f)?;
-    let made = form.expand(alloc)?;
-    tell_number(alloc, made.rows().len() as u64)
+    tell_rows(alloc, out, word(words, 0), &made)
 }

@@ -5,34 +5,27 @@
 
 ghost use Rattle.std.specs.Prelude.{ℕ, IfOk};
 
-use crate::texts::{number, word};
+use crate::texts::{tell_text, word};
 use func_core::{Func, FuncFault, Functions, PlainFunctions};
 use std::alloc::{AllocError, Global};
+use trial_cases::{CaseFault, number_of, put_number};
 
-// How deep a function may be written.
+/// How deep a function may be written.
 const DEPTH: usize = 64;
 
-/// The answer of a case of functions: `functions`, the limit of a size, and the functions.
-pub fn answer(alloc: Global, words: &[&str]) -> Result<Option<String>, AllocError> {
-    if word(words, 0) != "functions" {
-        return Ok(None);
-    }
-    let Some(limit) = number(word(words, 1)) else {
-        return Ok(None);
-    };
+/// Puts the answer to a case of functions: `functions`, the limit of a size, and the functions.
+pub fn answer(alloc: Global, out: &mut Vec<u8>, words: &[&str]) -> Result<(), CaseFault> {
+    let limit = number_of(word(words, 1))?;
     let mut functions = PlainFunctions::new(alloc, limit);
-    tell(alloc, &mut functions, words)
+    tell_all(alloc, out, &mut functions, words)
 }
 
-// The variable that a word names; the first one where it names none.
+/// The variable that a word names; the first one where it names none.
 fn variable(word: &str) -> usize {
-    match word.strip_prefix('v') {
-        None => 0,
-        Some(rest) => number(rest).unwrap_or(0),
-    }
+    number_of(word.strip_prefix('v').unwrap_or("")).unwrap_or(0)
 }
 
-// The operation of a name on two functions.
+/// The operation of a name on two functions.
 fn operation<F: Functions>(
     functions: &mut F,
     name: &str,
@@ -51,7 +44,7 @@ fn operation<F: Functions>(
     }
 }
 
-// The constant or the variable of a word.
+/// The constant or the variable of a word.
 fn leaf<F: Functions>(functions: &mut F, name: &str) -> Result<Func, FuncFault>
     ensures stands { IfOk result (λ h. F.holds functions.new h.0) }
     ensures kept { (n : ℕ) → F.holds functions.old n → F.holds functions.new n }
@@ -63,7 +56,7 @@ fn leaf<F: Functions>(functions: &mut F, name: &str) -> Result<Func, FuncFault>
     }
 }
 
-// The complement of a function.
+/// The complement of a function.
 fn complement<F: Functions>(functions: &mut F, f: Func) -> Result<Func, FuncFault>
     requires { F.holds functions.old f.0 }
     ensures stands { IfOk result (λ h. F.holds functions.new h.0) }
@@ -72,8 +65,16 @@ fn complement<F: Functions>(functions: &mut F, f: Func) -> Result<Func, FuncFaul
     functions.not(f)
 }
 
-// The function that is written from a word on, and the number of the word moves behind it; what is written too deep is
-// the constant 0.
+/// Whether functions stand behind a word.
+fn is_operation(word: &str) -> bool {
+    match word {
+        "and" | "or" | "xor" | "not" => true,
+        _ => false,
+    }
+}
+
+/// The function that is written from a word on, and the number of the word moves behind it; a word that stands too deep
+/// is taken for a variable.
 fn build<F: Functions>(
     functions: &mut F,
     words: &[&str],
@@ -83,70 +84,69 @@ fn build<F: Functions>(
     ensures stands { IfOk result (λ h. F.holds functions.new h.0) }
     ensures kept { (n : ℕ) → F.holds functions.old n → F.holds functions.new n }
 {
-    if depth == 0 {
-        return leaf(functions, "0");
-    }
     let name = word(words, *next);
     *next = next.saturating_add(1);
+    if depth == 0 || !is_operation(name) {
+        return leaf(functions, name);
+    }
+    let f = build(functions, words, next, depth - 1)?;
     if name == "not" {
-        let f = build(functions, words, next, depth - 1)?;
         return complement(functions, f);
     }
-    if name == "and" || name == "or" || name == "xor" {
-        let f = build(functions, words, next, depth - 1)?;
-        let g = build(functions, words, next, depth - 1)?;
-        return operation(functions, name, f, g);
-    }
-    leaf(functions, name)
+    let g = build(functions, words, next, depth - 1)?;
+    operation(functions, name, f, g)
 }
 
-// Puts the variables of a point behind a text, each with its bit.
-fn put_point(text: &mut String, literals: &[(usize, bool)]) -> Result<(), AllocError> {
-    for literal in literals {
-        let bit = if literal.1 { 1 } else { 0 };
-        write!(text, " v{}={}", literal.0, bit)?;
+/// Puts the variables of a point, each with its bit.
+fn put_point(
+    alloc: Global,
+    out: &mut Vec<u8>,
+    literals: &[(usize, bool)],
+) -> Result<(), AllocError> {
+    for (place, bit) in literals {
+        out.extend_from_slice(b" v")?;
+        put_number(alloc, out, *place)?;
+        out.extend_from_slice(if *bit { b"=1" } else { b"=0" })?;
     }
     Ok(())
 }
 
-// Puts the size of a function, and a point where it is true, behind a text.
-fn put_function<F: Functions>(text: &mut String, functions: &F, f: Func) -> Result<(), AllocError>
+/// Puts the size of a function, and a point where it is true.
+fn put_function<F: Functions>(
+    alloc: Global,
+    out: &mut Vec<u8>,
+    functions: &F,
+    f: Func,
+) -> Result<(), AllocError>
     requires { F.holds functions.now f.0 }
 {
-    write!(text, "{}", functions.size(f)?)?;
+    put_number(alloc, out, functions.size(f)?)?;
     match functions.one_point(f)? {
-        None => text.push_str(" nowhere"),
-        Some(point) => put_point(text, point.as_slice()),
+        None => out.extend_from_slice(b" nowhere"),
+        Some(point) => put_point(alloc, out, point.as_slice()),
     }
 }
 
-// Puts what is told of a function that was to be made behind a text.
+/// Puts what is told of a function that was to be made.
 fn put_made<F: Functions>(
-    text: &mut String,
+    alloc: Global,
+    out: &mut Vec<u8>,
     functions: &F,
     made: Result<Func, FuncFault>,
 ) -> Result<(), AllocError>
     requires { IfOk made (λ h. F.holds functions.now h.0) }
 {
     match made {
-        Ok(f) => put_function(text, functions, f),
-        Err(FuncFault::TooBig) => text.push_str("too big"),
-        Err(FuncFault::Memory) => text.push_str("no memory"),
+        Ok(f) => put_function(alloc, out, functions, f),
+        Err(FuncFault::TooBig) => out.extend_from_slice(b"too big"),
+        Err(FuncFault::Memory) => Err(AllocError),
     }
 }
 
-// Whether the constant 0 is false everywhere once all numbers are taken back; true where it cannot be made.
-fn is_zero_again<F: Functions>(functions: &mut F) -> bool {
-    functions.clear();
-    match functions.constant(false) {
-        Ok(zero) => functions.is_zero(zero),
-        Err(_) => true,
-    }
-}
-
-// Makes the next function of a case, and puts what is told of it behind a text.
+/// Makes the next function of a case, and puts what is told of it.
 fn put_next<F: Functions>(
-    text: &mut String,
+    alloc: Global,
+    out: &mut Vec<u8>,
     functions: &mut F,
     words: &[&str],
     next: &mut usize,
@@ -154,12 +154,13 @@ fn put_next<F: Functions>(
     ensures kept { (n : ℕ) → F.holds functions.old n → F.holds functions.new n }
 {
     let f = build(functions, words, next, DEPTH);
-    put_made(text, functions, f)
+    put_made(alloc, out, functions, f)
 }
 
-// Makes the other functions of a case, each behind a `;`, and puts what is told of them behind a text.
+/// Makes the other functions of a case, each behind a `;`, and puts what is told of them.
 fn put_others<F: Functions>(
-    text: &mut String,
+    alloc: Global,
+    out: &mut Vec<u8>,
     functions: &mut F,
     words: &[&str],
     start: usize,
@@ -172,37 +173,41 @@ fn put_others<F: Functions>(
             return Ok(());
         }
         next = next.saturating_add(1);
-        text.push_str("; ")?;
-        put_next(text, functions, words, &mut next)?;
+        out.extend_from_slice(b"; ")?;
+        put_next(alloc, out, functions, words, &mut next)?;
     }
     Ok(())
 }
 
-// Puts what is told of the functions of a case behind a text: of each, of the first again when all are made, and whether
-// the constant 0 is false everywhere once all are taken back.
-fn put_all<F: Functions>(
-    text: &mut String,
+/// Tells the functions of a case: each one, the first again when all are made, and whether the constant 0 is not false
+/// everywhere once all numbers are taken back.
+fn tell_all<F: Functions>(
+    alloc: Global,
+    out: &mut Vec<u8>,
     functions: &mut F,
     words: &[&str],
-) -> Result<(), AllocError> {
+) -> Result<(), CaseFault> {
     let mut next = 2;
     let first = build(functions, words, &mut next, DEPTH);
-    put_made(text, functions, first)?;
-    put_others(text, functions, words, next)?;
-    text.push_str("; again ")?;
-    put_made(text, functions, first)
+    put_made(alloc, out, functions, first)?;
+    put_others(alloc, out, functions, words, next)?;
+    out.extend_from_slice(b"; again ")?;
+    put_made(alloc, out, functions, first)?;
+    tell_text(
+        out,
+        if is_zero_again(functions) {
+            b""
+        } else {
+            b"; the constant 0 is not 0"
+        },
+    )
 }
 
-// The answer to a case of functions.
-fn tell<F: Functions>(
-    alloc: Global,
-    functions: &mut F,
-    words: &[&str],
-) -> Result<Option<String>, AllocError> {
-    let mut text = String::new(alloc);
-    put_all(&mut text, functions, words)?;
-    if !is_zero_again(functions) {
-        text.push_str("; the constant 0 is not 0")?;
+/// Whether the constant 0 is false everywhere once all numbers are taken back; true where it cannot be made.
+fn is_zero_again<F: Functions>(functions: &mut F) -> bool {
+    functions.clear();
+    match functions.constant(false) {
+        Ok(zero) => functions.is_zero(zero),
+        Err(_) => true,
     }
-    Ok(Some(text))
 }

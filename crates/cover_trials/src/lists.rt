@@ -3,103 +3,70 @@
 ghost use Rattle.std.specs.Prelude.{◌≡◌, ◌∷◌, [], ℕ, Option, List, IsTrue};
 ghost use Rattle.cover_ops.specs.Composed.{AreEntries, is_entry};
 
-use crate::texts::{cover, number, tell_cover, tell_number, tell_text, word};
+use crate::algebra;
+use crate::texts::{cover, place_below, tell_rows, tell_text, word};
 use cover_ops::{ListFault, compose, off_list, on_list};
 use cube_cover::{Cover, Row};
 use std::alloc::{AllocError, Global};
+use trial_cases::{CaseFault, number_of};
 
-/// The answer of a call on lists.
-pub fn answer<R: Row>(alloc: Global, words: &[&str]) -> Result<Option<String>, AllocError> {
+/// Puts the answer to a call on a cover.
+pub fn answer<R: Row>(
+    alloc: Global,
+    out: &mut Vec<u8>,
+    f: &Cover<R>,
+    words: &[&str],
+) -> Result<(), CaseFault> {
     match word(words, 0) {
-        "on_list" => list_case::<R>(alloc, words, true),
-        "off_list" => list_case::<R>(alloc, words, false),
-        "on_list_rows" => count_case::<R>(alloc, words, true),
-        "off_list_rows" => count_case::<R>(alloc, words, false),
-        "compose" => composition::<R>(alloc, words),
-        "compose_rows" => composition_count::<R>(alloc, words),
-        _ => Ok(None),
+        "on_list" | "on_list_rows" => list(alloc, out, f, words, true),
+        "off_list" | "off_list_rows" => list(alloc, out, f, words, false),
+        "compose" | "compose_rows" => composition(alloc, out, f, words),
+        _ => algebra::answer(alloc, out, f, words),
     }
 }
 
-// The on-list or the off-list of a cover and a phase; no list without a limit.
+/// Tells the on-list or the off-list of a cover and a phase.
 fn list<R: Row>(
     alloc: Global,
+    out: &mut Vec<u8>,
     f: &Cover<R>,
     words: &[&str],
     is_on: bool,
-) -> Result<Cover<R>, ListFault> {
+) -> Result<(), CaseFault> {
     let phase = word(words, 2) == "true";
-    let limit = number(word(words, 3)).unwrap_or(0);
-    if is_on {
-        return on_list(alloc, f, phase, limit);
-    }
-    off_list(alloc, f, phase, limit)
+    let limit = number_of(word(words, 3))?;
+    let made = if is_on {
+        on_list(alloc, f, phase, limit)
+    } else {
+        off_list(alloc, f, phase, limit)
+    };
+    tell_list(alloc, out, word(words, 0), made)
 }
 
-// What is told of a fault.
-fn tell_fault(alloc: Global, fault: ListFault) -> Result<Option<String>, AllocError> {
-    match fault {
-        ListFault::CubeLimit => tell_text(alloc, "cube limit"),
-        ListFault::Memory => tell_text(alloc, "no memory"),
-    }
-}
-
-// The answer that is a list.
+/// Tells a list, or why there is none.
 fn tell_list<R: Row>(
     alloc: Global,
+    out: &mut Vec<u8>,
+    name: &str,
     list: Result<Cover<R>, ListFault>,
-) -> Result<Option<String>, AllocError> {
+) -> Result<(), CaseFault> {
     match list {
-        Ok(list) => tell_cover(alloc, &list),
-        Err(fault) => tell_fault(alloc, fault),
+        Ok(list) => tell_rows(alloc, out, name, &list),
+        Err(ListFault::CubeLimit) => tell_text(out, b"cube limit"),
+        Err(ListFault::Memory) => Err(CaseFault::Memory),
     }
 }
 
-// The answer that is the length of a list.
-fn tell_length<R: Row>(
-    alloc: Global,
-    list: Result<Cover<R>, ListFault>,
-) -> Result<Option<String>, AllocError> {
-    match list {
-        Ok(list) => tell_number(alloc, list.rows().len() as u64),
-        Err(fault) => tell_fault(alloc, fault),
-    }
-}
-
-// A list.
-fn list_case<R: Row>(
-    alloc: Global,
-    words: &[&str],
-    is_on: bool,
-) -> Result<Option<String>, AllocError> {
-    let Some(f) = cover::<R>(alloc, word(words, 1))? else {
-        return Ok(None);
-    };
-    tell_list(alloc, list(alloc, &f, words, is_on))
-}
-
-// How many rows a list has.
-fn count_case<R: Row>(
-    alloc: Global,
-    words: &[&str],
-    is_on: bool,
-) -> Result<Option<String>, AllocError> {
-    let Some(f) = cover::<R>(alloc, word(words, 1))? else {
-        return Ok(None);
-    };
-    tell_length(alloc, list(alloc, &f, words, is_on))
-}
-
-// The entries that a text says, with commas between them: a place, or `-`.
+/// The entries that a text says, with commas between them: a place, or `-`.
 fn entries(alloc: Global, text: &str) -> Result<Vec<Option<usize>>, AllocError> {
     let mut made = Vec::new(alloc);
     for part in text.split(',') {
-        made.push(number(part))?;
+        made.push(number_of(part).ok())?;
     }
     Ok(made)
 }
 
-// Whether a place stands among entries.
+/// Whether a place stands among entries.
 #[tactic(auto, unfolding(cover_ops::specs::Composed::is_entry))]
 fn is_among(place: usize, entries: &[Option<usize>]) -> bool
     ensures { result ≡ is_entry place entries.now }
@@ -111,7 +78,7 @@ fn is_among(place: usize, entries: &[Option<usize>]) -> bool
     }
 }
 
-// Whether entries are different places of a width, none of them x.
+/// Whether entries are different places of a width, none of them x.
 #[tactic(auto, unfolding(cover_ops::specs::Composed::AreEntries))]
 fn are_entries(width: usize, x: usize, entries: &[Option<usize>]) -> bool
     ensures { IsTrue result → AreEntries width x entries.now }
@@ -128,53 +95,33 @@ fn are_entries(width: usize, x: usize, entries: &[Option<usize>]) -> bool
     }
 }
 
-// The composition that a case asks for.
-fn compose_case<R: Row>(
+/// Tells the composition of a cover and another one.
+fn composition<R: Row>(
     alloc: Global,
+    out: &mut Vec<u8>,
+    outer: &Cover<R>,
     words: &[&str],
-) -> Result<Option<Result<Cover<R>, ListFault>>, AllocError> {
-    let Some(outer) = cover::<R>(alloc, word(words, 1))? else {
-        return Ok(None);
-    };
-    let Some(inner) = cover::<R>(alloc, word(words, 3))? else {
-        return Ok(None);
-    };
+) -> Result<(), CaseFault> {
+    let inner: Cover<R> = cover(alloc, word(words, 3))?;
     let entries = entries(alloc, word(words, 5))?;
-    Ok(compose_by(alloc, &outer, &inner, entries.as_slice(), words))
+    compose_by(alloc, out, outer, &inner, entries.as_slice(), words)
 }
 
-// The composition of two covers by entries, if they are such.
+/// Tells the composition of two covers by entries, if they are such.
 fn compose_by<R: Row>(
     alloc: Global,
+    out: &mut Vec<u8>,
     outer: &Cover<R>,
     inner: &Cover<R>,
     entries: &[Option<usize>],
     words: &[&str],
-) -> Option<Result<Cover<R>, ListFault>> {
-    let x = number(word(words, 2))?;
-    let limit = number(word(words, 6))?;
+) -> Result<(), CaseFault> {
+    let x = place_below(word(words, 2), outer.width())?;
+    let limit = number_of(word(words, 6))?;
     let phase = word(words, 4) == "true";
-    if x >= outer.width() || entries.len() != inner.width() {
-        return None;
+    if entries.len() != inner.width() || !are_entries(outer.width(), x, entries) {
+        return Err(CaseFault::Bad);
     }
-    if !are_entries(outer.width(), x, entries) {
-        return None;
-    }
-    Some(compose(alloc, outer, x, inner, phase, entries, limit, limit))
-}
-
-// A composition.
-fn composition<R: Row>(alloc: Global, words: &[&str]) -> Result<Option<String>, AllocError> {
-    match compose_case::<R>(alloc, words)? {
-        None => Ok(None),
-        Some(list) => tell_list(alloc, list),
-    }
-}
-
-// How many rows a composition has.
-fn composition_count<R: Row>(alloc: Global, words: &[&str]) -> Result<Option<String>, AllocError> {
-    match compose_case::<R>(alloc, words)? {
-        None => Ok(None),
-        Some(list) => tell_length(alloc, list),
-    }
+    let made = compose(alloc, outer, x, inner, phase, entries, limit, limit);
+    tell_list(alloc, out, word(words, 0), made)
 }

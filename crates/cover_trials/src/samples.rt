@@ -1,119 +1,84 @@
 //! Covers that are made by a rule, too long to be written in a case.
 
-use crate::texts::{number, push_fitting};
+use crate::texts::push_fitting;
 use cube_cover::{Cover, Row};
 use std::alloc::{AllocError, Global};
+use trial_cases::{CaseFault, number_of};
 
-/// The cover that a rule makes: `pairs:N`, a sum of N products of two inputs each, all different; `sums:N`, the product
-/// of N sums of two inputs each, multiplied out; `scattered:N`, N rows scattered over 40 inputs; `spared:N`, the same
+/// The cover that a rule makes: `pairs`, a sum of N products of two inputs each, all different; `sums`, the product
+/// of N sums of two inputs each, multiplied out; `scattered`, N rows scattered over 40 inputs; `spared`, the same
 /// with a negative literal in each row, so that the point of ones is in none. At most 1,000 for N, and for sums 16.
-pub fn sample<R: Row>(
-    alloc: Global,
-    rule: &str,
-    rest: &str,
-) -> Result<Option<Cover<R>>, AllocError> {
-    let Some(count) = number(rest) else {
-        return Ok(None);
-    };
-    if count > 1000 {
-        return Ok(None);
-    }
-    match rule {
-        "pairs" => Ok(Some(pairs(alloc, count)?)),
-        "sums" => sums(alloc, count),
-        "scattered" => Ok(Some(scatter(alloc, count, false)?)),
-        "spared" => Ok(Some(scatter(alloc, count, true)?)),
-        _ => Ok(None),
-    }
-}
-
-// Puts a positive literal into a row, if it has the place.
-fn put_positive<R: Row>(row: &mut R, place: usize) {
-    if place < row.width() {
-        row.set(place, Some(true));
-    }
-}
-
-// Row i has the positive literals of the inputs 2i and 2i + 1.
-fn pairs<R: Row>(alloc: Global, count: usize) -> Result<Cover<R>, AllocError> {
-    let width = count.saturating_mul(2);
+pub fn sample<R: Row>(alloc: Global, rule: &str, count: &str) -> Result<Cover<R>, CaseFault> {
+    let (width, rows) = sizes(rule, number_of(count)?)?;
     let mut cover = Cover::new(alloc, width);
-    for i in 0..count {
-        let mut row = R::dashes(alloc, width)?;
-        put_positive(&mut row, i.saturating_mul(2));
-        put_positive(&mut row, i.saturating_mul(2).saturating_add(1));
-        push_fitting(&mut cover, row)?;
+    let mut seed = 1;
+    for number in 0..rows {
+        push_made(alloc, &mut cover, rule, number, &mut seed)?;
     }
     Ok(cover)
 }
 
-// A copy of a row with a positive literal more.
-fn with_positive<R: Row>(alloc: Global, row: &R, place: usize) -> Result<R, AllocError> {
-    let mut made = row.copy(alloc)?;
-    put_positive(&mut made, place);
-    Ok(made)
-}
-
-// The rows of a cover, each with the positive literal of one place, and with that of the next one.
-fn times_sum<R: Row>(
+/// Puts the row at a number behind a cover.
+fn push_made<R: Row>(
     alloc: Global,
-    cover: &Cover<R>,
-    place: usize,
-) -> Result<Cover<R>, AllocError> {
-    let mut more = Cover::new(alloc, cover.width());
-    for row in cover.rows() {
-        push_fitting(&mut more, with_positive(alloc, row, place)?)?;
-        push_fitting(
-            &mut more,
-            with_positive(alloc, row, place.saturating_add(1))?,
-        )?;
-    }
-    Ok(more)
+    cover: &mut Cover<R>,
+    rule: &str,
+    number: usize,
+    seed: &mut u64,
+) -> Result<(), AllocError> {
+    let mut row = R::dashes(alloc, cover.width())?;
+    fill(&mut row, rule, number, seed);
+    push_fitting(cover, row)
 }
 
-// The product of some sums.
-fn sums<R: Row>(alloc: Global, count: usize) -> Result<Option<Cover<R>>, AllocError> {
-    if count > 16 {
-        return Ok(None);
+/// How many inputs and rows the cover of a rule has.
+fn sizes(rule: &str, count: usize) -> Result<(usize, usize), CaseFault> {
+    match rule {
+        "pairs" if count <= 1000 => Ok((2 * count, count)),
+        "sums" if count <= 16 => Ok((2 * count, 1 << count)),
+        "scattered" | "spared" if count <= 1000 => Ok((40, count)),
+        _ => Err(CaseFault::Bad),
     }
-    let width = count.saturating_mul(2);
-    let mut product = Cover::new(alloc, width);
-    push_fitting(&mut product, R::dashes(alloc, width)?)?;
-    for sum in 0..count {
-        product = times_sum(alloc, &product, sum.saturating_mul(2))?;
-    }
-    Ok(Some(product))
 }
 
-// The number behind another in a linear congruence.
-fn next(seed: u64) -> u64 {
-    seed.wrapping_mul(6364136223846793005)
-        .wrapping_add(1442695040888963407)
+/// Puts the literals of the row at a number.
+fn fill<R: Row>(row: &mut R, rule: &str, number: usize, seed: &mut u64) {
+    match rule {
+        "pairs" => fill_pair(row, number.saturating_mul(2)),
+        "sums" => fill_sums(row, number),
+        _ => scatter(row, rule == "spared", seed),
+    }
 }
 
-// Puts a literal at a place into a row, if it has the place.
-fn put_literal<R: Row>(row: &mut R, place: u64, bit: bool) {
-    let Ok(place) = usize::try_from(place) else {
-        return;
-    };
+/// Puts a literal at a place, if the row has it.
+fn put_literal<R: Row>(row: &mut R, place: usize, bit: bool) {
     if place < row.width() {
         row.set(place, Some(bit));
     }
 }
 
-// Rows of at most three literals scattered over 40 inputs by a linear congruence; where `spared` is set, each has
-// a negative literal, so that none matches the point of ones.
-fn scatter<R: Row>(alloc: Global, count: usize, spared: bool) -> Result<Cover<R>, AllocError> {
-    let mut cover = Cover::new(alloc, 40);
-    let mut seed: u64 = 1;
-    for _turn in 0..count {
-        let mut row = R::dashes(alloc, 40)?;
-        for turn in 0..3 {
-            seed = next(seed);
-            let bit = (seed >> 32) % 2 == 1 && !(spared && turn == 2);
-            put_literal(&mut row, (seed >> 33) % 40, bit);
-        }
-        push_fitting(&mut cover, row)?;
+/// Puts the positive literals of a place and the next.
+fn fill_pair<R: Row>(row: &mut R, place: usize) {
+    put_literal(row, place, true);
+    put_literal(row, place.saturating_add(1), true);
+}
+
+/// Puts a positive literal of each sum, the one that a binary digit says; the first digit stands for the first sum.
+fn fill_sums<R: Row>(row: &mut R, number: usize) {
+    let mut digits = number;
+    for sum in (0..row.width() / 2).rev() {
+        put_literal(row, sum.saturating_mul(2).saturating_add(digits % 2), true);
+        digits /= 2;
     }
-    Ok(cover)
+}
+
+/// Puts at most three literals at places that a linear congruence says; where `spared` is set, one of them is negative.
+fn scatter<R: Row>(row: &mut R, spared: bool, seed: &mut u64) {
+    for turn in 0..3 {
+        *seed = seed
+            .wrapping_mul(6364136223846793005)
+            .wrapping_add(1442695040888963407);
+        let bit = (*seed >> 32) % 2 == 1 && !(spared && turn == 2);
+        put_literal(row, ((*seed >> 33) % 40) as usize, bit);
+    }
 }

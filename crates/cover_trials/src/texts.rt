@@ -1,20 +1,28 @@
 //! Cases and answers as texts.
 
-use crate::samples;
+ghost use Rattle.std.specs.Prelude.{◌<◌, IfOk};
+
+use crate::samples::sample;
+use alg_div::row_of;
 use cube_cover::{Cover, Row};
 use std::alloc::{AllocError, Global};
+use std::fmt::Debug;
+use trial_cases::{CaseFault, number_of, put_line, put_number, put_shown};
 
-/// The word at a number in a case, counted from 0; nothing behind the last.
-pub fn word<'a>(words: &[&'a str], number: usize) -> &'a str {
-    if number < words.len() {
-        return words[number];
-    }
-    ""
+/// The word at a place of a case; no word where there is none.
+pub fn word<'a>(words: &[&'a str], place: usize) -> &'a str {
+    words.get(place).copied().unwrap_or("")
 }
 
-/// The number that a word says.
-pub fn number(text: &str) -> Option<usize> {
-    text.parse::<usize>().ok()
+/// The place below a width that a word says.
+pub fn place_below(word: &str, width: usize) -> Result<usize, CaseFault>
+    ensures { IfOk result (λ place. place < width) }
+{
+    let place = number_of(word)?;
+    if place < width {
+        return Ok(place);
+    }
+    Err(CaseFault::Bad)
 }
 
 /// The literal that a character says; a dash for any other than `0` and `1`.
@@ -26,43 +34,18 @@ pub fn literal(byte: u8) -> Option<bool> {
     }
 }
 
-/// The character of what stands at a place.
-pub fn sign(literal: Option<bool>) -> char {
-    match literal {
-        None => '-',
-        Some(false) => '0',
-        Some(true) => '1',
-    }
-}
-
-/// The literals that characters say.
+/// The literals that characters say, with a stroke behind them or without.
 pub fn literals(alloc: Global, text: &str) -> Result<Vec<Option<bool>>, AllocError> {
     let mut made = Vec::new(alloc);
-    for byte in text.bytes() {
+    for byte in text.strip_suffix('/').unwrap_or(text).bytes() {
         made.push(literal(byte))?;
     }
     Ok(made)
 }
 
-// The row of some characters.
-fn row_of<R: Row>(alloc: Global, text: &str) -> Result<R, AllocError> {
-    let mut row = R::dashes(alloc, text.len())?;
-    for (place, byte) in text.bytes().enumerate() {
-        if place < row.width() {
-            row.set(place, literal(byte));
-        }
-    }
-    Ok(row)
-}
-
-/// A text without the stroke at its end.
-pub fn trim_stroke(text: &str) -> &str {
-    text.strip_suffix('/').unwrap_or(text)
-}
-
-/// The row that a text says, with a stroke behind it.
+/// The row that a text says.
 pub fn row<R: Row>(alloc: Global, text: &str) -> Result<R, AllocError> {
-    row_of(alloc, trim_stroke(text))
+    row_of(alloc, literals(alloc, text)?.as_slice())
 }
 
 /// Puts a row behind a cover, if it is of its width.
@@ -73,73 +56,98 @@ pub fn push_fitting<R: Row>(cover: &mut Cover<R>, row: R) -> Result<(), AllocErr
     Ok(())
 }
 
-// The cover of the rows of a width in a text, each with a stroke behind it.
-fn cover_of<R: Row>(alloc: Global, width: usize, text: &str) -> Result<Cover<R>, AllocError> {
+/// Puts the row that a text says behind a cover.
+fn push_written<R: Row>(alloc: Global, cover: &mut Cover<R>, text: &str) -> Result<(), AllocError> {
+    push_fitting(cover, row(alloc, text)?)
+}
+
+/// The cover of the rows of a width in a text, each with a stroke behind it.
+fn written<R: Row>(alloc: Global, width: usize, text: &str) -> Result<Cover<R>, CaseFault> {
     let mut cover = Cover::new(alloc, width);
-    if text.is_empty() {
-        return Ok(cover);
-    }
-    for part in trim_stroke(text).split('/') {
-        push_fitting(&mut cover, row_of(alloc, part)?)?;
+    for part in text.split_terminator('/') {
+        push_written(alloc, &mut cover, part)?;
     }
     Ok(cover)
 }
 
 /// The cover that a text says: a width, `:` and rows, or the name of a rule, `:` and a number.
-pub fn cover<R: Row>(alloc: Global, text: &str) -> Result<Option<Cover<R>>, AllocError> {
-    let Some((kind, rest)) = text.split_once(':') else {
-        return Ok(None);
-    };
-    match number(kind) {
-        None => samples::sample(alloc, kind, rest),
-        Some(width) => Ok(Some(cover_of(alloc, width, rest)?)),
+pub fn cover<R: Row>(alloc: Global, text: &str) -> Result<Cover<R>, CaseFault> {
+    let (kind, rest) = text.split_once(':').ok_or(CaseFault::Bad)?;
+    match number_of(kind) {
+        Ok(width) => written(alloc, width, rest),
+        Err(_) => sample(alloc, kind, rest),
     }
 }
 
-/// Puts a row behind a text, with a stroke behind it.
-pub fn put_row<R: Row>(text: &mut String, row: &R) -> Result<(), AllocError> {
+/// The character of what stands at a place.
+fn sign(literal: Option<bool>) -> u8 {
+    match literal {
+        None => b'-',
+        Some(false) => b'0',
+        Some(true) => b'1',
+    }
+}
+
+/// Puts a row, with a stroke behind it.
+fn put_row<R: Row>(out: &mut Vec<u8>, row: &R) -> Result<(), AllocError> {
     for place in 0..row.width() {
-        text.push(sign(row.at(place)))?;
+        out.push(sign(row.at(place)))?;
     }
-    text.push('/')
+    out.push(b'/')?;
+    Ok(())
 }
 
-/// The answer that is one row.
-pub fn tell_row<R: Row>(alloc: Global, row: &R) -> Result<Option<String>, AllocError> {
-    let mut text = String::new(alloc);
-    put_row(&mut text, row)?;
-    Ok(Some(text))
-}
-
-/// Puts a cover behind a text.
-pub fn put_cover<R: Row>(text: &mut String, cover: &Cover<R>) -> Result<(), AllocError> {
-    write!(text, "{}:", cover.width())?;
+/// Puts a cover.
+pub fn put_cover<R: Row>(
+    alloc: Global,
+    out: &mut Vec<u8>,
+    cover: &Cover<R>,
+) -> Result<(), AllocError> {
+    put_number(alloc, out, cover.width())?;
+    out.push(b':')?;
     for row in cover.rows() {
-        put_row(text, row)?;
+        put_row(out, row)?;
     }
     Ok(())
 }
 
-/// The answer that is one cover.
-pub fn tell_cover<R: Row>(alloc: Global, cover: &Cover<R>) -> Result<Option<String>, AllocError> {
-    let mut text = String::new(alloc);
-    put_cover(&mut text, cover)?;
-    Ok(Some(text))
+/// Tells a row.
+pub fn tell_row<R: Row>(out: &mut Vec<u8>, row: &R) -> Result<(), CaseFault> {
+    put_row(out, row)?;
+    tell_text(out, b"")
 }
 
-/// The answer that is one bit.
-pub fn tell_bit(alloc: Global, bit: bool) -> Result<Option<String>, AllocError> {
-    tell_text(alloc, if bit { "true" } else { "false" })
+/// Tells a cover.
+pub fn tell_cover<R: Row>(
+    alloc: Global,
+    out: &mut Vec<u8>,
+    cover: &Cover<R>,
+) -> Result<(), CaseFault> {
+    put_cover(alloc, out, cover)?;
+    tell_text(out, b"")
 }
 
-/// The answer that is one number.
-pub fn tell_number(alloc: Global, number: u64) -> Result<Option<String>, AllocError> {
-    let text = format!(in alloc; "{number}")?;
-    Ok(Some(text))
+/// Tells a cover; how many rows it has, where the name of the call says so.
+pub fn tell_rows<R: Row>(
+    alloc: Global,
+    out: &mut Vec<u8>,
+    name: &str,
+    cover: &Cover<R>,
+) -> Result<(), CaseFault> {
+    if name.ends_with("_rows") {
+        return tell(alloc, out, &cover.rows().len());
+    }
+    tell_cover(alloc, out, cover)
 }
 
-/// The answer that is some text.
-pub fn tell_text(alloc: Global, text: &str) -> Result<Option<String>, AllocError> {
-    let text = String::from_str(alloc, text)?;
-    Ok(Some(text))
+/// Tells a number or a bit.
+pub fn tell<T: Debug>(alloc: Global, out: &mut Vec<u8>, value: &T) -> Result<(), CaseFault> {
+    put_shown(alloc, out, value)?;
+    Ok(())
+}
+
+/// Tells a text.
+pub fn tell_text(out: &mut Vec<u8>, text: &[u8]) -> Result<(), CaseFault> {
+    put_line(out, text)?;
+    Ok(())
 }

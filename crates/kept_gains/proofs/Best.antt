@@ -18,9 +18,9 @@ use Rattle.name_covers.proofs.Orders.{cover_order}
 use Rattle.pair_gains.specs.Gains.{over_pairs, sum_gain, product_gain, gains}
 use Rattle.pair_gains.proofs.Found.{some_item, some_pair, partners_gain, product_is, gaining_literal}
 use Rattle.alg_div.specs.Cubes.{Has as IsIn}
-use Rattle.signal_codes.specs.Codes.{AreRising, coded, are_coded}
-use Rattle.signal_codes.proofs.Carried.{all_has, same_items}
-use Rattle.signal_codes.proofs.Coded.{Known, KnownCube, KnownCover, cover_known, known_cover, sum_known, codes_gains, codes_literals, covers_keep, gaining_coded, number_lists_order}
+use Rattle.kept_gains.specs.Codes.{AreRising, coded, are_coded}
+use Rattle.kept_gains.proofs.Carried.{all_has, same_items}
+use Rattle.kept_gains.proofs.Coded.{Known, KnownCube, KnownCover, cover_known, known_cover, sum_known, codes_gains, codes_literals, covers_keep, gaining_coded, number_lists_order}
 use Rattle.kept_gains.specs.Kept.{Kept, total, literals_in, Saves, IsFirst}
 use Rattle.kept_gains.specs.Numbers.{tables_in, cubes_at, IsKept, Fails, DoesPass}
 use Rattle.kept_gains.specs.declared.counted.Counted.{Counted}

@@ -5,9 +5,9 @@ use Rattle.circuit_model.specs.Names.{has}
 use Rattle.name_covers.specs.Literals.{Cube}
 use Rattle.name_covers.specs.Cubes.{is_over}
 use Rattle.name_covers.specs.declared.literal.Literal.{Literal}
-use Rattle.signal_codes.specs.Codes.{AreRising, place_of, bit_number, code_of, codes_of, coded, is_known, is_code, are_codes, are_coded}
-use Rattle.signal_codes.proofs.Places.{name_at_place}
-use Rattle.signal_codes.proofs.Looked.{literal_back}
+use Rattle.kept_gains.specs.Codes.{AreRising, place_of, bit_number, code_of, codes_of, coded, is_known, is_code, are_codes, are_coded}
+use Rattle.kept_gains.proofs.Places.{name_at_place}
+use Rattle.kept_gains.proofs.Looked.{literal_back}
 use Rattle.kept_gains.specs.Numbers.{literal_at, cubes_at}
 
 half_of : (place bit : ℕ) → bit < 2 → (2 * place + bit) / 2 ≡ place

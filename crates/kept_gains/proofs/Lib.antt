@@ -3,3 +3,7 @@ pub mod Numbered
 pub mod Summed
 pub mod Best
 pub mod Taken
+pub mod Places
+pub mod Looked
+pub mod Carried
+pub mod Coded

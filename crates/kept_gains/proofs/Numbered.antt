@@ -16,10 +16,10 @@ use Rattle.name_covers.proofs.Sorting.{sorted_rises}
 use Rattle.net_core.specs.Tables.{named, IsOverInputs, characters_of, places_of}
 use Rattle.net_core.specs.declared.table.Table.{Table}
 use Rattle.net_core.proofs.Rows.{characters_back, places_back}
-use Rattle.signal_codes.specs.Codes.{AreRising, code_of, codes_of, signal_of, is_known}
-use Rattle.signal_codes.specs.declared.codes.Signal.{Signal}
-use Rattle.signal_codes.proofs.Carried.{map_sorted, all_sorted, same_items}
-use Rattle.signal_codes.proofs.Coded.{number_order, numbers_order, KnownCube, Known, known_cube, literals_keep, cubes_keep}
+use Rattle.kept_gains.specs.Codes.{AreRising, code_of, codes_of, signal_of, is_known}
+use Rattle.kept_gains.specs.declared.codes.Signal.{Signal}
+use Rattle.kept_gains.proofs.Carried.{map_sorted, all_sorted, same_items}
+use Rattle.kept_gains.proofs.Coded.{number_order, numbers_order, KnownCube, Known, known_cube, literals_keep, cubes_keep}
 use Rattle.table_tidy.specs.Tidy.{same_row, rows_differ}
 use Rattle.table_tidy.proofs.Tidied.{row_same, row_itself}
 use Rattle.kept_gains.specs.Kept.{is_countable}

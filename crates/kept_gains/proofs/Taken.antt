@@ -12,8 +12,8 @@ use Rattle.extract_rules.specs.Candidates.{cubes_of}
 use Rattle.name_covers.specs.Literals.{Cube}
 use Rattle.name_covers.proofs.Members.{Has}
 use Rattle.name_covers.proofs.Sorting.{sorted_has, sorted_keeps}
-use Rattle.signal_codes.specs.Codes.{in_order, are_coded}
-use Rattle.signal_codes.proofs.Coded.{coded_known}
+use Rattle.kept_gains.specs.Codes.{in_order, are_coded}
+use Rattle.kept_gains.proofs.Coded.{coded_known}
 use Rattle.table_algebra.proofs.Divided.{name_order}
 use Rattle.kept_gains.specs.Numbers.{tables_in, cubes_at, AreNumbers, IsCounted, IsKept}
 use Rattle.kept_gains.specs.declared.counted.Counted.{Counted}

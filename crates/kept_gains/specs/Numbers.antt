@@ -12,8 +12,8 @@ use Rattle.extract_rules.specs.Candidates.{cubes_of}
 use Rattle.name_covers.specs.Literals.{Cube, NamedCover, sorted}
 use Rattle.name_covers.specs.Cubes.{is_over}
 use Rattle.name_covers.specs.declared.literal.Literal.{Literal}
-use Rattle.signal_codes.specs.Codes.{coded, are_coded}
-use Rattle.signal_codes.specs.declared.codes.Signal.{Signal}
+use Rattle.kept_gains.specs.Codes.{coded, are_coded}
+use Rattle.kept_gains.specs.declared.codes.Signal.{Signal}
 use Rattle.kept_gains.specs.Kept.{is_countable}
 use Rattle.kept_gains.specs.declared.counted.Counted.{Counted}
 

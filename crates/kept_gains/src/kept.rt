@@ -7,6 +7,7 @@ ghost use Rattle.name_covers.specs.Literals.{NamedCover as TheCover};
 ghost use Rattle.net_core.specs.Tables.{named, IsOverInputs};
 ghost use Rattle.kept_gains.specs.Kept.{with_last, with_cubes, is_countable, Saves, IsFirst};
 
+use crate::codes::Codes;
 use crate::counted::Counted;
 use crate::passing::passing_cover;
 use crate::rows::numbers_of;
@@ -15,16 +16,24 @@ use circuit_model::Name;
 use cube_cover::Row;
 use name_covers::NamedCover;
 use net_core::Table;
-use signal_codes::Codes;
 use std::alloc::{AllocError, Global};
 use std::marker::Model;
 use std::mem;
 
 /// The cubes of tables, and what covers save in them. Contracts see it as the names and the cubes.
-#[derive(Drop)]
 pub struct KeptGains {
     codes: Codes,
     counted: Counted,
+}
+
+// By hand, so that letting it go is one call in the functions that own it.
+impl Drop for KeptGains {
+    fn drop(self) {
+        let KeptGains {
+            codes: _codes,
+            counted: _counted,
+        } = self;
+    }
 }
 
 impl Model for KeptGains {

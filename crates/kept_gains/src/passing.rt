@@ -5,10 +5,10 @@ ghost use Rattle.coded_totals.specs.Divisors.{cover_of};
 ghost use Rattle.coded_totals.specs.Gains.{literals_in as numbers_in};
 ghost use Rattle.kept_gains.specs.Numbers.{Fails, DoesPass};
 
+use crate::codes::Codes;
 use crate::trial::Trial;
 use coded_totals::SharedDivisor;
 use name_covers::NamedCover;
-use signal_codes::Codes;
 use std::alloc::{AllocError, Global};
 
 /// The cover of a divisor that has a literal, if there is one and it passes; an error only for want of memory.

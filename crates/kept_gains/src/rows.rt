@@ -8,12 +8,12 @@ ghost use Rattle.net_core.specs.Tables.{named, IsOverInputs};
 ghost use Rattle.kept_gains.specs.Kept.{is_countable};
 ghost use Rattle.kept_gains.specs.Numbers.{lists_in, number_in, numbers_from, rising_from, AreNumbers};
 
+use crate::codes::{Codes, Signal};
 use alg_div::literals_of;
 use coded_totals::Numbers;
 use cube_cover::Row;
 use indexmap::IndexSet;
 use net_core::Table;
-use signal_codes::{Codes, Signal};
 use std::alloc::{AllocError, Global};
 
 // The number of a signal's literal.

@@ -18,10 +18,10 @@ use Rattle.name_covers.specs.Literals.{NamedCover}
 use Rattle.name_covers.specs.Cubes.{is_over}
 use Rattle.net_core.specs.Fresh.{IsNewName}
 use Rattle.net_work.specs.Placed.{Placed, standing, circuit_of, table_at}
-use Rattle.ranked_covers.specs.Orders.{cover_eq}
-use Rattle.ranked_covers.specs.Savings.{KnownCovers, saving_in, saved, saved_by, covers_under}
-use Rattle.ranked_covers.proofs.Best.{IsBestOf}
-use Rattle.ranked_covers.proofs.Ranks.{cover_same, cover_itself}
+use Rattle.kept_savings.specs.Orders.{cover_eq}
+use Rattle.kept_savings.specs.Ranking.{KnownCovers, saving_in, saved, saved_by, covers_under}
+use Rattle.kept_savings.proofs.Best.{IsBestOf}
+use Rattle.kept_savings.proofs.Ranks.{cover_same, cover_itself}
 use Rattle.kept_savings.specs.Listing.{AreKept, AreOwn, IsListed}
 use Rattle.kept_savings.specs.Sharing.{IsSharedBy}
 use Rattle.kept_savings.specs.Saving.{literals_in, IsSaving}

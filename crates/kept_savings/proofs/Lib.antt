@@ -18,3 +18,6 @@ pub mod KeptLists
 pub mod Refreshed
 pub mod NotesKept
 pub mod FirstSaved
+pub mod Ranks
+pub mod Best
+pub mod Setting

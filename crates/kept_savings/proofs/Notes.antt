@@ -13,7 +13,7 @@ use Rattle.extract_rules.proofs.Usable.{IsReader, tables_read}
 use Rattle.name_covers.specs.Literals.{NamedCover}
 use Rattle.name_covers.specs.Cubes.{names_in}
 use Rattle.net_work.specs.Placed.{Placed, standing, circuit_of}
-use Rattle.ranked_covers.specs.Savings.{saved}
+use Rattle.kept_savings.specs.Ranking.{saved}
 use Rattle.kept_savings.specs.Saving.{IsSaving, IsSaved}
 use Rattle.kept_savings.specs.Savings.{IsUndriven, IsWorth, IsExact, IsRight, AreFound, IsNoted, Grows}
 use Rattle.kept_savings.proofs.Nameless.{AreFree, saving_renamed}

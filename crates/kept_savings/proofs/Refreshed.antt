@@ -18,7 +18,7 @@ use Rattle.name_covers.specs.Cubes.{names_in}
 use Rattle.name_covers.specs.declared.literal.Literal.{Literal}
 use Rattle.net_core.specs.Fresh.{IsNewName}
 use Rattle.net_work.specs.Placed.{Placed, standing, circuit_of, table_at}
-use Rattle.ranked_covers.specs.Savings.{KnownCovers, saving_in, covers_under}
+use Rattle.kept_savings.specs.Ranking.{KnownCovers, saving_in, covers_under}
 use Rattle.kept_savings.specs.Listing.{AreOwn, IsListed}
 use Rattle.kept_savings.specs.Saving.{literals_in}
 use Rattle.kept_savings.specs.Savings.{IsRight, IsNoted, AreNotes, IsGrown, AreTrue}

@@ -2,3 +2,5 @@ pub mod Saving
 pub mod Listing
 pub mod Sharing
 pub mod Savings
+pub mod Orders
+pub mod Ranking

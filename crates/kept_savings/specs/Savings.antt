@@ -14,8 +14,8 @@ use Rattle.name_covers.specs.Cubes.{names_in}
 use Rattle.net_work.specs.Placed.{Placed, standing, circuit_of, table_at}
 use Rattle.kept_savings.specs.Listing.{AreKept, IsListed}
 use Rattle.kept_savings.specs.Sharing.{IsSharedBy}
-use Rattle.ranked_covers.specs.Orders.{cover_eq}
-use Rattle.ranked_covers.specs.Savings.{KnownCovers, saving_in, covers_under}
+use Rattle.kept_savings.specs.Orders.{cover_eq}
+use Rattle.kept_savings.specs.Ranking.{KnownCovers, saving_in, covers_under}
 use Rattle.kept_savings.specs.Saving.{IsSaving}
 use Rattle.kept_savings.specs.declared.kept.KeptSavings.{KeptSavings}
 

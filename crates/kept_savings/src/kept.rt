@@ -11,18 +11,17 @@ ghost use Rattle.net_core.specs.Tables.{named};
 ghost use Rattle.net_work.specs.Placed.{Placed, table_at, with_slot, with_last};
 ghost use Rattle.kept_savings.specs.Savings.{AreSavings};
 
+use crate::covers::RankedCovers;
 use crate::owned::{OwnLists, taken};
 use circuit_model::Name;
 use cube_cover::Row;
 use indexmap::IndexSet;
 use net_core::Table;
 use net_work::Work;
-use ranked_covers::RankedCovers;
 use sis_base::Copied;
 use std::alloc::{AllocError, Global};
 
 /// What candidates save, and what has to be made anew of it; of which network, contracts say by `AreSavings`.
-#[derive(Drop)]
 pub struct KeptSavings {
     // What covers save, in order, and found by a name of each.
     pub(crate) ranked: RankedCovers,
@@ -34,6 +33,19 @@ pub struct KeptSavings {
     pub(crate) fresh: Vec<usize>,
     // Where more covers are known, many may be given by no table any more, and all is begun anew.
     pub(crate) bound: usize,
+}
+
+// By hand, so that letting it go is one call in the functions that own it.
+impl Drop for KeptSavings {
+    fn drop(self) {
+        let KeptSavings {
+            ranked: _ranked,
+            own: _own,
+            touched: _touched,
+            fresh: _fresh,
+            bound: _bound,
+        } = self;
+    }
 }
 
 // As many lists as places, none of which is known, and all places.

@@ -8,22 +8,35 @@
 //! for a network, and were told of each change, are those of the network; `best_saved` then gives just the next candidate, none just where
 //! extraction is done, or `ManyKernels` with the first table that has more kernels than are listed. Besides there are here the places of the
 //! tables that can be divided by a cover, and whether a cover leaves all tables narrow. Each other error is want of memory.
+//!
+//! What is known lies in `RankedCovers`, of which is promised (`specs/Ranking.antt`): what was set last for a cover is what it saves; under a
+//! name stand just the covers that were set under it when nothing was known of them, in that order; the ranking has just the covers that save
+//! a literal or more, each saving more than all later ones, or as much and standing before them in the order of covers. A saving that is set
+//! takes one look-up and, where it is another than before, two changes of the ranking; no clause says so. Behind an error anything may be
+//! known. `laws`: the first of the ranking that passes a test is the best of all that pass.
 #![tactic(auto)]
 
+mod covers;
 mod fault;
 mod kept;
+pub mod laws;
 mod listing;
+mod named;
 mod narrow;
 mod own;
 mod owned;
+mod ranked;
+mod ranking;
 mod refreshing;
 mod renewing;
 mod saved;
 mod saving;
 mod sharing;
 
+pub use covers::RankedCovers;
 pub use fault::SavingsFault;
 pub use kept::KeptSavings;
 pub use narrow::leaves_narrow;
+pub use ranked::RankedCover;
 pub use saved::best_saved;
 pub use saving::places_for;

@@ -8,6 +8,7 @@ ghost use Rattle.net_work.specs.Placed.{circuit_of};
 ghost use Rattle.kept_savings.specs.Listing.{IsListed, IsUnlisted};
 ghost use Rattle.kept_savings.specs.Savings.{AreTrue};
 
+use crate::covers::RankedCovers;
 use crate::fault::SavingsFault;
 use crate::own::own_made;
 use crate::owned::{OwnLists, is_listed, put_list};
@@ -17,7 +18,6 @@ use circuit_model::Name;
 use cube_cover::Row;
 use extract_rules::Rule;
 use net_work::Work;
-use ranked_covers::RankedCovers;
 use std::alloc::Global;
 
 // What the table at a place gives is listed, unless it is, and what that saves is noted.

@@ -7,16 +7,16 @@ ghost use Rattle.alg_div.specs.Cubes.{Has};
 ghost use Rattle.name_covers.specs.Literals.{NamedCover as TheCover};
 ghost use Rattle.net_core.specs.Fresh.{IsNewName};
 ghost use Rattle.net_work.specs.Placed.{circuit_of};
-ghost use Rattle.ranked_covers.specs.Savings.{saving_in, covers_under, saved};
+ghost use Rattle.kept_savings.specs.Ranking.{saving_in, covers_under, saved};
 ghost use Rattle.kept_savings.specs.Saving.{literals_in};
 ghost use Rattle.kept_savings.specs.Savings.{IsRight, IsNoted, AreFound, IsGrown};
 
+use crate::covers::RankedCovers;
 use crate::saving::{rarest_name, saving_of};
 use circuit_model::Name;
 use cube_cover::Row;
 use name_covers::NamedCover;
 use net_work::Work;
-use ranked_covers::RankedCovers;
 use std::alloc::{AllocError, Global};
 
 // A number, 0 where there is none.

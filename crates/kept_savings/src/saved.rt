@@ -9,7 +9,7 @@ ghost use Rattle.extract_rules.specs.Extracting.{IsNext, IsDone};
 ghost use Rattle.input_readers.specs.Readers.{is_in};
 ghost use Rattle.net_core.specs.Fresh.{IsNewName};
 ghost use Rattle.net_work.specs.Placed.{standing, circuit_of, table_at};
-ghost use Rattle.ranked_covers.specs.Orders.{cover_eq};
+ghost use Rattle.kept_savings.specs.Orders.{cover_eq};
 ghost use Rattle.kept_savings.specs.Listing.{AreKept, IsListed, IsUnlisted};
 ghost use Rattle.kept_savings.specs.Saving.{literals_in};
 ghost use Rattle.kept_savings.specs.Savings.{held, held_at, IsIn, AreSavings};

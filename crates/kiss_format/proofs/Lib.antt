@@ -12,3 +12,5 @@ pub mod NamedStates
 pub mod WrittenRows
 pub mod Trip
 pub mod HeaderLines
+pub mod Walks
+pub mod Grouped

@@ -3,3 +3,4 @@ pub mod Lines
 pub mod Reader
 pub mod Steps
 pub mod Trips
+pub mod Groups

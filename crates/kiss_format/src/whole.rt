@@ -9,10 +9,10 @@ ghost use Rattle.kiss_format.specs.Steps.{Places, Makes, finished, no_parts};
 
 use crate::draft::Draft;
 use crate::fault::{KissFault, ReadFault};
+use crate::finding::first_clash;
 use crate::states::StateNames;
 use circuit_model::{Name, Names};
 use line_words::name_of;
-use machine_clash::first_clash;
 use machine_model::{Machine, MachineRow};
 use sis_base::{Copied, Sequence};
 use std::alloc::{AllocError, Global};

@@ -4,3 +4,10 @@ pub mod Leasts
 pub mod Steps
 pub mod Uses
 pub mod Touched
+pub mod Stands
+pub mod Entries
+pub mod Rising
+pub mod Turns
+pub mod Along
+pub mod Leaving
+pub mod Bounds

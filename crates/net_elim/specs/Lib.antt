@@ -1,3 +1,5 @@
 pub mod Putting
 pub mod Waiting
 pub mod Touching
+pub mod Collapse
+pub mod Phases

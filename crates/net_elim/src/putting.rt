@@ -22,7 +22,7 @@ use net_work::Work;
 use std::alloc::{AllocError, Global};
 use table_algebra::{TakeFault, take_in};
 
-/// How many rows a list may have by which a table is taken into another one.
+/// How many rows a list may have by which a table is taken into another one; and, under collapse, what a table becomes.
 pub(crate) const LIST_LIMIT: usize = 32_767;
 
 /// Why a table is not taken into all that read it.
@@ -52,8 +52,8 @@ pub(crate) struct Made<R: Row> {
     pub(crate) table: Table<R>,
 }
 
-// What the table at a place becomes where another one is taken into it.
-fn taken_at<R: Row>(
+/// What the table at a place becomes where another one is taken into it.
+pub(crate) fn taken_at<R: Row>(
     alloc: Global,
     work: &Work<R>,
     inner: &Entry<R>,

@@ -1,19 +1,14 @@
 //! The program: it makes the real store, input and outputs, hands them to the top call with the words of the
-//! command line, and ends with its status. The adapters tell no contents: what a real file or stream holds is
-//! trusted and not proved.
+//! command line, and ends with its status. What a real file or stream holds is trusted and not proved.
 #![tactic(auto)]
 
-mod files;
-mod streams;
-
-use files::RealStore;
+use sis_adapters::{RealStore, StdSink, StdSource};
 use sis_text::Word;
 use sis_top::{Status, run_sis};
 use std::alloc::AllocError;
 use std::env;
 use std::env::Env;
 use std::process::ExitCode;
-use streams::{StdSink, StdSource};
 
 /// The words behind the program's name; where the arguments are not text, one word that is not taken.
 fn words<R: Env + AllocGlobal>(rt: &R) -> Result<Vec<Word>, AllocError> {

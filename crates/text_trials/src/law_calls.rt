@@ -1,20 +1,19 @@
 //! Laws, each of which is a call that does nothing but end.
 
-use std::alloc::Global;
-use trial_cases::{Case, CaseFault, put_line};
+use crate::putting::done;
+use trial_cases::{CaseFault, put_line};
 
-/// That the laws of a crate are called.
-pub fn answer(alloc: Global, case: &Case<'_>) -> Result<Vec<u8>, CaseFault> {
-    match case.word(1) {
+/// Puts that the laws of a crate are called.
+pub fn answer(out: &mut Vec<u8>, name: &str) -> Result<(), CaseFault> {
+    match name {
         "sis_text" => text_laws(),
         "sis_words" => words_laws(),
         "sis_script" => script_laws(),
         "sis_outside" => sis_outside::risen_counts_stay(),
+        "." => file_laws(),
         _ => return Err(CaseFault::Bad),
     }
-    let mut out = Vec::new(alloc);
-    put_line(&mut out, b"called")?;
-    Ok(out)
+    done(put_line(out, b"called"))
 }
 
 /// The laws of sis_text.
@@ -34,4 +33,22 @@ fn script_laws() {
     sis_script::options_come_once();
     sis_script::words_fit_slots();
     sis_script::bad_stays_bad();
+}
+
+/// The laws of reading and writing files.
+fn file_laws() {
+    gate_lines::laws::tables_are_shaped();
+    gate_lines::laws::tables_have_few_inputs();
+    gate_lines::laws::names_are_words();
+    gate_lines::laws::names_are_signals();
+    gate_lines::laws::tables_have_the_functions_of_gates();
+    gate_lines::laws::pairs_name_each_once();
+    blif_lines::reading_laws::what_is_read_is_sound();
+    blif_lines::reading_laws::what_is_read_is_small();
+    kiss_format::laws::written_text_is_read();
+    kiss_format::laws::read_machine_is_read_again();
+    blif_read::reading_laws::what_is_read_is_sound();
+    blif_read::reading_laws::what_is_read_is_small();
+    blif_trip::written_text_is_read();
+    blif_trip::read_circuit_is_read_again();
 }

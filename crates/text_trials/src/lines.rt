@@ -1,67 +1,86 @@
 //! Lines and words of a text.
 
-use sis_text::{Line, Span, Word, bytes_at, logical_lines, script_pieces, texts_at, words};
+use crate::putting::{done, put_quoted};
+use sis_text::{Line, Lines, Span, Word, bytes_at, logical_lines, script_pieces, texts_at, words};
 use std::alloc::{AllocError, Global};
 use std::convert::AsStr;
-use trial_cases::{Case, CaseFault, number_of, put_line, put_number, text_of};
+use trial_cases::{Case, CaseFault, number_of, put_line, put_number, put_shown};
 
-/// The answer to a case of sis_text.
-pub fn answer(alloc: Global, case: &Case<'_>) -> Result<Vec<u8>, CaseFault> {
-    let source = text_of(alloc, case.lines.as_slice())?;
-    let source = source.as_slice();
+/// Puts the answer to a case of sis_text.
+pub fn answer(
+    alloc: Global,
+    out: &mut Vec<u8>,
+    case: &Case<'_>,
+    text: &[u8],
+) -> Result<(), CaseFault> {
     match case.word(1) {
-        "logical_lines" => Ok(shown(alloc, source, logical_lines(alloc, source)?.as_slice())?),
-        "script_pieces" => Ok(shown(alloc, source, script_pieces(alloc, source)?.as_slice())?),
-        "words" => Ok(words_answer(alloc, source)?),
-        "bytes_at" => bytes_answer(alloc, source, case),
-        "word" => Ok(word_answer(alloc, case.word(2))?),
+        "logical_lines" => put_lines(alloc, out, text, logical_lines(alloc, text)),
+        "script_pieces" => put_lines(alloc, out, text, script_pieces(alloc, text)),
+        "words" => done(put_shown(alloc, out, &words(alloc, text)?)),
+        "bytes_at" => put_bytes(out, text, case),
+        "word" => put_word(alloc, out, case.word(2)),
         _ => Err(CaseFault::Bad),
     }
 }
 
-/// Each line as its number, a colon, and its words with a blank before each.
-fn shown(alloc: Global, source: &[u8], lines: &[Line]) -> Result<Vec<u8>, AllocError> {
-    let mut out = Vec::new(alloc);
-    for line in lines {
-        put_number(alloc, &mut out, line.number)?;
-        out.push(b':')?;
-        for text in &texts_at(alloc, source, line.words.as_slice())? {
-            out.push(b' ')?;
-            out.extend_from_slice(text)?;
-        }
-        out.push(b'\n')?;
+/// Puts each line that was found.
+fn put_lines(
+    alloc: Global,
+    out: &mut Vec<u8>,
+    text: &[u8],
+    lines: Result<Lines, AllocError>,
+) -> Result<(), CaseFault> {
+    for line in lines?.as_slice() {
+        put_found(alloc, out, text, line)?;
     }
-    Ok(out)
+    Ok(())
 }
 
-/// The spans of the words of a line.
-fn words_answer(alloc: Global, source: &[u8]) -> Result<Vec<u8>, AllocError> {
-    let found = words(alloc, source)?;
-    format!(in alloc; "{found:?}\n")?.as_bytes().to_vec(alloc)
+/// Puts a line as its number, a colon, and its words.
+fn put_found(alloc: Global, out: &mut Vec<u8>, text: &[u8], line: &Line) -> Result<(), CaseFault> {
+    put_number(alloc, out, line.number)?;
+    out.extend_from_slice(b":")?;
+    put_words(
+        out,
+        texts_at(alloc, text, line.words.as_slice())?.as_slice(),
+    )
 }
 
-/// The bytes of a span, in quotes.
-fn bytes_answer(alloc: Global, source: &[u8], case: &Case<'_>) -> Result<Vec<u8>, CaseFault> {
+/// Puts words with a blank before each, and a line end.
+fn put_words(out: &mut Vec<u8>, words: &[&[u8]]) -> Result<(), CaseFault> {
+    for word in words {
+        out.extend_from_slice(b" ")?;
+        out.extend_from_slice(word)?;
+    }
+    done(put_line(out, b""))
+}
+
+/// Puts the bytes of a span, in quotes.
+fn put_bytes(out: &mut Vec<u8>, text: &[u8], case: &Case<'_>) -> Result<(), CaseFault> {
     let span = Span {
         place: number_of(case.word(2))?,
         len: number_of(case.word(3))?,
     };
-    let mut out = Vec::new(alloc);
-    out.push(b'"')?;
-    out.extend_from_slice(bytes_at(source, span))?;
-    put_line(&mut out, b"\"")?;
-    Ok(out)
+    put_quoted(out, b"", bytes_at(text, span))
+}
+
+/// Puts a word, its copy, and the text of the copy.
+fn put_word(alloc: Global, out: &mut Vec<u8>, text: &str) -> Result<(), CaseFault> {
+    let word = Word::new(alloc, text)?;
+    put_copied(alloc, out, &word, &word.copy(alloc)?)
+}
+
+/// Puts a word, a copy of it, and the text of the copy by the trait alone.
+fn put_copied(alloc: Global, out: &mut Vec<u8>, word: &Word, copy: &Word) -> Result<(), CaseFault> {
+    let text = word.text();
+    let copied = text_by(copy);
+    done(put_line(
+        out,
+        format!(in alloc; "{word:?} {text} {copied}")?.as_bytes(),
+    ))
 }
 
 /// A text, by the trait alone.
 fn text_by<T: AsStr>(value: &T) -> &str {
     value.as_str()
-}
-
-/// A word, its copy, and the text of the copy.
-fn word_answer(alloc: Global, text: &str) -> Result<Vec<u8>, AllocError> {
-    let word = Word::new(alloc, text)?;
-    let copy = word.copy(alloc)?;
-    let shown = format!(in alloc; "{word:?} {} {}\n", word.text(), text_by(&copy))?;
-    shown.as_bytes().to_vec(alloc)
 }

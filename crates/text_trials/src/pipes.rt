@@ -4,24 +4,28 @@
 
 ghost use Rattle.std.specs.Prelude.{◌≤◌};
 
-use sis_outside::{MemSink, MemSource, PutFault, Sink, Source, TakeFault};
-use std::alloc::{AllocError, Global};
-use trial_cases::{Case, CaseFault, number_of, put_line, unescaped};
+use crate::putting::{done, number_at, put_fault, put_quoted, word_at};
+use sis_outside::{MemSink, MemSource, Sink, Source};
+use std::alloc::Global;
+use trial_cases::{Case, CaseFault, put_line, unescaped};
 
-/// The word at a place of a line.
-fn word_at<'a>(line: &'a str, place: usize) -> &'a str {
-    line.split_whitespace().nth(place).unwrap_or("")
+/// Puts the answer to a case of a source.
+pub fn source_answer(alloc: Global, out: &mut Vec<u8>, case: &Case<'_>) -> Result<(), CaseFault> {
+    let mut source = MemSource::new(alloc, unescaped(alloc, case.word(1))?.as_slice())?;
+    take_source_lines(alloc, out, &mut source, case.lines.as_slice())
 }
 
-/// The answer to a case of a source.
-pub fn source_answer(alloc: Global, case: &Case<'_>) -> Result<Vec<u8>, CaseFault> {
-    let bytes = unescaped(alloc, case.word(1))?;
-    let mut source = MemSource::new(alloc, bytes.as_slice())?;
-    let mut out = Vec::new(alloc);
-    for line in case.lines.as_slice() {
-        take_source_line(alloc, &mut out, &mut source, line)?;
+/// Takes the lines below a source.
+fn take_source_lines(
+    alloc: Global,
+    out: &mut Vec<u8>,
+    source: &mut MemSource,
+    lines: &[&str],
+) -> Result<(), CaseFault> {
+    for line in lines {
+        take_source_line(alloc, out, source, line)?;
     }
-    Ok(out)
+    Ok(())
 }
 
 /// Takes a line below a source.
@@ -33,60 +37,54 @@ fn take_source_line(
 ) -> Result<(), CaseFault> {
     match word_at(line, 0) {
         "limit" => {
-            source.limit_pieces(number_of(word_at(line, 1))?.max(1));
+            source.limit_pieces(number_at(line, 1)?.max(1));
             Ok(())
         }
-        "fail" => Ok(source.fail_at(number_of(word_at(line, 1))?, number_of(word_at(line, 2))?)?),
-        "take" => {
-            let max = number_of(word_at(line, 1))?.max(1);
-            let taken = take(source, alloc, max);
-            Ok(take_answer(alloc, out, taken)?)
-        }
-        "left" => Ok(quoted(out, source.left())?),
-        "faults" => Ok(count_line(alloc, out, source.faults())?),
+        "fail" => done(source.fail_at(number_at(line, 1)?, number_at(line, 2)?)),
+        "take" => put_taken(alloc, out, source, number_at(line, 1)?.max(1)),
+        "left" => put_quoted(out, b"", source.left()),
+        "faults" => put_faults(alloc, out, source.faults()),
         _ => Err(CaseFault::Bad),
     }
 }
 
-/// A take, by the trait alone.
-fn take<I: Source>(source: &mut I, alloc: Global, max: usize) -> Result<Vec<u8>, TakeFault>
-    requires { 1 ≤ max }
-{
-    source.take(alloc, max)
-}
-
-/// Puts what a take gave.
-fn take_answer(
+/// Puts what a take gave, by the trait alone.
+fn put_taken<I: Source>(
     alloc: Global,
     out: &mut Vec<u8>,
-    taken: Result<Vec<u8>, TakeFault>,
-) -> Result<(), AllocError> {
-    match taken {
-        Ok(piece) => quoted(out, piece.as_slice()),
-        Err(fault) => put_line(out, format!(in alloc; "{fault:?}, {fault}")?.as_bytes()),
+    source: &mut I,
+    max: usize,
+) -> Result<(), CaseFault>
+    requires { 1 ≤ max }
+{
+    match &source.take(alloc, max) {
+        Ok(piece) => put_quoted(out, b"", piece.as_slice()),
+        Err(fault) => put_fault(alloc, out, fault),
     }
-}
-
-/// Puts bytes in quotes on a line.
-fn quoted(out: &mut Vec<u8>, bytes: &[u8]) -> Result<(), AllocError> {
-    out.push(b'"')?;
-    out.extend_from_slice(bytes)?;
-    put_line(out, b"\"")
 }
 
 /// Puts a count of faults.
-fn count_line(alloc: Global, out: &mut Vec<u8>, faults: u64) -> Result<(), AllocError> {
-    put_line(out, format!(in alloc; "{faults} faults")?.as_bytes())
+fn put_faults(alloc: Global, out: &mut Vec<u8>, faults: u64) -> Result<(), CaseFault> {
+    done(put_line(out, format!(in alloc; "{faults} faults")?.as_bytes()))
 }
 
-/// The answer to a case of a sink.
-pub fn sink_answer(alloc: Global, case: &Case<'_>) -> Result<Vec<u8>, CaseFault> {
+/// Puts the answer to a case of a sink.
+pub fn sink_answer(alloc: Global, out: &mut Vec<u8>, case: &Case<'_>) -> Result<(), CaseFault> {
     let mut sink = MemSink::new(alloc);
-    let mut out = Vec::new(alloc);
-    for line in case.lines.as_slice() {
-        take_sink_line(alloc, &mut out, &mut sink, line)?;
+    take_sink_lines(alloc, out, &mut sink, case.lines.as_slice())
+}
+
+/// Takes the lines below a sink.
+fn take_sink_lines(
+    alloc: Global,
+    out: &mut Vec<u8>,
+    sink: &mut MemSink,
+    lines: &[&str],
+) -> Result<(), CaseFault> {
+    for line in lines {
+        take_sink_line(alloc, out, sink, line)?;
     }
-    Ok(out)
+    Ok(())
 }
 
 /// Takes a line below a sink.
@@ -97,31 +95,28 @@ fn take_sink_line(
     line: &str,
 ) -> Result<(), CaseFault> {
     match word_at(line, 0) {
-        "fail" => Ok(sink.fail_at(number_of(word_at(line, 1))?, number_of(word_at(line, 2))?)?),
-        "put" => {
-            let piece = unescaped(alloc, word_at(line, 1))?;
-            let done = put(sink, piece.as_slice());
-            Ok(put_answer_line(alloc, out, done)?)
-        }
-        "written" => Ok(quoted(out, sink.written())?),
-        "faults" => Ok(count_line(alloc, out, sink.faults())?),
+        "fail" => done(sink.fail_at(number_at(line, 1)?, number_at(line, 2)?)),
+        "put" => put_piece(
+            alloc,
+            out,
+            sink,
+            unescaped(alloc, word_at(line, 1))?.as_slice(),
+        ),
+        "written" => put_quoted(out, b"", sink.written()),
+        "faults" => put_faults(alloc, out, sink.faults()),
         _ => Err(CaseFault::Bad),
     }
 }
 
-/// A put, by the trait alone.
-fn put<O: Sink>(sink: &mut O, piece: &[u8]) -> Result<(), PutFault> {
-    sink.put(piece)
-}
-
-/// Puts what a put answered.
-fn put_answer_line(
+/// Puts what a put answered, by the trait alone.
+fn put_piece<O: Sink>(
     alloc: Global,
     out: &mut Vec<u8>,
-    done: Result<(), PutFault>,
-) -> Result<(), AllocError> {
-    match done {
-        Ok(()) => put_line(out, b"done"),
-        Err(fault) => put_line(out, format!(in alloc; "{fault:?}, {fault}")?.as_bytes()),
+    sink: &mut O,
+    piece: &[u8],
+) -> Result<(), CaseFault> {
+    match sink.put(piece) {
+        Ok(()) => done(put_line(out, b"done")),
+        Err(fault) => put_fault(alloc, out, &fault),
     }
 }

@@ -1,19 +1,26 @@
 //! The commands of a script, each on a line; a word as it was read shows its bytes.
 
-use sis_script::commands;
+use sis_script::{Command, commands};
 use std::alloc::Global;
-use trial_cases::{Case, CaseFault, put_line, text_of};
+use trial_cases::{CaseFault, put_shown};
 
-/// The answer to a case of sis_script.
-pub fn answer(alloc: Global, case: &Case<'_>) -> Result<Vec<u8>, CaseFault> {
-    if case.word(1) != "commands" {
+/// Puts the answer to a case of sis_script.
+pub fn answer(
+    alloc: Global,
+    out: &mut Vec<u8>,
+    call: &str,
+    script: &[u8],
+) -> Result<(), CaseFault> {
+    if call != "commands" {
         return Err(CaseFault::Bad);
     }
-    let script = text_of(alloc, case.lines.as_slice())?;
-    let mut out = Vec::new(alloc);
-    let found = commands(alloc, script.as_slice())?;
-    for command in found.as_slice() {
-        put_line(&mut out, format!(in alloc; "{command:?}")?.as_bytes())?;
+    put_commands(alloc, out, commands(alloc, script)?.as_slice())
+}
+
+/// Puts commands, each on a line.
+fn put_commands(alloc: Global, out: &mut Vec<u8>, found: &[Command]) -> Result<(), CaseFault> {
+    for command in found {
+        put_shown(alloc, out, command)?;
     }
-    Ok(out)
+    Ok(())
 }

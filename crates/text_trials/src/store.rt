@@ -4,26 +4,33 @@
 
 ghost use Rattle.std.specs.Prelude.{◌<◌, ◌-◌, ◌^◌};
 
-use sis_outside::{LoadFault, MemStore, SaveFault, Store};
-use std::alloc::{AllocError, Global};
-use trial_cases::{Case, CaseFault, number_of, put_line, unescaped};
+use crate::putting::{done, number_at, put_fault, put_quoted, word_at};
+use sis_outside::{MemStore, Store};
+use std::alloc::Global;
+use trial_cases::{Case, CaseFault, put_line, unescaped};
 
-/// The answer to a case of a store.
-pub fn answer(alloc: Global, case: &Case<'_>) -> Result<Vec<u8>, CaseFault> {
+/// Puts the answer to a case of a store.
+pub fn answer(alloc: Global, out: &mut Vec<u8>, case: &Case<'_>) -> Result<(), CaseFault> {
     let mut store = MemStore::new(alloc);
-    let mut out = Vec::new(alloc);
-    for line in case.lines.as_slice() {
-        let words: Vec<&str> = line.split_whitespace().collect(alloc)?;
-        let word = words.get(0).copied().unwrap_or("");
-        let name = named(words.get(1).copied().unwrap_or(""));
-        let rest = words.get(2).copied().unwrap_or("");
-        take_line(alloc, &mut out, &mut store, word, name, rest)?;
-    }
-    Ok(out)
+    take_lines(alloc, out, &mut store, case.lines.as_slice())
 }
 
-/// The name that a word is.
-fn named(word: &str) -> &str {
+/// Takes the lines below the call.
+fn take_lines(
+    alloc: Global,
+    out: &mut Vec<u8>,
+    store: &mut MemStore,
+    lines: &[&str],
+) -> Result<(), CaseFault> {
+    for line in lines {
+        take_line(alloc, out, store, line)?;
+    }
+    Ok(())
+}
+
+/// The name in a line.
+fn name_of(line: &str) -> &str {
+    let word = word_at(line, 1);
     if word == "." { "" } else { word }
 }
 
@@ -32,95 +39,70 @@ fn take_line(
     alloc: Global,
     out: &mut Vec<u8>,
     store: &mut MemStore,
-    word: &str,
-    name: &str,
-    rest: &str,
+    line: &str,
 ) -> Result<(), CaseFault> {
-    match word {
-        "put" => Ok(store.put_file(name, unescaped(alloc, rest)?.as_slice())?),
-        "fail" => Ok(store.fail_at(number_of(name)?, number_of(rest)?)?),
-        "file" => Ok(file_line(alloc, out, store, name)?),
-        "counts" => Ok(counts_line(alloc, out, store)?),
-        "save" => {
-            let saved = save(store, name, unescaped(alloc, rest)?.as_slice());
-            Ok(save_line(alloc, out, saved)?)
-        }
-        "load" => {
-            let max = number_of(rest)?.min(usize::MAX - 1);
-            let loaded = load(store, alloc, name, max);
-            Ok(load_line(alloc, out, loaded)?)
-        }
+    let name = name_of(line);
+    match word_at(line, 0) {
+        "put" => done(store.put_file(name, unescaped(alloc, word_at(line, 2))?.as_slice())),
+        "fail" => done(store.fail_at(number_at(line, 1)?, number_at(line, 2)?)),
+        "file" => put_file(out, name, store.file(name)),
+        "counts" => put_counts(alloc, out, store.faults(), store.misses()),
+        "save" => put_saved(alloc, out, store, name, word_at(line, 2)),
+        "load" => put_loaded(
+            alloc,
+            out,
+            store,
+            name,
+            number_at(line, 2)?.min(usize::MAX - 1),
+        ),
         _ => Err(CaseFault::Bad),
     }
 }
 
-/// A load, by the trait alone.
-fn load<S: Store>(
-    store: &mut S,
+/// Puts what a load gave, by the trait alone.
+fn put_loaded<S: Store>(
     alloc: Global,
+    out: &mut Vec<u8>,
+    store: &mut S,
     name: &str,
     max: usize,
-) -> Result<Vec<u8>, LoadFault>
+) -> Result<(), CaseFault>
     requires { max < 2 ^ 64 - 1 }
 {
-    store.load(alloc, name, max)
-}
-
-/// A save, by the trait alone.
-fn save<S: Store>(store: &mut S, name: &str, bytes: &[u8]) -> Result<(), SaveFault> {
-    store.save(name, bytes)
-}
-
-/// Puts what a load gave.
-fn load_line(
-    alloc: Global,
-    out: &mut Vec<u8>,
-    loaded: Result<Vec<u8>, LoadFault>,
-) -> Result<(), AllocError> {
-    match loaded {
-        Ok(bytes) => {
-            out.extend_from_slice(b"loaded \"")?;
-            out.extend_from_slice(bytes.as_slice())?;
-            put_line(out, b"\"")
-        }
-        Err(fault) => put_line(out, format!(in alloc; "{fault:?}, {fault}")?.as_bytes()),
+    match &store.load(alloc, name, max) {
+        Ok(bytes) => put_quoted(out, b"loaded ", bytes.as_slice()),
+        Err(fault) => put_fault(alloc, out, fault),
     }
 }
 
-/// Puts what a save answered.
-fn save_line(
+/// Puts what a save of a text answered, by the trait alone.
+fn put_saved<S: Store>(
     alloc: Global,
     out: &mut Vec<u8>,
-    saved: Result<(), SaveFault>,
-) -> Result<(), AllocError> {
-    match saved {
-        Ok(()) => put_line(out, b"saved"),
-        Err(fault) => put_line(out, format!(in alloc; "{fault:?}, {fault}")?.as_bytes()),
-    }
-}
-
-/// Puts the bytes of a file.
-fn file_line(
-    alloc: Global,
-    out: &mut Vec<u8>,
-    store: &MemStore,
+    store: &mut S,
     name: &str,
-) -> Result<(), AllocError> {
-    match store.file(name) {
-        None => put_line(out, b"no file"),
+    text: &str,
+) -> Result<(), CaseFault> {
+    match store.save(name, unescaped(alloc, text)?.as_slice()) {
+        Ok(()) => done(put_line(out, b"saved")),
+        Err(fault) => put_fault(alloc, out, &fault),
+    }
+}
+
+/// Puts the name and the bytes of a file.
+fn put_file(out: &mut Vec<u8>, name: &str, file: Option<&[u8]>) -> Result<(), CaseFault> {
+    match file {
+        None => done(put_line(out, b"no file")),
         Some(bytes) => {
-            out.extend_from_slice(format!(in alloc; "{name}: ")?.as_bytes())?;
-            put_line(out, bytes)
+            out.extend_from_slice(name.as_bytes())?;
+            out.extend_from_slice(b": ")?;
+            done(put_line(out, bytes))
         }
     }
 }
 
 /// Puts the faults and the misses.
-fn counts_line(alloc: Global, out: &mut Vec<u8>, store: &MemStore) -> Result<(), AllocError> {
-    let faults = store.faults();
-    let misses = store.misses();
-    put_line(
-        out,
-        format!(in alloc; "{faults} faults, {misses} misses")?.as_bytes(),
-    )
+fn put_counts(alloc: Global, out: &mut Vec<u8>, faults: u64, misses: u64) -> Result<(), CaseFault> {
+    let shown = format!(in alloc; "{faults} faults, {misses} misses")?;
+    done(put_line(out, shown.as_bytes()))
 }

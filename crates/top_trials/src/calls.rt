@@ -1,62 +1,109 @@
 //! Calls of the whole program.
 
 use crate::outside::Outside;
-use crate::parts::{Part, bytes_of, parts, string_of};
+use crate::parts::{Part, parts, put_bytes, string_of};
 use crate::shown::{put_file, put_text};
 use crate::wanting::{TrialStore, is_among};
 use sis_text::Word;
 use sis_top::{Status, run_sis};
-use std::alloc::Global;
+use std::alloc::{AllocError, Global};
 use trial_cases::{Case, CaseFault, put_line, unescaped};
 
-/// The answer to a case of a call.
-pub fn answer(alloc: Global, case: &Case<'_>, shared: &[Part<'_>]) -> Result<Vec<u8>, CaseFault> {
+/// Puts the answer to a case of a call.
+pub fn answer(
+    alloc: Global,
+    out: &mut Vec<u8>,
+    case: &Case<'_>,
+    shared: &[Part<'_>],
+) -> Result<(), CaseFault> {
     let own = parts(alloc, case.lines.as_slice())?;
-    let words = words_of(alloc, case.head, own.as_slice())?;
-    let mut outside = Outside::new(alloc)?;
-    answer_over(
-        alloc,
-        words.as_slice(),
-        shared,
-        own.as_slice(),
-        &mut outside,
-    )
+    put_call(alloc, out, case.head, shared, own.as_slice())
 }
 
-/// The answer to a call on words, over what is said of the outside by the parts of all cases and of its own.
-fn answer_over(
+/// Puts the answer to a call, over what is said of the outside by the parts of all cases and of its own.
+fn put_call(
     alloc: Global,
-    words: &[Word],
+    out: &mut Vec<u8>,
+    head: &str,
     shared: &[Part<'_>],
     own: &[Part<'_>],
-    outside: &mut Outside,
-) -> Result<Vec<u8>, CaseFault> {
-    outside.take_parts(alloc, shared)?;
-    outside.take_parts(alloc, own)?;
-    let status = run(alloc, words, outside);
-    let mut told = told_of(alloc, status, outside)?;
-    put_changed(alloc, &mut told, &outside.store, shared)?;
-    put_changed(alloc, &mut told, &outside.store, own)?;
-    Ok(told)
+) -> Result<(), CaseFault> {
+    let mut outside = Outside::new(alloc)?;
+    put_call_over(alloc, out, head, &mut outside, shared, own)
 }
 
-/// The words of a call: those of the first line, and behind the last of them what stands right below.
-fn words_of(alloc: Global, head: &str, parts: &[Part<'_>]) -> Result<Vec<Word>, CaseFault> {
+/// Puts the answer to a call over an outside to which nothing was said yet.
+fn put_call_over(
+    alloc: Global,
+    out: &mut Vec<u8>,
+    head: &str,
+    outside: &mut Outside,
+    shared: &[Part<'_>],
+    own: &[Part<'_>],
+) -> Result<(), CaseFault> {
+    outside.take_parts(alloc, shared)?;
+    outside.take_parts(alloc, own)?;
+    let status = call(alloc, head, own, outside)?;
+    put_told(alloc, out, status, outside)?;
+    put_changed(alloc, out, &outside.store, shared)?;
+    put_changed(alloc, out, &outside.store, own)
+}
+
+/// Calls the program on the words of a case: those of its first line, and behind the last of them what stands right below.
+fn call(
+    alloc: Global,
+    head: &str,
+    own: &[Part<'_>],
+    outside: &mut Outside,
+) -> Result<Status, CaseFault> {
     let mut words = Vec::new(alloc);
-    let Some((_call, line)) = head.split_once(' ') else {
-        return Ok(words);
+    if let Some((_call, line)) = head.split_once(' ') {
+        put_words(alloc, &mut words, line, own)?;
+    }
+    Ok(run(alloc, words.as_slice(), outside))
+}
+
+/// Puts the words of a line behind others; what stands right below belongs to the last of them.
+fn put_words(
+    alloc: Global,
+    words: &mut Vec<Word>,
+    line: &str,
+    own: &[Part<'_>],
+) -> Result<(), CaseFault> {
+    let last = match line.rsplit_once('|') {
+        None => line,
+        Some((front, last)) => {
+            put_front(alloc, words, front)?;
+            last
+        }
     };
-    let mut texts = Vec::new(alloc);
-    for text in line.split('|') {
-        texts.push(unescaped(alloc, text)?)?;
+    let mut bytes = unescaped(alloc, last)?;
+    put_below(alloc, &mut bytes, own)?;
+    put_word(alloc, words, bytes)
+}
+
+/// Puts the words before the last one behind others.
+fn put_front(alloc: Global, words: &mut Vec<Word>, front: &str) -> Result<(), CaseFault> {
+    for text in front.split('|') {
+        let bytes = unescaped(alloc, text)?;
+        put_word(alloc, words, bytes)?;
     }
-    if let (Some(last), Some(below)) = (texts.last_mut(), parts.first()) {
-        last.extend_from_slice(bytes_of(alloc, below.lines.as_slice())?.as_slice())?;
+    Ok(())
+}
+
+/// Puts what stands right below the first line behind a text.
+fn put_below(alloc: Global, text: &mut Vec<u8>, own: &[Part<'_>]) -> Result<(), CaseFault> {
+    match own.first() {
+        Some(below) => put_bytes(alloc, text, below.lines.as_slice()),
+        None => Ok(()),
     }
-    for text in texts {
-        words.push(Word::new(alloc, string_of(text)?.as_str())?)?;
-    }
-    Ok(words)
+}
+
+/// Puts the word that some bytes are behind others.
+fn put_word(alloc: Global, words: &mut Vec<Word>, bytes: Vec<u8>) -> Result<(), CaseFault> {
+    let text = string_of(bytes)?;
+    words.push(Word::new(alloc, text.as_str())?)?;
+    Ok(())
 }
 
 /// Runs the program on words.
@@ -71,44 +118,74 @@ fn run(alloc: Global, words: &[Word], outside: &mut Outside) -> Status {
     )
 }
 
-/// What is told of a call: its status, what was put on both outputs, and what was saved.
-fn told_of(alloc: Global, status: Status, outside: &Outside) -> Result<Vec<u8>, CaseFault> {
-    let mut told = Vec::new(alloc);
-    let line = format!(in alloc; "{status:?}, {}", status.code())?;
-    put_line(&mut told, line.as_bytes())?;
-    put_text(&mut told, "out: ", outside.out.object.written())?;
-    put_text(&mut told, "err: ", outside.err.object.written())?;
+/// Puts what is told of a call: its status, what was put on both outputs, and what was saved.
+fn put_told(
+    alloc: Global,
+    out: &mut Vec<u8>,
+    status: Status,
+    outside: &Outside,
+) -> Result<(), AllocError> {
+    put_status(alloc, out, status)?;
+    put_text(out, "out: ", outside.out.object.written())?;
+    put_text(out, "err: ", outside.err.object.written())?;
     for name in &outside.store.saved {
-        let mark = format!(in alloc; "{name}: ")?;
-        put_file(
-            &mut told,
-            mark.as_str(),
-            outside.store.files.file(name.as_str()),
-        )?;
+        put_saved(alloc, out, &outside.store, name.as_str())?;
     }
-    Ok(told)
+    Ok(())
+}
+
+/// Puts a status and its number.
+fn put_status(alloc: Global, out: &mut Vec<u8>, status: Status) -> Result<(), AllocError> {
+    let line = format!(in alloc; "{status:?}, {}", status.code())?;
+    put_line(out, line.as_bytes())
+}
+
+/// Puts the lines of a file that was saved behind its name.
+fn put_saved(
+    alloc: Global,
+    out: &mut Vec<u8>,
+    store: &TrialStore,
+    name: &str,
+) -> Result<(), AllocError> {
+    let mark = format!(in alloc; "{name}: ")?;
+    put_file(out, mark.as_str(), store.files.file(name))
 }
 
 /// Puts a line for each file of some parts that was not to be saved and did not stay.
 fn put_changed(
     alloc: Global,
-    told: &mut Vec<u8>,
+    out: &mut Vec<u8>,
     store: &TrialStore,
     parts: &[Part<'_>],
 ) -> Result<(), CaseFault> {
     for part in parts {
-        if part.word(0) == "file" && !stays(alloc, store, part)? {
-            told.extend_from_slice(b"changed: ")?;
-            put_line(told, part.name(alloc)?.as_bytes())?;
+        if part.word(0) == "file" {
+            put_unless_it_stays(alloc, out, store, part)?;
         }
     }
     Ok(())
 }
 
-/// Whether the file of a part was to be saved, or is as it was.
-fn stays(alloc: Global, store: &TrialStore, part: &Part<'_>) -> Result<bool, CaseFault> {
+/// Puts a line for the file of a part, unless it was to be saved, or is as it was.
+fn put_unless_it_stays(
+    alloc: Global,
+    out: &mut Vec<u8>,
+    store: &TrialStore,
+    part: &Part<'_>,
+) -> Result<(), CaseFault> {
     let name = part.name(alloc)?;
     let text = part.text(alloc)?;
-    let file = store.files.file(name.as_str());
-    Ok(is_among(store.saved.as_slice(), name.as_str()) || file == Some(text.as_slice()))
+    if is_among(store.saved.as_slice(), name.as_str())
+        || store.files.file(name.as_str()) == Some(text.as_slice())
+    {
+        return Ok(());
+    }
+    put_change(out, name.as_str())
+}
+
+/// Puts the line for a file that did not stay.
+fn put_change(out: &mut Vec<u8>, name: &str) -> Result<(), CaseFault> {
+    out.extend_from_slice(b"changed: ")?;
+    put_line(out, name.as_bytes())?;
+    Ok(())
 }

@@ -25,16 +25,33 @@ use parts::{Part, parts};
 use std::alloc::{AllocError, Global};
 use std::io;
 use std::io::{Read, Write};
-use trial_cases::{Case, CaseFault, cases, put_answer};
+use trial_cases::{Case, CaseFault, begin_answer, cases, end_answer};
 
-/// The answer to a case, over the parts that all calls share.
-fn answer(alloc: Global, case: &Case<'_>, shared: &[Part<'_>]) -> Result<Vec<u8>, CaseFault> {
+/// Puts the answer to a case, over the parts that all calls share.
+fn answer(
+    alloc: Global,
+    out: &mut Vec<u8>,
+    case: &Case<'_>,
+    shared: &[Part<'_>],
+) -> Result<(), CaseFault> {
     match case.word(0) {
-        "call" => calls::answer(alloc, case, shared),
-        "session" => sessions::answer(alloc, case, shared),
-        "laws" => Ok(law_calls::answer(alloc)?),
+        "call" => calls::answer(alloc, out, case, shared),
+        "session" => sessions::answer(alloc, out, case, shared),
+        "laws" => law_calls::answer(out),
         _ => Err(CaseFault::Bad),
     }
+}
+
+/// Puts a case and its answer.
+fn put_case(
+    alloc: Global,
+    out: &mut Vec<u8>,
+    case: &Case<'_>,
+    shared: &[Part<'_>],
+) -> Result<(), AllocError> {
+    let start = begin_answer(out, case.head)?;
+    let answered = answer(alloc, out, case, shared);
+    end_answer(out, start, answered)
 }
 
 /// The answers to the cases of an input.
@@ -45,8 +62,7 @@ fn answers(alloc: Global, input: &str) -> Result<Vec<u8>, AllocError> {
         if case.word(0) == "files" {
             shared = parts(alloc, case.lines.as_slice())?;
         } else {
-            let told = answer(alloc, case, shared.as_slice());
-            put_answer(&mut out, case.head, told)?;
+            put_case(alloc, &mut out, case, shared.as_slice())?;
         }
     }
     Ok(out)

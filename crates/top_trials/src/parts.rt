@@ -18,7 +18,9 @@ impl<'a> Part<'a> {
 
     /// The text below the first line.
     pub fn text(&self, alloc: Global) -> Result<Vec<u8>, CaseFault> {
-        bytes_of(alloc, self.lines.as_slice())
+        let mut bytes = Vec::new(alloc);
+        put_bytes(alloc, &mut bytes, self.lines.as_slice())?;
+        Ok(bytes)
     }
 
     /// The name of a file, which stands behind the first word.
@@ -32,31 +34,51 @@ impl<'a> Part<'a> {
 pub fn parts<'a>(alloc: Global, lines: &[&'a str]) -> Result<Vec<Part<'a>>, AllocError> {
     let mut found = Vec::new(alloc);
     let mut head = "";
-    let mut below = Vec::new(alloc);
-    for line in lines {
-        match line.strip_prefix("@") {
-            None => below.push(*line)?,
-            Some(next) => {
-                found.push(Part { head, lines: below })?;
-                head = next;
-                below = Vec::new(alloc);
-            }
+    let mut start = 0;
+    for (place, line) in lines.iter().enumerate() {
+        if let Some(next) = line.strip_prefix("@") {
+            put_part(
+                alloc,
+                &mut found,
+                head,
+                lines.get(start..place).unwrap_or(&[]),
+            )?;
+            head = next;
+            start = place + 1;
         }
     }
-    found.push(Part { head, lines: below })?;
+    put_part(alloc, &mut found, head, lines.get(start..).unwrap_or(&[]))?;
     Ok(found)
 }
 
-/// The bytes of lines, each of which is a text or behind a `%` its bytes as numbers.
-pub fn bytes_of(alloc: Global, lines: &[&str]) -> Result<Vec<u8>, CaseFault> {
-    let mut bytes = Vec::new(alloc);
+/// Puts a part behind others.
+fn put_part<'a>(
+    alloc: Global,
+    found: &mut Vec<Part<'a>>,
+    head: &'a str,
+    below: &[&'a str],
+) -> Result<(), AllocError> {
+    let lines = below.to_vec(alloc)?;
+    found.push(Part { head, lines })?;
+    Ok(())
+}
+
+/// Puts the bytes of lines, each of which is a text or behind a `%` its bytes as numbers.
+pub fn put_bytes(alloc: Global, bytes: &mut Vec<u8>, lines: &[&str]) -> Result<(), CaseFault> {
     for line in lines {
         match line.strip_prefix("%") {
-            None => bytes.extend_from_slice(text_of(alloc, &[line])?.as_slice())?,
-            Some(numbers) => put_numbers(&mut bytes, numbers)?,
+            None => put_text_of(alloc, bytes, line)?,
+            Some(numbers) => put_numbers(bytes, numbers)?,
         }
     }
-    Ok(bytes)
+    Ok(())
+}
+
+/// Puts the bytes of a line that is a text.
+fn put_text_of(alloc: Global, bytes: &mut Vec<u8>, line: &str) -> Result<(), CaseFault> {
+    let text = text_of(alloc, &[line])?;
+    bytes.extend_from_slice(text.as_slice())?;
+    Ok(())
 }
 
 /// Puts the bytes of hexadecimal numbers.

@@ -4,94 +4,168 @@
 use crate::outside::Outside;
 use crate::parts::{Part, parts};
 use crate::wanting::TrialStore;
-use blif_read::ReadFault;
+use blif_read::{BlifFault, ReadFault};
 use sis_session::{Refusal, Session, Stats, StepFault, error_text, load, refusal_text};
 use sis_text::Word;
-use std::alloc::Global;
-use trial_cases::{Case, CaseFault, number_of, unescaped};
+use std::alloc::{AllocError, Global};
+use trial_cases::{Case, CaseFault, number_of, put_line, unescaped};
 
-/// The answer to a case of a session.
-pub fn answer(alloc: Global, case: &Case<'_>, shared: &[Part<'_>]) -> Result<Vec<u8>, CaseFault> {
-    let own = parts(alloc, case.lines.as_slice())?;
+/// Puts the answer to a case of a session.
+pub fn answer(
+    alloc: Global,
+    out: &mut Vec<u8>,
+    case: &Case<'_>,
+    shared: &[Part<'_>],
+) -> Result<(), CaseFault> {
     let mut outside = Outside::new(alloc)?;
-    outside.take_parts(alloc, shared)?;
-    outside.take_parts(alloc, own.as_slice())?;
-    calls_answer(alloc, case.lines.as_slice(), &mut outside.store)
+    let own = parts(alloc, case.lines.as_slice())?;
+    take_both(alloc, &mut outside, shared, own.as_slice())?;
+    put_calls(alloc, out, case.lines.as_slice(), &mut outside.store)
 }
 
-/// What the calls of lines answer, up to the first part.
-fn calls_answer(
+/// Does what the parts of all cases say, and then those of one.
+fn take_both(
     alloc: Global,
+    outside: &mut Outside,
+    shared: &[Part<'_>],
+    own: &[Part<'_>],
+) -> Result<(), CaseFault> {
+    outside.take_parts(alloc, shared)?;
+    outside.take_parts(alloc, own)
+}
+
+/// Puts what the calls of lines answer, up to the first part.
+fn put_calls(
+    alloc: Global,
+    out: &mut Vec<u8>,
     lines: &[&str],
     store: &mut TrialStore,
-) -> Result<Vec<u8>, CaseFault> {
-    let mut told = Vec::new(alloc);
+) -> Result<(), CaseFault> {
     let mut session = Session::new();
-    for line in lines.iter().take_while(|line| !line.starts_with("@")) {
-        let text = line_answer(alloc, &mut session, store, line)?;
-        told.extend_from_slice(text.as_slice())?;
+    for line in lines {
+        if line.starts_with("@") {
+            break;
+        }
+        put_call(alloc, out, &mut session, store, line)?;
     }
-    Ok(told)
+    Ok(())
 }
 
-/// What the call of a line answers.
-fn line_answer(
+/// Puts what the call of a line answers.
+fn put_call(
     alloc: Global,
+    out: &mut Vec<u8>,
     session: &mut Session,
     store: &mut TrialStore,
     line: &str,
-) -> Result<Vec<u8>, CaseFault> {
+) -> Result<(), CaseFault> {
     let (word, rest) = line.split_once(' ').unwrap_or((line, ""));
     match word {
-        "read" => read(alloc, session, rest),
-        "stats" => stats_answer(alloc, session.stats()),
-        "undo" => {
-            let undone = session.undo();
-            Ok(format!(in alloc; "{undone}\n")?.as_bytes().to_vec(alloc)?)
-        }
-        "load" => loaded(alloc, store, rest),
-        "error" => {
-            let (number, text) = rest.split_once(' ').ok_or(CaseFault::Bad)?;
-            Ok(error_text(alloc, number_of(number)?, text)?)
-        }
-        "long_script" => Ok(refusal_text(alloc, 0, &Refusal::LongScript)?),
+        "read" => put_read(alloc, out, session, rest),
+        "stats" => put_stats(alloc, out, session.stats()),
+        "undo" => put_undo(out, session.undo()),
+        "load" => put_load(alloc, out, store, rest),
+        "error" => put_error(alloc, out, rest),
+        "long_script" => put_refusal(alloc, out, 0, &Refusal::LongScript),
         _ => Err(CaseFault::Bad),
     }
 }
 
-/// The numbers of a network, or that there is none.
-fn stats_answer(alloc: Global, stats: Option<Stats>) -> Result<Vec<u8>, CaseFault> {
-    let Some(stats) = stats else {
-        return Ok(b"no network\n".as_slice().to_vec(alloc)?);
-    };
-    let sizes = stats.sizes;
-    let line = format!(in alloc;
-        "inputs {}, outputs {}, tables {}, latches {}, literals {}, don't-cares {}\n",
-        sizes.inputs, sizes.outputs, sizes.tables, sizes.latches, stats.lits, sizes.dont_cares
-    )?;
-    Ok(line.as_bytes().to_vec(alloc)?)
+/// Puts whether there was something to undo.
+fn put_undo(out: &mut Vec<u8>, undone: bool) -> Result<(), CaseFault> {
+    put_line(out, if undone { b"true".as_slice() } else { b"false" })?;
+    Ok(())
 }
 
-/// Reads a text into a session.
-fn read(alloc: Global, session: &mut Session, text: &str) -> Result<Vec<u8>, CaseFault> {
+/// Puts the numbers of a network, or that there is none.
+fn put_stats(alloc: Global, out: &mut Vec<u8>, stats: Option<Stats>) -> Result<(), CaseFault> {
+    match stats {
+        None => put_line(out, b"no network")?,
+        Some(stats) => put_sizes(alloc, out, &stats)?,
+    }
+    Ok(())
+}
+
+/// Puts the numbers of a network.
+fn put_sizes(alloc: Global, out: &mut Vec<u8>, stats: &Stats) -> Result<(), AllocError> {
+    let sizes = stats.sizes;
+    let line = format!(in alloc;
+        "inputs {}, outputs {}, tables {}, latches {}, literals {}, don't-cares {}",
+        sizes.inputs, sizes.outputs, sizes.tables, sizes.latches, stats.lits, sizes.dont_cares
+    )?;
+    put_line(out, line.as_bytes())
+}
+
+/// Puts the line of an error that is told with a number.
+fn put_error(alloc: Global, out: &mut Vec<u8>, rest: &str) -> Result<(), CaseFault> {
+    let (number, text) = rest.split_once(' ').ok_or(CaseFault::Bad)?;
+    put_fault(alloc, out, number_of(number)?, text)
+}
+
+/// Puts the line of an error.
+fn put_fault(alloc: Global, out: &mut Vec<u8>, line: usize, text: &str) -> Result<(), CaseFault> {
+    let told = error_text(alloc, line, text)?;
+    out.extend_from_slice(told.as_slice())?;
+    Ok(())
+}
+
+/// Puts the line of a refusal.
+fn put_refusal(
+    alloc: Global,
+    out: &mut Vec<u8>,
+    line: usize,
+    refusal: &Refusal,
+) -> Result<(), CaseFault> {
+    let told = refusal_text(alloc, line, refusal)?;
+    out.extend_from_slice(told.as_slice())?;
+    Ok(())
+}
+
+/// Reads a text into a session, and puts how that ended.
+fn put_read(
+    alloc: Global,
+    out: &mut Vec<u8>,
+    session: &mut Session,
+    text: &str,
+) -> Result<(), CaseFault> {
     let bytes = unescaped(alloc, text)?;
     match session.read(alloc, bytes.as_slice()) {
-        Ok(()) => Ok(b"read\n".as_slice().to_vec(alloc)?),
-        Err(ReadFault::Fault(fault)) => {
-            let refusal = Refusal::Blif(Word::new(alloc, "text")?, fault);
-            Ok(refusal_text(alloc, 1, &refusal)?)
-        }
+        Ok(()) => put_done(out),
+        Err(ReadFault::Fault(fault)) => put_bad_file(alloc, out, fault),
         Err(ReadFault::Memory) => Err(CaseFault::Memory),
     }
 }
 
-/// The bytes of a file, or a line for why it has none.
-fn loaded(alloc: Global, store: &mut TrialStore, name: &str) -> Result<Vec<u8>, CaseFault> {
+/// Puts that a text was read.
+fn put_done(out: &mut Vec<u8>) -> Result<(), CaseFault> {
+    put_line(out, b"read")?;
+    Ok(())
+}
+
+/// Puts what is wrong with a text.
+fn put_bad_file(alloc: Global, out: &mut Vec<u8>, fault: BlifFault) -> Result<(), CaseFault> {
+    let refusal = Refusal::Blif(Word::new(alloc, "text")?, fault);
+    put_refusal(alloc, out, 1, &refusal)
+}
+
+/// Puts the bytes of a file, or a line for why it has none.
+fn put_load(
+    alloc: Global,
+    out: &mut Vec<u8>,
+    store: &mut TrialStore,
+    name: &str,
+) -> Result<(), CaseFault> {
     match load(alloc, name, store) {
-        Ok(bytes) => Ok(bytes),
-        Err(StepFault::Refused(refusal)) => Ok(refusal_text(alloc, 1, &refusal)?),
-        Err(StepFault::StoreFault) => Ok(error_text(alloc, 1, "store failed")?),
+        Ok(bytes) => put_text(out, bytes.as_slice()),
+        Err(StepFault::Refused(refusal)) => put_refusal(alloc, out, 1, &refusal),
+        Err(StepFault::StoreFault) => put_fault(alloc, out, 1, "store failed"),
         Err(StepFault::SinkFault) => Err(CaseFault::Bad),
         Err(StepFault::Memory) => Err(CaseFault::Memory),
     }
+}
+
+/// Puts a text as it is.
+fn put_text(out: &mut Vec<u8>, text: &[u8]) -> Result<(), CaseFault> {
+    out.extend_from_slice(text)?;
+    Ok(())
 }

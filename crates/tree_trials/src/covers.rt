@@ -9,10 +9,8 @@ ghost use Rattle.tree_cover.specs.Candidates.{IsLibrary};
 ghost use Rattle.cover_gates.specs.Postorder.{AreBelow};
 
 use crate::gates::{Naming, put_gates};
-use crate::libraries::lack;
-use crate::texts::{
-    behind_first, circuit, library, line, parted, put_area, put_last_number, put_word,
-};
+use crate::libraries::{lack, numbered};
+use crate::texts::{circuit, library, parted, put_area, put_word, tell, tell_number};
 use circuit_model::Circuit;
 use cover_gates::{WrittenCover, write_cover};
 use genlib_format::Library;
@@ -32,101 +30,116 @@ fn forest(alloc: Global, circuit: &Circuit) -> Result<Forest, ForestFault>
     forest_of(alloc, circuit)
 }
 
-/// What is told of a circuit's forest: each root with the size of its tree, or how many vertices there are.
-pub fn forest_answer(alloc: Global, lines: &[&str], is_whole: bool) -> Result<Vec<u8>, CaseFault> {
+/// Tells why a circuit has no forest.
+fn tell_fault(out: &mut Vec<u8>, fault: ForestFault) -> Result<(), CaseFault> {
+    match fault {
+        ForestFault::TreeLimit => tell(out, b"tree limit"),
+        ForestFault::Memory => Err(CaseFault::Memory),
+    }
+}
+
+/// A circuit's forest: each root with the size of its tree, or how many vertices there are.
+pub fn forest_answer(
+    alloc: Global,
+    out: &mut Vec<u8>,
+    lines: &[&str],
+    is_whole: bool,
+) -> Result<(), CaseFault> {
     let circuit = circuit(alloc, lines)?;
-    match forest(alloc, &circuit) {
-        Ok(forest) => Ok(tell_forest(alloc, &forest, is_whole)?),
-        Err(ForestFault::TreeLimit) => Ok(line(alloc, "tree limit")?),
-        Err(ForestFault::Memory) => Err(CaseFault::Memory),
+    tell_trees(alloc, out, &circuit, is_whole)
+}
+
+/// Tells the forest of a circuit.
+fn tell_trees(
+    alloc: Global,
+    out: &mut Vec<u8>,
+    circuit: &Circuit,
+    is_whole: bool,
+) -> Result<(), CaseFault>
+    requires { IsSoundCircuit circuit.now }
+{
+    match forest(alloc, circuit) {
+        Ok(forest) if is_whole => tell_roots(alloc, out, &forest),
+        Ok(forest) => tell_number(alloc, out, forest.arena.len()),
+        Err(fault) => tell_fault(out, fault),
     }
 }
 
-/// What is told of a forest.
-fn tell_forest(alloc: Global, forest: &Forest, is_whole: bool) -> Result<Vec<u8>, AllocError> {
-    if is_whole {
-        return tell_roots(alloc, forest);
-    }
-    tell_vertices(alloc, forest)
-}
-
-/// How many vertices a forest keeps.
-fn tell_vertices(alloc: Global, forest: &Forest) -> Result<Vec<u8>, AllocError> {
-    let mut out = Vec::new(alloc);
-    put_last_number(alloc, &mut out, forest.arena.len())?;
-    Ok(out)
-}
-
-/// Each root of a forest with the size of its tree.
-fn tell_roots(alloc: Global, forest: &Forest) -> Result<Vec<u8>, AllocError> {
-    let mut out = Vec::new(alloc);
+/// Tells each root of a forest with the size of its tree.
+fn tell_roots(alloc: Global, out: &mut Vec<u8>, forest: &Forest) -> Result<(), CaseFault> {
     let sizes = forest.arena.sizes(alloc)?;
     for root in &forest.roots {
-        put_word(&mut out, root.name.as_slice())?;
         let size = sizes.as_slice().get(root.number).copied().unwrap_or(0);
-        put_last_number(alloc, &mut out, size as usize)?;
+        numbered(alloc, out, root.name.as_slice(), size as usize)?;
     }
-    Ok(out)
+    Ok(())
 }
 
 /// The covers of a circuit's trees by the gates of a library, each gate on a line where all is told, and their area and
 /// number together; or why there are none.
-pub fn cover_answer(alloc: Global, lines: &[&str], is_whole: bool) -> Result<Vec<u8>, CaseFault> {
+pub fn cover_answer(
+    alloc: Global,
+    out: &mut Vec<u8>,
+    lines: &[&str],
+    is_whole: bool,
+) -> Result<(), CaseFault> {
     let (first, rest) = parted(lines);
     let library = library(alloc, first)?;
-    let circuit = circuit(alloc, behind_first(rest))?;
-    tell_cover(alloc, &library, &circuit, is_whole)
+    let circuit = circuit(alloc, rest.get(1..).unwrap_or(&[]))?;
+    tell_cover(alloc, out, &library, &circuit, is_whole)
 }
 
-/// What is told of the covers of a circuit's trees.
+/// Tells the covers of a circuit's trees.
 fn tell_cover(
     alloc: Global,
+    out: &mut Vec<u8>,
     library: &Library,
     circuit: &Circuit,
     is_whole: bool,
-) -> Result<Vec<u8>, CaseFault>
+) -> Result<(), CaseFault>
     requires library { IsSoundLibrary library.now }
     requires circuit { IsSoundCircuit circuit.now }
 {
     sound_libraries_cover_trees();
     let patterns = library_patterns(alloc, library)?;
     match covers_all(&patterns) {
-        Ok(()) => cover_trees(alloc, library, &patterns, circuit, is_whole),
-        Err(fault) => Ok(line(alloc, lack(fault))?),
+        Ok(()) => cover_trees(alloc, out, library, &patterns, circuit, is_whole),
+        Err(fault) => tell(out, lack(fault)),
     }
 }
 
-/// Covers the trees of a circuit, where the library covers all trees.
+/// Tells the covers of the trees of a circuit, where the library covers all trees.
 fn cover_trees(
     alloc: Global,
+    out: &mut Vec<u8>,
     library: &Library,
     patterns: &Patterns,
     circuit: &Circuit,
     is_whole: bool,
-) -> Result<Vec<u8>, CaseFault>
+) -> Result<(), CaseFault>
     requires patterns { IsLibrary patterns.now.arena patterns.now.gates }
     requires circuit { IsSoundCircuit circuit.now }
 {
     match forest(alloc, circuit) {
-        Ok(forest) => Ok(cover_forest(alloc, library, patterns, &forest, is_whole)?),
-        Err(ForestFault::TreeLimit) => Ok(line(alloc, "tree limit")?),
-        Err(ForestFault::Memory) => Err(CaseFault::Memory),
+        Ok(forest) => cover_forest(alloc, out, library, patterns, &forest, is_whole),
+        Err(fault) => tell_fault(out, fault),
     }
 }
 
-/// Covers the trees of a forest.
+/// Tells the covers of the trees of a forest.
 fn cover_forest(
     alloc: Global,
+    out: &mut Vec<u8>,
     library: &Library,
     patterns: &Patterns,
     forest: &Forest,
     is_whole: bool,
-) -> Result<Vec<u8>, AllocError>
+) -> Result<(), CaseFault>
     requires patterns { IsLibrary patterns.now.arena patterns.now.gates }
     requires sizes { (n : ℕ) → n < length forest.now.arena → size_of (tree_at forest.now.arena n) ≤ 1048575 }
 {
     let choices = best(alloc, &forest.leaves, &forest.arena, patterns)?;
-    tell_covers(alloc, library, forest, &choices, is_whole)
+    tell_covers(alloc, out, library, forest, &choices, is_whole)
 }
 
 /// The area and the number of gates so far, and how many of them drive no root.
@@ -137,18 +150,18 @@ struct Tally {
     inner: usize,
 }
 
-/// What is told of the covers that choices make.
+/// Tells the covers that choices make.
 fn tell_covers(
     alloc: Global,
+    out: &mut Vec<u8>,
     library: &Library,
     forest: &Forest,
     choices: &Choices,
     is_whole: bool,
-) -> Result<Vec<u8>, AllocError>
+) -> Result<(), CaseFault>
     requires count { length choices.now ≡ length forest.now.arena }
     requires below { AreBelow choices.now }
 {
-    let mut out = Vec::new(alloc);
     let mut tally = Tally {
         area: 0,
         gates: 0,
@@ -156,14 +169,13 @@ fn tell_covers(
     };
     for root in &forest.roots {
         take_root(
-            alloc, &mut out, &mut tally, library, forest, choices, root, is_whole,
+            alloc, out, &mut tally, library, forest, choices, root, is_whole,
         )?;
     }
-    put_totals(alloc, &mut out, &tally)?;
-    Ok(out)
+    tell_totals(alloc, out, &tally)
 }
 
-/// Counts the cover of a root in, and puts its lines behind a text where all is told.
+/// Counts the cover of a root in, and puts its lines where all is told.
 fn take_root(
     alloc: Global,
     out: &mut Vec<u8>,
@@ -182,10 +194,11 @@ fn take_root(
     }
     let cover = write_cover(alloc, &forest.arena, choices, root.number)?;
     let area = choices.cost(root.number);
-    if is_whole {
-        put_tree(alloc, out, library, forest, root, &cover, area, tally.inner)?;
-    }
+    let first = tally.inner;
     count_in(tally, area, cover.gates.len());
+    if is_whole {
+        return put_tree(alloc, out, library, forest, root, &cover, area, first);
+    }
     Ok(())
 }
 
@@ -196,7 +209,7 @@ fn count_in(tally: &mut Tally, area: u128, gates: usize) {
     tally.inner = tally.inner.saturating_add(gates.saturating_sub(1));
 }
 
-/// Puts the lines of a root's cover behind a text.
+/// Puts the lines of a root's cover.
 fn put_tree(
     alloc: Global,
     out: &mut Vec<u8>,
@@ -221,10 +234,10 @@ fn put_tree(
     put_gates(alloc, out, &naming, library, cover)
 }
 
-/// Puts the area and the number of all gates behind a text.
-fn put_totals(alloc: Global, out: &mut Vec<u8>, tally: &Tally) -> Result<(), AllocError> {
+/// Tells the area and the number of all gates.
+fn tell_totals(alloc: Global, out: &mut Vec<u8>, tally: &Tally) -> Result<(), CaseFault> {
     out.extend_from_slice(b"total area=")?;
     put_area(alloc, out, tally.area)?;
     out.extend_from_slice(b" gates=")?;
-    put_last_number(alloc, out, tally.gates)
+    tell_number(alloc, out, tally.gates)
 }

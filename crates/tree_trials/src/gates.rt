@@ -1,7 +1,8 @@
 //! The gates of a cover as lines: a gate's name, and each of its pins with the signal that it is bound to.
 
+use crate::texts::put_word;
 use circuit_model::Name;
-use cover_gates::{CoverGate, Signal, WrittenCover};
+use cover_gates::{Signal, WrittenCover};
 use genlib_format::{Gate, Library};
 use std::alloc::{AllocError, Global};
 use subject_tree::Leaves;
@@ -25,7 +26,7 @@ fn leaf_name(leaves: &Leaves, place: usize) -> &[u8] {
     }
 }
 
-/// Puts the name of what the gate at a place drives behind a text.
+/// Puts the name of what the gate at a place drives.
 fn put_driven(
     alloc: Global,
     out: &mut Vec<u8>,
@@ -41,7 +42,7 @@ fn put_driven(
     Ok(())
 }
 
-/// Puts the name of a signal behind a text.
+/// Puts the name of a signal.
 fn put_signal(
     alloc: Global,
     out: &mut Vec<u8>,
@@ -54,7 +55,7 @@ fn put_signal(
     }
 }
 
-/// Puts a pin and the signal at it behind a text.
+/// Puts a pin and the signal at it.
 fn put_pin(
     alloc: Global,
     out: &mut Vec<u8>,
@@ -68,7 +69,7 @@ fn put_pin(
     put_signal(alloc, out, naming, signal)
 }
 
-/// Puts the line of the gate at a place behind a text.
+/// Puts the line of the gate at a place.
 fn put_gate(
     alloc: Global,
     out: &mut Vec<u8>,
@@ -86,22 +87,7 @@ fn put_gate(
     Ok(())
 }
 
-/// Puts the line of a cover's gate at a place behind a text.
-fn put_cover_gate(
-    alloc: Global,
-    out: &mut Vec<u8>,
-    naming: &Naming<'_>,
-    library: &Library,
-    gate: &CoverGate,
-    place: usize,
-) -> Result<(), AllocError> {
-    match library.gates().get(gate.place) {
-        Some(cell) => put_gate(alloc, out, naming, cell, gate.pins.as_slice(), place),
-        None => Ok(()),
-    }
-}
-
-/// Puts a line for each gate of a cover behind a text; for a cover without gates, the leaf that is the tree.
+/// Puts a line for each gate of a cover; for a cover without gates, the leaf that is the tree.
 pub fn put_gates(
     alloc: Global,
     out: &mut Vec<u8>,
@@ -110,7 +96,9 @@ pub fn put_gates(
     cover: &WrittenCover,
 ) -> Result<(), AllocError> {
     for (place, gate) in cover.gates.iter().enumerate() {
-        put_cover_gate(alloc, out, naming, library, gate, place)?;
+        if let Some(cell) = library.gates().get(gate.place) {
+            put_gate(alloc, out, naming, cell, gate.pins.as_slice(), place)?;
+        }
     }
     match cover.root {
         Signal::Leaf(place) => put_leaf(out, leaf_name(naming.leaves, place)),
@@ -118,8 +106,8 @@ pub fn put_gates(
     }
 }
 
-/// Puts the line of a leaf behind a text.
+/// Puts the line of a leaf.
 fn put_leaf(out: &mut Vec<u8>, name: &[u8]) -> Result<(), AllocError> {
-    out.extend_from_slice(b"leaf ")?;
+    put_word(out, b"leaf")?;
     put_line(out, name)
 }

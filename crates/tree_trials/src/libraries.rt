@@ -1,20 +1,25 @@
 //! What is told of a library: its gates, the rows of one, and how many patterns each has.
 
-use crate::texts::{library, line, put_area, put_last_number, put_word};
+use crate::texts::{library, put_area, put_word, tell, tell_number};
 use circuit_model::{Row, Tri};
 use genlib_format::{Gate, LibFault, Library, LimitKind, ReadFault, read};
 use library_cells::{cells, library_patterns};
-use pattern_set::{PatternFault, Patterns, covers_all};
+use pattern_set::{Cell, PatternFault, Patterns, covers_all};
 use sis_base::Name;
 use std::alloc::{AllocError, Global};
 use trial_cases::{CaseFault, put_line, text_of};
 
 /// For each gate of a library its name, its area and the number of its pins; or what is wrong with the text.
-pub fn library_answer(alloc: Global, lines: &[&str]) -> Result<Vec<u8>, CaseFault> {
+pub fn library_answer(alloc: Global, out: &mut Vec<u8>, lines: &[&str]) -> Result<(), CaseFault> {
     let text = text_of(alloc, lines)?;
-    match read(alloc, text.as_slice()) {
-        Ok(library) => Ok(tell_gates(alloc, &library)?),
-        Err(ReadFault::Fault(fault)) => Ok(fault_text(alloc, &fault)?),
+    tell_library(alloc, out, text.as_slice())
+}
+
+/// Tells the gates of a library, or what is wrong with its text.
+fn tell_library(alloc: Global, out: &mut Vec<u8>, text: &[u8]) -> Result<(), CaseFault> {
+    match read(alloc, text) {
+        Ok(library) => tell_gates(alloc, out, &library),
+        Err(ReadFault::Fault(fault)) => tell_fault(alloc, out, &fault),
         Err(ReadFault::Memory) => Err(CaseFault::Memory),
     }
 }
@@ -27,77 +32,100 @@ fn cell_name(library: &Library, place: usize) -> &[u8] {
     }
 }
 
-/// A line for each gate.
-fn tell_gates(alloc: Global, library: &Library) -> Result<Vec<u8>, AllocError> {
-    let mut out = Vec::new(alloc);
+/// Tells each gate.
+fn tell_gates(alloc: Global, out: &mut Vec<u8>, library: &Library) -> Result<(), CaseFault> {
     let cells = cells(alloc, library)?;
     for (place, cell) in cells.iter().enumerate() {
-        put_word(&mut out, cell_name(library, place))?;
-        put_area(alloc, &mut out, cell.area)?;
-        out.push(b' ')?;
-        put_last_number(alloc, &mut out, cell.pins)?;
+        tell_gate(alloc, out, cell_name(library, place), cell)?;
     }
-    Ok(out)
+    Ok(())
 }
 
-/// A word and a number behind it.
-fn numbered(alloc: Global, word: &str, number: usize) -> Result<Vec<u8>, AllocError> {
-    line(alloc, format!(in alloc; "{word} {number}")?.as_str())
+/// Tells a gate: its name, its area and the number of its pins.
+fn tell_gate(alloc: Global, out: &mut Vec<u8>, name: &[u8], cell: &Cell) -> Result<(), CaseFault> {
+    put_word(out, name)?;
+    put_area(alloc, out, cell.area)?;
+    out.push(b' ')?;
+    tell_number(alloc, out, cell.pins)
 }
 
-/// A word and a name behind it.
-fn named(alloc: Global, word: &[u8], name: &Name) -> Result<Vec<u8>, AllocError> {
-    let mut out = Vec::new(alloc);
-    put_word(&mut out, word)?;
-    put_line(&mut out, name.as_slice())?;
-    Ok(out)
+/// Tells a word and a number behind it.
+pub fn numbered(
+    alloc: Global,
+    out: &mut Vec<u8>,
+    word: &[u8],
+    number: usize,
+) -> Result<(), CaseFault> {
+    put_word(out, word)?;
+    tell_number(alloc, out, number)
 }
 
-/// What a limit is on, and what was reached.
-fn limit_text(alloc: Global, kind: LimitKind, reached: usize) -> Result<Vec<u8>, AllocError> {
+/// Tells a word and a name behind it.
+fn named(out: &mut Vec<u8>, word: &[u8], name: &Name) -> Result<(), CaseFault> {
+    put_word(out, word)?;
+    tell(out, name.as_slice())
+}
+
+/// What a limit is on, in a word.
+fn limit_word(kind: LimitKind) -> &'static [u8] {
     match kind {
-        LimitKind::Name => numbered(alloc, "long", reached),
-        LimitKind::Depth => numbered(alloc, "depth", reached),
-        LimitKind::Pins => numbered(alloc, "pins", reached),
-        LimitKind::Gates => numbered(alloc, "gates", reached),
+        LimitKind::Name => b"long",
+        LimitKind::Depth => b"depth",
+        LimitKind::Pins => b"pins",
+        LimitKind::Gates => b"gates",
     }
 }
 
-/// A fault in short.
-fn fault_text(alloc: Global, fault: &LibFault) -> Result<Vec<u8>, AllocError> {
+/// Tells a fault in short.
+fn tell_fault(alloc: Global, out: &mut Vec<u8>, fault: &LibFault) -> Result<(), CaseFault> {
     match fault {
-        LibFault::BadEntry(line) => numbered(alloc, "entry", *line),
-        LibFault::BadNumber(line) => numbered(alloc, "number", *line),
-        LibFault::BadExpr(line) => numbered(alloc, "expression", *line),
-        LibFault::Limit(kind, reached) => limit_text(alloc, *kind, *reached),
-        LibFault::BadPin(name) => named(alloc, b"pin", name),
-        LibFault::GateTwice(name) => named(alloc, b"twice", name),
+        LibFault::BadEntry(line) => numbered(alloc, out, b"entry", *line),
+        LibFault::BadNumber(line) => numbered(alloc, out, b"number", *line),
+        LibFault::BadExpr(line) => numbered(alloc, out, b"expression", *line),
+        LibFault::Limit(kind, reached) => numbered(alloc, out, limit_word(*kind), *reached),
+        LibFault::BadPin(name) => named(out, b"pin", name),
+        LibFault::GateTwice(name) => named(out, b"twice", name),
     }
 }
 
 /// The output and the pins of the first gate of a name, and its rows; `none` where there is no such gate.
-pub fn rows_answer(alloc: Global, cell: &str, lines: &[&str]) -> Result<Vec<u8>, CaseFault> {
+pub fn rows_answer(
+    alloc: Global,
+    out: &mut Vec<u8>,
+    cell: &str,
+    lines: &[&str],
+) -> Result<(), CaseFault> {
     let library = library(alloc, lines)?;
     let name = Name::from_slice(alloc, cell.as_bytes())?;
-    match library.gate(&name) {
-        Some(gate) => Ok(tell_rows(alloc, gate)?),
-        None => Ok(line(alloc, "none")?),
+    tell_found(alloc, out, library.gate(&name))
+}
+
+/// Tells the gate that was found.
+fn tell_found(alloc: Global, out: &mut Vec<u8>, found: Option<&Gate>) -> Result<(), CaseFault> {
+    match found {
+        Some(gate) => tell_function(alloc, out, gate),
+        None => tell(out, b"none"),
     }
 }
 
-/// The output and the pins of a gate, and its rows.
-fn tell_rows(alloc: Global, gate: &Gate) -> Result<Vec<u8>, AllocError> {
-    let mut out = Vec::new(alloc);
+/// Tells the output and the pins of a gate, and its rows.
+fn tell_function(alloc: Global, out: &mut Vec<u8>, gate: &Gate) -> Result<(), CaseFault> {
     out.extend_from_slice(gate.output.as_slice())?;
     for pin in gate.pins.as_slice() {
         out.push(b' ')?;
         out.extend_from_slice(pin.as_slice())?;
     }
     out.push(b'\n')?;
-    for row in gate.rows(alloc)?.as_slice() {
-        put_row(&mut out, row)?;
+    let rows = gate.rows(alloc)?;
+    tell_rows(out, rows.as_slice())
+}
+
+/// Tells rows.
+fn tell_rows(out: &mut Vec<u8>, rows: &[Row]) -> Result<(), CaseFault> {
+    for row in rows {
+        put_row(out, row)?;
     }
-    Ok(out)
+    Ok(())
 }
 
 /// The byte of a character of a row.
@@ -109,7 +137,7 @@ fn sign(character: &Tri) -> u8 {
     }
 }
 
-/// Puts a row behind a text; `.` where it is of no pins.
+/// Puts the line of a row; `.` where it is of no pins.
 fn put_row(out: &mut Vec<u8>, row: &Row) -> Result<(), AllocError> {
     if row.is_empty() {
         return put_line(out, b".");
@@ -117,39 +145,36 @@ fn put_row(out: &mut Vec<u8>, row: &Row) -> Result<(), AllocError> {
     for character in row.as_slice() {
         out.push(sign(character))?;
     }
-    out.push(b'\n')?;
-    Ok(())
+    put_line(out, b"")
 }
 
 /// How many patterns each gate of a library has, and whether the library covers all trees.
-pub fn patterns_answer(alloc: Global, lines: &[&str]) -> Result<Vec<u8>, CaseFault> {
+pub fn patterns_answer(alloc: Global, out: &mut Vec<u8>, lines: &[&str]) -> Result<(), CaseFault> {
     let library = library(alloc, lines)?;
     let patterns = library_patterns(alloc, &library)?;
-    Ok(tell_patterns(alloc, &library, &patterns)?)
+    tell_patterns(alloc, out, &library, &patterns)
 }
 
-/// What a library lacks, in a word.
-pub fn lack(fault: PatternFault) -> &'static str {
+/// What a library lacks, in words.
+pub fn lack(fault: PatternFault) -> &'static [u8] {
     match fault {
-        PatternFault::NoInverter => "no inverter",
-        PatternFault::NoNand => "no nand",
+        PatternFault::NoInverter => b"no inverter",
+        PatternFault::NoNand => b"no nand",
     }
 }
 
-/// A line for each gate, and one for the library.
+/// Tells how many patterns each gate has, and whether all trees are covered.
 fn tell_patterns(
     alloc: Global,
+    out: &mut Vec<u8>,
     library: &Library,
     patterns: &Patterns,
-) -> Result<Vec<u8>, AllocError> {
-    let mut out = Vec::new(alloc);
+) -> Result<(), CaseFault> {
     for (place, gate) in patterns.gates.as_slice().iter().enumerate() {
-        put_word(&mut out, cell_name(library, place))?;
-        put_last_number(alloc, &mut out, gate.patterns.len())?;
+        numbered(alloc, out, cell_name(library, place), gate.patterns.len())?;
     }
     match covers_all(patterns) {
-        Ok(()) => put_line(&mut out, b"covers all")?,
-        Err(fault) => put_line(&mut out, lack(fault).as_bytes())?,
+        Ok(()) => tell(out, b"covers all"),
+        Err(fault) => tell(out, lack(fault)),
     }
-    Ok(out)
 }

@@ -14,38 +14,33 @@ mod gates;
 mod libraries;
 mod texts;
 
-use std::alloc::{AllocError, Global};
+use std::alloc::Global;
 use std::io;
 use std::io::{Read, Write};
-use trial_cases::{Case, CaseFault, cases, put_answer};
+use trial_cases::{Case, CaseFault, Trial, answers};
 
-/// The answer to a case.
-fn answer(alloc: Global, case: &Case<'_>) -> Result<Vec<u8>, CaseFault> {
-    let lines = case.lines.as_slice();
-    match case.word(0) {
-        "library" => libraries::library_answer(alloc, lines),
-        "rows" => libraries::rows_answer(alloc, case.word(1), lines),
-        "patterns" => libraries::patterns_answer(alloc, lines),
-        "forest" => covers::forest_answer(alloc, lines, true),
-        "vertices" => covers::forest_answer(alloc, lines, false),
-        "cover" => covers::cover_answer(alloc, lines, true),
-        "totals" => covers::cover_answer(alloc, lines, false),
-        _ => Err(CaseFault::Bad),
-    }
-}
+/// Cases about libraries and covers.
+struct Trees;
 
-/// The answers to the cases of an input.
-fn answers(alloc: Global, input: &str) -> Result<Vec<u8>, AllocError> {
-    let mut out = Vec::new(alloc);
-    for case in &cases(alloc, input)? {
-        put_answer(&mut out, case.head, answer(alloc, case))?;
+impl Trial for Trees {
+    fn answer(alloc: Global, out: &mut Vec<u8>, case: &Case<'_>) -> Result<(), CaseFault> {
+        let lines = case.lines.as_slice();
+        match case.word(0) {
+            "library" => libraries::library_answer(alloc, out, lines),
+            "rows" => libraries::rows_answer(alloc, out, case.word(1), lines),
+            "patterns" => libraries::patterns_answer(alloc, out, lines),
+            "forest" => covers::forest_answer(alloc, out, lines, true),
+            "vertices" => covers::forest_answer(alloc, out, lines, false),
+            "cover" => covers::cover_answer(alloc, out, lines, true),
+            "totals" => covers::cover_answer(alloc, out, lines, false),
+            _ => Err(CaseFault::Bad),
+        }
     }
-    Ok(out)
 }
 
 fn main(rt: HostRuntime) -> io::Result<()> {
     let mut input = String::new(rt.alloc());
     rt.stdin().read_to_string(&mut input)?;
-    let out = answers(rt.alloc(), input.as_str())?;
+    let out = answers::<Trees>(rt.alloc(), input.as_str())?;
     rt.stdout().write_all(out.as_slice())
 }

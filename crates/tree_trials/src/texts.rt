@@ -10,18 +10,12 @@ use genlib_format::{Library, ReadFault as LibraryFault};
 use machine_model::Spec;
 use sis_text::Decimal;
 use std::alloc::{AllocError, Global};
-use trial_cases::{CaseFault, put_line, put_number, text_of};
+use trial_cases::{CaseFault, put_line, put_shown, text_of};
 
-/// The lines before a line `and`, and those from it on.
+/// The lines before the first line `and`, and those from it on.
 pub fn parted<'a, 'b>(lines: &'b [&'a str]) -> (&'b [&'a str], &'b [&'a str]) {
     let count = lines.iter().take_while(|line| **line != "and").count();
     lines.split_at(count.min(lines.len()))
-}
-
-/// The lines behind the first.
-pub fn behind_first<'a, 'b>(lines: &'b [&'a str]) -> &'b [&'a str] {
-    let (_first, rest) = lines.split_at(lines.len().min(1));
-    rest
 }
 
 /// The library of a text; a bad case where the text is none.
@@ -63,29 +57,27 @@ pub fn circuit(alloc: Global, lines: &[&str]) -> Result<Circuit, CaseFault>
     circuit_of(alloc, text.as_slice())
 }
 
-/// A line of its own.
-pub fn line(alloc: Global, text: &str) -> Result<Vec<u8>, AllocError> {
-    let mut out = Vec::new(alloc);
-    put_line(&mut out, text.as_bytes())?;
-    Ok(out)
-}
-
-/// Puts a word and a blank behind a text.
+/// Puts a word and a blank.
 pub fn put_word(out: &mut Vec<u8>, word: &[u8]) -> Result<(), AllocError> {
     out.extend_from_slice(word)?;
     out.push(b' ')?;
     Ok(())
 }
 
-/// Puts a number and a line end behind a text.
-pub fn put_last_number(alloc: Global, out: &mut Vec<u8>, number: usize) -> Result<(), AllocError> {
-    put_number(alloc, out, number)?;
-    out.push(b'\n')?;
-    Ok(())
-}
-
-/// Puts millionths behind a text, as a decimal number.
+/// Puts millionths, as a decimal number.
 pub fn put_area(alloc: Global, out: &mut Vec<u8>, area: u128) -> Result<(), AllocError> {
     let text = Decimal(area).print(alloc)?;
     out.extend_from_slice(text.as_slice())
+}
+
+/// Tells a number.
+pub fn tell_number(alloc: Global, out: &mut Vec<u8>, number: usize) -> Result<(), CaseFault> {
+    put_shown(alloc, out, &number)?;
+    Ok(())
+}
+
+/// Tells a text.
+pub fn tell(out: &mut Vec<u8>, text: &[u8]) -> Result<(), CaseFault> {
+    put_line(out, text)?;
+    Ok(())
 }

@@ -24,45 +24,77 @@ impl<'a> Case<'a> {
     }
 }
 
-/// The case of some lines.
-fn case_of<'a>(alloc: Global, head: &'a str, lines: Vec<&'a str>) -> Result<Case<'a>, AllocError> {
+/// The case of a first line and the lines below it.
+fn case_of<'a>(alloc: Global, head: &'a str, below: &[&'a str]) -> Result<Case<'a>, AllocError> {
     let words = head.split_whitespace().collect(alloc)?;
+    let lines = below.to_vec(alloc)?;
     Ok(Case { head, words, lines })
+}
+
+/// Puts the case of some lines behind others; none where there is no line.
+fn put_case<'a>(
+    alloc: Global,
+    found: &mut Vec<Case<'a>>,
+    lines: &[&'a str],
+) -> Result<(), AllocError> {
+    if let Some((head, below)) = lines.split_first() {
+        let case = case_of(alloc, head, below)?;
+        found.push(case)?;
+    }
+    Ok(())
 }
 
 /// The cases of an input, in order; an error only for want of memory.
 pub fn cases(alloc: Global, input: &str) -> Result<Vec<Case<'_>>, AllocError> {
     let mut found = Vec::new(alloc);
-    let mut head = None;
     let mut lines = Vec::new(alloc);
     for line in input.lines() {
-        if line.starts_with("//") {
-            continue;
-        }
-        match head {
-            None => head = Some(line),
-            Some(first) if line == "==" => {
-                found.push(case_of(alloc, first, lines)?)?;
-                head = None;
-                lines = Vec::new(alloc);
-            }
-            Some(_) => lines.push(line)?,
+        if line == "==" {
+            put_case(alloc, &mut found, lines.as_slice())?;
+            lines.clear();
+        } else if !line.starts_with("//") {
+            lines.push(line)?;
         }
     }
     Ok(found)
 }
 
-/// Puts the answer to a case behind the others.
-pub fn put_answer(
-    out: &mut Vec<u8>,
-    head: &str,
-    answer: Result<Vec<u8>, CaseFault>,
-) -> Result<(), AllocError> {
+/// Puts the first line of a case behind other answers, and gives the place at which its answer begins.
+pub fn begin_answer(out: &mut Vec<u8>, head: &str) -> Result<usize, AllocError> {
     out.extend_from_slice(b"> ")?;
     put_line(out, head.as_bytes())?;
-    match answer {
-        Ok(text) => out.extend_from_slice(text.as_slice()),
-        Err(CaseFault::Bad) => put_line(out, b"bad case"),
+    Ok(out.len())
+}
+
+/// Ends the answer that begins at a place: where the lines of the case do not fit, that is told in place of it.
+pub fn end_answer(
+    out: &mut Vec<u8>,
+    start: usize,
+    answered: Result<(), CaseFault>,
+) -> Result<(), AllocError> {
+    match answered {
+        Ok(()) => Ok(()),
+        Err(CaseFault::Bad) => {
+            out.truncate(start);
+            put_line(out, b"bad case")
+        }
         Err(CaseFault::Memory) => Err(AllocError),
     }
+}
+
+/// What answers cases.
+pub trait Trial {
+    /// Puts the answer to a case behind a text.
+    fn answer(alloc: Global, out: &mut Vec<u8>, case: &Case<'_>) -> Result<(), CaseFault>;
+}
+
+/// The answers to the cases of an input; an error only for want of memory.
+pub fn answers<T: Trial>(alloc: Global, input: &str) -> Result<Vec<u8>, AllocError> {
+    let mut out = Vec::new(alloc);
+    for case in &cases(alloc, input)? {
+        let start = begin_answer(&mut out, case.head)?;
+        let answered = T::answer(alloc, &mut out, case);
+        end_answer(&mut out, start, answered)?;
+    }
+    Ok(out)
 }

@@ -14,6 +14,6 @@ mod case;
 mod fault;
 mod texts;
 
-pub use case::{Case, cases, put_answer};
+pub use case::{Case, Trial, answers, begin_answer, cases, end_answer};
 pub use fault::CaseFault;
-pub use texts::{number_of, put_line, put_number, text_of, unescaped};
+pub use texts::{number_of, put_line, put_number, put_shown, text_of, unescaped};

@@ -2,6 +2,7 @@
 
 use crate::fault::CaseFault;
 use std::alloc::{AllocError, Global};
+use std::fmt::Debug;
 
 /// The byte that stands behind a `\`.
 fn escaped(byte: u8) -> u8 {
@@ -68,4 +69,9 @@ pub fn put_line(out: &mut Vec<u8>, line: &[u8]) -> Result<(), AllocError> {
 /// Puts a number behind a text.
 pub fn put_number(alloc: Global, out: &mut Vec<u8>, number: usize) -> Result<(), AllocError> {
     out.extend_from_slice(format!(in alloc; "{number}")?.as_bytes())
+}
+
+/// Puts a value behind a text, as it is shown for debugging, on a line.
+pub fn put_shown<T: Debug>(alloc: Global, out: &mut Vec<u8>, value: &T) -> Result<(), AllocError> {
+    put_line(out, format!(in alloc; "{value:?}")?.as_bytes())
 }

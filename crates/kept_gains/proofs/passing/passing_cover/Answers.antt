@@ -2,9 +2,9 @@ use Rattle.std.proofs.Common.{◌≡◌, false, sym, ap, ◌∙◌, subst}
 use Rattle.std.proofs.lemmas.Bool.{false≢true}
 use Rattle.name_covers.proofs.Orders.{cover_order}
 use Rattle.coded_totals.specs.Divisors.{cover_of}
-use Rattle.signal_codes.specs.Codes.{coded, are_coded}
-use Rattle.signal_codes.proofs.Carried.{same_items}
-use Rattle.signal_codes.proofs.Coded.{cover_known, coded_known, covers_keep, number_lists_order}
+use Rattle.kept_gains.specs.Codes.{coded, are_coded}
+use Rattle.kept_gains.proofs.Carried.{same_items}
+use Rattle.kept_gains.proofs.Coded.{cover_known, coded_known, covers_keep, number_lists_order}
 use Rattle.kept_gains.specs.Numbers.{lists_in}
 use Rattle.kept_gains.proofs.passing.passing_cover.Goals as goal
 

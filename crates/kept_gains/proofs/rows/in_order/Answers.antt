@@ -2,7 +2,7 @@ use Rattle.std.proofs.Common.{nat_eq, sym, ◌∙◌}
 use Rattle.std.specs.Cmp.{unsigned_ties}
 use Rattle.std.proofs.lemmas.List.Filters.{dedup_is}
 use Rattle.name_covers.proofs.Sorts.{sorted_deduped}
-use Rattle.signal_codes.proofs.Coded.{number_order}
+use Rattle.kept_gains.proofs.Coded.{number_order}
 use Rattle.kept_gains.proofs.rows.in_order.Goals as goal
 
 pub returns : goal.returns

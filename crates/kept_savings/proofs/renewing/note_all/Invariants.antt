@@ -1,7 +1,7 @@
 use Rattle.std.proofs.Common.{take}
 use Rattle.alg_div.specs.Cubes.{Has}
 use Rattle.name_covers.specs.Literals.{NamedCover}
-use Rattle.ranked_covers.specs.Savings.{saving_in}
+use Rattle.kept_savings.specs.Ranking.{saving_in}
 use Rattle.kept_savings.specs.Savings.{IsNoted, IsGrown}
 use Rattle.kept_savings.proofs.renewing.note_all.Given as goal
 

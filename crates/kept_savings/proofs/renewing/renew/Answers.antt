@@ -4,9 +4,9 @@ use Rattle.extract_rules.proofs.Keeping.{new_is_free}
 use Rattle.name_covers.specs.Literals.{NamedCover}
 use Rattle.name_covers.specs.Cubes.{names_in}
 use Rattle.net_work.specs.Placed.{standing, circuit_of}
-use Rattle.ranked_covers.specs.Savings.{saving_in, covers_under}
-use Rattle.ranked_covers.specs.Orders.{cover_eq}
-use Rattle.ranked_covers.proofs.Ranks.{cover_same, cover_itself}
+use Rattle.kept_savings.specs.Ranking.{saving_in, covers_under}
+use Rattle.kept_savings.specs.Orders.{cover_eq}
+use Rattle.kept_savings.proofs.Ranks.{cover_same, cover_itself}
 use Rattle.kept_savings.specs.Saving.{IsSaved}
 use Rattle.kept_savings.specs.Savings.{IsExact}
 use Rattle.kept_savings.proofs.Notes.{exact_from, set_grows, set_right_here, set_noted_here}

@@ -2,7 +2,7 @@ use Rattle.std.proofs.Common.{◌≡◌, ℕ, true, List, take}
 use Rattle.circuit_model.specs.Names.{has}
 use Rattle.alg_div.specs.Cubes.{Has}
 use Rattle.name_covers.specs.Literals.{NamedCover}
-use Rattle.ranked_covers.specs.Savings.{saving_in, covers_under}
+use Rattle.kept_savings.specs.Ranking.{saving_in, covers_under}
 use Rattle.kept_savings.specs.Savings.{IsRight, AreFound, IsGrown}
 use Rattle.kept_savings.proofs.renewing.renew_touched.Given as goal
 

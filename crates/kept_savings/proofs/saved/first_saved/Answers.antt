@@ -4,9 +4,9 @@ use Rattle.std.proofs.lemmas.Map.Iter.{rest_more, rest_so_far, iter_end}
 use Rattle.extract_rules.specs.Candidates.{IsCandidate}
 use Rattle.extract_rules.specs.Extracting.{IsNext}
 use Rattle.net_work.specs.Placed.{standing, circuit_of}
-use Rattle.ranked_covers.proofs.Best.{IsBestOf, turn_best, end_none}
-use Rattle.ranked_covers.specs.Savings.{saving_in, covers_under}
-use Rattle.ranked_covers.specs.declared.ranked.RankedCover.{RankedCover}
+use Rattle.kept_savings.proofs.Best.{IsBestOf, turn_best, end_none}
+use Rattle.kept_savings.specs.Ranking.{saving_in, covers_under}
+use Rattle.kept_savings.specs.declared.ranked.RankedCover.{RankedCover}
 use Rattle.kept_savings.specs.Savings.{AreNotes}
 use Rattle.kept_savings.proofs.FirstSaved.{all_listed, some_literal, first_next, none_first}
 use Rattle.kept_savings.proofs.saved.first_saved.Goals as goal

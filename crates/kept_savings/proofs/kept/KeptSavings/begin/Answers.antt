@@ -1,5 +1,5 @@
 use Rattle.std.proofs.Common.{List, ◌<◌, sym, ◌∙◌, subst}
-use Rattle.ranked_covers.specs.Savings.{saving_in, covers_under}
+use Rattle.kept_savings.specs.Ranking.{saving_in, covers_under}
 use Rattle.kept_savings.specs.Savings.{AreNotes}
 use Rattle.kept_savings.proofs.NotesKept.{notes_begin}
 use Rattle.kept_savings.proofs.kept.KeptSavings.begin.Goals as goal

@@ -1,5 +1,5 @@
 use Rattle.net_core.specs.Tables.{named}
-use Rattle.ranked_covers.specs.Savings.{saving_in, covers_under}
+use Rattle.kept_savings.specs.Ranking.{saving_in, covers_under}
 use Rattle.kept_savings.proofs.NotesKept.{notes_pushed}
 use Rattle.kept_savings.proofs.kept.KeptSavings.push.Goals as goal
 

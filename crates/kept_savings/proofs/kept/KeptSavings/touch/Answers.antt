@@ -1,4 +1,4 @@
-use Rattle.ranked_covers.specs.Savings.{saving_in, covers_under}
+use Rattle.kept_savings.specs.Ranking.{saving_in, covers_under}
 use Rattle.kept_savings.proofs.NotesKept.{notes_touched}
 use Rattle.kept_savings.proofs.kept.KeptSavings.touch.Goals as goal
 

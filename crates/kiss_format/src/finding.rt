@@ -1,0 +1,170 @@
+//! The first clash of some rows.
+
+ghost use Rattle.std.specs.Prelude.{◌≡◌, ◌<◌, Some, length, take, find, IfSome, IfOk};
+ghost use Rattle.machine_model.specs.declared.machine.Clash.{Clash as TheClash};
+ghost use Rattle.machine_model.specs.Clashes.{may_agree as may_agree_by, agree_all as agree_by, may_be_one as may_be_by, clash as clash_by, clash_with as clash_with_by, first_clash as first_by};
+ghost use Rattle.kiss_format.specs.Groups.{clash_at as clash_at_by, lesser as lesser_by, AreGroups};
+
+use crate::groups::{Places, no_groups, note_row};
+use circuit_model::Tri;
+use machine_model::{Clash, MachineRow};
+use std::alloc::{AllocError, Global};
+
+/// Whether two characters may be one bit.
+fn may_agree(place: Tri, other: Tri) -> bool
+    ensures { result ≡ may_agree_by place other }
+{
+    match place {
+        Tri::Free => true,
+        Tri::Zero => match other {
+            Tri::One => false,
+            _ => true,
+        },
+        Tri::One => match other {
+            Tri::Zero => false,
+            _ => true,
+        },
+    }
+}
+
+/// Whether two rows of characters have a point in common.
+fn agree_all(row: &[Tri], other: &[Tri]) -> bool
+    ensures { result ≡ agree_by row.now other.now }
+{
+    for i in 0..row.len() {
+        if i >= other.len() {
+            return true;
+        }
+        if !may_agree(row[i], other[i]) {
+            return false;
+        }
+    }
+    true
+}
+
+/// Whether two states may be one.
+fn may_be_one(state: Option<usize>, other: Option<usize>) -> bool
+    ensures { result ≡ may_be_by state other }
+{
+    match state {
+        None => true,
+        Some(state) => match other {
+            None => true,
+            Some(other) => state == other,
+        },
+    }
+}
+
+/// Whether two rows clash.
+#[tactic(auto, unfolding(machine_model::specs::Clashes::clash))]
+fn clash(row: &MachineRow, other: &MachineRow) -> bool
+    ensures { result ≡ clash_by row.now other.now }
+{
+    if !may_be_one(row.current, other.current) {
+        return false;
+    }
+    if !agree_all(row.input.as_slice(), other.input.as_slice()) {
+        return false;
+    }
+    !(may_be_one(row.next, other.next) && agree_all(row.output.as_slice(), other.output.as_slice()))
+}
+
+/// The place of the first of some rows that clashes with a row.
+fn clash_with(front: &[MachineRow], row: &MachineRow) -> Option<usize>
+    ensures value { result ≡ clash_with_by 0 front.now row.now }
+    ensures within { IfSome result (λ place. place < length front.now) }
+{
+    for place in 0..front.len() {
+        if clash(&front[place], row) {
+            return Some(place);
+        }
+    }
+    None
+}
+
+/// Whether the row at a place clashes with a row.
+fn clash_at(rows: &[MachineRow], row: &MachineRow, place: usize) -> bool
+    ensures { result ≡ clash_at_by rows.now row.now place }
+{
+    match rows.get(place) {
+        None => false,
+        Some(earlier) => clash(earlier, row),
+    }
+}
+
+/// The first of some places at which a row stands that clashes with a row.
+fn clash_among(rows: &[MachineRow], places: &[usize], row: &MachineRow) -> Option<usize>
+    ensures { result ≡ find (clash_at_by rows.now row.now) places.now }
+{
+    for place in places {
+        if clash_at(rows, row, *place) {
+            return Some(*place);
+        }
+    }
+    None
+}
+
+/// The lesser of two places.
+fn lesser(place: Option<usize>, other: Option<usize>) -> Option<usize>
+    ensures { result ≡ lesser_by place other }
+{
+    match place {
+        None => other,
+        Some(place) => match other {
+            None => Some(place),
+            Some(other) => Some(place.min(other)),
+        },
+    }
+}
+
+/// The place of the first of the rows before `later` that clashes with a row of one state.
+fn clash_of_state(
+    rows: &[MachineRow],
+    groups: &[Places],
+    later: usize,
+    state: usize,
+    row: &MachineRow,
+) -> Option<usize>
+    requires inside { later < length rows.now }
+    requires grouped { AreGroups rows.now later groups.now }
+    requires state { row.now.current ≡ Some state }
+    ensures { result ≡ clash_with_by 0 (take later rows.now) row.now }
+{
+    let own = clash_among(rows, groups[state % rows.len()].as_slice(), row);
+    lesser(own, clash_among(rows, groups[rows.len()].as_slice(), row))
+}
+
+/// The place of the first of the rows before `later` that clashes with a row.
+fn clash_before(
+    rows: &[MachineRow],
+    groups: &[Places],
+    later: usize,
+    row: &MachineRow,
+) -> Option<usize>
+    requires inside { later < length rows.now }
+    requires grouped { AreGroups rows.now later groups.now }
+    ensures value { result ≡ clash_with_by 0 (take later rows.now) row.now }
+    ensures within { IfSome result (λ place. place < length rows.now) }
+{
+    match row.current {
+        None => clash_with(&rows[..later], row),
+        Some(state) => clash_of_state(rows, groups, later, state, row),
+    }
+}
+
+/// The first row that clashes with one before it, and the first that it clashes with; none where no two rows clash. A row
+/// of one state is compared with those of its group and those of every state alone. An error only for want of memory.
+pub(crate) fn first_clash(alloc: Global, rows: &[MachineRow]) -> Result<Option<Clash>, AllocError>
+    ensures value { IfOk result (λ found. found ≡ first_by rows.now) }
+    ensures within { IfOk result (λ found. IfSome found (λ (clash : TheClash). clash.earlier < length rows.now)) }
+    ensures later_within { IfOk result (λ found. IfSome found (λ (clash : TheClash). clash.later < length rows.now)) }
+{
+    let mut groups = no_groups(alloc, rows)?;
+    for later in 0..rows.len() {
+        if let Some(earlier) = clash_before(rows, groups.as_slice(), later, &rows[later]) {
+            return Ok(Some(Clash { earlier, later }));
+        }
+        note_row(&mut groups, rows, later)?;
+    }
+    Ok(None)
+}

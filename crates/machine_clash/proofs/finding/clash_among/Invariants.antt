@@ -1,6 +1,0 @@
-use Rattle.std.proofs.Common.{◌≡◌, drop, find}
-use Rattle.machine_clash.specs.Groups.{clash_at}
-use Rattle.machine_clash.proofs.finding.clash_among.Given as goal
-
-abbrev pub invariant-loop-place : goal.invariant-loop-place
-invariant-loop-place l = find (clash_at l.rows l.row) l.places ≡ find (clash_at l.rows l.row) (drop l.place-index l.places)

@@ -1,7 +1,0 @@
-use Rattle.std.proofs.Common.{◌≡◌, take, drop}
-use Rattle.machine_model.specs.Clashes.{first_clash, clash_behind}
-use Rattle.machine_clash.specs.Groups.{AreGroups}
-use Rattle.machine_clash.proofs.finding.first_clash.Given as goal
-
-abbrev pub invariant-loop-later : goal.invariant-loop-later
-invariant-loop-later l = (first_clash l.rows ≡ clash_behind (take l.later l.rows) (drop l.later l.rows)) × AreGroups l.rows l.later l.groups.items

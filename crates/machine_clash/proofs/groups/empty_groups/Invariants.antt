@@ -1,5 +1,0 @@
-use Rattle.std.proofs.Common.{◌≡◌, replicate, []}
-use Rattle.machine_clash.proofs.groups.empty_groups.Given as goal
-
-abbrev pub invariant-loop : goal.invariant-loop
-invariant-loop l = l.groups.items ≡ replicate l.counter []

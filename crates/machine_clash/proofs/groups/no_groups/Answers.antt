@@ -1,7 +1,0 @@
-use Rattle.std.proofs.Common.{sym, subst}
-use Rattle.machine_clash.specs.Groups.{AreGroups}
-use Rattle.machine_clash.proofs.Grouped.{groups_none}
-use Rattle.machine_clash.proofs.groups.no_groups.Goals as goal
-
-pub returns : goal.returns
-returns c = subst (AreGroups c.args.rows.now 0) (sym c.in_ok-groups.ensures) (groups_none c.args.rows.now)

@@ -1,8 +1,0 @@
-use Rattle.std.proofs.Common.{drop}
-use Rattle.net_work.specs.Placed.{standing}
-use Rattle.table_order.specs.Order.{order_of}
-use Rattle.net_collapse.specs.Phases.{IsAlong}
-use Rattle.net_collapse.proofs.collapsing.put_along.Given as goal
-
-abbrev pub invariant-loop-place : goal.invariant-loop-place
-invariant-loop-place g l = IsAlong (order_of (standing l.fn.work.slots)) (drop l.place-index (order_of (standing l.fn.work.slots))) l.fn.work l.work

@@ -1,2 +1,0 @@
-pub mod Collapse
-pub mod Phases

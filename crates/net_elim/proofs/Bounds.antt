@@ -1,0 +1,73 @@
+-- What is collapsed keeps within the bounds of a network.
+use Rattle.std.proofs.Common.{◌≡◌, ℕ, Option, Some, None, List, [], ◌∷◌, map, filter, fold, length, refl, sym, ap, ◌∙◌, subst, arith}
+use Rattle.std.specs.List.{AllByRecursion}
+use Rattle.std.specs.Option.{option_map, option_map_or, option_or}
+use Rattle.std.proofs.lemmas.List.{length-map}
+use Rattle.std.proofs.lemmas.Option.{none-some}
+use Rattle.circuit_model.specs.Values.{driver}
+use Rattle.circuit_model.specs.Soundness.{IsSound}
+use Rattle.circuit_model.specs.declared.circuit.Table.{Table}
+use Rattle.circuit_model.specs.declared.circuit.Circuit.{Circuit}
+use Rattle.net_core.specs.Reads.{IsBounded, HasBounds}
+use Rattle.table_order.specs.Order.{order_of}
+use Rattle.table_algebra.specs.Taking.{taken_in, take_refusal}
+use Rattle.table_algebra.specs.declared.taking.TakeFault.{TakeFault}
+use Rattle.elim_rules.specs.Eliminating.{with_taken}
+use Rattle.elim_rules.specs.Collapsing.{with_put, is_outer, refusal_among, put_refusal, refusal_along, collapse_refusal, collapsed}
+use Rattle.elim_rules.proofs.Small.{taken_bounded, kept_bounded}
+use Rattle.elim_rules.proofs.Gathered.{collapse_reduced}
+use Rattle.net_elim.proofs.Leaving.{kept_tables}
+
+abbrev named_fault : List ℕ → TakeFault → List ℕ × TakeFault
+named_fault name fault = (name, fault)
+
+-- nothing was refused, so neither this nor the rest
+or_none : {A : Type 0} (first rest : Option A) → option_or first rest ≡ None → (first ≡ None) × (rest ≡ None)
+or_none None rest h = (refl, h)
+or_none (Some x) rest h = absurd (none-some x (sym h))
+
+map_none : {A B : Type 0} (f : A → B) (found : Option A) → option_map f found ≡ None → found ≡ None
+map_none f None h = refl
+map_none f (Some x) h = absurd (none-some (f x) (sym h))
+
+all_taken : (inner : Table) (tables : List Table) → refusal_among inner tables ≡ None → AllByRecursion IsBounded tables → AllByRecursion IsBounded (map (taken_in inner) tables)
+unfolding refusal_among
+all_taken inner [] none all = tt
+all_taken inner (outer ∷ tables) none all =
+    let (first, rest) = or_none (option_map (λ (fault : TakeFault). named_fault outer.output fault) (take_refusal 32767 32767 inner outer)) (refusal_among inner tables) none in
+    (taken_bounded 32767 inner outer (omega arith) (map_none (λ (fault : TakeFault). named_fault outer.output fault) (take_refusal 32767 32767 inner outer) first) all.0, all_taken inner tables rest all.1)
+
+all_put : (circuit : Circuit) (name : List ℕ) → put_refusal circuit name ≡ None → AllByRecursion IsBounded circuit.tables
+    → AllByRecursion IsBounded (with_put circuit name).tables × (length (with_put circuit name).tables ≡ length circuit.tables)
+unfolding with_put
+all_put circuit name none all = cases (driver circuit.tables name) none
+  where
+    cases : (o : Option Table) → option_map_or (λ (inner : Table). refusal_among inner circuit.tables) o None ≡ None
+        → AllByRecursion IsBounded (option_map_or (with_taken circuit) o circuit).tables × (length (option_map_or (with_taken circuit) o circuit).tables ≡ length circuit.tables)
+    cases None h = (all, refl)
+    cases (Some inner) h = (all_taken inner circuit.tables h all, length-map circuit.tables (taken_in inner))
+
+all_along : (names : List (List ℕ)) (circuit : Circuit) → refusal_along circuit names ≡ None → AllByRecursion IsBounded circuit.tables
+    → AllByRecursion IsBounded (fold with_put circuit names).tables × (length (fold with_put circuit names).tables ≡ length circuit.tables)
+unfolding refusal_along
+all_along [] circuit none all = (all, refl)
+all_along (name ∷ names) circuit none all =
+    let (first, rest) = or_none (put_refusal circuit name) (refusal_along (with_put circuit name) names) none in
+    let (now, long) = all_put circuit name first all in
+    let (end, same) = all_along names (with_put circuit name) rest now in
+    (end, same ∙ long)
+
+-- the collapsed circuit
+collapsed_tables : (c : Circuit) → (collapsed c).tables ≡ filter (λ (table : Table). is_outer c table.output) (fold with_put c (order_of c.tables)).tables
+unfolding collapsed
+collapsed_tables c = kept_tables (fold with_put c (order_of c.tables)) (is_outer c)
+
+pub collapsed_bounded : (circuit : Circuit) → IsSound circuit → collapse_refusal circuit ≡ None → HasBounds circuit → HasBounds (collapsed circuit)
+collapsed_bounded circuit sound none bounds =
+    let (all, long) = all_along (order_of circuit.tables) circuit none bounds.tables in
+    kept_bounded circuit (collapsed circuit) (λ (table : Table). is_outer circuit table.output) (fold with_put circuit (order_of circuit.tables)).tables (collapsed_tables circuit)
+    (ap (λ (c : Circuit). length c.latches) (collapse_reduced circuit sound).change.rest) all long bounds
+
+pub bounds_kept : (network circuit made : Circuit) → IsSound network → circuit ≡ network → made ≡ collapsed circuit → collapse_refusal circuit ≡ None → HasBounds network → HasBounds made
+bounds_kept network circuit made sound same is none bounds =
+    subst HasBounds (sym (is ∙ ap collapsed same)) (collapsed_bounded network sound (ap collapse_refusal (sym same) ∙ none) bounds)

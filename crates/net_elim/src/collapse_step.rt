@@ -1,0 +1,150 @@
+//! The table at a place is taken into all that read it, in the order of their places.
+
+ghost use Rattle.std.specs.Prelude.{◌≡◌, ℕ, true, false, Some, None, List, is_some, IfOk, IfErr, OnOk, ◌⊎◌};
+ghost use Rattle.std.specs.Option.{option_map};
+ghost use Rattle.std.specs.List.Sorted.{IsNonDecreasing};
+ghost use Rattle.circuit_model.specs.Names.{has, all_different};
+ghost use Rattle.circuit_model.specs.Soundness.{IsSound};
+ghost use Rattle.circuit_model.specs.declared.circuit.Table.{Table as TheWritten};
+ghost use Rattle.elim_rules.specs.Collapsing.{refusal_among};
+ghost use Rattle.input_readers.specs.Readers.{is_in};
+ghost use Rattle.net_core.specs.Places.{written_of};
+ghost use Rattle.net_core.specs.Tables.{named, IsOverInputs};
+ghost use Rattle.net_work.specs.Placed.{standing, circuit_of, table_at, with_slot};
+ghost use Rattle.net_work.specs.Slots.{inputs_at};
+ghost use Rattle.table_algebra.specs.Taking.{taken_in, take_refusal};
+ghost use Rattle.table_algebra.specs.declared.taking.TakeFault.{TakeFault as TheTakeFault};
+ghost use Rattle.table_algebra.specs.declared.taking.TakeFault.TheVariants.{Memory as NoMemory};
+ghost use Rattle.net_elim.specs.Collapse.{IsCause};
+ghost use Rattle.net_elim.specs.Phases.{IsPutInAll};
+
+use crate::fault::{CollapseFault, fault_of};
+use crate::putting::{LIST_LIMIT, taken_at};
+use cube_cover::Row;
+use net_core::Table;
+use net_work::Work;
+use sis_base::Copied;
+use std::alloc::{AllocError, Global};
+use table_algebra::TakeFault;
+
+// What the table at the second place becomes where that at the first is taken into it.
+fn taken_from<R: Row>(
+    alloc: Global,
+    work: &Work<R>,
+    place: usize,
+    reader: usize,
+) -> Result<Table<R>, TakeFault>
+    requires there { is_some (table_at work.now.slots place) ≡ true }
+    requires reader { is_some (table_at work.now.slots reader) ≡ true }
+    requires apart { (inner : TheWritten) → table_at work.now.slots place ≡ Some inner → has inner.inputs inner.output ≡ false }
+    ensures ok { IfOk result (λ made. (inner outer : TheWritten) → table_at work.now.slots place ≡ Some inner → table_at work.now.slots reader ≡ Some outer → named outer.output made ≡ taken_in inner outer) }
+    ensures over { IfOk result IsOverInputs }
+    ensures once { IfOk result (λ made. all_different made.inputs ≡ true) }
+    ensures within { OnOk result ((inner outer : TheWritten) → table_at work.now.slots place ≡ Some inner → table_at work.now.slots reader ≡ Some outer → take_refusal 32767 32767 inner outer ≡ None) }
+    ensures fault { IfErr result (λ fault. (fault ≡ NoMemory) ⊎ ((inner outer : TheWritten) → table_at work.now.slots place ≡ Some inner → table_at work.now.slots reader ≡ Some outer → take_refusal 32767 32767 inner outer ≡ Some fault)) }
+{
+    match work.entry(place) {
+        None => unreachable!(),
+        Some(inner) => taken_at(alloc, work, inner, reader, LIST_LIMIT),
+    }
+}
+
+// The fault of a network for that of the table at a place.
+fn fault_at<R: Row>(alloc: Global, work: &Work<R>, place: usize, fault: TakeFault) -> CollapseFault
+    requires { is_some (table_at work.now.slots place) ≡ true }
+    ensures { (outer : TheWritten) → table_at work.now.slots place ≡ Some outer → IsCause (Some (outer.output, fault)) result }
+{
+    match work.entry(place) {
+        None => unreachable!(),
+        Some(outer) => match outer.output.copy(alloc) {
+            Ok(name) => fault_of(name, fault),
+            Err(_) => CollapseFault::Memory,
+        },
+    }
+}
+
+// The table at the first place is taken into that at the second.
+fn put_into<R: Row>(
+    alloc: Global,
+    work: &mut Work<R>,
+    place: usize,
+    reader: usize,
+) -> Result<(), CollapseFault>
+    requires there { is_some (table_at work.old.slots place) ≡ true }
+    requires reader { is_some (table_at work.old.slots reader) ≡ true }
+    requires apart { (inner : TheWritten) → table_at work.old.slots place ≡ Some inner → has inner.inputs inner.output ≡ false }
+    ensures put { OnOk result ((inner outer : TheWritten) → table_at work.old.slots place ≡ Some inner → table_at work.old.slots reader ≡ Some outer → work.new ≡ with_slot work.old reader (Some (taken_in inner outer))) }
+    ensures within { OnOk result ((inner outer : TheWritten) → table_at work.old.slots place ≡ Some inner → table_at work.old.slots reader ≡ Some outer → take_refusal 32767 32767 inner outer ≡ None) }
+    ensures fault { IfErr result (λ fault. (inner outer : TheWritten) → table_at work.old.slots place ≡ Some inner → table_at work.old.slots reader ≡ Some outer → IsCause (option_map (λ (found : TheTakeFault). (outer.output, found)) (take_refusal 32767 32767 inner outer)) fault) }
+{
+    match taken_from(alloc, work, place, reader) {
+        Ok(table) => {
+            work.set(alloc, reader, table)?;
+            Ok(())
+        }
+        Err(fault) => Err(fault_at(alloc, work, reader, fault)),
+    }
+}
+
+// The table at a place is taken into those that read it, in the order of their places.
+fn put_each<R: Row>(
+    alloc: Global,
+    work: &mut Work<R>,
+    place: usize,
+    readers: &[usize],
+) -> Result<(), CollapseFault>
+    requires sound { IsSound (circuit_of work.old) }
+    requires there { is_some (table_at work.old.slots place) ≡ true }
+    requires exact { (inner : TheWritten) → table_at work.old.slots place ≡ Some inner → (at : ℕ) → is_in readers.now at ≡ has (inputs_at work.old.slots at) inner.output }
+    requires rising { IsNonDecreasing readers.now }
+    ensures put { OnOk result ((inner : TheWritten) → table_at work.old.slots place ≡ Some inner → IsPutInAll inner work.old work.new) }
+    ensures within { OnOk result ((inner : TheWritten) → table_at work.old.slots place ≡ Some inner → refusal_among inner (standing work.old.slots) ≡ None) }
+    ensures fault { IfErr result (λ fault. (inner : TheWritten) → table_at work.old.slots place ≡ Some inner → IsCause (refusal_among inner (standing work.old.slots)) fault) }
+{
+    for reader in readers {
+        put_into(alloc, work, place, *reader)?;
+    }
+    Ok(())
+}
+
+// Some places in rising order.
+fn risen(places: Vec<usize>) -> Vec<usize>
+    ensures same { (at : ℕ) → is_in result.items at ≡ is_in places.items at }
+    ensures rising { IsNonDecreasing result.items }
+{
+    let mut sorted = places;
+    sorted.sort_unstable();
+    sorted
+}
+
+// The places of the tables that read that at a place, in rising order.
+fn readers_of<R: Row>(alloc: Global, work: &Work<R>, place: usize) -> Result<Vec<usize>, AllocError>
+    requires { is_some (table_at work.now.slots place) ≡ true }
+    ensures exact { IfOk result (λ readers. (inner : TheWritten) → table_at work.now.slots place ≡ Some inner → (at : ℕ) → is_in readers.items at ≡ has (inputs_at work.now.slots at) inner.output) }
+    ensures rising { IfOk result (λ readers. IsNonDecreasing readers.items) }
+{
+    match work.entry(place) {
+        None => unreachable!(),
+        Some(inner) => {
+            let readers = work.readers(alloc, &inner.output)?;
+            Ok(risen(readers.into_vec()))
+        }
+    }
+}
+
+/// The table at a place is taken into all that read it, and stays; refused where a reader cannot take it in, with the first such
+/// reader's name. Behind an error any network may stand.
+pub(crate) fn put_at<R: Row>(
+    alloc: Global,
+    work: &mut Work<R>,
+    place: usize,
+) -> Result<(), CollapseFault>
+    requires sound { IsSound (circuit_of work.old) }
+    requires there { is_some (table_at work.old.slots place) ≡ true }
+    ensures put { OnOk result ((inner : TheWritten) → table_at work.old.slots place ≡ Some inner → IsPutInAll inner work.old work.new) }
+    ensures within { OnOk result ((inner : TheWritten) → table_at work.old.slots place ≡ Some inner → refusal_among inner (standing work.old.slots) ≡ None) }
+    ensures fault { IfErr result (λ fault. (inner : TheWritten) → table_at work.old.slots place ≡ Some inner → IsCause (refusal_among inner (standing work.old.slots)) fault) }
+{
+    let readers = readers_of(alloc, work, place)?;
+    put_each(alloc, work, place, readers.as_slice())
+}

@@ -1,0 +1,41 @@
+//! Why a network is not collapsed.
+
+ghost use Rattle.std.specs.Prelude.{◌≡◌};
+ghost use Rattle.net_elim.specs.Collapse.{told};
+
+use circuit_model::Name;
+use std::alloc::AllocError;
+use table_algebra::TakeFault;
+
+/// Why a network is not collapsed.
+#[derive(Debug, PartialEq, Drop)]
+pub enum CollapseFault {
+    /// A list of rows, or what a table of this name becomes, has more than 32,767 rows.
+    CubeLimit(Name),
+    /// What a table of this name becomes has so many inputs, more than 1,000.
+    TooWide(Name, usize),
+    /// There is not enough memory.
+    Memory,
+}
+
+impl From<AllocError> for CollapseFault {
+    ghost use Rattle.std.specs.Prelude.{◌≡◌};
+    ghost use Rattle.net_elim.specs.declared.fault.CollapseFault.TheVariants.{Memory};
+
+    ghost from_gives = { λ _ fault. fault ≡ Memory };
+
+    fn from(_error: AllocError) -> CollapseFault {
+        CollapseFault::Memory
+    }
+}
+
+// The fault of a network for that of the table of a name.
+pub(crate) fn fault_of(name: Name, fault: TakeFault) -> CollapseFault
+    ensures { result ≡ told name fault }
+{
+    match fault {
+        TakeFault::CubeLimit => CollapseFault::CubeLimit(name),
+        TakeFault::TooWide(count) => CollapseFault::TooWide(name, count),
+        TakeFault::Memory => CollapseFault::Memory,
+    }
+}

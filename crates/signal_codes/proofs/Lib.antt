@@ -1,4 +1,0 @@
-pub mod Places
-pub mod Looked
-pub mod Carried
-pub mod Coded
