@@ -1,6 +1,6 @@
 //! Lists: names, which keep short ones in themselves, and sequences of any items.
 
-use circuit_cases::{letters, put_truth};
+use circuit_cases::{letters, name, put_truth};
 use circuit_model::{Name, Names};
 use indexmap::IndexSet;
 use sis_base::{Copied, Sequence};
@@ -15,6 +15,11 @@ pub fn answer(alloc: Global, out: &mut Vec<u8>, case: &Case<'_>) -> Result<(), C
         "short_copies" => put_short_copies(alloc, out, case.word(2)),
         _ => put_of_names(alloc, out, case),
     }
+}
+
+/// A copy, by the trait alone.
+fn copied<T: Copied>(alloc: Global, value: &T) -> Result<T, AllocError> {
+    value.copy(alloc)
 }
 
 /// A name, pushed byte by byte.
@@ -56,22 +61,27 @@ fn put_short(alloc: Global, out: &mut Vec<u8>, word: &str) -> Result<(), CaseFau
     put_list(alloc, out, &made, made.len(), made.is_empty())
 }
 
-/// Puts whether a name that is pushed, one of a vector and a copy are the same.
+/// Puts whether a name that is pushed, one of a vector, one of a slice and a copy are the same.
 fn put_short_copies(alloc: Global, out: &mut Vec<u8>, word: &str) -> Result<(), CaseFault> {
     let first = pushed(alloc, word)?;
     let second = Name::from_vec(letters(word).as_bytes().to_vec(alloc)?);
-    put_same(alloc, out, &first, &second)
+    put_same(alloc, out, word, &first, &second)
 }
 
-/// Puts whether two names and a copy are the same.
+/// Puts whether two names, the one of a word's slice and a copy are the same.
 fn put_same(
     alloc: Global,
     out: &mut Vec<u8>,
+    word: &str,
     first: &Name,
     second: &Name,
 ) -> Result<(), CaseFault> {
-    let third = first.copy(alloc)?;
-    put_truth(out, *first == *second && *second == third)
+    let third = name(alloc, word)?;
+    let fourth = copied(alloc, first)?;
+    put_truth(
+        out,
+        *first == *second && *second == third && third == fourth,
+    )
 }
 
 /// Puts the answer about the names of a case.
@@ -93,7 +103,7 @@ fn put_about(alloc: Global, out: &mut Vec<u8>, call: &str, names: &Names) -> Res
 
 /// Puts whether the vector of a copy of names makes the same sequence.
 fn put_copies(alloc: Global, out: &mut Vec<u8>, names: &Names) -> Result<(), CaseFault> {
-    let again = Sequence::from_vec(names.copy(alloc)?.into_vec());
+    let again = Sequence::from_vec(copied(alloc, names)?.into_vec());
     put_truth(out, *names == again && again.as_slice() == names.as_slice())
 }
 
