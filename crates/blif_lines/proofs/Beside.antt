@@ -6,8 +6,8 @@ use Rattle.std.proofs.lemmas.List.{append-nil, drop_more, drop_all}
 use Rattle.circuit_model.specs.Names.{has}
 use Rattle.circuit_checks.specs.Sets.{with_name, Alike}
 use Rattle.circuit_checks.proofs.Naming.{has_with}
-use Rattle.table_fold.specs.Folding.{each_once}
-use Rattle.table_fold.proofs.Once.{same_name, bytes_eq-sym}
+use Rattle.circuit_tables.specs.Folding.{each_once}
+use Rattle.circuit_tables.proofs.Once.{same_name, bytes_eq-sym}
 use Rattle.blif_lines.specs.Reader.{names_beside}
 
 -- the names that are not known, each once

@@ -6,7 +6,7 @@ use Rattle.std.proofs.Common.{refl}
 use Rattle.sis_text.specs.Entries.{Entry}
 use Rattle.line_words.specs.LineWords.{other_words}
 use Rattle.genlib_format.specs.declared.gate.Gate.{Gate as TheGate}
-use Rattle.gate_lines.specs.GateLines.{signals_of}
+use Rattle.blif_gates.specs.GateLines.{signals_of}
 use Rattle.blif_lines.specs.Lines.{when, first_of, is_none, long_fault, one_too_many, has_part, is_in_model, is_in_dont_care, is_latch, latch_names, model_fault, clock_fault, latch_fault, library_fault, gate_fault, start_fault, place_fault}
 use Rattle.blif_lines.specs.Steps.{place_at}
 use Rattle.blif_lines.specs.declared.part.Part.{Part}

@@ -9,13 +9,13 @@ use Rattle.circuit_model.specs.Soundness.{IsShaped, outputs_of, names_of, table_
 use Rattle.circuit_model.specs.declared.circuit.Table.{Table}
 use Rattle.cover_ops.specs.Shannon.{bits_equal, same, shannon}
 use Rattle.genlib_expr.specs.Formula.{formula_of}
-use Rattle.genlib_rows.specs.Functions.{function_of}
+use Rattle.genlib_expr.specs.Functions.{function_of}
 use Rattle.genlib_format.specs.declared.gate.Gate.{Gate as TheGate}
 use Rattle.line_words.specs.LineWords.{first_word, other_words}
-use Rattle.gate_lines.specs.declared.reading.GateFault.{GateFault}
-use Rattle.gate_lines.specs.declared.reading.GateFault.TheVariants as gate
-use Rattle.gate_lines.specs.GateLines.{signals_of, character_for, gate_rows, gate_table, read_gate}
-use Rattle.gate_lines.proofs.Told.{told, sound_found, shaped, few, named_by_words, named_by_signals}
+use Rattle.blif_gates.specs.declared.reading.GateFault.{GateFault}
+use Rattle.blif_gates.specs.declared.reading.GateFault.TheVariants as gate
+use Rattle.blif_gates.specs.GateLines.{signals_of, character_for, gate_rows, gate_table, read_gate}
+use Rattle.blif_gates.proofs.Told.{told, sound_found, shaped, few, named_by_words, named_by_signals}
 use Rattle.blif_lines.specs.Libraries.{IsSoundLibrary}
 use Rattle.blif_lines.specs.Lines.{library_fault, cell_fault}
 use Rattle.blif_lines.specs.Reader.{right_table, gate_tables, gate_inputs}

@@ -12,12 +12,12 @@ use Rattle.circuit_model.specs.Soundness.{control_of, outputs_of, names_of, all_
 use Rattle.circuit_model.specs.declared.circuit.Timing.{Timing}
 use Rattle.circuit_model.specs.declared.circuit.Table.{Table}
 use Rattle.circuit_model.specs.declared.circuit.Latch.{Latch as TheLatch}
-use Rattle.table_fold.specs.Folding.{each_once, folded}
-use Rattle.table_fold.proofs.Once.{has-each_once}
-use Rattle.table_fold.proofs.Folded.{folded_output, folded_reads}
+use Rattle.circuit_tables.specs.Folding.{each_once, folded}
+use Rattle.circuit_tables.proofs.Once.{has-each_once}
+use Rattle.circuit_tables.proofs.Folded.{folded_output, folded_reads}
 use Rattle.line_words.specs.LineWords.{other_words, long_name}
 use Rattle.genlib_format.specs.declared.gate.Gate.{Gate as TheGate}
-use Rattle.gate_lines.specs.GateLines.{signals_of}
+use Rattle.blif_gates.specs.GateLines.{signals_of}
 use Rattle.blif_lines.specs.Heads.{listed_ports_of}
 use Rattle.blif_lines.specs.Lines.{when, input_words, last_word, long_fault, one_too_many, many_inputs, is_in_model, is_in_dont_care, is_behind, is_latch, latch_names, is_none, model_fault, ports_fault, clock_fault, names_fault, latch_fault, joined}
 use Rattle.blif_lines.specs.Reader.{named_by, table_of, latch_of, latch_input, latch_output, timing_of, names_beside, gate_tables, gate_inputs, listed_where}

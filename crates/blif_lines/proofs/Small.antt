@@ -10,10 +10,10 @@ use Rattle.circuit_model.specs.declared.circuit.Table.{Table}
 use Rattle.circuit_model.specs.declared.circuit.Latch.{Latch as TheLatch}
 use Rattle.circuit_model.specs.Counts.{IsSmallTable, IsWithinLimits}
 use Rattle.circuit_model.specs.Soundness.{IsShaped}
-use Rattle.table_fold.specs.Folding.{folded}
+use Rattle.circuit_tables.specs.Folding.{folded}
 use Rattle.line_words.specs.LineWords.{first_word, other_words}
 use Rattle.genlib_format.specs.declared.gate.Gate.{Gate as TheGate}
-use Rattle.gate_lines.specs.GateLines.{read_gate}
+use Rattle.blif_gates.specs.GateLines.{read_gate}
 use Rattle.blif_lines.specs.Lines.{when, input_words, long_fault, one_too_many, many_inputs, is_in_model, is_behind, is_init, is_latch_kind, is_latch, latch_names, is_none, is_row_of, output_character, names_fault, latch_fault, joined}
 use Rattle.blif_lines.specs.Libraries.{IsSoundLibrary}
 use Rattle.blif_lines.specs.Reader.{row_of, table_of, latch_of, init_of, gate_tables}
@@ -29,7 +29,7 @@ use Rattle.blif_lines.specs.declared.draft.Draft.{Draft}
 use Rattle.blif_lines.proofs.NameLists.{same_name, all_append, all_front, all_back, all_kept, all_map, and_left, and_right}
 use Rattle.blif_lines.proofs.Faults.{none_first, none_later, not_when, not_not_when, right_latch, right_gate, part_begins}
 use Rattle.blif_lines.proofs.Gates.{each_gate, one_gate, gate_shaped, gate_small}
-use Rattle.table_fold.proofs.Folded.{folded_shaped, folded_input_count, folded_row_count}
+use Rattle.circuit_tables.proofs.Folded.{folded_shaped, folded_input_count, folded_row_count}
 
 -- a table as it is written: few rows, few inputs, each row with a character for each input
 pub record IsGoodTable (table : Table) : Type 0 where

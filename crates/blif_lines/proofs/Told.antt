@@ -16,7 +16,7 @@ use Rattle.circuit_model.specs.declared.circuit.Latch.{Latch as TheLatch}
 use Rattle.circuit_checks.specs.NameChecks.{first_again, first_missing, first_listed_twice}
 use Rattle.circuit_checks.specs.Cycles.{first_on_cycle}
 use Rattle.circuit_checks.specs.PartChecks.{first_bad_part_name}
-use Rattle.table_fold.specs.Folding.{folded}
+use Rattle.circuit_tables.specs.Folding.{folded}
 use Rattle.genlib_format.specs.declared.gate.Gate.{Gate as TheGate}
 use Rattle.blif_lines.specs.Heads.{listed_ports_of}
 use Rattle.blif_lines.specs.Lines.{first_of, is_latch, joined}
@@ -33,8 +33,8 @@ use Rattle.blif_lines.proofs.Faults.{not_mapped, right_latch, gate_begins, part_
 use Rattle.blif_lines.proofs.Named.{Named, all_named}
 use Rattle.blif_lines.proofs.Small.{IsSmallDraft, model_tables_are, part_tables_are}
 use Rattle.blif_lines.proofs.Gates.{gate_reads}
-use Rattle.table_fold.proofs.Once.{bytes_eq-sym, has-each_once, different-each_once}
-use Rattle.table_fold.proofs.Folded.{folded_reads, folded_once, folded_shaped, folded_outputs, folded_acyclic}
+use Rattle.circuit_tables.proofs.Once.{bytes_eq-sym, has-each_once, different-each_once}
+use Rattle.circuit_tables.proofs.Folded.{folded_reads, folded_once, folded_shaped, folded_outputs, folded_acyclic}
 use Rattle.circuit_checks.proofs.Bridges.{different_from_again, known_from_missing, inputs_from_listed, outputs_from_listed, acyclic_from_none}
 use Rattle.circuit_checks.proofs.Parts.{part_sound}
 

@@ -10,9 +10,9 @@ use Rattle.sis_text.specs.Entries.{Entry}
 use Rattle.line_words.specs.LineWords.{first_word, other_words, long_name, is_character}
 use Rattle.circuit_model.specs.declared.circuit.Table.{Table}
 use Rattle.genlib_format.specs.declared.gate.Gate.{Gate as TheGate}
-use Rattle.gate_lines.specs.declared.reading.GateFault.{GateFault}
-use Rattle.gate_lines.specs.declared.reading.GateFault.TheVariants as gate
-use Rattle.gate_lines.specs.GateLines.{signals_of, read_gate}
+use Rattle.blif_gates.specs.declared.reading.GateFault.{GateFault}
+use Rattle.blif_gates.specs.declared.reading.GateFault.TheVariants as gate
+use Rattle.blif_gates.specs.GateLines.{signals_of, read_gate}
 use Rattle.blif_lines.specs.Keyword.{kind_of, is_row}
 use Rattle.blif_lines.specs.declared.keyword.Keyword.{Keyword}
 use Rattle.blif_lines.specs.declared.keyword.Keyword.TheVariants.{Model, Inputs, Outputs, Clock, Names, Latch, Gate, StartKiss, DontCare, End, Skipped, Row, Other}

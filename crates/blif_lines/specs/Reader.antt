@@ -18,12 +18,12 @@ use Rattle.circuit_model.specs.declared.circuit.Circuit.{Circuit}
 use Rattle.circuit_checks.specs.NameChecks.{first_again, first_missing, first_listed_twice}
 use Rattle.circuit_checks.specs.Cycles.{first_on_cycle}
 use Rattle.circuit_checks.specs.PartChecks.{first_bad_part_name}
-use Rattle.table_fold.specs.Folding.{each_once, folded}
+use Rattle.circuit_tables.specs.Folding.{each_once, folded}
 use Rattle.sis_text.specs.Entries.{Entry}
 use Rattle.line_words.specs.LineWords.{first_word, other_words, character_of}
 use Rattle.genlib_format.specs.declared.gate.Gate.{Gate as TheGate}
-use Rattle.gate_lines.specs.declared.reading.GateFault.{GateFault}
-use Rattle.gate_lines.specs.GateLines.{signals_of, read_gate}
+use Rattle.blif_gates.specs.declared.reading.GateFault.{GateFault}
+use Rattle.blif_gates.specs.GateLines.{signals_of, read_gate}
 use Rattle.blif_lines.specs.Keyword.{kind_of, is_row}
 use Rattle.blif_lines.specs.Lines.{input_words, last_word, joined, output_character, first_of, begins_part, has_kiss, is_node_kind, line_fault}
 use Rattle.blif_lines.specs.declared.content.Head.{Head}

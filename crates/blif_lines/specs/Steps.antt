@@ -15,7 +15,7 @@ use Rattle.sis_text.specs.Entries.{Entry}
 use Rattle.circuit_checks.specs.NameChecks.{first_again, first_missing, first_listed_twice}
 use Rattle.circuit_checks.specs.Cycles.{first_on_cycle}
 use Rattle.circuit_checks.specs.PartChecks.{first_bad_part_name}
-use Rattle.table_fold.specs.Folding.{folded}
+use Rattle.circuit_tables.specs.Folding.{folded}
 use Rattle.line_words.specs.LineWords.{first_word, other_words}
 use Rattle.genlib_format.specs.declared.gate.Gate.{Gate as TheGate}
 use Rattle.blif_lines.specs.Keyword.{keyword_of}

@@ -4,7 +4,7 @@ ghost use Rattle.std.specs.Prelude.{◌≡◌, ◌<◌, option_copied, IfOk, OnO
 ghost use Rattle.std.specs.List.{filter};
 ghost use Rattle.circuit_model.specs.Names.{has};
 ghost use Rattle.line_words.specs.LineWords.{texts, other_words as others_of};
-ghost use Rattle.gate_lines.specs.GateLines.{signals_of};
+ghost use Rattle.blif_gates.specs.GateLines.{signals_of};
 ghost use Rattle.blif_lines.specs.Lines.{gate_fault, library_fault};
 ghost use Rattle.blif_lines.specs.Reader.{gate_tables};
 ghost use Rattle.blif_lines.specs.Steps.{with_more, IsTable};
@@ -12,8 +12,8 @@ ghost use Rattle.blif_lines.specs.Steps.{with_more, IsTable};
 use crate::fault::{BlifFault, LimitKind, ReadFault};
 use crate::line_fault::{is_in_model, one_too_many};
 use crate::part::Part;
+use blif_gates::{GateFault, add_signals, long_signal, read_gate};
 use circuit_model::{Name, Names, Table};
-use gate_lines::{GateFault, add_signals, long_signal, read_gate};
 use genlib_format::Library;
 use line_words::{first_word, other_words};
 use std::alloc::{AllocError, Global};

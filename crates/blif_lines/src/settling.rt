@@ -1,17 +1,17 @@
 //! What is made of the draft behind the last line: its ports, its two lists of tables, its circuit; or the head of a machine.
 
 ghost use Rattle.std.specs.Prelude.{◌≡◌, map, IfOk, OnOk};
-ghost use Rattle.table_fold.specs.Folding.{folded};
+ghost use Rattle.circuit_tables.specs.Folding.{folded};
 ghost use Rattle.blif_lines.specs.Steps.{settled, settled_circuit, kept_head, kept_of};
 
 use crate::content::Head;
 use crate::draft::{Draft, with_reading};
 use crate::ports::find_ports;
 use circuit_model::{Circuit, Tables};
+use circuit_tables::fold_table;
 use sis_base::Sequence;
 use std::alloc::{AllocError, Global};
 use std::mem;
-use table_fold::fold_table;
 
 /// Finds the ports that no line lists, and parts the tables; an error only for want of memory.
 #[tactic(auto, unfolding(crate::specs::Steps::settled))]

@@ -6,8 +6,8 @@ use Rattle.std.proofs.lemmas.List.{append-nil}
 use Rattle.circuit_model.specs.Names.{has, all_different}
 use Rattle.circuit_checks.proofs.Naming.{has_append, same_bytes}
 use Rattle.circuit_checks.proofs.Counting.{first_different, rest_different}
-use Rattle.machine_model.specs.Soundness.{all_names}
-use Rattle.machine_model.specs.declared.machine.Machine.{Machine}
+use Rattle.circuit_model.specs.MachineSoundness.{all_names}
+use Rattle.circuit_model.specs.declared.machine.Machine.{Machine}
 use Rattle.blif_lines.proofs.NameLists.{all_append, all_front, all_back}
 use Rattle.blif_lines.specs.Heads.{listed_ports_of}
 use Rattle.blif_lines.specs.declared.content.Head.{Head}

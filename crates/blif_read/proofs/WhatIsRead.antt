@@ -8,11 +8,11 @@ use Rattle.genlib_format.specs.declared.gate.Gate.{Gate}
 use Rattle.circuit_model.specs.declared.circuit.Circuit.{Circuit}
 use Rattle.circuit_model.specs.Counts.{IsWithinLimits}
 use Rattle.circuit_model.specs.Soundness.{IsSound}
-use Rattle.machine_model.specs.Soundness.{IsSound as IsSoundMachine, IsShaped, all_names}
-use Rattle.machine_model.specs.declared.machine.Machine.{Machine}
-use Rattle.machine_model.specs.declared.machine.MachineRow.{MachineRow}
-use Rattle.machine_model.specs.declared.machine.Spec.{Spec}
-use Rattle.machine_model.specs.declared.machine.Spec.TheVariants as spec
+use Rattle.circuit_model.specs.MachineSoundness.{IsSound as IsSoundMachine, IsShaped, all_names}
+use Rattle.circuit_model.specs.declared.machine.Machine.{Machine}
+use Rattle.circuit_model.specs.declared.machine.MachineRow.{MachineRow}
+use Rattle.circuit_model.specs.declared.machine.Spec.{Spec}
+use Rattle.circuit_model.specs.declared.machine.Spec.TheVariants as spec
 use Rattle.kiss_format.specs.Reader.{read_lines as read_table, inputs_line, outputs_line}
 use Rattle.kiss_format.specs.Trips.{IsWithinLimits as IsSmallMachine}
 use Rattle.kiss_format.specs.declared.fault.KissFault.{KissFault}

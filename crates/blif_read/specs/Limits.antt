@@ -4,9 +4,9 @@ use Rattle.std.specs.Prelude.{ℕ, ◌≤◌, List, length}
 use Rattle.std.specs.List.{AllByRecursion}
 use Rattle.circuit_model.specs.Counts.{IsWithinLimits}
 use Rattle.circuit_model.specs.Soundness.{IsSound}
-use Rattle.machine_model.specs.Soundness.{IsSound as IsSoundMachine, all_names}
-use Rattle.machine_model.specs.declared.machine.Spec.{Spec}
-use Rattle.machine_model.specs.declared.machine.Spec.TheVariants as spec
+use Rattle.circuit_model.specs.MachineSoundness.{IsSound as IsSoundMachine, all_names}
+use Rattle.circuit_model.specs.declared.machine.Spec.{Spec}
+use Rattle.circuit_model.specs.declared.machine.Spec.TheVariants as spec
 use Rattle.kiss_format.specs.Trips.{IsWithinLimits as IsSmallMachine}
 use Rattle.blif_lines.specs.Limits.{HasShortNames}
 

@@ -3,15 +3,14 @@
 ghost use Rattle.std.specs.Prelude.{◌≡◌, map, find, option_copied, IfOk};
 ghost use Rattle.circuit_model.specs.Names.{has};
 ghost use Rattle.sis_text.specs.Entries.{entry_at};
-ghost use Rattle.machine_model.specs.declared.machine.Spec.TheVariants as spec;
+ghost use Rattle.circuit_model.specs.declared.machine.Spec.TheVariants as spec;
 ghost use Rattle.kiss_format.specs.Reader.{read_lines as read_table};
 ghost use Rattle.blif_lines.specs.Reader.{unless};
 ghost use Rattle.blif_read.specs.Reader.{count_fault, made_again, made_twice, machine_fault, named, machine_with, Reads};
 
 use blif_lines::{BlifFault, Head, ReadFault};
-use circuit_model::{Name, Names};
+use circuit_model::{Machine, Name, Names, Spec};
 use kiss_format::{KissFault, inputs_line, outputs_line};
-use machine_model::{Machine, Spec};
 use sis_base::Copied;
 use sis_text::Line;
 use std::alloc::{AllocError, Global};

@@ -9,8 +9,8 @@ ghost use Rattle.blif_read.specs.Reader.{read_lines, Reads};
 use crate::machine::read_machine;
 use crate::parts::{front_lines, kiss_lines, rest_lines};
 use blif_lines::{Content, ReadFault};
+use circuit_model::Spec;
 use genlib_format::Library;
-use machine_model::Spec;
 use sis_text::{Line, logical_lines};
 use std::alloc::Global;
 

@@ -5,7 +5,7 @@ ghost use Rattle.std.specs.List.{AllByRecursion};
 ghost use Rattle.sis_base.specs.Written.{is_word};
 ghost use Rattle.sis_text.specs.Entries.{Entry};
 ghost use Rattle.genlib_format.specs.declared.gate.Gate.{Gate as TheGate};
-ghost use Rattle.machine_model.specs.declared.machine.Spec.{Spec as TheSpec};
+ghost use Rattle.circuit_model.specs.declared.machine.Spec.{Spec as TheSpec};
 ghost use Rattle.blif_lines.specs.Libraries.{IsSoundLibrary};
 ghost use Rattle.blif_read.specs.Limits.{IsSoundSpec, IsSmallSpec, HasShortSpec};
 ghost use Rattle.blif_read.specs.Reader.{read_lines};

@@ -1,1 +1,10 @@
 pub mod WriterLines
+pub mod Words
+pub mod LineKinds
+pub mod RowTexts
+pub mod Backs
+pub mod NoFaults
+pub mod Said
+pub mod NoKiss
+pub mod ReadAgain
+pub mod Again

@@ -5,9 +5,9 @@ use Rattle.std.specs.List.{list_any, filter_map, cons_option, range_with_len, Al
 use Rattle.std.proofs.lemmas.Bool.{true≢false, cases_Bool}
 use Rattle.std.proofs.lemmas.List.{length-map}
 use Rattle.std.proofs.lemmas.List.Elements.{All-from_recursion}
-use Rattle.graph_cycles.specs.Graphs.{IsGraph, reads_of, is_among, Walks, leads, is_cyclic, first_cyclic}
-use Rattle.graph_cycles.proofs.Walking.{cyclic_from_walk, among_first, among_later}
-use Rattle.graph_cycles.proofs.Marking.{same_bools}
+use Rattle.circuit_checks.specs.Graphs.{IsGraph, reads_of, is_among, Walks, leads, is_cyclic, first_cyclic}
+use Rattle.circuit_checks.proofs.Walking.{cyclic_from_walk, among_first, among_later}
+use Rattle.circuit_checks.proofs.Marking.{same_bools}
 use Rattle.circuit_model.specs.Names.{has, all_different}
 use Rattle.circuit_model.specs.Values.{driver}
 use Rattle.circuit_model.specs.Soundness.{Leads, outputs_of}

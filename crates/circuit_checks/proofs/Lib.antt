@@ -4,3 +4,8 @@ pub mod Driving
 pub mod Bridges
 pub mod Placing
 pub mod Parts
+pub mod Walking
+pub mod Ranking
+pub mod Marking
+pub mod Falling
+pub mod Bounding

@@ -6,7 +6,7 @@ use Rattle.std.specs.Option.{option_or}
 use Rattle.std.specs.List.{range_with_len, AllByRecursion}
 use Rattle.std.proofs.lemmas.Bool.{cases_Bool}
 use Rattle.std.proofs.lemmas.List.{take_more, drop_more, drop_all, map-append}
-use Rattle.graph_cycles.specs.Graphs.{is_cyclic, first_cyclic}
+use Rattle.circuit_checks.specs.Graphs.{is_cyclic, first_cyclic}
 use Rattle.circuit_model.specs.Names.{has, all_different}
 use Rattle.circuit_model.specs.Soundness.{IsAcyclic, outputs_of, table_inputs}
 use Rattle.circuit_model.specs.declared.circuit.Table.{Table}

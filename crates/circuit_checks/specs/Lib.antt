@@ -3,3 +3,5 @@ pub mod Cycles
 pub mod PartChecks
 pub mod Laws
 pub mod Sets
+pub mod Graphs
+pub mod Searching

@@ -4,15 +4,15 @@ ghost use Rattle.std.specs.Prelude.{◌≡◌, ◌++◌, true, map, bytes_eq, op
 ghost use Rattle.std.specs.Option.{option_copied};
 ghost use Rattle.std.specs.List.{filter_map};
 ghost use Rattle.indexmap.specs.IndexMap.{get};
-ghost use Rattle.graph_cycles.specs.Graphs.{first_cyclic};
+ghost use Rattle.circuit_checks.specs.Graphs.{first_cyclic};
 ghost use Rattle.circuit_model.specs.Names.{all_different};
 ghost use Rattle.circuit_model.specs.Soundness.{outputs_of};
 ghost use Rattle.circuit_model.specs.declared.circuit.Table.{Table as TheTable};
 ghost use Rattle.circuit_checks.specs.Cycles.{first_on_cycle};
 ghost use Rattle.circuit_checks.specs.Sets.{place_in, graph_of, output_at};
 
+use crate::first_cyclic;
 use circuit_model::{Name, Table};
-use graph_cycles::first_cyclic;
 use indexmap::IndexMap;
 use sis_base::{Copied, Sequence};
 use std::alloc::{AllocError, Global};

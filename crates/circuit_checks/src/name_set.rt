@@ -10,9 +10,15 @@ use std::alloc::{AllocError, Global};
 use std::marker::Model;
 
 /// Different names, which contracts see as the list of them in the order in which they came.
-#[derive(Drop)]
 pub struct NameSet<'a> {
     names: IndexSet<&'a [u8]>,
+}
+
+// By hand, so that letting a set go is one call in the functions that own one.
+impl<'a> Drop for NameSet<'a> {
+    fn drop(self) {
+        let NameSet { names: _names } = self;
+    }
 }
 
 impl<'a> Model for NameSet<'a> {

@@ -3,7 +3,7 @@
 
 ghost use Rattle.std.specs.Prelude.{◌≡◌, ◌++◌, IfOk, OnOk};
 ghost use Rattle.std.specs.Option.{option_copied};
-ghost use Rattle.graph_cycles.specs.Graphs.{first_cyclic};
+ghost use Rattle.circuit_checks.specs.Graphs.{first_cyclic};
 ghost use Rattle.circuit_model.specs.Soundness.{outputs_of};
 ghost use Rattle.circuit_checks.specs.PartChecks.{first_bad_part_name};
 ghost use Rattle.circuit_checks.specs.Sets.{Alike, with_name, graph_of, is_at, bad_input_or_cycle, bad_name_by};

@@ -13,3 +13,10 @@ pub mod FixedSound
 mod Rows
 pub mod Places
 pub mod Left
+pub mod Chains
+pub mod Changes
+pub mod Found
+pub mod Mapped
+pub mod Heights
+pub mod Among
+pub mod Splitting

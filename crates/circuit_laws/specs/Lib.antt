@@ -7,3 +7,6 @@ pub mod Kept
 pub mod Fitting
 pub mod Fixed
 pub mod Left
+pub mod Changes
+pub mod Following
+pub mod Splits

@@ -7,3 +7,8 @@ pub mod Soundness
 pub mod Text
 pub mod Levels
 pub mod Simulation
+pub mod MachineRuns
+pub mod MachineBehaviors
+pub mod Clashes
+pub mod MachineSoundness
+pub mod MachineText

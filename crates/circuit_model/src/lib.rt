@@ -1,19 +1,31 @@
-//! Circuits: their types, what they mean as machines over bits, when they are sound, and their BLIF text.
+//! Circuits and machines: their types, what they mean over bits, when they are sound, and their
+//! texts.
 //!
-//! The types are those of a BLIF model (SIS report, UCB/ERL M92/41, appendix on BLIF): ports, latches of one
-//! clock step of delay, tables of rows, and the don't-care tables. `specs/` says what they mean: the value of
-//! a table (`Values`), the run of a circuit and when one circuit refines another (`Runs`), when a circuit is
-//! sound (`Soundness`), and its one text (`Text`). `laws` has the laws over these definitions, each the
-//! contract of a public call. `Circuit::simulate` runs a circuit, level by level (`Levels`).
+//! A `Circuit` is a BLIF model (SIS report, UCB/ERL M92/41, appendix on BLIF): ports, latches of one
+//! clock step of delay, tables of rows, and the don't-care tables. A `Machine` is a KISS2 table (SIS
+//! report; De Micheli, "Synthesis and Optimization of Digital Circuits", chapters 3 and 9): symbolic
+//! states, and rows of an input cube, a current state, a next state and outputs, each of which may
+//! be left open.
+//!
+//! `specs/` says what they mean: the value of a table (`Values`), runs (`Runs`, `MachineRuns`), when
+//! one circuit refines another (`Behaviors`), when one behavior refines another, be it a circuit's
+//! or a machine's (`MachineBehaviors`), when two rows clash (`Clashes`), when each is sound
+//! (`Soundness`, `MachineSoundness`), and its one text (`Text`, `MachineText`). `laws` and
+//! `machine_laws` have the laws over these definitions, each the contract of a public call.
+//! `Circuit::simulate` runs a circuit, level by level (`Levels`).
 #![tactic(auto)]
 
 mod circuit;
 mod copies;
 pub mod laws;
+mod machine;
+mod machine_copies;
+pub mod machine_laws;
 mod simulation;
 mod wiring;
 
 pub use circuit::{Circuit, Kind, Latch, Latches, Names, Row, Rows, Table, Tables, Timing, Tri};
 pub use copies::timing_copied;
+pub use machine::{Clash, Machine, MachineRow, MachineRows, Spec};
 pub use simulation::{Bits, SimFault, Simulated};
 pub use sis_base::Name;

@@ -5,7 +5,7 @@ ghost use Rattle.std.specs.Prelude.{◌≡◌, ℕ, List, nat_lt, length};
 ghost use Rattle.std.specs.List.{list_all};
 
 use circuit_cases::{letters, put_value};
-use graph_cycles::first_cyclic;
+use circuit_checks::first_cyclic;
 use sis_base::Sequence;
 use std::alloc::Global;
 use trial_cases::{Case, CaseFault, number_of};

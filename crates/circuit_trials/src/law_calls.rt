@@ -25,8 +25,8 @@ fn model_laws() {
 
 /// The laws of graph_cycles.
 fn graph_laws() {
-    graph_cycles::laws::cyclic_is_walked();
-    graph_cycles::laws::acyclic_is_ranked();
+    circuit_checks::graph_laws::cyclic_is_walked();
+    circuit_checks::graph_laws::acyclic_is_ranked();
 }
 
 /// The laws of circuit_checks.
@@ -40,14 +40,14 @@ fn check_laws() {
 
 /// The laws of table_fold, table_tidy and table_order.
 fn table_laws() {
-    table_fold::laws::folded_keeps_its_value();
-    table_fold::laws::folded_names_inputs_once();
-    table_fold::laws::folded_is_shaped();
-    table_fold::laws::folded_tables_form_no_cycle();
-    table_tidy::laws::tidied_keeps_its_value();
-    table_tidy::laws::tidied_is_tidy();
-    table_tidy::laws::tidied_is_shaped();
-    table_order::laws::acyclic_tables_are_ordered();
+    circuit_tables::fold_laws::folded_keeps_its_value();
+    circuit_tables::fold_laws::folded_names_inputs_once();
+    circuit_tables::fold_laws::folded_is_shaped();
+    circuit_tables::fold_laws::folded_tables_form_no_cycle();
+    circuit_tables::tidy_laws::tidied_keeps_its_value();
+    circuit_tables::tidy_laws::tidied_is_tidy();
+    circuit_tables::tidy_laws::tidied_is_shaped();
+    circuit_order::laws::acyclic_tables_are_ordered();
 }
 
 /// The laws of circuit_laws.

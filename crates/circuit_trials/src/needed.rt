@@ -2,7 +2,7 @@
 
 ghost use Rattle.std.specs.Prelude.{◌≡◌, true, IfOk};
 ghost use Rattle.circuit_model.specs.Names.{all_different};
-ghost use Rattle.net_needed.specs.Reading.{held_by};
+ghost use Rattle.net_wires.specs.Reading.{held_by};
 
 use circuit_cases::{
     are_different, bit_of, circuit, have_one_driver, name, put_circuit, put_table, put_text,
@@ -10,7 +10,7 @@ use circuit_cases::{
 };
 use circuit_model::{Circuit, Latch, Name, Names, Table};
 use indexmap::{IndexMap, IndexSet};
-use net_needed::{
+use net_wires::{
     constant_table, dangling_step, driven_names, is_among, leaves_read, note_place, written_bit,
 };
 use sis_base::{Copied, Sequence};

@@ -3,7 +3,7 @@
 
 use circuit_cases::{cut, letters, names};
 use circuit_model::{Name, Names};
-use input_readers::{Places, Readers};
+use net_readers::{Places, Readers};
 use std::alloc::{AllocError, Global};
 use trial_cases::{Case, CaseFault, number_of, put_line};
 

@@ -2,11 +2,10 @@
 
 use circuit_cases::{have_one_driver, put_either, put_names, put_table, tables};
 use circuit_model::Table;
+use circuit_order::order;
+use circuit_tables::{fold_table, is_tidy_table, tidied_table};
 use sis_base::Copied;
 use std::alloc::Global;
-use table_fold::fold_table;
-use table_order::order;
-use table_tidy::{is_tidy_table, tidied_table};
 use trial_cases::{Case, CaseFault};
 
 /// Puts the answer to a case of table_fold, table_tidy or table_order.

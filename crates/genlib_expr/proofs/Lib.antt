@@ -5,3 +5,5 @@ pub mod Spelling
 pub mod WordSteps
 pub mod Depths
 pub mod Placing
+pub mod Steps
+pub mod Meaning

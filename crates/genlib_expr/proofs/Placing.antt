@@ -4,8 +4,8 @@ use Rattle.std.specs.Borrow.{Bor}
 use Rattle.std.specs.List.{filter, position_or_len}
 use Rattle.std.proofs.lemmas.List.{drop_more, drop_all, take_more, take_all, map-append}
 use Rattle.circuit_model.specs.Names.{has}
-use Rattle.table_fold.specs.Listing.{names_with}
-use Rattle.table_fold.proofs.Once.{place_stays}
+use Rattle.circuit_tables.specs.Listing.{names_with}
+use Rattle.circuit_tables.proofs.Once.{place_stays}
 use Rattle.genlib_expr.specs.declared.token.Token.{Token}
 use Rattle.genlib_expr.specs.declared.token.Token.TheVariants.{Name}
 use Rattle.genlib_expr.specs.Text.{fixed_token, is_none, is_name, placed, token_of, pins_in, tokens_in}

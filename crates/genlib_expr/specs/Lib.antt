@@ -4,3 +4,5 @@ pub mod Machine
 pub mod Text
 pub mod Texts
 pub mod Values
+pub mod Functions
+pub mod Tables

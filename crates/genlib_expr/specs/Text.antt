@@ -4,7 +4,7 @@
 use Rattle.std.specs.Prelude.{ℕ, ◌+◌, ◌-◌, ◌==◌, ◌&&◌, ◌||◌, not, max, Bool, true, false, if◌then◌else◌, Option, Some, None, List, [], ◌∷◌, ◌++◌, map, option_to_list, bytes_eq, codes}
 use Rattle.std.specs.List.{take_while, filter, position_or_len}
 use Rattle.sis_base.specs.Written.{is_blank}
-use Rattle.table_fold.specs.Folding.{each_once}
+use Rattle.circuit_tables.specs.Folding.{each_once}
 use Rattle.genlib_expr.specs.declared.token.Token.{Token}
 use Rattle.genlib_expr.specs.declared.token.Token.TheVariants.{Constant, Name, Bang, Quote, Star, Plus, Open, Close, Other}
 

@@ -2,7 +2,7 @@
 
 ghost use Rattle.std.specs.Prelude.{◌≡◌, ◌<◌, ◌^◌, ◌≤◌, ◌+◌, ◌∷◌, [], max, IfOk, OnOk};
 ghost use Rattle.std.specs.List.{filter};
-ghost use Rattle.table_fold.specs.Listing.{names_with};
+ghost use Rattle.circuit_tables.specs.Listing.{names_with};
 ghost use Rattle.genlib_expr.specs.Text.{mark_token, constant_token, fixed_token, is_name, pins_in, token_of, tokens_in, level_behind, depth_from};
 ghost use Rattle.genlib_expr.specs.Texts.{texts};
 
@@ -76,7 +76,7 @@ fn name_of(alloc: Global, word: &[u8]) -> Result<Name, AllocError>
 }
 
 /// The token of a word, whose name is put behind the pins where it is new.
-#[tactic(auto, unfolding(crate::specs::Text::token_of, table_fold::specs::Listing::names_with))]
+#[tactic(auto, unfolding(crate::specs::Text::token_of, circuit_tables::specs::Listing::names_with))]
 fn token_of(alloc: Global, pins: &mut IndexSet<Name>, word: &[u8]) -> Result<Token, AllocError>
     ensures token { IfOk result (λ token. token ≡ token_of pins.old.keys word.now) }
     ensures pins { OnOk result (pins.new.keys ≡ names_with pins.old.keys (filter is_name (word.now ∷ []))) }

@@ -4,7 +4,7 @@ use Rattle.std.specs.List.{AllByRecursion, list_all}
 use Rattle.std.specs.Option.{option_map_or}
 use Rattle.std.proofs.Math.Nat.{pow-le-pow_right}
 use Rattle.std.proofs.lemmas.Bool.Decides.{nat_tests}
-use Rattle.table_fold.proofs.Once.{and_left, and_right}
+use Rattle.circuit_tables.proofs.Once.{and_left, and_right}
 use Rattle.sis_text.specs.Decimals.{is_digit, number_of, whole_part, fraction_part, are_parts, millionths_of, decimal_of}
 use Rattle.sis_text.proofs.DecimalSteps.{IsNumberSoFar, none_so_far, one_more, scaled_fits}
 use Rattle.genlib_format.specs.declared.pins.PinLine.{PinLine}

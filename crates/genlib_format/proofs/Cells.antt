@@ -2,11 +2,11 @@
 use Rattle.std.proofs.Common.{◌≡◌, ℕ, zero, suc, Bool, true, false, if◌then◌else◌, Some, None, ◌⊎◌, inl, inr, List, [], ◌∷◌, ◌++◌, length, slice_get, bytes_eq, refl, sym, ◌∙◌, ap, subst, eqb-true}
 use Rattle.std.specs.Cmp.Lexicographic.{pointwise}
 use Rattle.std.proofs.lemmas.Option.{same_Some}
-use Rattle.table_fold.proofs.Once.{and_left, and_right, same_name, itself}
+use Rattle.circuit_tables.proofs.Once.{and_left, and_right, same_name, itself}
 use Rattle.sis_text.specs.declared.decimal.Decimal.{Decimal}
 use Rattle.cover_ops.proofs.Expansion.{same_points}
 use Rattle.genlib_expr.specs.Formula.{formula_of}
-use Rattle.genlib_rows.specs.Functions.{function_of}
+use Rattle.genlib_expr.specs.Functions.{function_of}
 use Rattle.genlib_format.specs.declared.gate.Gate.{Gate}
 use Rattle.genlib_format.specs.Reader.{gate_named, is_same_cell, with_blocks}
 use Rattle.genlib_format.specs.Soundness.{IsOneCell}

@@ -3,8 +3,8 @@ use Rattle.std.proofs.Common.{◌≡◌, ℕ, Bool, true, false, cond, ◌||◌,
 use Rattle.std.specs.List.{AllByRecursion, position_or_len}
 use Rattle.std.proofs.lemmas.List.{append-nil}
 use Rattle.circuit_model.specs.Names.{has}
-use Rattle.table_fold.specs.Folding.{each_once}
-use Rattle.table_fold.proofs.Once.{same_name, itself, first_place, has-each_once}
+use Rattle.circuit_tables.specs.Folding.{each_once}
+use Rattle.circuit_tables.proofs.Once.{same_name, itself, first_place, has-each_once}
 use Rattle.genlib_expr.specs.declared.token.Token.{Token}
 use Rattle.genlib_expr.specs.declared.token.Token.TheVariants as token
 use Rattle.genlib_expr.specs.declared.node.Node.{Node}

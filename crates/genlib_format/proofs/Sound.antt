@@ -4,8 +4,8 @@ use Rattle.std.specs.List.{AllByRecursion}
 use Rattle.std.proofs.lemmas.Bool.Decides.{nat_tests}
 use Rattle.std.proofs.lemmas.List.{length-map}
 use Rattle.circuit_model.specs.Names.{has, all_different}
-use Rattle.table_fold.proofs.Once.{different-each_once}
-use Rattle.table_fold.specs.Folding.{each_once}
+use Rattle.circuit_tables.proofs.Once.{different-each_once}
+use Rattle.circuit_tables.specs.Folding.{each_once}
 use Rattle.genlib_expr.specs.Text.{words_of, is_name, pins_in, pins_of, depth_of}
 use Rattle.std.specs.List.{filter}
 use Rattle.genlib_format.specs.declared.gates.GateLines.{GateLines}

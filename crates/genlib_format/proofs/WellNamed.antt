@@ -6,7 +6,7 @@ use Rattle.std.proofs.lemmas.List.Sums.{take_while-cons}
 use Rattle.sis_base.specs.Written.{is_empty}
 use Rattle.sis_text.specs.Words.{bytes_at}
 use Rattle.sis_text.specs.Words.{words_of as spans_of}
-use Rattle.table_fold.specs.Folding.{each_once}
+use Rattle.circuit_tables.specs.Folding.{each_once}
 use Rattle.genlib_expr.specs.declared.token.Token.TheVariants.{Bang, Quote, Star, Plus, Open, Close, Other}
 use Rattle.genlib_expr.specs.Text.{is_mark, is_name_byte, word_at, words_from, mark_token, fixed_token, is_name, pins_in, pins_of}
 use Rattle.genlib_expr.specs.Text.{is_none as no_token}

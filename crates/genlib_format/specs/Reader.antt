@@ -9,7 +9,7 @@ use Rattle.sis_text.specs.declared.decimal.Decimal.{Decimal}
 use Rattle.cover_ops.specs.Shannon.{same}
 use Rattle.genlib_expr.specs.Formula.{formula_of}
 use Rattle.genlib_expr.specs.Text.{pins_of}
-use Rattle.genlib_rows.specs.Functions.{function_of}
+use Rattle.genlib_expr.specs.Functions.{function_of}
 use Rattle.genlib_format.specs.declared.gates.GateLines.{GateLines}
 use Rattle.genlib_format.specs.declared.pins.PinLine.{PinLine}
 use Rattle.genlib_format.specs.declared.entries.Entry.{Entry}

@@ -4,11 +4,11 @@
 use Rattle.std.specs.Prelude.{◌≡◌, ℕ, ◌<◌, ◌≤◌, ◌^◌, Bool, true, false, Some, List, [], ◌∷◌, length, map, slice_get, slice_index_or}
 use Rattle.std.specs.List.{AllByRecursion}
 use Rattle.circuit_model.specs.Names.{has, all_different}
-use Rattle.table_fold.specs.Folding.{each_once}
+use Rattle.circuit_tables.specs.Folding.{each_once}
 use Rattle.genlib_expr.specs.Formula.{formula_of, ArePostfix}
 use Rattle.genlib_expr.specs.declared.node.Node.{Node}
 use Rattle.genlib_expr.specs.declared.node.Node.TheVariants.{Constant, Pin, Not, And, Or}
-use Rattle.genlib_rows.specs.Functions.{function_of}
+use Rattle.genlib_expr.specs.Functions.{function_of}
 use Rattle.genlib_format.specs.declared.gate.Gate.{Gate}
 use Rattle.genlib_format.specs.declared.gate.Block.{Block}
 use Rattle.genlib_format.specs.Gates.{is_gate_name}

@@ -4,7 +4,7 @@ ghost use Rattle.std.specs.Prelude.{◌≡◌, ◌<◌, ◌&&◌, ◌==◌, None
 ghost use Rattle.std.specs.Cmp.Lexicographic.{pointwise};
 ghost use Rattle.cover_ops.specs.Shannon.{same};
 ghost use Rattle.genlib_expr.specs.Formula.{formula_of};
-ghost use Rattle.genlib_rows.specs.Functions.{function_of};
+ghost use Rattle.genlib_expr.specs.Functions.{function_of};
 ghost use Rattle.genlib_format.specs.declared.entries.Entry.TheVariants.{Gate as TheGate};
 ghost use Rattle.genlib_format.specs.Answers.{Leaves, Reads};
 ghost use Rattle.genlib_format.specs.Soundness.{IsSound};
@@ -17,7 +17,7 @@ use crate::gate::{Gate, gate_of};
 use crate::gates::GateLines;
 use crate::library::Library;
 use crate::words::words_of;
-use genlib_rows::agree;
+use genlib_expr::agree;
 use sis_base::{Copied, Name};
 use std::alloc::{AllocError, Global};
 

@@ -6,7 +6,7 @@ use Rattle.std.proofs.lemmas.List.{append-nil}
 use Rattle.std.proofs.lemmas.Grind.{flat_map-append}
 use Rattle.sis_text.specs.Entries.{Entry}
 use Rattle.line_words.specs.LineWords.{other_words}
-use Rattle.machine_model.specs.declared.machine.Machine.{Machine}
+use Rattle.circuit_model.specs.declared.machine.Machine.{Machine}
 use Rattle.kiss_format.specs.Keywords.{kind_of}
 use Rattle.kiss_format.specs.Lines.{when, first_of, is_missing, first_item, count_in, named_states, state_words, with_states, of_lines, input_counts, output_counts, reset_words, row_words, states_told, inputs_in, outputs_in, reset_in, count_rows, states_in, count_fault, reset_fault, is_one_word, is_row_of, form_fault, row_fault, fault_as, line_fault, first_line_fault, long_fault}
 use Rattle.kiss_format.specs.Reader.{row_of, rows_of, rows_in, whole, unless, read_all}

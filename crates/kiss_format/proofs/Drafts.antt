@@ -13,8 +13,8 @@ use Rattle.sis_text.specs.Words.{begins_with}
 use Rattle.sis_text.specs.Decimals.{is_digit, number_of}
 use Rattle.sis_text.specs.Entries.{Entry}
 use Rattle.line_words.specs.LineWords.{other_words, long_name, character_of, is_character}
-use Rattle.machine_model.specs.Soundness.{is_any, mentioned_by, first_mentions}
-use Rattle.machine_model.specs.declared.machine.MachineRow.{MachineRow}
+use Rattle.circuit_model.specs.MachineSoundness.{is_any, mentioned_by, first_mentions}
+use Rattle.circuit_model.specs.declared.machine.MachineRow.{MachineRow}
 use Rattle.kiss_format.specs.Keywords.{kind_of}
 use Rattle.kiss_format.specs.Lines.{when, is_missing, first_item, is_numeral, count_of, count_in, named_states, state_words, with_states, count_fault, form_fault, row_fault, long_fault, is_cube, is_row_of}
 use Rattle.kiss_format.specs.Reader.{state_of, place_of, row_of}

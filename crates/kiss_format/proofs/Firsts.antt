@@ -3,7 +3,7 @@ use Rattle.std.proofs.Common.{◌≡◌, ℕ, ◌+◌, ◌<◌, ◌≤◌, Optio
 use Rattle.std.specs.List.{filter_map}
 use Rattle.std.specs.Option.{option_or}
 use Rattle.std.proofs.lemmas.List.{drop_more, drop_all}
-use Rattle.machine_model.specs.declared.machine.MachineRow.{MachineRow}
+use Rattle.circuit_model.specs.declared.machine.MachineRow.{MachineRow}
 use Rattle.kiss_format.specs.Lines.{first_item}
 
 abbrev pub currents : List MachineRow → List ℕ

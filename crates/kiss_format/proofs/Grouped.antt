@@ -2,8 +2,8 @@
 use Rattle.std.proofs.Common.{◌≡◌, ℕ, zero, suc, ◌+◌, ◌%◌, ◌<◌, ◌≤◌, ◌==◌, nat_le, Bool, true, false, not, ◌&&◌, Option, Some, None, List, [], ◌∷◌, ◌++◌, length, take, drop, find, cond, get_or, slice_get, slice_index_or, replicate, IfSome, refl, sym, ◌∙◌, ap, arith, if◌then◌else◌}
 use Rattle.std.proofs.lemmas.Bool.Decides.{nat_tests}
 use Rattle.std.proofs.lemmas.List.{take_more, drop_more, drop_all, length-take-le, length-replicate, get_or-replicate}
-use Rattle.machine_model.specs.declared.machine.MachineRow.{MachineRow}
-use Rattle.machine_model.specs.Clashes.{agree_all, may_be_one, clash, clash_with}
+use Rattle.circuit_model.specs.declared.machine.MachineRow.{MachineRow}
+use Rattle.circuit_model.specs.Clashes.{agree_all, may_be_one, clash, clash_with}
 use Rattle.kiss_format.specs.Groups.{group_of, places_in, may_clash, clash_at, lesser, AreGroups}
 
 -- tests

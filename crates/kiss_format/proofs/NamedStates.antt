@@ -7,8 +7,8 @@ use Rattle.std.proofs.lemmas.List.{append_assoc, get_or_append_left}
 use Rattle.std.proofs.lemmas.List.FromFn.{length-range_with_len, get_or-range_with_len}
 use Rattle.std.proofs.lemmas.Slice.Eq.{bytes_eq-Decides}
 use Rattle.circuit_model.specs.Names.{has, all_different}
-use Rattle.machine_model.specs.Soundness.{is_any, first_mentions}
-use Rattle.machine_model.specs.Text.{state_at, state_word}
+use Rattle.circuit_model.specs.MachineSoundness.{is_any, first_mentions}
+use Rattle.circuit_model.specs.MachineText.{state_at, state_word}
 use Rattle.kiss_format.specs.Lines.{with_state, with_states}
 use Rattle.kiss_format.specs.Reader.{state_of, place_of}
 use Rattle.kiss_format.proofs.Mentions.{and-parts, not-true, bytes_turned, both_kept, mention_old, mention_new, range_lacks}

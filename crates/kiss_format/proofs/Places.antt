@@ -5,7 +5,7 @@ use Rattle.std.proofs.Common.{refl, sym, ◌∙◌, ap, arith}
 use Rattle.std.proofs.lemmas.Bool.Decides.{nat_tests}
 use Rattle.std.proofs.lemmas.Slice.Eq.{bytes_eq-Decides}
 use Rattle.circuit_model.specs.Names.{has}
-use Rattle.machine_model.specs.Soundness.{is_any}
+use Rattle.circuit_model.specs.MachineSoundness.{is_any}
 use Rattle.kiss_format.specs.Lines.{named_states, with_state, with_states}
 use Rattle.kiss_format.specs.Reader.{state_of, place_of, row_of}
 

@@ -7,11 +7,11 @@ use Rattle.std.proofs.lemmas.List.Quantifiers.{position-Some}
 use Rattle.sis_base.specs.Written.{is_word, is_word_byte, is_blank}
 use Rattle.sis_text.specs.Entries.{Entry}
 use Rattle.sis_text.specs.Order.{IsProper, IsWordOf, is_plain}
-use Rattle.machine_model.specs.Clashes.{first_clash}
-use Rattle.machine_model.specs.Soundness.{IsSound, IsShaped, all_names}
-use Rattle.machine_model.specs.declared.machine.Clash.{Clash}
-use Rattle.machine_model.specs.declared.machine.Machine.{Machine}
-use Rattle.machine_model.specs.declared.machine.MachineRow.{MachineRow}
+use Rattle.circuit_model.specs.Clashes.{first_clash}
+use Rattle.circuit_model.specs.MachineSoundness.{IsSound, IsShaped, all_names}
+use Rattle.circuit_model.specs.declared.machine.Clash.{Clash}
+use Rattle.circuit_model.specs.declared.machine.Machine.{Machine}
+use Rattle.circuit_model.specs.declared.machine.MachineRow.{MachineRow}
 use Rattle.kiss_format.specs.Keywords.{before_end, kind_of, is_end_kind}
 use Rattle.kiss_format.specs.Lines.{first_item}
 use Rattle.kiss_format.specs.Reader.{machine_with, reset_place, reset_name, by_clash, by_place, placed, at_place, read_lines, Reads}

@@ -13,11 +13,11 @@ use Rattle.sis_text.proofs.Readback.{read_back}
 use Rattle.circuit_model.specs.Text.{dotted, character}
 use Rattle.circuit_model.specs.declared.circuit.Tri.{Tri}
 use Rattle.circuit_model.specs.declared.circuit.Tri.TheVariants.{Zero, One, Free}
-use Rattle.machine_model.specs.Clashes.{first_clash}
-use Rattle.machine_model.specs.Soundness.{IsSound, IsShaped, mentioned_by, first_mentions}
-use Rattle.machine_model.specs.Text.{state_at, state_word, row_line, header_lines, machine_lines, text_of}
-use Rattle.machine_model.specs.declared.machine.Machine.{Machine}
-use Rattle.machine_model.specs.declared.machine.MachineRow.{MachineRow}
+use Rattle.circuit_model.specs.Clashes.{first_clash}
+use Rattle.circuit_model.specs.MachineSoundness.{IsSound, IsShaped, mentioned_by, first_mentions}
+use Rattle.circuit_model.specs.MachineText.{state_at, state_word, row_line, header_lines, machine_lines, text_of}
+use Rattle.circuit_model.specs.declared.machine.Machine.{Machine}
+use Rattle.circuit_model.specs.declared.machine.MachineRow.{MachineRow}
 use Rattle.kiss_format.specs.Keywords.{keyword_of, kind_of, is_end_kind, before_end}
 use Rattle.kiss_format.specs.Lines.{count_fault, reset_fault, word_fault, first_of}
 use Rattle.kiss_format.specs.Reader.{made_names, machine_with, placed, place_of, read_all, read_lines}

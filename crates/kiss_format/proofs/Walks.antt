@@ -4,8 +4,8 @@ use Rattle.std.specs.Option.{option_map, option_or}
 use Rattle.std.proofs.lemmas.List.{drop_more, drop_all, take_more, length-take-le}
 use Rattle.circuit_model.specs.declared.circuit.Tri.{Tri}
 use Rattle.circuit_model.specs.declared.circuit.Tri.TheVariants.{Zero}
-use Rattle.machine_model.specs.declared.machine.MachineRow.{MachineRow}
-use Rattle.machine_model.specs.Clashes.{may_agree, agree_all, clash, clash_with, clash_behind}
+use Rattle.circuit_model.specs.declared.machine.MachineRow.{MachineRow}
+use Rattle.circuit_model.specs.Clashes.{may_agree, agree_all, clash, clash_with, clash_behind}
 
 pub agree-more : (row other : List Tri) (i : ℕ) → i < length row → i < length other
     → agree_all (drop i row) (drop i other) ≡ (may_agree (get_or row i Zero) (get_or other i Zero) && agree_all (drop (i + 1) row) (drop (i + 1) other))

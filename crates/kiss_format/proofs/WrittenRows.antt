@@ -11,10 +11,10 @@ use Rattle.circuit_model.specs.Text.{character}
 use Rattle.circuit_model.specs.declared.circuit.Tri.{Tri}
 use Rattle.circuit_model.specs.declared.circuit.Tri.TheVariants.{Zero, One, Free}
 use Rattle.line_words.specs.LineWords.{other_words, long_name, character_of, is_character}
-use Rattle.machine_model.specs.Soundness.{IsShaped, mentioned_by, first_mentions}
-use Rattle.machine_model.specs.Text.{state_at, state_word, row_line}
-use Rattle.machine_model.specs.declared.machine.Machine.{Machine}
-use Rattle.machine_model.specs.declared.machine.MachineRow.{MachineRow}
+use Rattle.circuit_model.specs.MachineSoundness.{IsShaped, mentioned_by, first_mentions}
+use Rattle.circuit_model.specs.MachineText.{state_at, state_word, row_line}
+use Rattle.circuit_model.specs.declared.machine.Machine.{Machine}
+use Rattle.circuit_model.specs.declared.machine.MachineRow.{MachineRow}
 use Rattle.kiss_format.specs.Keywords.{keyword_of, kind_of}
 use Rattle.kiss_format.specs.Lines.{first_of, named_states, with_states, long_fault, is_cube, form_fault, row_fault}
 use Rattle.kiss_format.specs.Reader.{state_of, row_of}

@@ -2,8 +2,8 @@
 -- state, and one for each remainder of a state's number.
 -- Clauses of private functions alone cite this module; no public clause needs it.
 use Rattle.std.specs.Prelude.{◌≡◌, ℕ, ◌+◌, ◌%◌, ◌≤◌, ◌==◌, nat_le, Bool, false, Option, Some, None, List, [], ◌∷◌, length, take, slice_get, slice_index_or, if◌then◌else◌}
-use Rattle.machine_model.specs.declared.machine.MachineRow.{MachineRow}
-use Rattle.machine_model.specs.Clashes.{clash}
+use Rattle.circuit_model.specs.declared.machine.MachineRow.{MachineRow}
+use Rattle.circuit_model.specs.Clashes.{clash}
 
 -- the group of a current state, where there are so many groups of states
 abbrev pub group_of : ℕ → Option ℕ → ℕ

@@ -11,7 +11,7 @@ use Rattle.sis_text.specs.Words.{begins_with}
 use Rattle.sis_text.specs.Decimals.{is_digit, number_of}
 use Rattle.sis_text.specs.Entries.{Entry}
 use Rattle.line_words.specs.LineWords.{other_words, long_name, is_character}
-use Rattle.machine_model.specs.Soundness.{is_any}
+use Rattle.circuit_model.specs.MachineSoundness.{is_any}
 use Rattle.kiss_format.specs.Keywords.{kind_of}
 use Rattle.kiss_format.specs.declared.keyword.Keyword.{Keyword}
 use Rattle.kiss_format.specs.declared.keyword.Keyword.TheVariants.{Inputs, Outputs, Products, States, Reset, End, Row, Other}

@@ -6,11 +6,11 @@ use Rattle.std.specs.Option.{option_map}
 use Rattle.std.specs.List.{filter_map, range_with_len}
 use Rattle.sis_text.specs.Entries.{Entry}
 use Rattle.line_words.specs.LineWords.{character_of}
-use Rattle.machine_model.specs.Soundness.{is_any}
-use Rattle.machine_model.specs.Clashes.{first_clash}
-use Rattle.machine_model.specs.declared.machine.Clash.{Clash}
-use Rattle.machine_model.specs.declared.machine.Machine.{Machine}
-use Rattle.machine_model.specs.declared.machine.MachineRow.{MachineRow}
+use Rattle.circuit_model.specs.MachineSoundness.{is_any}
+use Rattle.circuit_model.specs.Clashes.{first_clash}
+use Rattle.circuit_model.specs.declared.machine.Clash.{Clash}
+use Rattle.circuit_model.specs.declared.machine.Machine.{Machine}
+use Rattle.circuit_model.specs.declared.machine.MachineRow.{MachineRow}
 use Rattle.kiss_format.specs.Keywords.{kind_of, is_inputs_kind, is_outputs_kind, before_end}
 use Rattle.kiss_format.specs.Lines.{of_lines, row_words, first_item, inputs_in, outputs_in, reset_in, states_in, first_line_fault}
 use Rattle.kiss_format.specs.declared.keyword.Keyword.{Keyword}

@@ -5,7 +5,7 @@
 use Rattle.std.specs.Prelude.{◌≡◌, ℕ, Option, Some, None, Result, Ok, Err, List, [], ◌∷◌, ◌++◌, length}
 use Rattle.sis_text.specs.Entries.{Entry}
 use Rattle.line_words.specs.LineWords.{other_words}
-use Rattle.machine_model.specs.declared.machine.Machine.{Machine}
+use Rattle.circuit_model.specs.declared.machine.Machine.{Machine}
 use Rattle.kiss_format.specs.Keywords.{kind_of}
 use Rattle.kiss_format.specs.Lines.{first_item, count_in, named_states, with_states, count_fault, word_fault, reset_fault, row_fault}
 use Rattle.kiss_format.specs.Reader.{row_of, whole}

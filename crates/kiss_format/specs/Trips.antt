@@ -2,7 +2,7 @@
 -- Source: SIS report (UCB/ERL M92/41), KISS2 tables: `.i` and `.o` are numbers alone. The limits are the project's own.
 use Rattle.std.specs.Prelude.{ℕ, ◌≤◌, List, length, codes}
 use Rattle.std.specs.List.{AllByRecursion}
-use Rattle.machine_model.specs.declared.machine.Machine.{Machine}
+use Rattle.circuit_model.specs.declared.machine.Machine.{Machine}
 use Rattle.kiss_format.specs.Reader.{made_names}
 
 -- a machine keeps the limits on rows, on states and on the names of states

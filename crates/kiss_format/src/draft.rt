@@ -13,9 +13,8 @@ use crate::keyword::{Keyword, keyword_of};
 use crate::line_fault::{count_fault, form_fault, reset_fault, word_fault};
 use crate::number::count_in;
 use crate::states::StateNames;
-use circuit_model::Name;
+use circuit_model::{MachineRow, MachineRows, Name};
 use line_words::{characters, first_word, name_of, other_words};
-use machine_model::{MachineRow, MachineRows};
 use sis_base::Sequence;
 use std::alloc::{AllocError, Global};
 

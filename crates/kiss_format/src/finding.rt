@@ -1,13 +1,12 @@
 //! The first clash of some rows.
 
 ghost use Rattle.std.specs.Prelude.{◌≡◌, ◌<◌, Some, length, take, find, IfSome, IfOk};
-ghost use Rattle.machine_model.specs.declared.machine.Clash.{Clash as TheClash};
-ghost use Rattle.machine_model.specs.Clashes.{may_agree as may_agree_by, agree_all as agree_by, may_be_one as may_be_by, clash as clash_by, clash_with as clash_with_by, first_clash as first_by};
+ghost use Rattle.circuit_model.specs.declared.machine.Clash.{Clash as TheClash};
+ghost use Rattle.circuit_model.specs.Clashes.{may_agree as may_agree_by, agree_all as agree_by, may_be_one as may_be_by, clash as clash_by, clash_with as clash_with_by, first_clash as first_by};
 ghost use Rattle.kiss_format.specs.Groups.{clash_at as clash_at_by, lesser as lesser_by, AreGroups};
 
 use crate::groups::{Places, no_groups, note_row};
-use circuit_model::Tri;
-use machine_model::{Clash, MachineRow};
+use circuit_model::{Clash, MachineRow, Tri};
 use std::alloc::{AllocError, Global};
 
 /// Whether two characters may be one bit.
@@ -56,7 +55,7 @@ fn may_be_one(state: Option<usize>, other: Option<usize>) -> bool
 }
 
 /// Whether two rows clash.
-#[tactic(auto, unfolding(machine_model::specs::Clashes::clash))]
+#[tactic(auto, unfolding(circuit_model::specs::Clashes::clash))]
 fn clash(row: &MachineRow, other: &MachineRow) -> bool
     ensures { result ≡ clash_by row.now other.now }
 {

@@ -1,10 +1,10 @@
 //! Rows in groups by their current states.
 
 ghost use Rattle.std.specs.Prelude.{◌≡◌, ◌<◌, ◌≤◌, ◌+◌, ◌++◌, ◌∷◌, ◌==◌, ℕ, [], length, replicate, slice_index_or, if◌then◌else◌, IfOk, OnOk};
-ghost use Rattle.machine_model.specs.declared.machine.MachineRow.{MachineRow as TheRow};
+ghost use Rattle.circuit_model.specs.declared.machine.MachineRow.{MachineRow as TheRow};
 ghost use Rattle.kiss_format.specs.Groups.{group_of as group_by, AreGroups};
 
-use machine_model::MachineRow;
+use circuit_model::MachineRow;
 use sis_base::Sequence;
 use std::alloc::{AllocError, Global};
 

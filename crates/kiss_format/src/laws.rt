@@ -2,9 +2,9 @@
 
 ghost use Rattle.std.specs.Prelude.{◌≡◌, ℕ, List, Ok};
 ghost use Rattle.sis_text.specs.Entries.{Entry, entries_of};
-ghost use Rattle.machine_model.specs.declared.machine.Machine.{Machine as TheMachine};
-ghost use Rattle.machine_model.specs.Soundness.{IsSound};
-ghost use Rattle.machine_model.specs.Text.{text_of};
+ghost use Rattle.circuit_model.specs.declared.machine.Machine.{Machine as TheMachine};
+ghost use Rattle.circuit_model.specs.MachineSoundness.{IsSound};
+ghost use Rattle.circuit_model.specs.MachineText.{text_of};
 ghost use Rattle.kiss_format.specs.Reader.{read_lines};
 ghost use Rattle.kiss_format.specs.Trips.{IsWithinLimits, plainly_named};
 

@@ -6,7 +6,7 @@
 //! lines. What is read is sound. `laws` says that what is written is read again: a table has no names of ports, so they
 //! are made (`specs/Trips`).
 //!
-//! `machine_text` puts just the definition's text (`text_of` of `machine_model`) behind what is there: header lines, a line
+//! `machine_text` puts just the definition's text (`text_of` of `circuit_model`, `specs/MachineText`) behind what is there: header lines, a line
 //! for each row, an end. An error there only for want of memory. Rows are compared for clashes (De Micheli, "Synthesis and
 //! Optimization of Digital Circuits", chapter 9) in groups by their current states (`specs/Groups`): a row of one state with
 //! those of its own group and with those of every state. Found are just the definition's rows, the least later one and the

@@ -5,7 +5,7 @@ ghost use Rattle.std.specs.List.{All, take_while};
 ghost use Rattle.sis_text.specs.declared.places.Line.{Line};
 ghost use Rattle.sis_text.specs.Entries.{entry_at, entries_of};
 ghost use Rattle.sis_text.specs.Order.{IsProper, is_plain};
-ghost use Rattle.machine_model.specs.Soundness.{IsSound};
+ghost use Rattle.circuit_model.specs.MachineSoundness.{IsSound};
 ghost use Rattle.kiss_format.specs.Keywords.{kind_of, is_end_kind, before_end as before_end_of};
 ghost use Rattle.kiss_format.specs.Steps.{take_entry, take_entries, no_lines, finish as finish_by, Takes, Makes};
 ghost use Rattle.kiss_format.specs.Reader.{read_lines as read_by, Reads};
@@ -14,7 +14,7 @@ use crate::draft::Draft;
 use crate::fault::ReadFault;
 use crate::keyword::{Keyword, keyword_of};
 use crate::whole::{finish, no_machine};
-use machine_model::Machine;
+use circuit_model::Machine;
 use sis_text::{Line, bytes_at, logical_lines, texts_at};
 use std::alloc::Global;
 

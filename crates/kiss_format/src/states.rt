@@ -2,7 +2,7 @@
 
 ghost use Rattle.std.specs.Prelude.{◌≡◌, [], ◌∷◌, not, length, IfOk, OnOk};
 ghost use Rattle.std.specs.List.{filter};
-ghost use Rattle.machine_model.specs.Soundness.{is_any as is_any_word};
+ghost use Rattle.circuit_model.specs.MachineSoundness.{is_any as is_any_word};
 ghost use Rattle.kiss_format.specs.Lines.{with_state, with_states, named_states};
 ghost use Rattle.kiss_format.specs.Reader.{place_of, state_of};
 ghost use Rattle.line_words.specs.LineWords.{texts};

@@ -2,7 +2,7 @@
 
 ghost use Rattle.std.specs.Prelude.{◌≡◌, ◌++◌, ℕ, List, decimal, IfOk, OnOk};
 ghost use Rattle.std.specs.List.{filter_map};
-ghost use Rattle.machine_model.specs.declared.machine.MachineRow.{MachineRow as TheRow};
+ghost use Rattle.circuit_model.specs.declared.machine.MachineRow.{MachineRow as TheRow};
 ghost use Rattle.kiss_format.specs.Lines.{first_item};
 ghost use Rattle.kiss_format.specs.Reader.{reset_place as reset_place_by, reset_name as reset_name_by, made_names as made_names_by, machine_with, placed};
 ghost use Rattle.kiss_format.specs.Steps.{Places, Makes, finished, no_parts};
@@ -11,9 +11,8 @@ use crate::draft::Draft;
 use crate::fault::{KissFault, ReadFault};
 use crate::finding::first_clash;
 use crate::states::StateNames;
-use circuit_model::{Name, Names};
+use circuit_model::{Machine, MachineRow, Name, Names};
 use line_words::name_of;
-use machine_model::{Machine, MachineRow};
 use sis_base::{Copied, Sequence};
 use std::alloc::{AllocError, Global};
 use std::mem;

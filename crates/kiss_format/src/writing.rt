@@ -3,11 +3,10 @@
 ghost use Rattle.std.specs.Prelude.{◌≡◌, ◌++◌, ◌∷◌, [], map, decimal, OnOk, OnErr};
 ghost use Rattle.sis_base.specs.Written.{line_text, lines_text, joined_words};
 ghost use Rattle.circuit_model.specs.Text.{dotted};
-ghost use Rattle.machine_model.specs.Text.{state_at, state_word, row_line, header_lines, text_of};
+ghost use Rattle.circuit_model.specs.MachineText.{state_at, state_word, row_line, header_lines, text_of};
 
-use circuit_model::Name;
+use circuit_model::{Machine, MachineRow, Name};
 use line_words::{end_line, put_characters, put_word};
-use machine_model::{Machine, MachineRow};
 use std::alloc::{AllocError, Global};
 
 /// Puts a line of one word.
@@ -63,7 +62,7 @@ fn state_word(states: &[Name], place: Option<usize>) -> &[u8]
 }
 
 /// Puts a row without its line's end.
-#[tactic(auto, unfolding(machine_model::specs::Text::row_line, sis_base::specs::Written::joined_words), using(std::proofs::lemmas::Grind::common_steps))]
+#[tactic(auto, unfolding(circuit_model::specs::MachineText::row_line, sis_base::specs::Written::joined_words), using(std::proofs::lemmas::Grind::common_steps))]
 fn put_row_words(out: &mut Vec<u8>, states: &[Name], row: &MachineRow) -> Result<(), AllocError>
     ensures { OnOk result (out.new.items ≡ out.old.items ++ joined_words (row_line states.now row.now)) }
 {
@@ -98,7 +97,7 @@ fn put_rows(out: &mut Vec<u8>, states: &[Name], rows: &[MachineRow]) -> Result<(
 }
 
 /// Puts the lines before the rows.
-#[tactic(auto, unfolding(machine_model::specs::Text::header_lines, sis_base::specs::Written::lines_text), using(std::proofs::lemmas::Grind::common_steps))]
+#[tactic(auto, unfolding(circuit_model::specs::MachineText::header_lines, sis_base::specs::Written::lines_text), using(std::proofs::lemmas::Grind::common_steps))]
 fn put_headers(alloc: Global, out: &mut Vec<u8>, machine: &Machine) -> Result<(), AllocError>
     ensures { OnOk result (out.new.items ≡ out.old.items ++ lines_text (header_lines machine.now)) }
 {
@@ -115,7 +114,7 @@ fn put_headers(alloc: Global, out: &mut Vec<u8>, machine: &Machine) -> Result<()
 }
 
 /// Puts a machine's text.
-#[tactic(auto, unfolding(machine_model::specs::Text::text_of, machine_model::specs::Text::machine_lines, sis_base::specs::Written::lines_text), using(std::proofs::lemmas::Grind::common_steps))]
+#[tactic(auto, unfolding(circuit_model::specs::MachineText::text_of, circuit_model::specs::MachineText::machine_lines, sis_base::specs::Written::lines_text), using(std::proofs::lemmas::Grind::common_steps))]
 fn put_machine(alloc: Global, out: &mut Vec<u8>, machine: &Machine) -> Result<(), AllocError>
     ensures { OnOk result (out.new.items ≡ out.old.items ++ text_of machine.now) }
 {

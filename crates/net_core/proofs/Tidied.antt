@@ -4,8 +4,8 @@ use Rattle.std.proofs.lemmas.List.{length-map}
 use Rattle.sis_base.specs.Rows.{HasWidth}
 use Rattle.circuit_model.specs.declared.circuit.Tri.{Tri}
 use Rattle.circuit_model.specs.declared.circuit.Table.{Table}
-use Rattle.table_tidy.specs.Tidy.{IsWide, tidied}
-use Rattle.table_tidy.proofs.Tidied.{tidied_shaped, tidied_renamed}
+use Rattle.circuit_tables.specs.Tidy.{IsWide, tidied}
+use Rattle.circuit_tables.proofs.Tidied.{tidied_shaped, tidied_renamed}
 use Rattle.net_core.specs.declared.table.Table.{Table as TheTable}
 use Rattle.net_core.specs.Tables.{named, covered, character_of, characters_of, HasCharacters}
 use Rattle.net_core.proofs.Rows.{all_characters_back}

@@ -14,7 +14,7 @@ ghost use Rattle.net_core.specs.Tables.{named, IsOverInputs};
 ghost use Rattle.net_core.specs.Fresh.{used_names, IsNewName, node_count, Adds};
 ghost use Rattle.net_core.specs.Places.{present, written_of, IsIndexed, AreOverInputs};
 ghost use Rattle.net_core.specs.Reads.{sizes_of};
-ghost use Rattle.table_order.specs.Order.{order_of};
+ghost use Rattle.circuit_order.specs.Order.{order_of};
 
 use crate::adding::{
     AddFault, bracketed_name, drives_latch, is_control, is_full, is_mentioned, table_count,
@@ -25,12 +25,12 @@ use crate::table::Table;
 use circuit_model::{
     Circuit, Latch, Latches, Name, Names, Table as Written, Tables, Timing, timing_copied,
 };
+use circuit_order::order;
 use cube_cover::Row;
 use indexmap::IndexMap;
 use sis_base::{Copied, Sequence};
 use std::alloc::{AllocError, Global};
 use std::marker::Model;
-use table_order::order;
 
 /// How many inputs, outputs, tables, latches and tables of the don't-care part a network has.
 #[derive(Clone, Copy)]

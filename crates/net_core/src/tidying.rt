@@ -2,13 +2,13 @@
 
 ghost use Rattle.std.specs.Prelude.{◌≡◌, ℕ, List, IfOk};
 ghost use Rattle.net_core.specs.Tables.{named, IsOverInputs};
-ghost use Rattle.table_tidy.specs.Tidy.{tidied};
+ghost use Rattle.circuit_tables.specs.Tidy.{tidied};
 
 use crate::table::Table;
 use circuit_model::Name;
+use circuit_tables::tidied_table;
 use cube_cover::Row;
 use std::alloc::{AllocError, Global};
-use table_tidy::tidied_table;
 
 /// The tidy table: inputs named twice are folded, rows that equal earlier ones go, a table of phase 0 without rows is
 /// the constant 1, and inputs without a literal go. Its cover has one place for each input, with rows or without. An

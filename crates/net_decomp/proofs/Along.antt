@@ -5,15 +5,15 @@ use Rattle.circuit_model.specs.Soundness.{IsSound}
 use Rattle.circuit_model.specs.declared.circuit.Table.{Table}
 use Rattle.circuit_model.specs.declared.circuit.Circuit.{Circuit}
 use Rattle.circuit_laws.specs.Edits.{with_tables}
-use Rattle.chain_laws.specs.Following.{Follows}
+use Rattle.circuit_laws.specs.Following.{Follows}
 use Rattle.net_core.specs.declared.adding.AddFault.{AddFault}
 use Rattle.net_core.specs.declared.adding.AddFault.TheVariants.{NodeLimit, Memory}
-use Rattle.decomp_rules.specs.Partings.{Parting}
-use Rattle.decomp_rules.specs.Rules.{IsDone, IsDue}
-use Rattle.decomp_rules.specs.Decomposed.{IsNext, IsStep, IsReached, IsDecomposed, IsFull}
-use Rattle.decomp_rules.specs.declared.rule.Rule.{Rule}
-use Rattle.decomp_rules.proofs.Stepping.{step_extended}
-use Rattle.decomp_rules.proofs.Bounded.{HadRoom, step_room}
+use Rattle.net_decomp.specs.Partings.{Parting}
+use Rattle.net_decomp.specs.Rules.{IsDone, IsDue}
+use Rattle.net_decomp.specs.Decomposed.{IsNext, IsStep, IsReached, IsDecomposed, IsFull}
+use Rattle.net_decomp.specs.declared.rule.Rule.{Rule}
+use Rattle.net_decomp.proofs.PartedSteps.{step_extended}
+use Rattle.net_decomp.proofs.Bounded.{HadRoom, step_room}
 use Rattle.net_work.specs.Placed.{Placed, circuit_of, table_at}
 use Rattle.net_decomp.specs.Decompose.{HasDecomposed}
 use Rattle.net_decomp.specs.Cursor.{IsPartedAt, IsOverAt, AreDone, IsAlong}

@@ -13,11 +13,11 @@ use Rattle.net_core.specs.Tables.{named, characters_of, IsOverInputs}
 use Rattle.net_core.specs.declared.places.Entry.{Entry}
 use Rattle.net_core.specs.declared.table.Table.{Table as Covered}
 use Rattle.net_core.proofs.Rows.{all_places_back}
-use Rattle.table_tidy.specs.Tidy.{tidied}
-use Rattle.decomp_rules.specs.Partings.{rows_of, parted_table}
-use Rattle.decomp_rules.specs.Rules.{IsDone, IsDue}
-use Rattle.decomp_rules.specs.declared.rule.Rule.{Rule}
-use Rattle.decomp_rules.proofs.Values.{due_keeps}
+use Rattle.circuit_tables.specs.Tidy.{tidied}
+use Rattle.net_decomp.specs.Partings.{rows_of, parted_table}
+use Rattle.net_decomp.specs.Rules.{IsDone, IsDue}
+use Rattle.net_decomp.specs.declared.rule.Rule.{Rule}
+use Rattle.net_decomp.proofs.Values.{due_keeps}
 use Rattle.net_core.specs.Fresh.{node_count}
 use Rattle.net_work.specs.Placed.{Placed, circuit_of, table_at, with_slot}
 use Rattle.net_decomp.specs.Told.{told}

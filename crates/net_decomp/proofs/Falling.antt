@@ -4,10 +4,10 @@ use Rattle.std.specs.List.{list_any}
 use Rattle.std.proofs.lemmas.Bool.{false≢true, eqb-true, le-leb}
 use Rattle.circuit_model.specs.declared.circuit.Table.{Table}
 use Rattle.cube_cover.specs.Literals.{row_literals, all_dashes, some_dashes}
-use Rattle.decomp_rules.specs.Partings.{Parting, rows_of}
-use Rattle.decomp_rules.specs.Rules.{is_long, is_gate, literal_parting, rows_parting, sum_parting, product_parting, gate_parting, IsDue}
-use Rattle.decomp_rules.specs.declared.rule.Rule.{Rule}
-use Rattle.decomp_rules.specs.declared.rule.Rule.TheVariants.{Shared, Gates}
+use Rattle.net_decomp.specs.Partings.{Parting, rows_of}
+use Rattle.net_decomp.specs.Rules.{is_long, is_gate, literal_parting, rows_parting, sum_parting, product_parting, gate_parting, IsDue}
+use Rattle.net_decomp.specs.declared.rule.Rule.{Rule}
+use Rattle.net_decomp.specs.declared.rule.Rule.TheVariants.{Shared, Gates}
 use Rattle.net_decomp.proofs.Counted.{none_dashes}
 
 -- several rows give place to one

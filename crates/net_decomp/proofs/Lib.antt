@@ -6,3 +6,9 @@ pub mod Falling
 pub mod Turning
 pub mod Dues
 pub mod Along
+pub mod Values
+pub mod Adding
+pub mod PartedSteps
+pub mod Ends
+pub mod Counts
+pub mod Bounded

@@ -4,7 +4,7 @@ use Rattle.std.proofs.lemmas.Bool.{eqb-true}
 use Rattle.std.proofs.Math.Seq.{drop-cons}
 use Rattle.std.proofs.lemmas.List.{map_push, append_assoc, append-nil, drop_all}
 use Rattle.cube_cover.specs.Literals.{literal_number}
-use Rattle.decomp_rules.specs.Rules.{padded, signal_row, is_long, with_signals, first_literals, later_literals}
+use Rattle.net_decomp.specs.Rules.{padded, signal_row, is_long, with_signals, first_literals, later_literals}
 
 -- one more is made of the front of what is left
 pub moved : {A : Type 0} (made new rest : List A) (x : A) → new ≡ made ++ x ∷ [] → new ++ rest ≡ made ++ x ∷ rest

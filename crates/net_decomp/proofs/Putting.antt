@@ -12,9 +12,9 @@ use Rattle.net_core.specs.Reads.{IsBounded}
 use Rattle.net_core.specs.Tables.{characters_of}
 use Rattle.net_core.specs.declared.adding.AddFault.{AddFault}
 use Rattle.net_core.specs.declared.adding.AddFault.TheVariants.{NodeLimit, Memory}
-use Rattle.table_tidy.specs.Tidy.{tidied}
-use Rattle.decomp_rules.specs.Partings.{part_table, ArePartsAdded}
-use Rattle.decomp_rules.proofs.Bounded.{parts_nodes}
+use Rattle.circuit_tables.specs.Tidy.{tidied}
+use Rattle.net_decomp.specs.Partings.{part_table, ArePartsAdded}
+use Rattle.net_decomp.proofs.Bounded.{parts_nodes}
 use Rattle.net_work.specs.Placed.{Placed, circuit_of, with_last}
 use Rattle.net_work.proofs.Standing.{standing_push}
 use Rattle.net_decomp.specs.Cursor.{ArePut, HasRoomFor}

@@ -11,17 +11,17 @@ use Rattle.circuit_model.specs.declared.circuit.Table.{Table}
 use Rattle.circuit_model.specs.declared.circuit.Circuit.{Circuit}
 use Rattle.circuit_laws.specs.Edits.{with_tables, with_replaced}
 use Rattle.circuit_laws.proofs.Sound.{all_append}
-use Rattle.chain_laws.proofs.Mapped.{outputs_different}
+use Rattle.circuit_laws.proofs.Mapped.{outputs_different}
 use Rattle.net_core.specs.Fresh.{node_count}
 use Rattle.net_core.specs.Reads.{IsBounded}
 use Rattle.net_core.specs.Tables.{places_of}
-use Rattle.decomp_rules.specs.Partings.{Parting, rows_of, parted_table, ArePartsAdded, IsOverfull}
-use Rattle.decomp_rules.specs.Rules.{IsDue}
-use Rattle.decomp_rules.specs.declared.rule.Rule.{Rule}
-use Rattle.decomp_rules.proofs.Values.{due_keeps}
-use Rattle.decomp_rules.proofs.Adding.{driver_among, parts_hold}
-use Rattle.decomp_rules.proofs.Stepping.{parted_output}
-use Rattle.decomp_rules.proofs.Bounded.{replaced_nodes, parted_within, with_replaced_all}
+use Rattle.net_decomp.specs.Partings.{Parting, rows_of, parted_table, ArePartsAdded, IsOverfull}
+use Rattle.net_decomp.specs.Rules.{IsDue}
+use Rattle.net_decomp.specs.declared.rule.Rule.{Rule}
+use Rattle.net_decomp.proofs.Values.{due_keeps}
+use Rattle.net_decomp.proofs.Adding.{driver_among, parts_hold}
+use Rattle.net_decomp.proofs.PartedSteps.{parted_output}
+use Rattle.net_decomp.proofs.Bounded.{replaced_nodes, parted_within, with_replaced_all}
 use Rattle.net_work.specs.Placed.{Placed, standing, circuit_of, table_at}
 use Rattle.net_decomp.specs.Cursor.{ArePut, IsTurned, IsPartedAt, HasRoomFor, row_count, weight}
 use Rattle.net_decomp.proofs.Slots.{standing_behind, table_before, table_within, table_set, table_other, among, standing_set}

@@ -7,10 +7,10 @@ use Rattle.std.specs.List.{AllByRecursion}
 use Rattle.sis_base.specs.Rows.{HasWidth}
 use Rattle.circuit_model.specs.Soundness.{IsSound}
 use Rattle.circuit_model.specs.declared.circuit.Table.{Table}
-use Rattle.decomp_rules.specs.Partings.{Parting, rows_of, parted_table, ArePartsAdded, IsParted, IsOverfull}
-use Rattle.decomp_rules.specs.Rules.{IsDone, IsDue}
-use Rattle.decomp_rules.specs.Decomposed.{IsReached}
-use Rattle.decomp_rules.specs.declared.rule.Rule.{Rule}
+use Rattle.net_decomp.specs.Partings.{Parting, rows_of, parted_table, ArePartsAdded, IsParted, IsOverfull}
+use Rattle.net_decomp.specs.Rules.{IsDone, IsDue}
+use Rattle.net_decomp.specs.Decomposed.{IsReached}
+use Rattle.net_decomp.specs.declared.rule.Rule.{Rule}
 use Rattle.net_core.specs.Fresh.{node_count}
 use Rattle.net_core.specs.Reads.{IsBounded, HasBounds}
 use Rattle.net_work.specs.Placed.{Placed, standing, circuit_of, table_at, with_slot}

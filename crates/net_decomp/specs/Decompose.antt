@@ -2,8 +2,8 @@
 -- Source: the SIS report (UCB/ERL M92/41), `decomp` and `tech_decomp`. The limit of 65,535 nodes is the project's own.
 use Rattle.std.specs.Prelude.{Result, Ok, Err}
 use Rattle.circuit_model.specs.declared.circuit.Circuit.{Circuit}
-use Rattle.decomp_rules.specs.Decomposed.{IsDecomposed, IsFull}
-use Rattle.decomp_rules.specs.declared.rule.Rule.{Rule}
+use Rattle.net_decomp.specs.Decomposed.{IsDecomposed, IsFull}
+use Rattle.net_decomp.specs.declared.rule.Rule.{Rule}
 use Rattle.net_core.specs.declared.adding.AddFault.{AddFault}
 use Rattle.net_core.specs.declared.adding.AddFault.TheVariants.{NodeLimit, Memory}
 

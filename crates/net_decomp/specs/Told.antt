@@ -1,7 +1,7 @@
 -- What the rows of the code stand for. No public clause needs these definitions.
 -- Source: the project's own representation.
 use Rattle.std.specs.Prelude.{Bool, Option, List, map}
-use Rattle.decomp_rules.specs.Partings.{Parting}
+use Rattle.net_decomp.specs.Partings.{Parting}
 use Rattle.net_decomp.specs.declared.parting.Parting.{Parting as Parted}
 
 -- the parting that lists of rows are

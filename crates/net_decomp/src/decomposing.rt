@@ -2,7 +2,7 @@
 
 ghost use Rattle.std.specs.Prelude.{◌≡◌, ◌+◌, IfOk, IfErr, OnOk};
 ghost use Rattle.circuit_model.specs.Soundness.{IsSound};
-ghost use Rattle.decomp_rules.specs.Decomposed.{IsDecomposed, IsFull};
+ghost use Rattle.net_decomp.specs.Decomposed.{IsDecomposed, IsFull};
 ghost use Rattle.net_core.specs.Fresh.{node_count};
 ghost use Rattle.net_core.specs.Reads.{HasBounds};
 ghost use Rattle.net_core.specs.declared.adding.AddFault.TheVariants.{NodeLimit};
@@ -10,9 +10,9 @@ ghost use Rattle.net_work.specs.Placed.{circuit_of};
 ghost use Rattle.net_decomp.specs.Cursor.{AreDone, IsAlong};
 ghost use Rattle.net_decomp.specs.Decompose.{HasDecomposed};
 
+use crate::Rule;
 use crate::stepping::part_once;
 use cube_cover::Row;
-use decomp_rules::Rule;
 use net_core::{AddFault, Network};
 use net_work::Work;
 use std::alloc::Global;

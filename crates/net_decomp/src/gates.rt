@@ -3,7 +3,7 @@
 ghost use Rattle.std.specs.Prelude.{◌≡◌, ℕ, leb, eqb, Bool, Option, List, map};
 ghost use Rattle.std.specs.List.{list_all, list_any};
 ghost use Rattle.cube_cover.specs.Literals.{row_literals as literals_in, all_dashes, some_dashes};
-ghost use Rattle.decomp_rules.specs.Rules.{is_long, is_gate};
+ghost use Rattle.net_decomp.specs.Rules.{is_long, is_gate};
 
 use cube_cover::Row;
 use net_core::row_literals;
@@ -95,7 +95,7 @@ pub(crate) fn some_empty<R: Row>(rows: &[R]) -> bool
 }
 
 /// Whether rows are one product of so many literals at most, or a sum of so many rows of one literal each.
-#[tactic(auto, unfolding(decomp_rules::specs::Rules::is_gate))]
+#[tactic(auto, unfolding(crate::specs::Rules::is_gate))]
 pub(crate) fn are_gate<R: Row>(rows: &[R], products: usize, sums: usize) -> bool
     ensures { result ≡ is_gate products sums (map R.literals rows.now) }
 {

@@ -1,16 +1,21 @@
-//! Decomposition of a network: tables are parted until none shares a literal among its rows, or until each is a product or a sum of
-//! bounded size.
+//! Decomposition of a network: tables are parted until none shares a literal among its rows, or
+//! until each is a product or a sum of bounded size.
 //!
-//! Source: the SIS report (UCB/ERL M92/41), `decomp` and `tech_decomp`; De Micheli, "Synthesis and Optimization of Digital Circuits",
-//! chapter 8. Which table is next, what becomes of it and what that keeps is told by decomp_rules. Promised here
-//! (`specs/Decompose.antt`): the end of the chain of steps, or `NodeLimit` exactly where a step of it has no room. Each table is parted
-//! in its place until it is done, and no table is looked at again; no clause says so.
+//! Source: the SIS report (UCB/ERL M92/41), `decomp` and `tech_decomp`; De Micheli, "Synthesis and
+//! Optimization of Digital Circuits", chapter 8. `specs/Partings.antt` has what becomes of a circuit
+//! when a table is parted, `specs/Rules.antt` the two rules, `specs/Decomposed.antt` the steps and
+//! the end; `laws` says what both rules keep. Promised (`specs/Decompose.antt`): the end of the
+//! chain of steps, or `NodeLimit` exactly where a step of it has no room. Each table is parted in
+//! its place until it is done, and no table is looked at again; no clause says so.
 #![tactic(auto)]
 
 mod decomposing;
 mod gates;
+pub mod laws;
 mod parting;
 mod rows;
+mod rule;
 mod stepping;
 
 pub use decomposing::decompose;
+pub use rule::Rule;

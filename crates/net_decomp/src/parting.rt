@@ -3,15 +3,15 @@
 ghost use Rattle.std.specs.Prelude.{◌≡◌, ℕ, ◌<◌, Bool, true, false, Some, Option, None, List, [], ◌∷◌, length, map, filter, slice_set, replicate, IfOk, MatchOption};
 ghost use Rattle.circuit_model.specs.declared.circuit.Table.{Table as TheTable};
 ghost use Rattle.alg_factor.specs.Forms.{IsChosen, NoneShared};
-ghost use Rattle.decomp_rules.specs.Partings.{rows_of};
-ghost use Rattle.decomp_rules.specs.Rules.{signal_row, is_long, with_signals, literal_parting, rows_parting, product_parting, sum_parting, is_gate, gate_parting, IsDone, IsDue};
+ghost use Rattle.net_decomp.specs.Partings.{rows_of};
+ghost use Rattle.net_decomp.specs.Rules.{signal_row, is_long, with_signals, literal_parting, rows_parting, product_parting, sum_parting, is_gate, gate_parting, IsDone, IsDue};
 ghost use Rattle.net_decomp.specs.Told.{told};
 
+use crate::Rule;
 use crate::gates::{are_gate, is_long_row, some_empty, some_long};
 use crate::rows::{first_row, later_row, padded_row, push_padded, signal_row_of};
 use alg_factor::{Parts, best_literal, part_rows};
 use cube_cover::{Cover, Row};
-use decomp_rules::Rule;
 use sis_base::Copied;
 use std::alloc::{AllocError, Global};
 
@@ -59,7 +59,7 @@ fn literal_row<R: Row>(
 }
 
 // The rows with a literal are the part, and one row stands for them.
-#[tactic(auto, unfolding(decomp_rules::specs::Rules::literal_parting))]
+#[tactic(auto, unfolding(crate::specs::Rules::literal_parting))]
 fn literal_parted<R: Row>(
     alloc: Global,
     cover: &Cover<R>,
@@ -127,7 +127,7 @@ fn signalled_rows<R: Row>(
 }
 
 // Each long row is a part.
-#[tactic(auto, unfolding(decomp_rules::specs::Rules::rows_parting))]
+#[tactic(auto, unfolding(crate::specs::Rules::rows_parting))]
 fn rows_parted<R: Row>(alloc: Global, width: usize, rows: &[R]) -> Result<Parting<R>, AllocError>
     ensures { IfOk result (λ parting. told R.literals parting ≡ rows_parting width (map R.literals rows.now)) }
 {
@@ -137,7 +137,7 @@ fn rows_parted<R: Row>(alloc: Global, width: usize, rows: &[R]) -> Result<Partin
 }
 
 // The first literals of a single row are the part.
-#[tactic(auto, unfolding(decomp_rules::specs::Rules::product_parting))]
+#[tactic(auto, unfolding(crate::specs::Rules::product_parting))]
 fn product_parted<R: Row>(alloc: Global, rows: &[R], most: usize) -> Result<Parting<R>, AllocError>
     ensures { IfOk result (λ parting. told R.literals parting ≡ product_parting most (map R.literals rows.now)) }
 {
@@ -154,7 +154,7 @@ fn product_parted<R: Row>(alloc: Global, rows: &[R], most: usize) -> Result<Part
 }
 
 // The first rows are the part.
-#[tactic(auto, unfolding(decomp_rules::specs::Rules::sum_parting))]
+#[tactic(auto, unfolding(crate::specs::Rules::sum_parting))]
 fn sum_parted<R: Row>(
     alloc: Global,
     width: usize,
@@ -185,7 +185,7 @@ fn constant_parted<R: Row>(alloc: Global, width: usize) -> Result<Parting<R>, Al
 }
 
 // Towards products and sums.
-#[tactic(auto, unfolding(decomp_rules::specs::Rules::gate_parting))]
+#[tactic(auto, unfolding(crate::specs::Rules::gate_parting))]
 fn gate_parted<R: Row>(
     alloc: Global,
     width: usize,

@@ -2,7 +2,7 @@
 
 ghost use Rattle.std.specs.Prelude.{◌≡◌, ℕ, ◌-◌, ◌<◌, eqb, Bool, true, if◌then◌else◌, Option, Some, None, List, [], ◌∷◌, ◌++◌, map, replicate, IfOk, OnOk};
 ghost use Rattle.cube_cover.specs.Literals.{literal_number};
-ghost use Rattle.decomp_rules.specs.Rules.{padded, signal_row, first_literals, later_literals};
+ghost use Rattle.net_decomp.specs.Rules.{padded, signal_row, first_literals, later_literals};
 
 use alg_div::{literals_of, row_of};
 use cube_cover::Row;

@@ -8,12 +8,12 @@ use Rattle.circuit_model.specs.declared.circuit.Table.{Table}
 use Rattle.circuit_model.specs.declared.circuit.Circuit.{Circuit}
 use Rattle.circuit_laws.specs.Edits.{with_tables}
 use Rattle.net_work.specs.Placed.{Placed, standing, circuit_of, table_at, name_at}
-use Rattle.table_algebra.specs.Taking.{taken_in}
-use Rattle.table_algebra.specs.declared.taking.TakeFault.{TakeFault}
-use Rattle.table_algebra.proofs.Taken.{taken_output}
-use Rattle.elim_rules.specs.Eliminating.{with_taken}
-use Rattle.elim_rules.specs.Collapsing.{with_put, refusal_among, put_refusal, refusal_along}
-use Rattle.elim_rules.proofs.Gathered.{put_reduced}
+use Rattle.alg_tables.specs.Taking.{taken_in}
+use Rattle.alg_tables.specs.declared.taking.TakeFault.{TakeFault}
+use Rattle.alg_tables.proofs.Taken.{taken_output}
+use Rattle.net_elim.specs.Eliminating.{with_taken}
+use Rattle.net_elim.specs.Collapsing.{with_put, refusal_among, put_refusal, refusal_along}
+use Rattle.net_elim.proofs.Gathered.{put_reduced}
 use Rattle.net_elim.specs.Collapse.{IsCause}
 use Rattle.net_elim.specs.declared.fault.CollapseFault.{CollapseFault}
 use Rattle.net_elim.specs.Phases.{IsPutInAll, IsAlong}

@@ -9,13 +9,13 @@ use Rattle.circuit_model.specs.Soundness.{IsSound}
 use Rattle.circuit_model.specs.declared.circuit.Table.{Table}
 use Rattle.circuit_model.specs.declared.circuit.Circuit.{Circuit}
 use Rattle.net_core.specs.Reads.{IsBounded, HasBounds}
-use Rattle.table_order.specs.Order.{order_of}
-use Rattle.table_algebra.specs.Taking.{taken_in, take_refusal}
-use Rattle.table_algebra.specs.declared.taking.TakeFault.{TakeFault}
-use Rattle.elim_rules.specs.Eliminating.{with_taken}
-use Rattle.elim_rules.specs.Collapsing.{with_put, is_outer, refusal_among, put_refusal, refusal_along, collapse_refusal, collapsed}
-use Rattle.elim_rules.proofs.Small.{taken_bounded, kept_bounded}
-use Rattle.elim_rules.proofs.Gathered.{collapse_reduced}
+use Rattle.circuit_order.specs.Order.{order_of}
+use Rattle.alg_tables.specs.Taking.{taken_in, take_refusal}
+use Rattle.alg_tables.specs.declared.taking.TakeFault.{TakeFault}
+use Rattle.net_elim.specs.Eliminating.{with_taken}
+use Rattle.net_elim.specs.Collapsing.{with_put, is_outer, refusal_among, put_refusal, refusal_along, collapse_refusal, collapsed}
+use Rattle.net_elim.proofs.Small.{taken_bounded, kept_bounded}
+use Rattle.net_elim.proofs.Gathered.{collapse_reduced}
 use Rattle.net_elim.proofs.Leaving.{kept_tables}
 
 abbrev named_fault : List ℕ → TakeFault → List ℕ × TakeFault

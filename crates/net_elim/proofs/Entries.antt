@@ -7,10 +7,10 @@ use Rattle.net_core.specs.Places.{written_of}
 use Rattle.net_core.specs.Tables.{named}
 use Rattle.net_core.specs.declared.places.Entry.{Entry}
 use Rattle.net_core.specs.declared.table.Table.{Table}
-use Rattle.table_algebra.specs.Taking.{taken_in}
-use Rattle.table_algebra.specs.declared.taking.TakeFault.{TakeFault}
-use Rattle.table_algebra.specs.declared.taking.TakeFault.TheVariants.{CubeLimit, TooWide, Memory}
-use Rattle.table_algebra.proofs.Taken.{taken_once}
+use Rattle.alg_tables.specs.Taking.{taken_in}
+use Rattle.alg_tables.specs.declared.taking.TakeFault.{TakeFault}
+use Rattle.alg_tables.specs.declared.taking.TakeFault.TheVariants.{CubeLimit, TooWide, Memory}
+use Rattle.alg_tables.proofs.Taken.{taken_once}
 use Rattle.net_elim.specs.Collapse.{told, IsCause}
 use Rattle.net_elim.specs.declared.fault.CollapseFault.{CollapseFault}
 

@@ -8,10 +8,10 @@ use Rattle.circuit_model.specs.declared.circuit.Table.{Table}
 use Rattle.circuit_model.specs.declared.circuit.Circuit.{Circuit}
 use Rattle.circuit_laws.specs.Edits.{with_tables, with_kept, tables_kept, is_root}
 use Rattle.net_work.specs.Placed.{Placed, standing, circuit_of, table_at}
-use Rattle.table_order.specs.Order.{order_of}
-use Rattle.elim_rules.specs.Collapsing.{with_put, is_outer, collapsed}
-use Rattle.elim_rules.proofs.Stepping.{all_weaker, all_there}
-use Rattle.elim_rules.proofs.Gathered.{collapse_reduced}
+use Rattle.circuit_order.specs.Order.{order_of}
+use Rattle.net_elim.specs.Collapsing.{with_put, is_outer, collapsed}
+use Rattle.net_elim.proofs.Stepping.{all_weaker, all_there}
+use Rattle.net_elim.proofs.Gathered.{collapse_reduced}
 use Rattle.net_elim.specs.Phases.{IsAlong, IsCut, rooted}
 use Rattle.net_elim.proofs.Stands.{standing_rooted, outputs_same, past_end}
 

@@ -11,3 +11,8 @@ pub mod Turns
 pub mod Along
 pub mod Leaving
 pub mod Bounds
+pub mod TakenIn
+pub mod Stepping
+pub mod Gathered
+pub mod RuleLeasts
+pub mod Small

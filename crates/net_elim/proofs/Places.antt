@@ -8,7 +8,7 @@ use Rattle.circuit_model.specs.Names.{all_different}
 use Rattle.circuit_model.specs.Values.{driver}
 use Rattle.circuit_model.specs.Soundness.{outputs_of}
 use Rattle.circuit_model.specs.declared.circuit.Table.{Table as Written}
-use Rattle.elim_rules.proofs.Stepping.{each_drives}
+use Rattle.net_elim.proofs.Stepping.{each_drives}
 use Rattle.net_work.specs.Placed.{standing, table_at}
 
 -- two lists that have the same at each place are the same

@@ -8,9 +8,9 @@ use Rattle.circuit_model.specs.Names.{has, all_different}
 use Rattle.circuit_model.specs.Soundness.{IsSound}
 use Rattle.circuit_model.specs.declared.circuit.Table.{Table as Written}
 use Rattle.circuit_model.specs.declared.circuit.Circuit.{Circuit}
-use Rattle.elim_rules.specs.Eliminating.{all_take}
-use Rattle.elim_rules.proofs.Putting.{own_unread}
-use Rattle.input_readers.specs.Readers.{is_in}
+use Rattle.net_elim.specs.Eliminating.{all_take}
+use Rattle.net_elim.proofs.TakenIn.{own_unread}
+use Rattle.net_readers.specs.Readers.{is_in}
 use Rattle.net_core.specs.Places.{written_of}
 use Rattle.net_core.specs.Tables.{named}
 use Rattle.net_core.specs.declared.places.Entry.{Entry}
@@ -20,10 +20,10 @@ use Rattle.net_core.proofs.Removals.{tables_differ}
 use Rattle.net_work.specs.Placed.{Placed, circuit_of, joined, table_at, with_slot}
 use Rattle.net_work.specs.Slots.{inputs_in, inputs_at}
 use Rattle.net_work.proofs.Standing.{place_there}
-use Rattle.table_algebra.specs.Taking.{taken_in, take_refusal, refusal_at}
-use Rattle.table_algebra.specs.declared.taking.TakeFault.{TakeFault}
-use Rattle.table_algebra.proofs.Places.{IsFound, found}
-use Rattle.table_algebra.proofs.Taken.{taken_output, taken_once, taken_apart}
+use Rattle.alg_tables.specs.Taking.{taken_in, take_refusal, refusal_at}
+use Rattle.alg_tables.specs.declared.taking.TakeFault.{TakeFault}
+use Rattle.alg_tables.proofs.Places.{IsFound, found}
+use Rattle.alg_tables.proofs.Taken.{taken_output, taken_once, taken_apart}
 use Rattle.net_elim.specs.Putting.{slots_taken, with_put, IsMade, AreMade, places_made}
 use Rattle.net_elim.specs.declared.putting.Made.{Made}
 use Rattle.net_elim.specs.declared.putting.PutFault.{PutFault}

@@ -13,10 +13,10 @@ use Rattle.circuit_model.specs.declared.circuit.Circuit.{Circuit}
 use Rattle.circuit_laws.specs.Chains.{Leads, Chain}
 use Rattle.circuit_laws.specs.Edits.{tables_kept, with_tables, without, is_root}
 use Rattle.circuit_laws.proofs.Names.{name_itself, name_not, different_head, different_tail, has_head, has_tail}
-use Rattle.elim_rules.specs.Eliminating.{all_take, is_candidate, lesser, least, with_taken, with_eliminated, eliminate_step}
-use Rattle.elim_rules.proofs.Leasts.{least_only}
-use Rattle.elim_rules.proofs.Putting.{taking_reduced}
-use Rattle.elim_rules.proofs.Stepping.{step_reduced}
+use Rattle.net_elim.specs.Eliminating.{all_take, is_candidate, lesser, least, with_taken, with_eliminated, eliminate_step}
+use Rattle.net_elim.proofs.RuleLeasts.{least_only}
+use Rattle.net_elim.proofs.TakenIn.{taking_reduced}
+use Rattle.net_elim.proofs.Stepping.{step_reduced}
 use Rattle.net_core.specs.Places.{written_of}
 use Rattle.net_core.specs.Reads.{value_of}
 use Rattle.net_core.specs.Tables.{named}
@@ -24,9 +24,9 @@ use Rattle.net_core.specs.declared.places.Entry.{Entry}
 use Rattle.net_core.proofs.Lookups.{get_push_left, get_push_at}
 use Rattle.net_core.proofs.Removals.{removed_table, tables_differ}
 use Rattle.net_work.specs.Placed.{Placed, standing, circuit_of, joined, table_at, with_slot}
-use Rattle.chain_laws.proofs.Mapped.{outputs-mapped}
-use Rattle.table_algebra.specs.Taking.{taken_in}
-use Rattle.table_algebra.proofs.Taken.{taken_output}
+use Rattle.circuit_laws.proofs.Mapped.{outputs-mapped}
+use Rattle.alg_tables.specs.Taking.{taken_in}
+use Rattle.alg_tables.proofs.Taken.{taken_output}
 use Rattle.net_elim.specs.Putting.{slots_taken, with_put}
 use Rattle.net_elim.specs.Waiting.{when, worth_within, worth_at, flat, waits_at, AreWaiting, IsLeast, IsLeastTo}
 use Rattle.net_elim.proofs.Leasts.{value_within, waits_same, waits_other}

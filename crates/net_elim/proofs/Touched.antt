@@ -9,8 +9,8 @@ use Rattle.circuit_model.specs.Names.{has}
 use Rattle.circuit_model.specs.Soundness.{outputs_of, IsSound}
 use Rattle.circuit_model.specs.declared.circuit.Table.{Table}
 use Rattle.circuit_laws.proofs.Names.{has_not, has_either, same_name}
-use Rattle.elim_rules.specs.Eliminating.{all_take, is_candidate}
-use Rattle.input_readers.specs.Readers.{is_in}
+use Rattle.net_elim.specs.Eliminating.{all_take, is_candidate}
+use Rattle.net_readers.specs.Readers.{is_in}
 use Rattle.net_core.specs.Places.{written_of}
 use Rattle.net_core.specs.Reads.{value_of}
 use Rattle.net_core.specs.Tables.{named}
@@ -18,8 +18,8 @@ use Rattle.net_core.specs.declared.places.Entry.{Entry}
 use Rattle.net_core.proofs.Removals.{tables_differ}
 use Rattle.net_work.specs.Placed.{Placed, standing, circuit_of, table_at, with_slot}
 use Rattle.net_work.specs.Slots.{inputs_in, inputs_at}
-use Rattle.table_algebra.specs.Taking.{taken_in, take_refusal}
-use Rattle.table_algebra.proofs.Taken.{taken_apart}
+use Rattle.alg_tables.specs.Taking.{taken_in, take_refusal}
+use Rattle.alg_tables.proofs.Taken.{taken_apart}
 use Rattle.net_elim.specs.Putting.{slots_taken, with_put}
 use Rattle.net_elim.specs.Waiting.{worth_within, worth_at, waits_at, AreWaiting}
 use Rattle.net_elim.specs.Touching.{AreWithin, IsGrown, IsCovered, IsJoined, AreTouched, AreRenewed}

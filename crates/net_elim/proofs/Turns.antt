@@ -9,16 +9,16 @@ use Rattle.circuit_model.specs.Names.{has, all_different}
 use Rattle.circuit_model.specs.Values.{driver}
 use Rattle.circuit_model.specs.Soundness.{IsSound}
 use Rattle.circuit_model.specs.declared.circuit.Table.{Table}
-use Rattle.input_readers.specs.Readers.{is_in}
+use Rattle.net_readers.specs.Readers.{is_in}
 use Rattle.net_core.proofs.Removals.{tables_differ}
 use Rattle.net_work.specs.Placed.{Placed, standing, circuit_of, table_at, with_slot}
 use Rattle.net_work.specs.Slots.{inputs_in, inputs_at}
-use Rattle.table_algebra.specs.Taking.{taken_in, take_refusal, refusal_at}
-use Rattle.table_algebra.specs.declared.taking.TakeFault.{TakeFault}
-use Rattle.table_algebra.proofs.Taken.{taken_unread, taken_apart}
-use Rattle.elim_rules.specs.Collapsing.{refusal_among}
-use Rattle.elim_rules.proofs.Putting.{own_unread}
-use Rattle.elim_rules.proofs.Stepping.{each_drives}
+use Rattle.alg_tables.specs.Taking.{taken_in, take_refusal, refusal_at}
+use Rattle.alg_tables.specs.declared.taking.TakeFault.{TakeFault}
+use Rattle.alg_tables.proofs.Taken.{taken_unread, taken_apart}
+use Rattle.net_elim.specs.Collapsing.{refusal_among}
+use Rattle.net_elim.proofs.TakenIn.{own_unread}
+use Rattle.net_elim.proofs.Stepping.{each_drives}
 use Rattle.net_elim.specs.Collapse.{IsCause}
 use Rattle.net_elim.specs.declared.fault.CollapseFault.{CollapseFault}
 use Rattle.net_elim.specs.declared.fault.CollapseFault.TheVariants.{CubeLimit, TooWide, Memory}

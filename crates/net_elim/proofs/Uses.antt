@@ -16,10 +16,10 @@ use Rattle.net_core.proofs.Lookups.{get_set_other}
 use Rattle.net_core.proofs.Removals.{tables_differ}
 use Rattle.net_work.specs.Placed.{Placed, standing, circuit_of, joined, table_at, with_slot}
 use Rattle.net_work.proofs.Standing.{slot_uses, uses_set}
-use Rattle.chain_laws.proofs.Mapped.{outputs-mapped}
-use Rattle.table_algebra.specs.Taking.{taken_in}
-use Rattle.table_algebra.proofs.Places.{IsFound, found}
-use Rattle.table_algebra.proofs.Taken.{taken_output, taken_reads, taken_apart}
+use Rattle.circuit_laws.proofs.Mapped.{outputs-mapped}
+use Rattle.alg_tables.specs.Taking.{taken_in}
+use Rattle.alg_tables.proofs.Places.{IsFound, found}
+use Rattle.alg_tables.proofs.Taken.{taken_output, taken_reads, taken_apart}
 use Rattle.net_elim.specs.Putting.{slots_taken, with_put}
 use Rattle.net_elim.specs.Waiting.{when, worth_within, worth_at}
 use Rattle.net_elim.proofs.Places.{drives_at, standing_map}

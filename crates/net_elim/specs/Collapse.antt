@@ -3,9 +3,9 @@
 -- limits are the project's own.
 use Rattle.std.specs.Prelude.{◌≡◌, ℕ, Result, Ok, Err, Option, Some, None, List}
 use Rattle.circuit_model.specs.declared.circuit.Circuit.{Circuit}
-use Rattle.table_algebra.specs.declared.taking.TakeFault.{TakeFault}
-use Rattle.table_algebra.specs.declared.taking.TakeFault.TheVariants.{CubeLimit as LongTable, TooWide as WideTable, Memory as NoMemory}
-use Rattle.elim_rules.specs.Collapsing.{collapsed, collapse_refusal}
+use Rattle.alg_tables.specs.declared.taking.TakeFault.{TakeFault}
+use Rattle.alg_tables.specs.declared.taking.TakeFault.TheVariants.{CubeLimit as LongTable, TooWide as WideTable, Memory as NoMemory}
+use Rattle.net_elim.specs.Collapsing.{collapsed, collapse_refusal}
 use Rattle.net_elim.specs.declared.fault.CollapseFault.{CollapseFault}
 use Rattle.net_elim.specs.declared.fault.CollapseFault.TheVariants.{CubeLimit, TooWide, Memory}
 

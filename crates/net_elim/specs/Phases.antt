@@ -8,9 +8,9 @@ use Rattle.circuit_model.specs.Soundness.{IsSound}
 use Rattle.circuit_model.specs.declared.circuit.Table.{Table}
 use Rattle.circuit_model.specs.declared.circuit.Circuit.{Circuit}
 use Rattle.circuit_laws.specs.Edits.{is_root}
-use Rattle.input_readers.specs.Readers.{is_in}
-use Rattle.table_algebra.specs.Taking.{taken_in, take_refusal}
-use Rattle.elim_rules.specs.Collapsing.{with_put, refusal_along}
+use Rattle.net_readers.specs.Readers.{is_in}
+use Rattle.alg_tables.specs.Taking.{taken_in, take_refusal}
+use Rattle.net_elim.specs.Collapsing.{with_put, refusal_along}
 use Rattle.net_work.specs.Placed.{Placed, circuit_of, table_at, name_at}
 
 -- the table at a place was taken into those at some places, of which none refused

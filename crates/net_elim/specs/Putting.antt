@@ -6,11 +6,11 @@ use Rattle.std.specs.List.{AllByRecursion}
 use Rattle.std.specs.Option.{option_map}
 use Rattle.circuit_model.specs.Names.{has, all_different}
 use Rattle.circuit_model.specs.declared.circuit.Table.{Table as Written}
-use Rattle.input_readers.specs.Readers.{is_in}
+use Rattle.net_readers.specs.Readers.{is_in}
 use Rattle.net_core.specs.Tables.{named, IsOverInputs}
 use Rattle.net_work.specs.Placed.{Placed, table_at}
 use Rattle.net_work.specs.Slots.{inputs_at}
-use Rattle.table_algebra.specs.Taking.{taken_in}
+use Rattle.alg_tables.specs.Taking.{taken_in}
 use Rattle.net_elim.specs.declared.putting.Made.{Made}
 
 -- the tables at places, a table taken into all that read it

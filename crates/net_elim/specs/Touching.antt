@@ -5,7 +5,7 @@
 use Rattle.std.specs.Prelude.{◌≡◌, ℕ, ◌<◌, ℤ, true, false, Option, Some, List, length}
 use Rattle.circuit_model.specs.Names.{has}
 use Rattle.circuit_model.specs.declared.circuit.Table.{Table}
-use Rattle.input_readers.specs.Readers.{is_in}
+use Rattle.net_readers.specs.Readers.{is_in}
 use Rattle.net_work.specs.Placed.{Placed, table_at}
 use Rattle.net_work.specs.Slots.{inputs_at}
 use Rattle.net_elim.specs.Waiting.{worth_at, waits_at}

@@ -9,7 +9,7 @@ use Rattle.std.specs.declared.cmp.Ordering.{Ordering}
 use Rattle.std.specs.Ordering.{int_cmp, nat_cmp, ordering_then}
 use Rattle.circuit_model.specs.declared.circuit.Table.{Table}
 use Rattle.circuit_laws.specs.Edits.{is_root}
-use Rattle.elim_rules.specs.Eliminating.{is_candidate}
+use Rattle.net_elim.specs.Eliminating.{is_candidate}
 use Rattle.net_core.specs.Reads.{value_of}
 use Rattle.net_work.specs.Placed.{Placed, standing, circuit_of, table_at}
 

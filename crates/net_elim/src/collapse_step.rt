@@ -6,26 +6,26 @@ ghost use Rattle.std.specs.List.Sorted.{IsNonDecreasing};
 ghost use Rattle.circuit_model.specs.Names.{has, all_different};
 ghost use Rattle.circuit_model.specs.Soundness.{IsSound};
 ghost use Rattle.circuit_model.specs.declared.circuit.Table.{Table as TheWritten};
-ghost use Rattle.elim_rules.specs.Collapsing.{refusal_among};
-ghost use Rattle.input_readers.specs.Readers.{is_in};
+ghost use Rattle.net_elim.specs.Collapsing.{refusal_among};
+ghost use Rattle.net_readers.specs.Readers.{is_in};
 ghost use Rattle.net_core.specs.Places.{written_of};
 ghost use Rattle.net_core.specs.Tables.{named, IsOverInputs};
 ghost use Rattle.net_work.specs.Placed.{standing, circuit_of, table_at, with_slot};
 ghost use Rattle.net_work.specs.Slots.{inputs_at};
-ghost use Rattle.table_algebra.specs.Taking.{taken_in, take_refusal};
-ghost use Rattle.table_algebra.specs.declared.taking.TakeFault.{TakeFault as TheTakeFault};
-ghost use Rattle.table_algebra.specs.declared.taking.TakeFault.TheVariants.{Memory as NoMemory};
+ghost use Rattle.alg_tables.specs.Taking.{taken_in, take_refusal};
+ghost use Rattle.alg_tables.specs.declared.taking.TakeFault.{TakeFault as TheTakeFault};
+ghost use Rattle.alg_tables.specs.declared.taking.TakeFault.TheVariants.{Memory as NoMemory};
 ghost use Rattle.net_elim.specs.Collapse.{IsCause};
 ghost use Rattle.net_elim.specs.Phases.{IsPutInAll};
 
 use crate::fault::{CollapseFault, fault_of};
 use crate::putting::{LIST_LIMIT, taken_at};
+use alg_tables::TakeFault;
 use cube_cover::Row;
 use net_core::Table;
 use net_work::Work;
 use sis_base::Copied;
 use std::alloc::{AllocError, Global};
-use table_algebra::TakeFault;
 
 // What the table at the second place becomes where that at the first is taken into it.
 fn taken_from<R: Row>(

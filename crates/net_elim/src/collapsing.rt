@@ -2,10 +2,10 @@
 
 ghost use Rattle.std.specs.Prelude.{◌≡◌, Some, None, [], map, IfOk, IfErr, OnOk};
 ghost use Rattle.circuit_model.specs.Soundness.{IsSound};
-ghost use Rattle.elim_rules.specs.Collapsing.{collapsed, collapse_refusal};
+ghost use Rattle.net_elim.specs.Collapsing.{collapsed, collapse_refusal};
 ghost use Rattle.net_core.specs.Reads.{HasBounds};
 ghost use Rattle.net_work.specs.Placed.{standing, circuit_of, name_at};
-ghost use Rattle.table_order.specs.Order.{order_of};
+ghost use Rattle.circuit_order.specs.Order.{order_of};
 ghost use Rattle.net_elim.specs.Collapse.{IsCause, HasCollapsed};
 ghost use Rattle.net_elim.specs.Phases.{IsAlong};
 

@@ -4,8 +4,8 @@ ghost use Rattle.std.specs.Prelude.{◌≡◌, ℕ, ℤ, ◌<◌, Ok, Bool, true
 ghost use Rattle.circuit_model.specs.Soundness.{IsSound};
 ghost use Rattle.circuit_model.specs.declared.circuit.Table.{Table as TheWritten};
 ghost use Rattle.circuit_laws.specs.Chains.{Chain};
-ghost use Rattle.elim_rules.specs.Eliminating.{all_take, with_eliminated, eliminate_step};
-ghost use Rattle.input_readers.specs.Readers.{is_in};
+ghost use Rattle.net_elim.specs.Eliminating.{all_take, with_eliminated, eliminate_step};
+ghost use Rattle.net_readers.specs.Readers.{is_in};
 ghost use Rattle.net_work.specs.Placed.{standing, circuit_of, table_at, with_slot};
 ghost use Rattle.net_elim.specs.Putting.{with_put};
 ghost use Rattle.net_elim.specs.Touching.{AreRenewed};

@@ -3,9 +3,9 @@
 ghost use Rattle.std.specs.Prelude.{◌≡◌};
 ghost use Rattle.net_elim.specs.Collapse.{told};
 
+use alg_tables::TakeFault;
 use circuit_model::Name;
 use std::alloc::AllocError;
-use table_algebra::TakeFault;
 
 /// Why a network is not collapsed.
 #[derive(Debug, PartialEq, Drop)]

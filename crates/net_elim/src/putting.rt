@@ -5,22 +5,22 @@ ghost use Rattle.std.specs.List.{AllByRecursion};
 ghost use Rattle.circuit_model.specs.Names.{has, all_different};
 ghost use Rattle.circuit_model.specs.Soundness.{IsSound};
 ghost use Rattle.circuit_model.specs.declared.circuit.Table.{Table as TheWritten};
-ghost use Rattle.elim_rules.specs.Eliminating.{all_take};
-ghost use Rattle.input_readers.specs.Readers.{is_in};
+ghost use Rattle.net_elim.specs.Eliminating.{all_take};
+ghost use Rattle.net_readers.specs.Readers.{is_in};
 ghost use Rattle.net_core.specs.Places.{written_of};
 ghost use Rattle.net_core.specs.Tables.{named, IsOverInputs};
 ghost use Rattle.net_work.specs.Placed.{standing, circuit_of, table_at};
 ghost use Rattle.net_work.specs.Slots.{inputs_at};
-ghost use Rattle.table_algebra.specs.Taking.{taken_in, take_refusal};
-ghost use Rattle.table_algebra.specs.declared.taking.TakeFault.TheVariants.{Memory as NoMemory};
+ghost use Rattle.alg_tables.specs.Taking.{taken_in, take_refusal};
+ghost use Rattle.alg_tables.specs.declared.taking.TakeFault.TheVariants.{Memory as NoMemory};
 ghost use Rattle.net_elim.specs.Putting.{with_put, IsMade, IsFit, AreMade, places_made};
 ghost use Rattle.net_elim.specs.declared.putting.PutFault.TheVariants.{Refused, Memory};
 
+use alg_tables::{TakeFault, take_in};
 use cube_cover::Row;
 use net_core::{Entry, Table};
 use net_work::Work;
 use std::alloc::{AllocError, Global};
-use table_algebra::{TakeFault, take_in};
 
 /// How many rows a list may have by which a table is taken into another one; and, under collapse, what a table becomes.
 pub(crate) const LIST_LIMIT: usize = 32_767;

@@ -11,12 +11,12 @@ use Rattle.circuit_model.specs.declared.circuit.Table.{Table}
 use Rattle.circuit_model.specs.declared.circuit.Circuit.{Circuit}
 use Rattle.circuit_laws.proofs.Sound.{all_append}
 use Rattle.alg_div.specs.Cubes.{Has}
-use Rattle.extract_rules.specs.Candidates.{IsCandidate, cubes_of}
-use Rattle.extract_rules.specs.Extracting.{literals_after, IsListable, IsOpen, IsNext, IsDone}
-use Rattle.extract_rules.specs.declared.rule.Rule.TheVariants.{Fx}
-use Rattle.extract_rules.proofs.Totals.{lost, IsExact, lost_exact, best_from, done_from}
-use Rattle.kept_gains.specs.Kept.{Kept, with_last as with_last_cubes, with_cubes, is_countable, total, Saves, IsFirst}
-use Rattle.name_covers.specs.Literals.{Cube, NamedCover}
+use Rattle.net_candidates.specs.Candidates.{IsCandidate, cubes_of}
+use Rattle.net_candidates.specs.Extracting.{literals_after, IsListable, IsOpen, IsNext, IsDone}
+use Rattle.net_candidates.specs.declared.rule.Rule.TheVariants.{Fx}
+use Rattle.net_candidates.proofs.Totals.{lost, IsExact, lost_exact, best_from, done_from}
+use Rattle.net_gains.specs.Kept.{Kept, with_last as with_last_cubes, with_cubes, is_countable, total, Saves, IsFirst}
+use Rattle.cover_names.specs.Literals.{Cube, NamedCover}
 use Rattle.net_core.specs.Fresh.{IsNewName}
 use Rattle.net_core.specs.Places.{written_of}
 use Rattle.net_core.specs.Tables.{named}
@@ -25,13 +25,13 @@ use Rattle.net_core.specs.declared.places.Entry.{Entry}
 use Rattle.net_core.specs.declared.table.Table.{Table as Covered}
 use Rattle.net_work.specs.Placed.{Placed, standing, circuit_of, table_at, with_slot, AddsLast}
 use Rattle.net_work.proofs.Standing.{standing_push}
-use Rattle.pair_gains.specs.Gains.{gains, over_pairs}
-use Rattle.table_algebra.specs.Dividing.{divided}
-use Rattle.table_tidy.specs.Tidy.{rows_differ}
-use Rattle.kept_savings.specs.Sharing.{cubes_in}
+use Rattle.net_gains.specs.Gains.{gains, over_pairs}
+use Rattle.alg_tables.specs.Dividing.{divided}
+use Rattle.circuit_tables.specs.Tidy.{rows_differ}
+use Rattle.net_savings.specs.Sharing.{cubes_in}
 use Rattle.net_extract.specs.Known.{IsCounted, AreCounted}
-use Rattle.kept_savings.specs.Saving.{literals_in, LeavesNarrow}
-use Rattle.kept_savings.proofs.Slots.{all_set}
+use Rattle.net_savings.specs.Saving.{literals_in, LeavesNarrow}
+use Rattle.net_savings.proofs.Slots.{all_set}
 
 -- ---- tables come and change
 

@@ -3,16 +3,16 @@ use Rattle.std.proofs.Common.{◌≡◌, ℕ, true, Option, Some, List, sym, ap,
 use Rattle.std.specs.List.{AllByRecursion}
 use Rattle.circuit_model.specs.Names.{all_different}
 use Rattle.circuit_model.specs.declared.circuit.Table.{Table as Written}
-use Rattle.name_covers.specs.Literals.{NamedCover}
+use Rattle.cover_names.specs.Literals.{NamedCover}
 use Rattle.net_core.specs.Places.{written_of}
 use Rattle.net_core.specs.Reads.{IsBounded}
 use Rattle.net_core.specs.Tables.{named, IsOverInputs}
 use Rattle.net_core.specs.declared.places.Entry.{Entry}
 use Rattle.net_core.specs.declared.table.Table.{Table}
 use Rattle.net_work.specs.Placed.{Placed, standing, table_at, with_slot}
-use Rattle.table_algebra.specs.Dividing.{divided}
-use Rattle.kept_savings.proofs.Slots.{all_set, set_same}
-use Rattle.kept_savings.proofs.Tabled.{made_once}
+use Rattle.alg_tables.specs.Dividing.{divided}
+use Rattle.net_savings.proofs.Slots.{all_set, set_same}
+use Rattle.net_savings.proofs.Tabled.{made_once}
 use Rattle.net_extract.specs.Dividing.{divided_slot, IsMade, IsMadeAt}
 
 module _ {R : Type 0} (name : List ℕ) (cover : NamedCover) where

@@ -4,14 +4,14 @@ use Rattle.std.proofs.lemmas.Bool.{false≢true, eq-eqb, or_left, or_right}
 use Rattle.std.proofs.lemmas.List.{length-set, length-map, length-append, drop_more}
 use Rattle.circuit_model.specs.declared.circuit.Table.{Table}
 use Rattle.alg_div.specs.Cubes.{Has}
-use Rattle.extract_rules.proofs.Sums.{AreOnce}
-use Rattle.input_readers.specs.Readers.{is_in}
-use Rattle.name_covers.specs.Literals.{NamedCover}
+use Rattle.net_candidates.proofs.Sums.{AreOnce}
+use Rattle.net_readers.specs.Readers.{is_in}
+use Rattle.cover_names.specs.Literals.{NamedCover}
 use Rattle.net_core.proofs.Lookups.{get_set_other}
 use Rattle.net_work.specs.Placed.{Placed, joined, table_at, with_slot}
 use Rattle.net_extract.specs.Dividing.{divided_slot, turned_at, with_divided}
-use Rattle.kept_savings.proofs.Losing.{AreAll, stays}
-use Rattle.kept_savings.proofs.Summing.{in_has}
+use Rattle.net_savings.proofs.Losing.{AreAll, stays}
+use Rattle.net_savings.proofs.Summing.{in_has}
 
 -- a place among places
 pub has_in : (places : List ℕ) (at : ℕ) → Has at places → is_in places at ≡ true

@@ -2,8 +2,8 @@
 use Rattle.std.proofs.Common.{◌≡◌, true, Result, Ok, Err, Option, Some, None, is_some, List, ℕ, IfOk, refl, sym, subst}
 use Rattle.std.proofs.lemmas.Bool.{false≢true}
 use Rattle.circuit_model.specs.declared.circuit.Table.{Table}
-use Rattle.extract_rules.specs.declared.rule.Rule.{Rule}
-use Rattle.kept_savings.specs.declared.kept.KeptSavings.{KeptSavings}
+use Rattle.net_candidates.specs.declared.rule.Rule.{Rule}
+use Rattle.net_savings.specs.declared.kept.KeptSavings.{KeptSavings}
 use Rattle.net_core.specs.Tables.{named}
 use Rattle.net_core.specs.declared.adding.AddFault.{AddFault}
 use Rattle.net_core.specs.declared.table.Table.{Table as Covered}

@@ -9,30 +9,30 @@ use Rattle.circuit_model.specs.declared.circuit.Table.{Table}
 use Rattle.circuit_model.specs.declared.circuit.Circuit.{Circuit}
 use Rattle.circuit_laws.specs.Edits.{with_tables}
 use Rattle.circuit_laws.proofs.Sound.{all_append}
-use Rattle.chain_laws.specs.Following.{Follows}
-use Rattle.extract_rules.specs.Extracting.{extracted, literals_after, IsNext, IsStep, IsDone, IsExtracted}
-use Rattle.extract_rules.specs.declared.rule.Rule.{Rule}
-use Rattle.extract_rules.proofs.Ends.{new_name_one}
-use Rattle.extract_rules.proofs.Keeping.{step_extended}
-use Rattle.name_covers.specs.Literals.{NamedCover}
-use Rattle.name_covers.specs.Cubes.{is_over}
-use Rattle.input_readers.specs.Readers.{is_in}
+use Rattle.circuit_laws.specs.Following.{Follows}
+use Rattle.net_candidates.specs.Extracting.{extracted, literals_after, IsNext, IsStep, IsDone, IsExtracted}
+use Rattle.net_candidates.specs.declared.rule.Rule.{Rule}
+use Rattle.net_candidates.proofs.Ends.{new_name_one}
+use Rattle.net_candidates.proofs.RuleKeeping.{step_extended}
+use Rattle.cover_names.specs.Literals.{NamedCover}
+use Rattle.cover_names.specs.Cubes.{is_over}
+use Rattle.net_readers.specs.Readers.{is_in}
 use Rattle.net_core.specs.Fresh.{node_count}
 use Rattle.net_core.specs.Reads.{IsBounded}
 use Rattle.net_work.specs.Placed.{Placed, standing, circuit_of, table_at, with_last}
 use Rattle.net_work.proofs.Standing.{standing_push}
-use Rattle.table_algebra.specs.Dividing.{divided, cover_table}
+use Rattle.alg_tables.specs.Dividing.{divided, cover_table}
 use Rattle.net_extract.specs.Extract.{HasExtracted}
 use Rattle.net_extract.specs.Dividing.{divided_slot, with_divided, IsAdded}
 use Rattle.net_extract.specs.Going.{fault_of, IsStopped, IsNotAdded, IsPut, IsTaken, IsAlong, IsEnd}
-use Rattle.kept_savings.specs.Listing.{IsUnlisted}
-use Rattle.kept_savings.specs.declared.fault.SavingsFault.{SavingsFault}
-use Rattle.kept_savings.specs.declared.fault.SavingsFault.TheVariants.{ManyKernels, Memory as SavingsMemory}
+use Rattle.net_savings.specs.Listing.{IsUnlisted}
+use Rattle.net_savings.specs.declared.fault.SavingsFault.{SavingsFault}
+use Rattle.net_savings.specs.declared.fault.SavingsFault.TheVariants.{ManyKernels, Memory as SavingsMemory}
 use Rattle.net_extract.specs.declared.fault.ExtractFault.{ExtractFault}
 use Rattle.net_extract.specs.declared.fault.ExtractFault.TheVariants.{KernelLimit, NodeLimit, Memory}
-use Rattle.kept_savings.proofs.Slots.{standing_turned}
-use Rattle.kept_savings.proofs.Summing.{rising_once}
-use Rattle.kept_savings.proofs.Losing.{AreAll}
+use Rattle.net_savings.proofs.Slots.{standing_turned}
+use Rattle.net_savings.proofs.Summing.{rising_once}
+use Rattle.net_savings.proofs.Losing.{AreAll}
 use Rattle.net_extract.proofs.Places.{divided_all}
 
 -- ---- a cover extracted

@@ -5,13 +5,13 @@ use Rattle.std.specs.Prelude.{◌≡◌, ℕ, ◌<◌, true, Option, Some, List,
 use Rattle.std.specs.Option.{option_map}
 use Rattle.circuit_model.specs.Names.{all_different}
 use Rattle.circuit_model.specs.declared.circuit.Table.{Table as Written}
-use Rattle.name_covers.specs.Literals.{NamedCover}
+use Rattle.cover_names.specs.Literals.{NamedCover}
 use Rattle.net_core.specs.Fresh.{IsNewName, node_count}
 use Rattle.net_core.specs.Reads.{IsBounded}
 use Rattle.net_core.specs.Tables.{named, IsOverInputs}
 use Rattle.net_core.specs.declared.table.Table.{Table}
 use Rattle.net_work.specs.Placed.{Placed, circuit_of, table_at, with_last}
-use Rattle.table_algebra.specs.Dividing.{divided, cover_table}
+use Rattle.alg_tables.specs.Dividing.{divided, cover_table}
 
 -- a slot, its table divided
 abbrev pub divided_slot : List ℕ → NamedCover → Option Written → Option Written

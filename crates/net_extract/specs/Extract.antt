@@ -3,8 +3,8 @@
 -- Source: the SIS report (UCB/ERL M92/41), `fx`, `gkx` and `gcx`. The limits are the project's own.
 use Rattle.std.specs.Prelude.{Result, Ok, Err}
 use Rattle.circuit_model.specs.declared.circuit.Circuit.{Circuit}
-use Rattle.extract_rules.specs.Extracting.{IsExtracted, IsFull, IsUnlistable}
-use Rattle.extract_rules.specs.declared.rule.Rule.{Rule}
+use Rattle.net_candidates.specs.Extracting.{IsExtracted, IsFull, IsUnlistable}
+use Rattle.net_candidates.specs.declared.rule.Rule.{Rule}
 use Rattle.net_extract.specs.declared.fault.ExtractFault.{ExtractFault}
 use Rattle.net_extract.specs.declared.fault.ExtractFault.TheVariants.{KernelLimit, NodeLimit, Memory}
 

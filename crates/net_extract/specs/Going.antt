@@ -6,12 +6,12 @@ use Rattle.std.specs.List.{AllByRecursion}
 use Rattle.circuit_model.specs.Counts.{literals_of}
 use Rattle.circuit_model.specs.Soundness.{IsSound}
 use Rattle.circuit_model.specs.declared.circuit.Circuit.{Circuit}
-use Rattle.extract_rules.specs.Extracting.{extracted, IsNext, IsStep, IsReached}
-use Rattle.extract_rules.specs.declared.rule.Rule.{Rule}
-use Rattle.kept_savings.specs.Listing.{IsFirstMany}
-use Rattle.kept_savings.specs.declared.fault.SavingsFault.{SavingsFault}
-use Rattle.kept_savings.specs.declared.fault.SavingsFault.TheVariants.{ManyKernels, Memory as SavingsMemory}
-use Rattle.name_covers.specs.Literals.{NamedCover}
+use Rattle.net_candidates.specs.Extracting.{extracted, IsNext, IsStep, IsReached}
+use Rattle.net_candidates.specs.declared.rule.Rule.{Rule}
+use Rattle.net_savings.specs.Listing.{IsFirstMany}
+use Rattle.net_savings.specs.declared.fault.SavingsFault.{SavingsFault}
+use Rattle.net_savings.specs.declared.fault.SavingsFault.TheVariants.{ManyKernels, Memory as SavingsMemory}
+use Rattle.cover_names.specs.Literals.{NamedCover}
 use Rattle.net_core.specs.Fresh.{IsNewName, node_count}
 use Rattle.net_core.specs.Reads.{IsBounded, HasBounds}
 use Rattle.net_work.specs.Placed.{Placed, standing, circuit_of}

@@ -3,13 +3,13 @@
 use Rattle.std.specs.Prelude.{◌≡◌, true, Option, Some, None, List, map}
 use Rattle.std.specs.List.{AllByRecursion}
 use Rattle.circuit_model.specs.declared.circuit.Table.{Table}
-use Rattle.extract_rules.specs.declared.rule.Rule.{Rule}
-use Rattle.kept_gains.specs.Kept.{Kept}
-use Rattle.kept_savings.specs.Savings.{AreSavings}
-use Rattle.kept_savings.specs.Sharing.{cubes_in}
-use Rattle.kept_savings.specs.declared.kept.KeptSavings.{KeptSavings}
+use Rattle.net_candidates.specs.declared.rule.Rule.{Rule}
+use Rattle.net_gains.specs.Kept.{Kept}
+use Rattle.net_savings.specs.Savings.{AreSavings}
+use Rattle.net_savings.specs.Sharing.{cubes_in}
+use Rattle.net_savings.specs.declared.kept.KeptSavings.{KeptSavings}
 use Rattle.net_work.specs.Placed.{Placed, standing}
-use Rattle.table_tidy.specs.Tidy.{rows_differ}
+use Rattle.circuit_tables.specs.Tidy.{rows_differ}
 
 -- the cubes of all tables are kept, place by place, and no table has a row twice
 pub record IsCounted (slots : List (Option Table)) (kept : Kept) : Type 0 where

@@ -2,19 +2,19 @@
 
 ghost use Rattle.std.specs.Prelude.{◌≡◌, IfOk, MatchOption};
 ghost use Rattle.circuit_model.specs.Soundness.{IsSound};
-ghost use Rattle.extract_rules.specs.Extracting.{IsNext, IsDone};
-ghost use Rattle.extract_rules.specs.declared.rule.Rule.TheVariants.{Fx as TheFx};
+ghost use Rattle.net_candidates.specs.Extracting.{IsNext, IsDone};
+ghost use Rattle.net_candidates.specs.declared.rule.Rule.TheVariants.{Fx as TheFx};
 ghost use Rattle.net_core.specs.Fresh.{IsNewName};
 ghost use Rattle.net_work.specs.Placed.{circuit_of};
 ghost use Rattle.net_extract.specs.Known.{IsCounted};
 
 use circuit_model::Name;
+use cover_names::NamedCover;
 use cube_cover::Row;
-use kept_gains::{KeptGains, Trial};
-use kept_savings::leaves_narrow;
-use name_covers::NamedCover;
+use net_gains::pair_laws::{gains_are_what_tables_lose, what_gains_is_a_candidate};
+use net_gains::{KeptGains, Trial};
+use net_savings::leaves_narrow;
 use net_work::Work;
-use pair_gains::laws::{gains_are_what_tables_lose, what_gains_is_a_candidate};
 use std::alloc::{AllocError, Global};
 
 // Whether covers may be extracted from a network under a name: no table has too many inputs then. What they save is told by the gains.
@@ -28,7 +28,7 @@ impl<'a, R: Row> Trial for NarrowTrial<'a, R> {
     ghost use Rattle.circuit_model.specs.Soundness.{IsSound};
     ghost use Rattle.net_core.specs.Fresh.{IsNewName};
     ghost use Rattle.net_work.specs.Placed.{standing, circuit_of};
-    ghost use Rattle.kept_savings.specs.Saving.{LeavesNarrow};
+    ghost use Rattle.net_savings.specs.Saving.{LeavesNarrow};
 
     ghost IsReady = { λ t. IsSound (circuit_of t.work.now) × IsNewName (circuit_of t.work.now) t.name.now };
 

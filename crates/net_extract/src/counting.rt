@@ -7,8 +7,8 @@ ghost use Rattle.net_extract.specs.Known.{IsCounted, AreCounted};
 
 use circuit_model::Name;
 use cube_cover::Row;
-use kept_gains::KeptGains;
 use net_core::{Entry, bracketed_name};
+use net_gains::KeptGains;
 use net_work::Work;
 use sis_base::Copied;
 use std::alloc::{AllocError, Global};

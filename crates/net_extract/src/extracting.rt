@@ -2,7 +2,7 @@
 
 ghost use Rattle.std.specs.Prelude.{IfOk, OnOk, IfErr};
 ghost use Rattle.circuit_model.specs.Soundness.{IsSound};
-ghost use Rattle.extract_rules.specs.Extracting.{IsExtracted};
+ghost use Rattle.net_candidates.specs.Extracting.{IsExtracted};
 ghost use Rattle.net_core.specs.Reads.{HasBounds};
 ghost use Rattle.net_work.specs.Placed.{circuit_of};
 ghost use Rattle.net_extract.specs.Going.{IsEnd};
@@ -12,7 +12,7 @@ use crate::fault::ExtractFault;
 use crate::known::known_of;
 use crate::stepping::step;
 use cube_cover::Row;
-use extract_rules::Rule;
+use net_candidates::Rule;
 use net_core::Network;
 use net_work::Work;
 use std::alloc::Global;

@@ -1,7 +1,7 @@
 //! Why nothing is extracted.
 
 use circuit_model::Name;
-use kept_savings::SavingsFault;
+use net_savings::SavingsFault;
 use std::alloc::AllocError;
 
 /// Why a network is not extracted.

@@ -2,8 +2,8 @@
 
 ghost use Rattle.std.specs.Prelude.{◌≡◌, IfOk, IfErr, OnOk, MatchOption};
 ghost use Rattle.circuit_model.specs.Soundness.{IsSound};
-ghost use Rattle.extract_rules.specs.Extracting.{IsNext, IsDone};
-ghost use Rattle.kept_savings.specs.Savings.{AreSavings};
+ghost use Rattle.net_candidates.specs.Extracting.{IsNext, IsDone};
+ghost use Rattle.net_savings.specs.Savings.{AreSavings};
 ghost use Rattle.net_core.specs.Fresh.{IsNewName};
 ghost use Rattle.net_work.specs.Placed.{circuit_of};
 ghost use Rattle.net_extract.specs.Going.{IsStopped};
@@ -13,10 +13,10 @@ use crate::counted::best_counted;
 use crate::fault::ExtractFault;
 use crate::known::Known;
 use circuit_model::Name;
+use cover_names::NamedCover;
 use cube_cover::Row;
-use extract_rules::Rule;
-use kept_savings::{KeptSavings, best_saved};
-use name_covers::NamedCover;
+use net_candidates::Rule;
+use net_savings::{KeptSavings, best_saved};
 use net_work::Work;
 use std::alloc::{AllocError, Global};
 

@@ -3,7 +3,7 @@
 ghost use Rattle.std.specs.Prelude.{◌≡◌, ◌<◌, ℕ, true, Option, Some, None, List, [], ◌∷◌, ◌++◌, length, is_some, slice_set, IfOk, OnOk, IfSome};
 ghost use Rattle.circuit_model.specs.Names.{all_different};
 ghost use Rattle.circuit_model.specs.declared.circuit.Table.{Table as TheTable};
-ghost use Rattle.extract_rules.specs.declared.rule.Rule.{Rule as TheRule};
+ghost use Rattle.net_candidates.specs.declared.rule.Rule.{Rule as TheRule};
 ghost use Rattle.net_core.specs.Tables.{named, IsOverInputs};
 ghost use Rattle.net_work.specs.Placed.{table_at, with_slot, with_last, AddsLast};
 ghost use Rattle.net_extract.specs.Known.{AreCounted, AreSaved, StaySaved};
@@ -11,10 +11,10 @@ ghost use Rattle.net_extract.specs.Known.{AreCounted, AreSaved, StaySaved};
 use crate::counting::count;
 use circuit_model::Name;
 use cube_cover::Row;
-use extract_rules::Rule;
-use kept_gains::KeptGains;
-use kept_savings::KeptSavings;
+use net_candidates::Rule;
 use net_core::{AddFault, Table};
+use net_gains::KeptGains;
+use net_savings::KeptSavings;
 use net_work::Work;
 use std::alloc::{AllocError, Global};
 

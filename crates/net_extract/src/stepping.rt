@@ -4,13 +4,13 @@ ghost use Rattle.std.specs.Prelude.{◌≡◌, ℕ, ◌≤◌, ◌<◌, true, fa
 ghost use Rattle.std.specs.List.{AllByRecursion};
 ghost use Rattle.circuit_model.specs.Names.{all_different};
 ghost use Rattle.circuit_model.specs.Soundness.{IsSound};
-ghost use Rattle.extract_rules.specs.Extracting.{IsDone};
+ghost use Rattle.net_candidates.specs.Extracting.{IsDone};
 ghost use Rattle.net_core.specs.Places.{written_of};
 ghost use Rattle.net_core.specs.Reads.{IsBounded};
 ghost use Rattle.net_core.specs.Tables.{named, IsOverInputs};
-ghost use Rattle.table_algebra.specs.Dividing.{divided};
+ghost use Rattle.alg_tables.specs.Dividing.{divided};
 ghost use Rattle.net_work.specs.Placed.{standing, circuit_of, table_at, with_slot};
-ghost use Rattle.kept_savings.specs.Saving.{literals_in};
+ghost use Rattle.net_savings.specs.Saving.{literals_in};
 ghost use Rattle.net_extract.specs.Dividing.{divided_slot, with_divided, IsMade, IsMadeAt, IsAdded};
 ghost use Rattle.net_extract.specs.Going.{IsStopped, IsNotAdded, IsPut, IsTaken};
 ghost use Rattle.net_extract.specs.Known.{AreCounted, AreSaved, StaySaved};
@@ -18,15 +18,15 @@ ghost use Rattle.net_extract.specs.Known.{AreCounted, AreSaved, StaySaved};
 use crate::fault::ExtractFault;
 use crate::finding::best_known;
 use crate::known::{Known, add_known, set_known};
+use alg_tables::{cover_table, divided_table};
 use circuit_model::Name;
+use cover_names::Cube;
 use cube_cover::Row;
-use extract_rules::Rule;
-use kept_savings::places_for;
-use name_covers::Cube;
+use net_candidates::Rule;
 use net_core::{AddFault, Entry, Table};
+use net_savings::places_for;
 use net_work::Work;
 use std::alloc::{AllocError, Global};
-use table_algebra::{cover_table, divided_table};
 
 /// A table of so many inputs is not made: that is answered as want of memory.
 const INPUT_BOUND: usize = 1 << 30;

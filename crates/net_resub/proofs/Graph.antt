@@ -11,8 +11,8 @@ use Rattle.circuit_model.specs.Values.{driver}
 use Rattle.circuit_model.specs.declared.circuit.Table.{Table}
 use Rattle.circuit_laws.proofs.Names.{name_is, name_not, same_name, different_tail, has_either}
 use Rattle.circuit_laws.proofs.Drivers.{driver_name}
-use Rattle.graph_cycles.specs.Graphs.{IsGraph, reads_of, is_among, Walks}
-use Rattle.graph_cycles.proofs.Walking.{led_from_walk, walk_from_led}
+use Rattle.circuit_checks.specs.Graphs.{IsGraph, reads_of, is_among, Walks}
+use Rattle.circuit_checks.proofs.Walking.{led_from_walk, walk_from_led}
 use Rattle.net_work.specs.Placed.{standing, table_at}
 use Rattle.net_work.specs.Slots.{inputs_in, inputs_at}
 use Rattle.net_resub.specs.Best.{is_led}

@@ -10,3 +10,5 @@ pub mod Steps
 pub mod Listing
 pub mod Visiting
 pub mod Keeping
+pub mod Ends
+pub mod RuleKeeping

@@ -9,10 +9,10 @@ use Rattle.std.proofs.lemmas.Option.{same_Some}
 use Rattle.circuit_model.specs.Names.{has}
 use Rattle.circuit_model.specs.declared.circuit.Table.{Table}
 use Rattle.circuit_laws.proofs.Names.{same_name, has_either}
-use Rattle.input_readers.specs.Readers.{is_in}
-use Rattle.name_covers.specs.Cubes.{is_over}
+use Rattle.net_readers.specs.Readers.{is_in}
+use Rattle.cover_names.specs.Cubes.{is_over}
 use Rattle.net_work.specs.Placed.{table_at}
-use Rattle.resub_rules.specs.Resubbed.{row_cubes}
+use Rattle.net_resub.specs.Resubbed.{row_cubes}
 use Rattle.net_resub.specs.Listed.{IsNeeded, HasPut, HasPutUnder, AreJoined, IsListed, AreListed, is_under}
 use Rattle.net_resub.specs.declared.listed.DivisorLists.{DivisorLists}
 use Rattle.net_resub.proofs.Slots.{place_within}

@@ -4,12 +4,12 @@ use Rattle.std.specs.Prelude.{slice_index_or, is_some}
 use Rattle.std.specs.List.{list_all, list_any}
 use Rattle.std.proofs.lemmas.Bool.{false≢true, and_parts, or_parts, or_cases}
 use Rattle.circuit_model.specs.Names.{has}
-use Rattle.name_covers.specs.Cubes.{cube_over, is_over}
+use Rattle.cover_names.specs.Cubes.{cube_over, is_over}
 use Rattle.net_core.specs.Places.{written_of}
 use Rattle.net_core.specs.Tables.{named, places_of, characters_of}
 use Rattle.net_core.specs.declared.places.Entry.{Entry}
 use Rattle.net_core.proofs.Rows.{places_back}
-use Rattle.resub_rules.specs.Resubbed.{row_cubes}
+use Rattle.net_resub.specs.Resubbed.{row_cubes}
 use Rattle.net_resub.specs.Listed.{IsNeeded}
 use Rattle.net_resub.specs.Pairs.{is_cube_over}
 

@@ -3,15 +3,15 @@ use Rattle.std.proofs.Common.{◌≡◌, ◌≤◌, ℕ, Bool, Option, Some, Non
 use Rattle.std.proofs.lemmas.List.{take_all}
 use Rattle.std.proofs.lemmas.Option.{same_Some}
 use Rattle.circuit_model.specs.declared.circuit.Table.{Table}
-use Rattle.name_covers.specs.Literals.{NamedCover}
-use Rattle.name_covers.specs.Cubes.{cube_over}
+use Rattle.cover_names.specs.Literals.{NamedCover}
+use Rattle.cover_names.specs.Cubes.{cube_over}
 use Rattle.net_core.specs.Tables.{named, places_of, characters_of}
 use Rattle.net_core.specs.Places.{written_of}
 use Rattle.net_core.specs.declared.table.Table.{Table as Covered}
 use Rattle.net_core.specs.declared.places.Entry.{Entry}
 use Rattle.net_core.proofs.Rows.{places_back}
 use Rattle.net_work.specs.Placed.{table_at}
-use Rattle.resub_rules.specs.Resubbed.{resubbed}
+use Rattle.net_resub.specs.Resubbed.{resubbed}
 
 rows_back : (inputs : List (List ℕ)) (rows : List (List (Option Bool))) → map (cube_over inputs) rows ≡ map (λ row. cube_over inputs (places_of row)) (map characters_of rows)
 rows_back inputs [] = refl

@@ -7,11 +7,11 @@ use Rattle.circuit_model.specs.Names.{has, all_different}
 use Rattle.circuit_model.specs.Soundness.{outputs_of, Leads}
 use Rattle.circuit_model.specs.declared.circuit.Table.{Table}
 use Rattle.circuit_laws.specs.Edits.{with_tables, with_replaced}
-use Rattle.name_covers.specs.Cubes.{is_over}
+use Rattle.cover_names.specs.Cubes.{is_over}
 use Rattle.net_work.specs.Placed.{Placed, standing, circuit_of, table_at}
-use Rattle.resub_rules.specs.Resubbed.{row_cubes, resubbed, IsCandidate, literals_after}
-use Rattle.table_algebra.proofs.Divided.{unread_stays}
-use Rattle.table_algebra.proofs.Divisions.{divided_output}
+use Rattle.net_resub.specs.Resubbed.{row_cubes, resubbed, IsCandidate, literals_after}
+use Rattle.alg_tables.proofs.Divided.{unread_stays}
+use Rattle.alg_tables.proofs.Divisions.{divided_output}
 use Rattle.net_resub.specs.Best.{is_led, worth_at}
 use Rattle.net_resub.specs.Pairs.{saving_of, saving_between, saving_at}
 use Rattle.net_resub.proofs.Slots.{standing_set, literals_set, place_has}

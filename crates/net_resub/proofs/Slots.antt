@@ -13,9 +13,9 @@ use Rattle.circuit_model.specs.Values.{driver}
 use Rattle.circuit_model.specs.declared.circuit.Table.{Table}
 use Rattle.circuit_laws.specs.Edits.{replaced}
 use Rattle.circuit_laws.proofs.Names.{name_is, name_not, different_head, different_tail, has_head, has_tail}
-use Rattle.extract_rules.specs.Candidates.{ArePair}
+use Rattle.net_candidates.specs.Candidates.{ArePair}
 use Rattle.net_work.specs.Placed.{standing, table_at}
-use Rattle.split_laws.proofs.Among.{own_drivers}
+use Rattle.circuit_laws.proofs.Among.{own_drivers}
 
 -- what a table at a place drives is driven
 pub there_named : (slots : List (Option Table)) (place : ℕ) (table : Table) → table_at slots place ≡ Some table → has (outputs_of (standing slots)) table.output ≡ true

@@ -5,14 +5,14 @@ use Rattle.circuit_model.specs.Names.{all_different}
 use Rattle.circuit_model.specs.Soundness.{outputs_of}
 use Rattle.circuit_model.specs.declared.circuit.Table.{Table}
 use Rattle.circuit_model.specs.declared.circuit.Circuit.{Circuit}
-use Rattle.chain_laws.specs.Following.{Follows}
+use Rattle.circuit_laws.specs.Following.{Follows}
 use Rattle.circuit_laws.specs.Edits.{with_tables, with_replaced}
 use Rattle.net_core.specs.Reads.{IsBounded, HasBounds}
 use Rattle.net_work.specs.Placed.{Placed, standing, circuit_of, table_at, with_slot}
 use Rattle.net_core.specs.Tables.{named}
 use Rattle.net_core.specs.declared.table.Table.{Table as Covered}
-use Rattle.resub_rules.specs.Resubbed.{row_cubes, resubbed, with_resubbed, IsBest, IsStep, IsReached}
-use Rattle.table_algebra.proofs.Divisions.{divided_output}
+use Rattle.net_resub.specs.Resubbed.{row_cubes, resubbed, with_resubbed, IsBest, IsStep, IsReached}
+use Rattle.alg_tables.proofs.Divisions.{divided_output}
 use Rattle.net_resub.specs.Best.{worth_at, IsFirst}
 use Rattle.net_resub.specs.Pairs.{saving_at}
 use Rattle.net_resub.specs.declared.divisions.Division.{Division}

@@ -10,11 +10,11 @@ use Rattle.std.proofs.lemmas.List.Sorted.{list_any-IsPermutation}
 use Rattle.std.proofs.lemmas.Option.{none-some, same_Some}
 use Rattle.circuit_model.specs.Names.{has}
 use Rattle.circuit_model.specs.declared.circuit.Table.{Table}
-use Rattle.input_readers.specs.Readers.{is_in}
+use Rattle.net_readers.specs.Readers.{is_in}
 use Rattle.net_work.specs.Placed.{table_at}
 use Rattle.net_work.specs.Slots.{inputs_in, inputs_at}
-use Rattle.name_covers.specs.Cubes.{is_over}
-use Rattle.resub_rules.specs.Resubbed.{row_cubes}
+use Rattle.cover_names.specs.Cubes.{is_over}
+use Rattle.net_resub.specs.Resubbed.{row_cubes}
 use Rattle.net_resub.specs.Candidates.{AreDivisors, AreDividends, is_by, is_with}
 use Rattle.net_resub.specs.Divisions.{is_of, is_among, AreJust}
 use Rattle.net_resub.specs.Listed.{IsNeeded, is_under, AreJoined, AreListed}

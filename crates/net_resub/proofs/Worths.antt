@@ -5,7 +5,7 @@ use Rattle.circuit_model.specs.Names.{all_different}
 use Rattle.circuit_model.specs.Soundness.{outputs_of}
 use Rattle.circuit_model.specs.declared.circuit.Table.{Table}
 use Rattle.net_work.specs.Placed.{Placed, standing, circuit_of, table_at}
-use Rattle.resub_rules.specs.Resubbed.{IsCandidate, IsEarlier, IsBest, IsDone, literals_after}
+use Rattle.net_resub.specs.Resubbed.{IsCandidate, IsEarlier, IsBest, IsDone, literals_after}
 use Rattle.net_resub.specs.Best.{worth_at, IsAhead, IsFirst}
 use Rattle.net_resub.specs.declared.divisions.Division.{Division}
 use Rattle.net_resub.proofs.Slots.{has_place, pair_places}

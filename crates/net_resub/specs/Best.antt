@@ -4,7 +4,7 @@
 -- divisions that save as much is the project's own.
 use Rattle.std.specs.Prelude.{◌≡◌, ◌⊎◌, ℕ, ◌<◌, ◌≤◌, Bool, if◌then◌else◌, Option, Some, None, List, length}
 use Rattle.circuit_model.specs.declared.circuit.Table.{Table}
-use Rattle.graph_cycles.specs.Graphs.{leads}
+use Rattle.circuit_checks.specs.Graphs.{leads}
 use Rattle.net_resub.specs.Divisions.{Savings, saving_in}
 use Rattle.net_resub.specs.Pairs.{saving_at}
 use Rattle.net_resub.specs.Reaching.{graph_of}

@@ -3,7 +3,7 @@
 -- are among those of the table that it divides.
 use Rattle.std.specs.Prelude.{◌≡◌, ℕ, ◌<◌, ◌==◌, Bool, true, ◌||◌, Option, List}
 use Rattle.circuit_model.specs.declared.circuit.Table.{Table}
-use Rattle.input_readers.specs.Readers.{is_in}
+use Rattle.net_readers.specs.Readers.{is_in}
 use Rattle.net_resub.specs.Pairs.{saving_at}
 use Rattle.net_resub.specs.declared.divisions.Division.{Division}
 

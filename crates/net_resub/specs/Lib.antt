@@ -5,3 +5,4 @@ pub mod Kept
 pub mod Listed
 pub mod Pairs
 pub mod Reaching
+pub mod Resubbed

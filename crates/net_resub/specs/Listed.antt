@@ -6,11 +6,11 @@ use Rattle.std.specs.declared.vec.Vec.{Vec}
 use Rattle.indexmap.specs.IndexMap.{get}
 use Rattle.circuit_model.specs.Names.{has}
 use Rattle.circuit_model.specs.declared.circuit.Table.{Table}
-use Rattle.input_readers.specs.Readers.{is_in}
-use Rattle.name_covers.specs.Literals.{NamedCover}
-use Rattle.name_covers.specs.Cubes.{is_over}
+use Rattle.net_readers.specs.Readers.{is_in}
+use Rattle.cover_names.specs.Literals.{NamedCover}
+use Rattle.cover_names.specs.Cubes.{is_over}
 use Rattle.net_work.specs.Placed.{table_at}
-use Rattle.resub_rules.specs.Resubbed.{row_cubes}
+use Rattle.net_resub.specs.Resubbed.{row_cubes}
 use Rattle.net_resub.specs.declared.listed.DivisorLists.{DivisorLists}
 
 -- names among which are those of all literals of a cover have a name

@@ -6,10 +6,10 @@ use Rattle.std.specs.List.{list_all}
 use Rattle.circuit_model.specs.Names.{has}
 use Rattle.circuit_model.specs.Counts.{literals_of_table}
 use Rattle.circuit_model.specs.declared.circuit.Table.{Table}
-use Rattle.name_covers.specs.Literals.{Cube}
-use Rattle.name_covers.specs.declared.literal.Literal.{Literal}
+use Rattle.cover_names.specs.Literals.{Cube}
+use Rattle.cover_names.specs.declared.literal.Literal.{Literal}
 use Rattle.net_work.specs.Placed.{table_at}
-use Rattle.resub_rules.specs.Resubbed.{resubbed}
+use Rattle.net_resub.specs.Resubbed.{resubbed}
 
 -- how many literals go where a table is divided by another one; none where it reads that one's signal already, or becomes too wide
 unfoldable pub saving_of : Table → Table → ℕ

@@ -1,7 +1,7 @@
 //! By which tables a table may be divided so that literals are saved: only by those all of whose literals it reads.
 
 ghost use Rattle.std.specs.Prelude.{◌≡◌, ◌<◌, ℕ, true, IfOk};
-ghost use Rattle.input_readers.specs.Readers.{is_in};
+ghost use Rattle.net_readers.specs.Readers.{is_in};
 ghost use Rattle.net_resub.specs.Candidates.{AreDivisors, AreDividends, is_by, is_with};
 ghost use Rattle.net_resub.specs.Divisions.{AreJust};
 ghost use Rattle.net_resub.specs.Listed.{AreListed};

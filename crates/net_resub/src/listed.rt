@@ -9,10 +9,10 @@
 ghost use Rattle.std.specs.Prelude.{◌≡◌, ◌==◌, ◌||◌, ◌↔◌, ℕ, Bool, true, Some, None, List, [], bytes_eq, is_some, slice_index_or, if◌then◌else◌, IfOk, IfSome, OnOk, IsTrue};
 ghost use Rattle.std.specs.List.{list_any, last_or};
 ghost use Rattle.indexmap.specs.IndexMap.{get};
-ghost use Rattle.input_readers.specs.Readers.{is_in};
-ghost use Rattle.name_covers.specs.Cubes.{is_over};
+ghost use Rattle.net_readers.specs.Readers.{is_in};
+ghost use Rattle.cover_names.specs.Cubes.{is_over};
 ghost use Rattle.net_core.specs.Places.{written_of};
-ghost use Rattle.resub_rules.specs.Resubbed.{row_cubes as cubes_of_rows};
+ghost use Rattle.net_resub.specs.Resubbed.{row_cubes as cubes_of_rows};
 ghost use Rattle.net_resub.specs.Listed.{IsNeeded, places_in, in_list, is_under, HasPut, HasPutUnder, AreJoined, AreListed};
 
 use crate::pairs::item_at;

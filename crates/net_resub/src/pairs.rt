@@ -8,20 +8,19 @@ ghost use Rattle.net_core.specs.Places.{written_of};
 ghost use Rattle.net_core.specs.Reads.{IsBounded};
 ghost use Rattle.net_core.specs.Tables.{named, IsOverInputs};
 ghost use Rattle.net_work.specs.Placed.{table_at};
-ghost use Rattle.resub_rules.specs.Resubbed.{row_cubes as cubes_of_rows, resubbed as resubbed_by};
-ghost use Rattle.name_covers.specs.Cubes.{cube_over as cube_from, is_over};
+ghost use Rattle.net_resub.specs.Resubbed.{row_cubes as cubes_of_rows, resubbed as resubbed_by};
+ghost use Rattle.cover_names.specs.Cubes.{cube_over as cube_from, is_over};
 ghost use Rattle.net_resub.specs.Pairs.{saving_of as saved_of, saving_at as saved_at, is_cube_over};
 
 use crate::reaching::has_name;
 use alg_div::literals_of;
+use alg_tables::divided_table;
 use circuit_model::Name;
+use cover_names::{Cube, cube_over};
 use cube_cover::Row;
-use name_covers::{Cube, cube_over};
 use net_core::{Entry, Table};
-use net_work::Work;
+use net_work::{Work, literal_count};
 use std::alloc::{AllocError, Global};
-use table_algebra::divided_table;
-use use_counts::literal_count;
 
 /// How many inputs a table may have that a division makes.
 const INPUT_LIMIT: usize = 1_000;

@@ -3,8 +3,8 @@
 ghost use Rattle.std.specs.Prelude.{◌≡◌, ℕ, ◌<◌, true, false, Option, List, ◌++◌, All, length, slice_set, replicate, option_to_list, IfOk, OnOk};
 ghost use Rattle.circuit_model.specs.Names.{has, all_different};
 ghost use Rattle.circuit_model.specs.Soundness.{outputs_of, IsSound};
-ghost use Rattle.graph_cycles.specs.Graphs.{reads_of};
-ghost use Rattle.graph_cycles.specs.Searching.{is_seen as is_marked, marks, fresh, fresh_one};
+ghost use Rattle.circuit_checks.specs.Graphs.{reads_of};
+ghost use Rattle.circuit_checks.specs.Searching.{is_seen as is_marked, marks, fresh, fresh_one};
 ghost use Rattle.net_work.specs.Placed.{standing, circuit_of};
 ghost use Rattle.net_resub.specs.Best.{is_led as leads_to};
 ghost use Rattle.net_resub.specs.Reaching.{places_named as named_places, graph_of, ReadsAll};
@@ -52,7 +52,7 @@ fn reads_at<R: Row>(alloc: Global, work: &Work<R>, place: usize) -> Result<Vec<u
 }
 
 // Whether a place is marked.
-#[tactic(auto, unfolding(graph_cycles::specs::Searching::is_seen))]
+#[tactic(auto, unfolding(circuit_checks::specs::Searching::is_seen))]
 fn is_seen(seen: &[bool], place: usize) -> bool
     ensures { result ≡ is_marked seen.now place }
 {
@@ -73,7 +73,7 @@ fn note(place: usize, seen: &mut Vec<bool>, pending: &mut Vec<usize>) -> Result<
 }
 
 // Marks places, and puts those behind the pending ones that are seen for the first time.
-#[tactic(auto, using(graph_cycles::proofs::Marking::marks_more, graph_cycles::proofs::Marking::marks_done, graph_cycles::proofs::Marking::fresh_more, graph_cycles::proofs::Marking::fresh_done, std::proofs::lemmas::Grind::common_steps))]
+#[tactic(auto, using(circuit_checks::proofs::Marking::marks_more, circuit_checks::proofs::Marking::marks_done, circuit_checks::proofs::Marking::fresh_more, circuit_checks::proofs::Marking::fresh_done, std::proofs::lemmas::Grind::common_steps))]
 fn note_all(
     places: &[usize],
     seen: &mut Vec<bool>,

@@ -4,7 +4,7 @@ ghost use Rattle.std.specs.Prelude.{◌≡◌, true, false, IfOk, OnOk};
 ghost use Rattle.circuit_model.specs.Soundness.{IsSound};
 ghost use Rattle.net_core.specs.Reads.{HasBounds};
 ghost use Rattle.net_work.specs.Placed.{circuit_of};
-ghost use Rattle.resub_rules.specs.Resubbed.{IsStep, IsDone, IsResubbed};
+ghost use Rattle.net_resub.specs.Resubbed.{IsStep, IsDone, IsResubbed};
 ghost use Rattle.net_resub.specs.Kept.{IsKept};
 
 use crate::best::best_division;

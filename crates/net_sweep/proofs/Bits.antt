@@ -8,7 +8,7 @@ use Rattle.circuit_model.specs.declared.circuit.Tri.TheVariants.{Zero, One, Free
 use Rattle.circuit_model.specs.declared.circuit.Table.{Table}
 use Rattle.cube_cover.specs.Covers.{IsTautology}
 use Rattle.net_core.specs.Tables.{HasCharacters, places_of}
-use Rattle.sweep_rules.specs.Points.{every_point, constant_bit}
+use Rattle.net_wires.specs.Points.{every_point, constant_bit}
 
 and_true : (a b : Bool) → a ≡ true → b ≡ true → (a && b) ≡ true
 and_true a b h k = rw (h, k) refl

@@ -9,15 +9,15 @@ use Rattle.circuit_laws.specs.Chains.{Chain}
 use Rattle.circuit_laws.specs.Edits.{constant_table}
 use Rattle.circuit_laws.proofs.Drivers.{output_driver}
 use Rattle.std.proofs.lemmas.Bool.{false≢true}
-use Rattle.sweep_rules.specs.Rules.{tidy_table, write_constant, propagate_constant, collapse_single_input, fix_constant_latch, remove_dangling, sweep_step}
-use Rattle.sweep_rules.specs.Keeping.{IsKept}
-use Rattle.sweep_rules.specs.Sweeping.{IsSwept, tables_gone, latches_gone}
-use Rattle.sweep_rules.proofs.Chaining.{step_kept, chain_kept, chain_swept}
-use Rattle.sweep_rules.proofs.Falling.{step_falls}
-use Rattle.sweep_rules.proofs.Weight.{weight, replaced_lighter}
+use Rattle.net_wires.specs.Rules.{tidy_table, write_constant, propagate_constant, collapse_single_input, fix_constant_latch, remove_dangling, sweep_step}
+use Rattle.net_wires.specs.Keeping.{IsKept}
+use Rattle.net_wires.specs.Sweeping.{IsSwept, tables_gone, latches_gone}
+use Rattle.net_wires.proofs.Chaining.{step_kept, chain_kept, chain_swept}
+use Rattle.net_wires.proofs.Falling.{step_falls}
+use Rattle.net_wires.proofs.Weight.{weight, replaced_lighter}
 use Rattle.net_sweep.specs.Settled.{table_step, IsMove, Goes, HasLed}
-use Rattle.sweep_rules.specs.Idle.{IsIdle, with_emptied}
-use Rattle.sweep_rules.proofs.Idle.{emptied_sound, emptied_ends}
+use Rattle.net_wires.specs.Idle.{IsIdle, with_emptied}
+use Rattle.net_wires.proofs.Idle.{emptied_sound, emptied_ends}
 
 goes_more : (between : List Circuit) (from to next : Circuit) → Goes between from to → IsMove to next → Goes (between ++ next ∷ []) from next
 goes_more [] from to next h turn = (subst (λ (c : Circuit). IsMove c next) (sym h) turn, refl)

@@ -18,21 +18,21 @@ use Rattle.circuit_laws.proofs.Places.{set_replaced, placed_driver}
 use Rattle.circuit_laws.proofs.Paths.{no_return}
 use Rattle.circuit_laws.proofs.Ranks.{leads_one}
 use Rattle.net_core.proofs.Lookups.{get_set_same, get_set_other}
-use Rattle.table_tidy.specs.Tidy.{used_places, rows_differ, is_tidy, tidied}
-use Rattle.sweep_rules.specs.Points.{written_bit}
-use Rattle.sweep_rules.specs.Rules.{tidy_table, write_constant, propagate_constant, collapse_single_input, unwritten_bit, only_input, is_inverter, at_bit, rewired}
-use Rattle.sweep_rules.proofs.Points.{only_is}
-use Rattle.table_tidy.proofs.Tidied.{tidied_reads, tidied_output, tidied_tidy}
-use Rattle.sweep_rules.proofs.Turned.{with_rows_at, at_either, at_output, at_reads, at_shaped, rows_at_wide, rewires, rewired_either, rewired_output, rewired_reads, rewires_wide, rewired_shaped}
-use Rattle.sweep_rules.proofs.Sizes.{at_without, rewired_without}
+use Rattle.circuit_tables.specs.Tidy.{used_places, rows_differ, is_tidy, tidied}
+use Rattle.net_wires.specs.Points.{written_bit}
+use Rattle.net_wires.specs.Rules.{tidy_table, write_constant, propagate_constant, collapse_single_input, unwritten_bit, only_input, is_inverter, at_bit, rewired}
+use Rattle.net_wires.proofs.Points.{only_is}
+use Rattle.circuit_tables.proofs.Tidied.{tidied_reads, tidied_output, tidied_tidy}
+use Rattle.net_wires.proofs.Turned.{with_rows_at, at_either, at_output, at_reads, at_shaped, rows_at_wide, rewires, rewired_either, rewired_output, rewired_reads, rewires_wide, rewired_shaped}
+use Rattle.net_wires.proofs.Sizes.{at_without, rewired_without}
 use Rattle.net_sweep.specs.declared.queues.Rule.{Rule}
 use Rattle.net_sweep.specs.declared.queues.Rule.TheVariants.{TidyTable, WriteConstant, PropagateConstant, CollapseSingleInput}
 use Rattle.net_sweep.specs.declared.applying.Change.{Change}
 use Rattle.net_sweep.specs.declared.applying.Change.TheVariants.{Bit, Input}
-use Rattle.table_tidy.specs.Tidy.{IsWide}
+use Rattle.circuit_tables.specs.Tidy.{IsWide}
 use Rattle.net_sweep.specs.Settled.{IsFirst}
 use Rattle.net_sweep.specs.Settled.{passes, rule_applied, table_step, IsNext, changed_by, is_apart, may_apply_to_written, AreWaiting, AreCandidates, IsAlike, IsAlikeThere, AreAlikeBut, AreSound}
-use Rattle.input_readers.specs.Readers.{is_in}
+use Rattle.net_readers.specs.Readers.{is_in}
 use Rattle.net_wires.specs.Aliases.{inputs_at}
 use Rattle.net_wires.proofs.Reading.{inputs_here}
 use Rattle.net_sweep.proofs.Marking.{read_by, reads_at}

@@ -11,15 +11,15 @@ use Rattle.circuit_laws.specs.Edits.{with_tables, with_replaced, constant_table,
 use Rattle.circuit_laws.proofs.Names.{name_not, has_not, same_name}
 use Rattle.circuit_laws.proofs.Drivers.{driver_replaced_other}
 use Rattle.circuit_laws.proofs.Places.{set_replaced, placed_name}
-use Rattle.table_tidy.specs.Tidy.{is_tidy, used_places, rows_differ}
-use Rattle.sweep_rules.specs.Idle.{with_emptied}
-use Rattle.sweep_rules.specs.Needed.{dont_care_reads}
-use Rattle.sweep_rules.specs.Points.{written_bit}
-use Rattle.sweep_rules.specs.Rules.{unwritten_bit}
+use Rattle.circuit_tables.specs.Tidy.{is_tidy, used_places, rows_differ}
+use Rattle.net_wires.specs.Idle.{with_emptied}
+use Rattle.net_wires.specs.Needed.{dont_care_reads}
+use Rattle.net_wires.specs.Points.{written_bit}
+use Rattle.net_wires.specs.Rules.{unwritten_bit}
 use Rattle.net_sweep.specs.declared.queues.Rule.{Rule}
 use Rattle.net_sweep.specs.declared.queues.Rule.TheVariants.{TidyTable, WriteConstant, PropagateConstant, CollapseSingleInput}
 use Rattle.net_sweep.specs.Settled.{passes, listed, AreWaiting, AreCandidates, AreSound, HasLed}
-use Rattle.input_readers.specs.Readers.{is_in}
+use Rattle.net_readers.specs.Readers.{is_in}
 use Rattle.net_sweep.specs.Latches.{left_at, with_latches, is_fixed, AreInFanout, IsPlaced, IsBeside}
 use Rattle.net_sweep.proofs.Changing.{set_reads, set_names, at_set, still_passes}
 use Rattle.net_sweep.proofs.Latching.{sound_tables, fixed_same}

@@ -10,10 +10,10 @@ use Rattle.circuit_model.specs.declared.circuit.Table.{Table}
 use Rattle.circuit_model.specs.declared.circuit.Latch.{Latch}
 use Rattle.circuit_model.specs.declared.circuit.Circuit.{Circuit}
 use Rattle.circuit_laws.proofs.Names.{same_name, has_head, different_head, different_tail}
-use Rattle.sweep_rules.specs.Points.{written_bit}
-use Rattle.sweep_rules.specs.Needed.{dont_care_reads}
+use Rattle.net_wires.specs.Points.{written_bit}
+use Rattle.net_wires.specs.Needed.{dont_care_reads}
 use Rattle.net_sweep.specs.Settled.{listed, AreWaiting}
-use Rattle.input_readers.specs.Readers.{is_in}
+use Rattle.net_readers.specs.Readers.{is_in}
 use Rattle.net_sweep.specs.Latches.{left_at, is_fixed, IsPlaced, AreInFanout, IsBeside}
 use Rattle.net_sweep.proofs.Marking.{has_more, taken_cases, listed_none, listed_more, listed_kept}
 use Rattle.net_sweep.proofs.Changing.{unmapped}

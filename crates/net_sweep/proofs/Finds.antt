@@ -5,7 +5,7 @@ use Rattle.std.proofs.lemmas.List.Elements.{filter_agree}
 use Rattle.std.proofs.lemmas.List.Sums.{length-filter}
 use Rattle.circuit_model.specs.declared.circuit.Table.{Table}
 use Rattle.circuit_model.specs.Soundness.{IsShaped}
-use Rattle.table_tidy.specs.Tidy.{IsWide}
+use Rattle.circuit_tables.specs.Tidy.{IsWide}
 
 pub within : {X : Type 0} (items : List X) (i : ℕ) (item : X) → slice_get items i ≡ Some item → i < length items
 within [] i item h = let z : None ≡ Some item = h in absurd cc

@@ -15,15 +15,15 @@ use Rattle.circuit_laws.proofs.Drivers.{driver_name, driver_none}
 use Rattle.circuit_laws.proofs.Paths.{driver_added_other}
 use Rattle.circuit_laws.proofs.Places.{placed_driver, latches_stay}
 use Rattle.net_core.proofs.Lookups.{get_set_same, get_set_other, get_push_at, get_push_left, get_push_cases}
-use Rattle.table_tidy.specs.Tidy.{is_tidy}
-use Rattle.net_needed.specs.Places.{item_at, LeadsToTables}
-use Rattle.net_needed.proofs.Taking.{tables_differ}
-use Rattle.sweep_rules.specs.Points.{written_bit}
-use Rattle.sweep_rules.specs.Needed.{dont_care_reads}
-use Rattle.sweep_rules.specs.Rules.{fixed_bit, bit_from_start, starts_at}
+use Rattle.circuit_tables.specs.Tidy.{is_tidy}
+use Rattle.net_wires.specs.Places.{item_at, LeadsToTables}
+use Rattle.net_wires.proofs.Taking.{tables_differ}
+use Rattle.net_wires.specs.Points.{written_bit}
+use Rattle.net_wires.specs.Needed.{dont_care_reads}
+use Rattle.net_wires.specs.Rules.{fixed_bit, bit_from_start, starts_at}
 use Rattle.net_sweep.specs.declared.queues.Rule.{Rule}
 use Rattle.net_sweep.specs.Settled.{rule_applied, listed, may_apply_to_written, AreWaiting, AreCandidates, AreAlikeBut, AreSound}
-use Rattle.input_readers.specs.Readers.{is_in}
+use Rattle.net_readers.specs.Readers.{is_in}
 use Rattle.net_sweep.specs.Latches.{left_at, slot_bit, is_fixed, IsFirstFixed, IsPlaced, AreInFanout, IsBeside}
 use Rattle.net_sweep.proofs.Marking.{least_first, read_by, reads_at}
 use Rattle.net_sweep.proofs.Changing.{there, alike_before, still_passes, constant_tidy, written_asks, applied_names, applied_cares, applied_outputs}

@@ -12,7 +12,7 @@ use Rattle.circuit_laws.proofs.Names.{has_either, has_front, has_back, name_itse
 use Rattle.net_sweep.specs.Settled.{IsFirst}
 use Rattle.net_sweep.specs.declared.queues.Rule.{Rule}
 use Rattle.net_sweep.specs.Settled.{listed, may_apply_to_written, AreWaiting}
-use Rattle.input_readers.specs.Readers.{is_in}
+use Rattle.net_readers.specs.Readers.{is_in}
 use Rattle.net_sweep.proofs.Finds.{within}
 
 -- the search for the first item that passes a test

@@ -11,10 +11,10 @@ use Rattle.circuit_model.specs.declared.circuit.Table.{Table}
 use Rattle.circuit_model.specs.declared.circuit.Circuit.{Circuit}
 use Rattle.circuit_laws.specs.Edits.{with_tables}
 use Rattle.net_core.proofs.Lookups.{get_set_same, get_set_other}
-use Rattle.table_tidy.specs.Tidy.{is_tidy, IsWide}
-use Rattle.sweep_rules.specs.Rules.{rewired}
-use Rattle.chain_laws.proofs.Found.{find_none}
-use Rattle.input_readers.specs.Readers.{is_in}
+use Rattle.circuit_tables.specs.Tidy.{is_tidy, IsWide}
+use Rattle.net_wires.specs.Rules.{rewired}
+use Rattle.circuit_laws.proofs.Found.{find_none}
+use Rattle.net_readers.specs.Readers.{is_in}
 use Rattle.net_wires.specs.Aliases.{inputs_at, exchanged}
 use Rattle.net_wires.proofs.Reading.{inputs_here}
 use Rattle.net_wires.proofs.Exchanging.{exchanged_output, exchanged_tidy, exchanged_unwritten, exchanged_written, exchanged_single, rewired_exchanged}

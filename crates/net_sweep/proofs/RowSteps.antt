@@ -8,9 +8,9 @@ use Rattle.circuit_model.specs.declared.circuit.Tri.TheVariants.{Zero, One, Free
 use Rattle.circuit_model.specs.declared.circuit.Table.{Table}
 use Rattle.sis_base.specs.Rows.{agrees, matches, some_matches, value_by_phase}
 use Rattle.circuit_model.specs.Values.{literal_of, table_value}
-use Rattle.sweep_rules.specs.Rules.{asks_against, row_at_bit, at_bit, row_turned, is_inverter}
+use Rattle.net_wires.specs.Rules.{asks_against, row_at_bit, at_bit, row_turned, is_inverter}
 use Rattle.circuit_model.specs.Names.{has}
-use Rattle.table_tidy.specs.Tidy.{tidied}
+use Rattle.circuit_tables.specs.Tidy.{tidied}
 use Rattle.net_core.specs.Tables.{HasCharacters}
 use Rattle.net_wires.specs.Aliases.{row_over}
 use Rattle.net_sweep.specs.Columns.{opens_at_one, row_at_marks}

@@ -12,11 +12,11 @@ use Rattle.circuit_model.specs.declared.circuit.Circuit.{Circuit}
 use Rattle.circuit_laws.specs.Edits.{constant_table, with_added, with_fixed, with_kept, with_replaced, with_tables, tables_kept, latches_kept, is_other, timing_with}
 use Rattle.circuit_laws.proofs.Names.{has_not, different_apart}
 use Rattle.circuit_laws.proofs.Places.{tables_stay}
-use Rattle.net_needed.proofs.Taking.{latches_differ}
-use Rattle.sweep_rules.specs.Points.{written_bit}
-use Rattle.sweep_rules.specs.Rules.{tidy_table, write_constant, propagate_constant, collapse_single_input, fix_constant_latch, remove_dangling, unwritten_bit, only_input, fixed_bit, at_bit, rewired, is_inverter, with_latch_fixed, sweep_step}
-use Rattle.sweep_rules.proofs.Falling.{step_falls}
-use Rattle.sweep_rules.proofs.Weight.{weight}
+use Rattle.net_wires.proofs.Taking.{latches_differ}
+use Rattle.net_wires.specs.Points.{written_bit}
+use Rattle.net_wires.specs.Rules.{tidy_table, write_constant, propagate_constant, collapse_single_input, fix_constant_latch, remove_dangling, unwritten_bit, only_input, fixed_bit, at_bit, rewired, is_inverter, with_latch_fixed, sweep_step}
+use Rattle.net_wires.proofs.Falling.{step_falls}
+use Rattle.net_wires.proofs.Weight.{weight}
 use Rattle.net_sweep.specs.declared.queues.Rule.{Rule}
 use Rattle.net_sweep.specs.declared.queues.Rule.TheVariants.{TidyTable, WriteConstant, PropagateConstant, CollapseSingleInput}
 use Rattle.net_sweep.specs.declared.latches.TrackedLatches.{TrackedLatches}

@@ -4,7 +4,7 @@ use Rattle.std.specs.Prelude.{Bool, true, false, Option, Some, None, List, [], �
 use Rattle.std.specs.Option.{option_map}
 use Rattle.circuit_model.specs.declared.circuit.Tri.{Tri}
 use Rattle.circuit_model.specs.declared.circuit.Tri.TheVariants.{Zero, Free}
-use Rattle.sweep_rules.specs.Rules.{asks_against}
+use Rattle.net_wires.specs.Rules.{asks_against}
 
 -- a row in which the signal at the marked places has a bit: its literals go, and so does the row where one contradicts
 unfoldable pub row_at_marks : Bool → List Bool → List Tri → Option (List Tri)

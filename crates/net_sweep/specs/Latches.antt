@@ -11,10 +11,10 @@ use Rattle.circuit_model.specs.Soundness.{outputs_of}
 use Rattle.circuit_model.specs.declared.circuit.Latch.{Latch}
 use Rattle.circuit_model.specs.declared.circuit.Circuit.{Circuit}
 use Rattle.circuit_laws.specs.Edits.{timing_with}
-use Rattle.sweep_rules.specs.Needed.{dont_care_reads}
-use Rattle.sweep_rules.specs.Rules.{fixed_bit}
+use Rattle.net_wires.specs.Needed.{dont_care_reads}
+use Rattle.net_wires.specs.Rules.{fixed_bit}
 use Rattle.net_sweep.specs.Settled.{listed, table_step, IsNext, AreWaiting}
-use Rattle.input_readers.specs.Readers.{is_in}
+use Rattle.net_readers.specs.Readers.{is_in}
 use Rattle.net_sweep.specs.declared.latches.TrackedLatches.{TrackedLatches}
 use Rattle.net_sweep.specs.declared.steps.Step.{Step}
 use Rattle.net_sweep.specs.declared.steps.Step.TheVariants.{Apply, Fix}

@@ -12,11 +12,11 @@ use Rattle.circuit_model.specs.Soundness.{outputs_of, table_inputs, IsShaped, Is
 use Rattle.circuit_model.specs.declared.circuit.Table.{Table}
 use Rattle.circuit_model.specs.declared.circuit.Circuit.{Circuit}
 use Rattle.circuit_laws.specs.Edits.{with_replaced}
-use Rattle.table_tidy.specs.Tidy.{is_tidy, tidied}
-use Rattle.sweep_rules.specs.Points.{written_bit}
-use Rattle.sweep_rules.specs.Rules.{tidy_table, write_constant, propagate_constant, collapse_single_input, with_constant, with_constant_propagated, with_single_input_collapsed, unwritten_bit, only_input, at_bit, rewired, sweep_step}
-use Rattle.sweep_rules.specs.Idle.{IsIdle, with_emptied}
-use Rattle.input_readers.specs.Readers.{is_in}
+use Rattle.circuit_tables.specs.Tidy.{is_tidy, tidied}
+use Rattle.net_wires.specs.Points.{written_bit}
+use Rattle.net_wires.specs.Rules.{tidy_table, write_constant, propagate_constant, collapse_single_input, with_constant, with_constant_propagated, with_single_input_collapsed, unwritten_bit, only_input, at_bit, rewired, sweep_step}
+use Rattle.net_wires.specs.Idle.{IsIdle, with_emptied}
+use Rattle.net_readers.specs.Readers.{is_in}
 use Rattle.net_sweep.specs.declared.queues.Rule.{Rule}
 use Rattle.net_sweep.specs.declared.queues.Rule.TheVariants.{TidyTable, WriteConstant, PropagateConstant, CollapseSingleInput}
 use Rattle.net_sweep.specs.declared.queues.Candidates.{Candidates}

@@ -13,25 +13,24 @@ ghost use Rattle.net_core.specs.Tables.{HasCharacters};
 ghost use Rattle.net_sweep.specs.declared.queues.Rule.{Rule as TheRule};
 ghost use Rattle.net_sweep.specs.declared.queues.Rule.TheVariants.{TidyTable, WriteConstant, PropagateConstant, CollapseSingleInput};
 ghost use Rattle.net_sweep.specs.declared.applying.Change.TheVariants.{Input};
-ghost use Rattle.table_tidy.specs.Tidy.{IsWide};
-ghost use Rattle.sweep_rules.specs.Rules.{only_input as input_alone, rewired as table_rewired};
+ghost use Rattle.circuit_tables.specs.Tidy.{IsWide};
+ghost use Rattle.net_wires.specs.Rules.{only_input as input_alone, rewired as table_rewired};
 ghost use Rattle.net_sweep.specs.Settled.{IsFirst};
 ghost use Rattle.net_sweep.specs.Settled.{passes, rule_applied, IsNext, changed_by, is_apart, is_candidate, AreWaiting, AreCandidates, AreAlikeBut, AreSound};
-ghost use Rattle.input_readers.specs.Readers.{is_in};
+ghost use Rattle.net_readers.specs.Readers.{is_in};
 ghost use Rattle.net_wires.specs.Aliases.{inputs_at};
 
 use crate::constants::{constant_written, unwritten_bit};
 use crate::queues::{Candidates, Rule, add_candidates, pop_least, put_place};
 use crate::rows::{at_bit, is_inverter, rewired};
 use circuit_model::{Name, Table};
+use circuit_tables::{is_tidy_table, tidied_table};
 use cube_cover::Row;
-use input_readers::Places;
-use net_needed::written_bit;
-use net_wires::AliasedTables;
+use net_readers::Places;
+use net_wires::{AliasedTables, written_bit};
 use sis_base::{Copied, Sequence};
 use std::alloc::{AllocError, Global};
 use std::collections::BTreeSet;
-use table_tidy::{is_tidy_table, tidied_table};
 
 /// What readers of a signal take in its place: a bit, or another signal, turned over or not.
 #[derive(Drop)]

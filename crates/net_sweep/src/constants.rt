@@ -5,13 +5,13 @@ ghost use Rattle.std.specs.Option.{option_map};
 ghost use Rattle.circuit_laws.specs.Edits.{constant_table as table_of_bit};
 ghost use Rattle.cube_cover.specs.Covers.{IsTautology};
 ghost use Rattle.net_core.specs.Tables.{HasCharacters, places_of};
-ghost use Rattle.sweep_rules.specs.Points.{constant_bit};
-ghost use Rattle.sweep_rules.specs.Rules.{unwritten_bit as bit_unwritten};
+ghost use Rattle.net_wires.specs.Points.{constant_bit};
+ghost use Rattle.net_wires.specs.Rules.{unwritten_bit as bit_unwritten};
 
 use circuit_model::Table as Written;
 use cube_cover::Row;
 use net_core::Table;
-use net_needed::{constant_table, written_bit};
+use net_wires::{constant_table, written_bit};
 use std::alloc::{AllocError, Global};
 
 // The bit that a table has at every point, if it has one, told by whether some row matches each point.
@@ -40,7 +40,7 @@ fn constant_bit_of<R: Row>(alloc: Global, table: &Written) -> Result<Option<bool
 }
 
 // The constant that a table ought to be written as, where it is constant and written otherwise.
-#[tactic(auto, unfolding(sweep_rules::specs::Rules::unwritten_bit))]
+#[tactic(auto, unfolding(net_wires::specs::Rules::unwritten_bit))]
 pub(crate) fn unwritten_bit<R: Row>(
     alloc: Global,
     table: &Written,

@@ -6,7 +6,7 @@ ghost use Rattle.circuit_model.specs.Soundness.{outputs_of};
 
 use circuit_model::{Name, Table};
 use indexmap::IndexSet;
-use net_needed::{driven_names, is_among};
+use net_wires::{driven_names, is_among};
 use sis_base::Copied;
 use std::alloc::{AllocError, Global};
 

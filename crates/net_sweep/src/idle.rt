@@ -2,7 +2,7 @@
 //! again and again.
 //!
 //! Source: the SIS manual (UCB/ERL M92/41), `sweep`: nodes that do not fan out go. That it changes no chain's end is a law
-//! of sweep_rules; the last rule drops what is left of such a table.
+//! of net_wires; the last rule drops what is left of such a table.
 
 ghost use Rattle.std.specs.Prelude.{◌≡◌, ℕ, Bool, true, false, None, bytes_eq, OnOk};
 ghost use Rattle.indexmap.specs.IndexMap.{get};
@@ -14,8 +14,7 @@ ghost use Rattle.net_sweep.specs.Latches.{left_at, with_latches, IsReady};
 
 use crate::latches::TrackedLatches;
 use circuit_model::Name;
-use net_needed::{constant_table, is_among};
-use net_wires::AliasedTables;
+use net_wires::{AliasedTables, constant_table, is_among};
 use std::alloc::{AllocError, Global};
 
 // Whether it is seen that nothing takes a signal: no table and not the don't-care part reads it, and it is no output and

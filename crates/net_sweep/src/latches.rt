@@ -11,19 +11,18 @@ ghost use Rattle.indexmap.specs.IndexMap.{get};
 ghost use Rattle.circuit_model.specs.Names.{has, all_different};
 ghost use Rattle.circuit_model.specs.Soundness.{outputs_of};
 ghost use Rattle.circuit_model.specs.Values.{driver};
-ghost use Rattle.net_needed.specs.Places.{LeadsToTables};
-ghost use Rattle.sweep_rules.specs.Points.{written_bit as bit_written};
-ghost use Rattle.sweep_rules.specs.Needed.{dont_care_reads};
-ghost use Rattle.sweep_rules.specs.Rules.{starts_at as may_start_at, fixed_bit as bit_fixed};
+ghost use Rattle.net_wires.specs.Places.{LeadsToTables};
+ghost use Rattle.net_wires.specs.Points.{written_bit as bit_written};
+ghost use Rattle.net_wires.specs.Needed.{dont_care_reads};
+ghost use Rattle.net_wires.specs.Rules.{starts_at as may_start_at, fixed_bit as bit_fixed};
 ghost use Rattle.net_sweep.specs.Settled.{AreWaiting};
 ghost use Rattle.net_sweep.specs.Latches.{slot_bit as bit_of_slot, is_fixed, IsFirstFixed, IsReady};
 
 use crate::queues::{pop_least, put_place};
 use circuit_model::{Latch, Name};
 use indexmap::{IndexMap, IndexSet};
-use input_readers::Places;
-use net_needed::is_among;
-use net_wires::AliasedTables;
+use net_readers::Places;
+use net_wires::{AliasedTables, is_among};
 use std::alloc::AllocError;
 use std::collections::BTreeSet;
 
@@ -76,7 +75,7 @@ fn starts_at(init: u8, bit: bool) -> bool
 }
 
 // The bit that a latch always has.
-#[tactic(auto, unfolding(sweep_rules::specs::Rules::fixed_bit))]
+#[tactic(auto, unfolding(net_wires::specs::Rules::fixed_bit))]
 fn fixed_bit(
     aliased: &AliasedTables,
     places: &IndexMap<Name, usize>,

@@ -8,11 +8,11 @@ ghost use Rattle.std.specs.BTreeSet.{contains, btree_set_len};
 ghost use Rattle.indexmap.specs.IndexMap.{get};
 ghost use Rattle.net_sweep.specs.declared.queues.Rule.{Rule as TheRule};
 ghost use Rattle.net_sweep.specs.Settled.{listed, is_candidate, may_apply_to_written};
-ghost use Rattle.input_readers.specs.Readers.{is_in};
+ghost use Rattle.net_readers.specs.Readers.{is_in};
 
 use circuit_model::Name;
 use indexmap::IndexMap;
-use input_readers::Places;
+use net_readers::Places;
 use sis_base::{Copied, Sequence};
 use std::alloc::{AllocError, Global};
 use std::collections::BTreeSet;

@@ -7,13 +7,13 @@ ghost use Rattle.circuit_model.specs.Values.{table_value};
 ghost use Rattle.circuit_model.specs.declared.circuit.Tri.TheVariants.{Free};
 ghost use Rattle.net_core.specs.Tables.{HasCharacters};
 ghost use Rattle.net_sweep.specs.Columns.{opens_at_one, row_at_marks};
-ghost use Rattle.sweep_rules.specs.Rules.{asks_against, at_bit as table_at_bit, renamed as name_for, row_turned as turned_row, rewired as table_rewired, is_inverter as inverts_input};
+ghost use Rattle.net_wires.specs.Rules.{asks_against, at_bit as table_at_bit, renamed as name_for, row_turned as turned_row, rewired as table_rewired, is_inverter as inverts_input};
 
 use circuit_model::{Name, Names, Row, Rows, Table, Tri};
+use circuit_tables::tidied_table;
 use net_wires::rows_over;
 use sis_base::{Copied, Sequence};
 use std::alloc::{AllocError, Global};
-use table_tidy::tidied_table;
 
 // Whether a name is among names.
 pub(crate) fn is_among(names: &Names, name: &Name) -> bool
@@ -90,7 +90,7 @@ fn rows_at_bit(alloc: Global, bit: bool, marks: &[bool], rows: &[Row]) -> Result
 }
 
 // The table that reads a signal which has a bit, tidied; another table stays.
-#[tactic(auto, unfolding(sweep_rules::specs::Rules::at_bit))]
+#[tactic(auto, unfolding(net_wires::specs::Rules::at_bit))]
 pub(crate) fn at_bit(
     alloc: Global,
     table: &Table,
@@ -153,7 +153,7 @@ fn names_renamed(alloc: Global, from: &Name, to: &Name, names: &[Name]) -> Resul
 }
 
 // The table that reads one signal in place of another one, turned over or not, tidied; a table that doesn't read it stays.
-#[tactic(auto, unfolding(sweep_rules::specs::Rules::rewired))]
+#[tactic(auto, unfolding(net_wires::specs::Rules::rewired))]
 pub(crate) fn rewired(
     alloc: Global,
     table: &Table,

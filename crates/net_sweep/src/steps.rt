@@ -3,7 +3,7 @@
 ghost use Rattle.std.specs.Prelude.{◌≡◌, ℕ, Bool, ◌<◌, Some, None, find, slice_get, length, IfOk, OnOk};
 ghost use Rattle.circuit_model.specs.Soundness.{IsSound};
 ghost use Rattle.circuit_model.specs.declared.circuit.Table.{Table as TheTable};
-ghost use Rattle.sweep_rules.specs.Rules.{sweep_step};
+ghost use Rattle.net_wires.specs.Rules.{sweep_step};
 ghost use Rattle.net_sweep.specs.declared.queues.Rule.{Rule as TheRule};
 ghost use Rattle.net_sweep.specs.declared.queues.Rule.TheVariants.{TidyTable, CollapseSingleInput};
 ghost use Rattle.net_sweep.specs.Settled.{passes, rule_applied, is_candidate, AreCandidates, AreSound, HasLed};

@@ -4,9 +4,9 @@ ghost use Rattle.std.specs.Prelude.{◌≡◌, ◌-◌, not, None, count_by, len
 ghost use Rattle.circuit_model.specs.Names.{has};
 ghost use Rattle.circuit_model.specs.Soundness.{IsSound, outputs_of};
 ghost use Rattle.circuit_laws.specs.Chains.{Chain};
-ghost use Rattle.sweep_rules.specs.Keeping.{IsKept};
-ghost use Rattle.sweep_rules.specs.Rules.{fix_constant_latch, sweep_step};
-ghost use Rattle.sweep_rules.specs.Sweeping.{IsSwept, tables_gone, latches_gone};
+ghost use Rattle.net_wires.specs.Keeping.{IsKept};
+ghost use Rattle.net_wires.specs.Rules.{fix_constant_latch, sweep_step};
+ghost use Rattle.net_wires.specs.Sweeping.{IsSwept, tables_gone, latches_gone};
 ghost use Rattle.net_sweep.specs.Settled.{table_step, is_candidate, AreCandidates, HasLed};
 ghost use Rattle.net_sweep.specs.Latches.{left_at, with_latches, IsReady, IsNextStep};
 ghost use Rattle.net_sweep.specs.declared.sweeping.SweepFault.TheVariants.{Memory};
@@ -19,8 +19,7 @@ use crate::tracking::{tracked_latches, with_tracked_latches};
 use circuit_model::{Circuit, Name};
 use cube_cover::Row;
 use net_core::Network;
-use net_needed::dangling_step;
-use net_wires::AliasedTables;
+use net_wires::{AliasedTables, dangling_step};
 use std::alloc::{AllocError, Global};
 
 /// How many tables and latches a sweep took away; a latch that became a table counts as a latch alone.

@@ -8,15 +8,15 @@ ghost use Rattle.circuit_model.specs.Soundness.{outputs_of};
 ghost use Rattle.circuit_model.specs.declared.circuit.Latch.{Latch as TheLatch};
 ghost use Rattle.circuit_laws.specs.Edits.{timing_with};
 ghost use Rattle.net_sweep.specs.Settled.{listed};
-ghost use Rattle.input_readers.specs.Readers.{is_in};
+ghost use Rattle.net_readers.specs.Readers.{is_in};
 ghost use Rattle.net_sweep.specs.Latches.{left_at, with_latches, IsPlaced, IsReady};
 
 use crate::latches::TrackedLatches;
 use crate::queues::{add_place, all_places, put_list};
 use circuit_model::{Circuit, Latch, Latches, Name, Table, Timing};
 use indexmap::IndexMap;
-use input_readers::Places;
-use net_needed::{leaves_read, note_place};
+use net_readers::Places;
+use net_wires::{leaves_read, note_place};
 use sis_base::{Copied, Sequence};
 use std::alloc::{AllocError, Global};
 

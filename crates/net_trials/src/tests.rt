@@ -7,9 +7,8 @@ ghost use Rattle.net_core.specs.Reads.{HasBounds};
 
 use blif_read::read;
 use blif_write::{latches_text, tables_text};
-use circuit_model::{Bits, Circuit, Name, Names, Table};
+use circuit_model::{Bits, Circuit, Name, Names, Spec, Table};
 use cube_cover::PlainRow;
-use machine_model::Spec;
 use net_core::Network;
 use net_sweep::{SweepFault, Swept, sweep};
 use sis_base::Sequence;

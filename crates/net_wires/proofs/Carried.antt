@@ -13,10 +13,10 @@ use Rattle.circuit_model.specs.declared.circuit.Table.{Table}
 use Rattle.circuit_model.specs.declared.circuit.Circuit.{Circuit}
 use Rattle.circuit_laws.specs.Edits.{with_tables, with_added, constant_table}
 use Rattle.circuit_laws.proofs.Names.{same_name, name_itself, name_is, name_not, name_apart, name_cases, has_append}
-use Rattle.sweep_rules.specs.Rules.{turned_over, row_turned}
-use Rattle.sweep_rules.specs.Points.{written_bit}
-use Rattle.net_needed.proofs.Searching.{at_place}
-use Rattle.input_readers.specs.Readers.{AreReaders}
+use Rattle.net_wires.specs.Rules.{turned_over, row_turned}
+use Rattle.net_wires.specs.Points.{written_bit}
+use Rattle.net_wires.proofs.Searching.{at_place}
+use Rattle.net_readers.specs.Readers.{AreReaders}
 use Rattle.net_wires.specs.declared.edges.Edge.{Edge}
 use Rattle.net_wires.specs.Aliases.{inputs_at, row_over, complement_marks, table_over, AreInverse, ArePaired, name_exchanged, exchanged, with_edge, turned_if, HaveExchangedAliases}
 use Rattle.net_wires.proofs.Reading.{readers_last}

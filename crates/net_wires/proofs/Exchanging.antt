@@ -12,11 +12,11 @@ use Rattle.circuit_model.specs.declared.circuit.Tri.{Tri}
 use Rattle.circuit_model.specs.declared.circuit.Tri.TheVariants.{Zero, One, Free}
 use Rattle.circuit_model.specs.declared.circuit.Table.{Table}
 use Rattle.circuit_laws.proofs.Names.{same_name, name_itself, name_is, name_not, name_apart, name_cases}
-use Rattle.table_tidy.specs.Tidy.{IsWide, same_place, same_row, rows_differ, front_place, behind_front, used_places, some_row_or_phase_one, is_tidy, tidied}
-use Rattle.table_tidy.proofs.Tidied.{tidied_same}
-use Rattle.sweep_rules.specs.Points.{every_point, constant_bit, bit_by, written_bit}
-use Rattle.sweep_rules.specs.Rules.{turned_over, renamed, row_turned, rewired, unwritten_bit, only_input}
-use Rattle.sweep_rules.proofs.Turned.{rewires, rewired_either, rewires_wide, turned_agrees}
+use Rattle.circuit_tables.specs.Tidy.{IsWide, same_place, same_row, rows_differ, front_place, behind_front, used_places, some_row_or_phase_one, is_tidy, tidied}
+use Rattle.circuit_tables.proofs.Tidied.{tidied_same}
+use Rattle.net_wires.specs.Points.{every_point, constant_bit, bit_by, written_bit}
+use Rattle.net_wires.specs.Rules.{turned_over, renamed, row_turned, rewired, unwritten_bit, only_input}
+use Rattle.net_wires.proofs.Turned.{rewires, rewired_either, rewires_wide, turned_agrees}
 use Rattle.net_wires.specs.Aliases.{name_exchanged, exchanged}
 
 -- names

@@ -11,8 +11,8 @@ use Rattle.circuit_model.specs.declared.circuit.Table.{Table}
 use Rattle.circuit_model.specs.declared.circuit.Circuit.{Circuit}
 use Rattle.circuit_laws.specs.Edits.{with_tables}
 use Rattle.circuit_laws.proofs.Names.{has_front, has_back, has_either, has_not}
-use Rattle.net_needed.proofs.Searching.{at_place}
-use Rattle.input_readers.specs.Readers.{Inputs, with_inputs, AreReaders}
+use Rattle.net_wires.proofs.Searching.{at_place}
+use Rattle.net_readers.specs.Readers.{Inputs, with_inputs, AreReaders}
 use Rattle.net_wires.specs.Aliases.{inputs_at}
 
 -- inputs that are the same at each place have the same readers

@@ -5,9 +5,9 @@ use Rattle.std.proofs.lemmas.Bool.{false≢true}
 use Rattle.circuit_model.specs.declared.circuit.Tri.{Tri}
 use Rattle.circuit_model.specs.declared.circuit.Tri.TheVariants.{Zero, One, Free}
 use Rattle.circuit_model.specs.declared.circuit.Table.{Table}
-use Rattle.sweep_rules.specs.Rules.{turned_over}
+use Rattle.net_wires.specs.Rules.{turned_over}
 use Rattle.net_wires.specs.declared.edges.Edge.{Edge}
-use Rattle.sweep_rules.specs.Points.{bit_by, written_bit}
+use Rattle.net_wires.specs.Points.{bit_by, written_bit}
 use Rattle.net_wires.specs.Aliases.{row_over, complement_marks, table_over, AreInverse}
 
 -- a row without characters stays

@@ -7,7 +7,7 @@ use Rattle.std.specs.Prelude.{◌≡◌, ℕ, Bool, false, not, Option, Some, No
 use Rattle.std.specs.Option.{option_map_or}
 use Rattle.circuit_model.specs.declared.circuit.Tri.{Tri}
 use Rattle.circuit_model.specs.declared.circuit.Table.{Table}
-use Rattle.sweep_rules.specs.Rules.{turned_over, row_turned}
+use Rattle.net_wires.specs.Rules.{turned_over, row_turned}
 use Rattle.net_wires.specs.declared.edges.Edge.{Edge}
 
 -- the inputs of the table at a place; none where no table stands

@@ -1,1 +1,10 @@
 pub mod Aliases
+pub mod Written
+pub mod Places
+pub mod Reading
+pub mod Points
+pub mod Rules
+pub mod Needed
+pub mod Sweeping
+pub mod Keeping
+pub mod Idle

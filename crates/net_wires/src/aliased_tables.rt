@@ -6,17 +6,17 @@ ghost use Rattle.circuit_model.specs.Names.{has};
 ghost use Rattle.circuit_model.specs.Soundness.{table_inputs};
 ghost use Rattle.circuit_model.specs.declared.circuit.Table.{Table as TheTable};
 ghost use Rattle.circuit_laws.specs.Edits.{with_tables, with_added, constant_table as table_of_bit};
-ghost use Rattle.sweep_rules.specs.Points.{written_bit as bit_written};
+ghost use Rattle.net_wires.specs.Points.{written_bit as bit_written};
 ghost use Rattle.indexmap.specs.IndexMap.{get};
-ghost use Rattle.input_readers.specs.Readers.{told, is_in, AreReaders};
+ghost use Rattle.net_readers.specs.Readers.{told, is_in, AreReaders};
 ghost use Rattle.net_wires.specs.Aliases.{inputs_at, edge_of, table_over as over_edges, with_edge, turned_if, exchanged, HaveExchangedAliases};
 
 use crate::edges::{Edge, edge_from, name_of, set_edge, table_over, tables_over};
+use crate::{constant_table, written_bit};
 use circuit_model::{Circuit, Name, Table};
 use indexmap::IndexMap;
-use input_readers::{Places, Readers};
-use net_needed::{constant_table, written_bit};
-use sis_base::{Copied, Sequence};
+use net_readers::{Places, Readers};
+use sis_base::{Copied, Sequence, Whole};
 use std::alloc::{AllocError, Global};
 use std::marker::Model;
 use std::mem;
@@ -26,13 +26,13 @@ use std::mem;
 #[derive(Drop)]
 pub struct AliasedTables {
     // the circuit with aliases in the places of the signals that its tables read
-    circuit: Circuit,
+    circuit: Whole<Circuit>,
     // the places of the tables that read each alias
     readers: Readers,
     // the signal for which each alias stands
-    signal_of: IndexMap<Name, Edge>,
+    signal_of: Whole<IndexMap<Name, Edge>>,
     // the alias that stands for each signal
-    alias_of: IndexMap<Name, Edge>,
+    alias_of: Whole<IndexMap<Name, Edge>>,
 }
 
 impl Model for AliasedTables {
@@ -40,14 +40,14 @@ impl Model for AliasedTables {
     ghost use Rattle.indexmap.specs.IndexMap.{get};
     ghost use Rattle.circuit_model.specs.declared.circuit.Circuit.{Circuit as TheCircuit};
     ghost use Rattle.circuit_laws.specs.Edits.{with_tables};
-    ghost use Rattle.input_readers.specs.Readers.{told, AreReaders};
+    ghost use Rattle.net_readers.specs.Readers.{told, AreReaders};
     ghost use Rattle.net_wires.specs.Aliases.{inputs_at, edge_of, table_over, ArePaired};
 
     ghost Value = { TheCircuit };
 
-    ghost view = { λ over. with_tables over.circuit (map (table_over (edge_of (get bytes_eq over.signal_of))) over.circuit.tables) };
+    ghost view = { λ over. with_tables over.circuit.it (map (table_over (edge_of (get bytes_eq over.signal_of.it))) over.circuit.it.tables) };
 
-    ghost invariant = { λ over. AreReaders (told over.readers) (inputs_at over.circuit.tables) × ArePaired (edge_of (get bytes_eq over.signal_of)) (edge_of (get bytes_eq over.alias_of)) };
+    ghost invariant = { λ over. AreReaders (told over.readers) (inputs_at over.circuit.it.tables) × ArePaired (edge_of (get bytes_eq over.signal_of.it)) (edge_of (get bytes_eq over.alias_of.it)) };
 }
 
 // The readers of each signal in tables.
@@ -165,19 +165,25 @@ impl AliasedTables {
     // A circuit without anything; takes no memory.
     fn empty(alloc: Global) -> AliasedTables {
         AliasedTables {
-            circuit: Circuit {
-                name: Name::new(alloc),
-                inputs: Sequence::new(alloc),
-                outputs: Sequence::new(alloc),
-                clocks: Sequence::new(alloc),
-                timing: None,
-                latches: Sequence::new(alloc),
-                tables: Sequence::new(alloc),
-                dont_care: Sequence::new(alloc),
+            circuit: Whole {
+                it: Circuit {
+                    name: Name::new(alloc),
+                    inputs: Sequence::new(alloc),
+                    outputs: Sequence::new(alloc),
+                    clocks: Sequence::new(alloc),
+                    timing: None,
+                    latches: Sequence::new(alloc),
+                    tables: Sequence::new(alloc),
+                    dont_care: Sequence::new(alloc),
+                },
             },
             readers: Readers::of_none(alloc),
-            signal_of: IndexMap::new(alloc),
-            alias_of: IndexMap::new(alloc),
+            signal_of: Whole {
+                it: IndexMap::new(alloc),
+            },
+            alias_of: Whole {
+                it: IndexMap::new(alloc),
+            },
         }
     }
 
@@ -187,10 +193,14 @@ impl AliasedTables {
     {
         let readers = readers_of(alloc, circuit.tables.as_slice())?;
         Ok(AliasedTables {
-            circuit,
+            circuit: Whole { it: circuit },
             readers,
-            signal_of: IndexMap::new(alloc),
-            alias_of: IndexMap::new(alloc),
+            signal_of: Whole {
+                it: IndexMap::new(alloc),
+            },
+            alias_of: Whole {
+                it: IndexMap::new(alloc),
+            },
         })
     }
 
@@ -198,9 +208,9 @@ impl AliasedTables {
     pub fn into_circuit(self, alloc: Global) -> Result<Circuit, AllocError>
         ensures { IfOk result (λ circuit. circuit ≡ self) }
     {
-        let mut circuit = self.circuit;
+        let mut circuit = self.circuit.into_it();
         let tables = mem::replace(&mut circuit.tables, Sequence::new(alloc));
-        circuit.tables = tables_over(alloc, &self.signal_of, tables)?;
+        circuit.tables = tables_over(alloc, &self.signal_of.it, tables)?;
         Ok(circuit)
     }
 
@@ -208,17 +218,17 @@ impl AliasedTables {
     pub fn len(&self) -> usize
         ensures { result ≡ length self.now.tables }
     {
-        self.circuit.tables.len()
+        self.circuit.it.tables.len()
     }
 
     /// A copy of the table at a place, if there is one; an error only for want of memory.
     pub fn table(&self, alloc: Global, place: usize) -> Result<Option<Table>, AllocError>
         ensures { IfOk result (λ table. table ≡ slice_get self.now.tables place) }
     {
-        match self.circuit.tables.as_slice().get(place) {
+        match self.circuit.it.tables.as_slice().get(place) {
             None => Ok(None),
             Some(table) => {
-                let made = table_over(alloc, &self.signal_of, table.copy(alloc)?)?;
+                let made = table_over(alloc, &self.signal_of.it, table.copy(alloc)?)?;
                 Ok(Some(made))
             }
         }
@@ -228,7 +238,7 @@ impl AliasedTables {
     pub fn bit(&self, place: usize) -> Option<bool>
         ensures { result ≡ option_map_or bit_written (slice_get self.now.tables place) None }
     {
-        match self.circuit.tables.as_slice().get(place) {
+        match self.circuit.it.tables.as_slice().get(place) {
             None => None,
             Some(table) => written_bit(table),
         }
@@ -238,7 +248,7 @@ impl AliasedTables {
     pub fn width(&self, place: usize) -> usize
         ensures { result ≡ option_map_or (λ (table : TheTable). length table.inputs) (slice_get self.now.tables place) 0 }
     {
-        match self.circuit.tables.as_slice().get(place) {
+        match self.circuit.it.tables.as_slice().get(place) {
             None => 0,
             Some(table) => table.inputs.len(),
         }
@@ -248,19 +258,19 @@ impl AliasedTables {
     pub fn has_readers(&self, name: &Name) -> bool
         ensures { result ≡ has (table_inputs self.now.tables) name.now }
     {
-        self.readers.has_readers(name_of(&self.alias_of, name))
+        self.readers.has_readers(name_of(&self.alias_of.it, name))
     }
 
     /// The places of the tables that read a signal; an error only for want of memory.
     pub fn places(&self, alloc: Global, name: &Name) -> Result<Places, AllocError>
         ensures { IfOk result (λ places. (place : ℕ) → is_in places place ≡ has (inputs_at self.now.tables place) name.now) }
     {
-        self.readers.places(alloc, name_of(&self.alias_of, name))
+        self.readers.places(alloc, name_of(&self.alias_of.it, name))
     }
 
     /// How many tables read a signal, which no clause says: it serves to choose between ways, for speed alone.
     pub fn count(&self, name: &Name) -> usize {
-        self.readers.count(name_of(&self.alias_of, name))
+        self.readers.count(name_of(&self.alias_of.it, name))
     }
 
     /// The table at a place, which has one, gives place to another one; an error only for want of memory.
@@ -271,9 +281,9 @@ impl AliasedTables {
         let mut made = mem::replace(self, AliasedTables::empty(alloc));
         change_table(
             alloc,
-            &mut made.circuit,
+            &mut made.circuit.it,
             &mut made.readers,
-            &made.alias_of,
+            &made.alias_of.it,
             place,
             table,
         )?;
@@ -296,8 +306,8 @@ impl AliasedTables {
         let mut made = mem::replace(self, AliasedTables::empty(alloc));
         exchange_edges(
             alloc,
-            &mut made.signal_of,
-            &mut made.alias_of,
+            &mut made.signal_of.it,
+            &mut made.alias_of.it,
             one,
             other,
             inverts,
@@ -312,7 +322,7 @@ impl AliasedTables {
     {
         let table = constant_table(alloc, name, bit)?;
         let mut made = mem::replace(self, AliasedTables::empty(alloc));
-        push_table(&mut made.circuit, table)?;
+        push_table(&mut made.circuit.it, table)?;
         *self = made;
         Ok(())
     }

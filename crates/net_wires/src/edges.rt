@@ -3,7 +3,7 @@
 ghost use Rattle.std.specs.Prelude.{◌≡◌, ◌++◌, ℕ, Bool, Some, None, List, [], ◌∷◌, map, unwrap_or, slice_get, bytes_eq, false, if◌then◌else◌, IfOk, OnOk};
 ghost use Rattle.std.specs.List.{list_any};
 ghost use Rattle.indexmap.specs.IndexMap.{get};
-ghost use Rattle.sweep_rules.specs.Rules.{turned_over};
+ghost use Rattle.net_wires.specs.Rules.{turned_over};
 ghost use Rattle.net_wires.specs.Aliases.{edge_of, with_edge, complement_marks, row_over as over_marks, table_over as over_edges};
 
 use circuit_model::{Name, Names, Row, Rows, Table, Tables, Tri};

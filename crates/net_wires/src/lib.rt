@@ -1,15 +1,37 @@
-//! A circuit on which rules run and in which two signals change places in all tables at once: tables are kept over aliases, each
-//! of which stands for a signal or, by a complemented edge, its complement, and exact readers are kept of the aliases.
+//! What sweep is, and the circuit on which it runs.
 //!
-//! Source: Cormen, Leiserson, Rivest and Stein, "Introduction to Algorithms", third edition, chapter 21: names of sets apart
-//! from what they hold. Promised: contracts see `AliasedTables` as the circuit with its tables over the signals
-//! (`specs/Aliases.antt`), and each call says which circuit it becomes. A change of places costs no walk over tables, and a
-//! change of one table the size of the new one and the inputs of the old one; no clause says so. Each error is want of memory;
-//! behind it any circuit may stand.
+//! Source: the SIS manual (UCB/ERL M92/41), `sweep`; De Micheli, "Synthesis and Optimization of
+//! Digital Circuits", chapter 8. `specs/` has the rules over circuits (`Rules`), constants
+//! (`Points`), what is needed (`Needed`), what steps keep (`Keeping`), the finished form
+//! (`Sweeping`) and a table that nothing takes (`Idle`); `sweep_laws` what holds of them, each law
+//! the contract of a call that does nothing.
+//!
+//! `AliasedTables` is a circuit in which two signals change places in all tables at once (Cormen,
+//! Leiserson, Rivest and Stein, "Introduction to Algorithms", third edition, chapter 21: names of
+//! sets apart from what they hold): each alias stands for a signal or, by a complemented edge, its
+//! complement, and exact readers are kept of the aliases. Promised: contracts see it as the circuit
+//! with its tables over the signals (`specs/Aliases.antt`), and each call says which circuit it
+//! becomes. A change of places costs no walk over tables, and a change of one table the size of
+//! the new one and the inputs of the old one; no clause says so. Behind an error, which is want of
+//! memory, any circuit may stand.
+//!
+//! `dangling_step` is the last rule in one pass over the circuit, with names looked up in hash
+//! tables. `constants`, `leaves` and `places` serve it and the other rules: constants as they are
+//! written, the leaves that the don't-care part reads, and where the table of a signal stands.
 #![tactic(auto)]
 
 mod aliased_tables;
+mod constants;
 mod edges;
+mod leaves;
+mod needed;
+mod parts;
+mod places;
+pub mod sweep_laws;
 
 pub use aliased_tables::AliasedTables;
+pub use constants::{constant_table, written_bit};
 pub use edges::rows_over;
+pub use leaves::{driven_names, is_among, leaves_read};
+pub use needed::dangling_step;
+pub use places::note_place;

@@ -21,7 +21,7 @@ use Rattle.net_core.specs.declared.places.Entry.{Entry}
 use Rattle.net_core.specs.declared.table.Table.{Table}
 use Rattle.net_core.proofs.Indexing.{over_nothing, indexed_nothing, driver_at, alone, indexed_write, indexed_removal, indexed_push, over_write, over_removal, over_push}
 use Rattle.net_core.proofs.Lookups.{get_set_same, get_set_other, get_push_cases}
-use Rattle.use_counts.specs.Uses.{told_uses}
+use Rattle.net_work.specs.Uses.{told_uses}
 use Rattle.net_work.specs.Frames.{reserved_by}
 use Rattle.net_work.specs.Placed.{standing, table_at}
 use Rattle.net_work.specs.Slots.{written_slots, AreLinked, AreOnce, AreTaken, IsKeptUp}

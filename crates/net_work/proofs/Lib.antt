@@ -4,3 +4,4 @@ pub mod Kept
 pub mod Noted
 pub mod Views
 pub mod Ordered
+pub mod Numbers

@@ -3,9 +3,9 @@ use Rattle.std.proofs.Common.{◌≡◌, ℕ, ◌+◌, ◌≤◌, ◌==◌, Bool
 use Rattle.std.proofs.lemmas.Bool.{eqb-true}
 use Rattle.circuit_model.specs.Names.{has}
 use Rattle.circuit_model.specs.declared.circuit.Table.{Table as Written}
-use Rattle.input_readers.specs.Readers.{Inputs, told, with_inputs, AreReaders}
+use Rattle.net_readers.specs.Readers.{Inputs, told, with_inputs, AreReaders}
 use Rattle.net_core.specs.Reads.{uses_in, uses_of}
-use Rattle.use_counts.specs.Uses.{told_uses}
+use Rattle.net_work.specs.Uses.{told_uses}
 use Rattle.net_work.specs.Placed.{standing, table_at}
 use Rattle.net_work.specs.Slots.{inputs_in, inputs_at, AreLinked}
 use Rattle.net_work.specs.declared.links.Links.{Links}

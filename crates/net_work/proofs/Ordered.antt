@@ -14,8 +14,8 @@ use Rattle.net_core.specs.Places.{present, IsIndexed}
 use Rattle.net_core.specs.Tables.{named}
 use Rattle.net_core.specs.declared.places.Entry.{Entry}
 use Rattle.net_core.proofs.Indexing.{known_name, different_indexed}
-use Rattle.table_order.specs.Order.{waits, is_ready, order_from, order_of}
-use Rattle.table_order.proofs.Orders.{has_push}
+use Rattle.circuit_order.specs.Order.{waits, is_ready, order_from, order_of}
+use Rattle.circuit_order.proofs.Orders.{has_push}
 use Rattle.net_work.specs.Placed.{Placed, standing, name_at}
 use Rattle.net_work.specs.Slots.{written_slots, bare}
 use Rattle.net_work.proofs.Standing.{standing_present, table_there}

@@ -7,7 +7,7 @@ use Rattle.std.proofs.lemmas.List.Sums.{sum_by-cons}
 use Rattle.std.proofs.lemmas.Option.{same_Some, slice_get-map}
 use Rattle.circuit_model.specs.Soundness.{outputs_of}
 use Rattle.circuit_model.specs.declared.circuit.Table.{Table as Written}
-use Rattle.input_readers.specs.Readers.{with_inputs}
+use Rattle.net_readers.specs.Readers.{with_inputs}
 use Rattle.net_core.specs.Places.{present, written_of}
 use Rattle.net_core.specs.Reads.{uses_in, uses_of}
 use Rattle.net_core.specs.declared.places.Entry.{Entry}

@@ -1,3 +1,4 @@
 pub mod Placed
 pub mod Frames
 pub mod Slots
+pub mod Uses

@@ -8,12 +8,12 @@ use Rattle.circuit_model.specs.Names.{has, all_different}
 use Rattle.circuit_model.specs.declared.circuit.Table.{Table as Written}
 use Rattle.circuit_model.specs.declared.circuit.Circuit.{Circuit}
 use Rattle.circuit_laws.specs.Edits.{with_tables}
-use Rattle.input_readers.specs.Readers.{told, AreReaders}
+use Rattle.net_readers.specs.Readers.{told, AreReaders}
 use Rattle.net_core.specs.Fresh.{bracketed, used_names}
 use Rattle.net_core.specs.Places.{written_of, IsIndexed, AreOverInputs}
 use Rattle.net_core.specs.Reads.{uses_of}
 use Rattle.net_core.specs.declared.places.Entry.{Entry}
-use Rattle.use_counts.specs.Uses.{told_uses}
+use Rattle.net_work.specs.Uses.{told_uses}
 use Rattle.net_work.specs.Placed.{standing, table_at}
 use Rattle.net_work.specs.declared.links.Links.{Links}
 

@@ -4,20 +4,20 @@ ghost use Rattle.std.specs.Prelude.{◌≡◌, ℕ, ◌≤◌, true, Option, Som
 ghost use Rattle.std.specs.Option.{option_map};
 ghost use Rattle.circuit_model.specs.Names.{all_different};
 ghost use Rattle.circuit_model.specs.declared.circuit.Table.{Table as TheWritten};
-ghost use Rattle.input_readers.specs.Readers.{is_in, told};
+ghost use Rattle.net_readers.specs.Readers.{is_in, told};
 ghost use Rattle.net_core.specs.Places.{written_of};
 ghost use Rattle.net_core.specs.Reads.{uses_in};
 ghost use Rattle.net_core.specs.Tables.{named};
-ghost use Rattle.use_counts.specs.Uses.{told_uses};
+ghost use Rattle.net_work.specs.Uses.{told_uses};
 ghost use Rattle.net_work.specs.Placed.{standing, table_at};
 ghost use Rattle.net_work.specs.Slots.{written_slots, AreLinked, AreOnce};
 
+use crate::UseCounts;
 use circuit_model::Name;
 use cube_cover::Row;
-use input_readers::{Places, Readers};
 use net_core::{Entry, Table};
+use net_readers::{Places, Readers};
 use std::alloc::{AllocError, Global};
-use use_counts::UseCounts;
 
 /// The readers and the uses of all signals.
 #[derive(Drop)]

@@ -4,18 +4,18 @@ ghost use Rattle.std.specs.Prelude.{◌≡◌, ℕ, true, Some, List, [], ◌∷
 ghost use Rattle.indexmap.specs.IndexMap.{get};
 ghost use Rattle.circuit_model.specs.Names.{has};
 ghost use Rattle.net_core.specs.Places.{present, written_of};
-ghost use Rattle.table_order.specs.Order.{order_of};
+ghost use Rattle.circuit_order.specs.Order.{order_of};
 ghost use Rattle.net_work.specs.Placed.{standing, name_at};
 ghost use Rattle.net_work.specs.Slots.{bare};
 
 use crate::work::Work;
 use circuit_model::{Name, Table as Written};
+use circuit_order::order;
 use cube_cover::Row;
 use indexmap::IndexMap;
 use net_core::{Entry, found_place};
 use sis_base::{Copied, Sequence};
 use std::alloc::{AllocError, Global};
-use table_order::order;
 
 // The table of a circuit that an entry is, with its names alone.
 #[tactic(auto, unfolding(net_core::specs::Tables::named))]

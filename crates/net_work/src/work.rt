@@ -7,7 +7,7 @@ ghost use Rattle.circuit_model.specs.Names.{has, all_different};
 ghost use Rattle.circuit_model.specs.Soundness.{outputs_of, IsSound};
 ghost use Rattle.circuit_model.specs.declared.circuit.Table.{Table as TheWritten};
 ghost use Rattle.circuit_laws.specs.Edits.{with_tables, is_root};
-ghost use Rattle.input_readers.specs.Readers.{is_in};
+ghost use Rattle.net_readers.specs.Readers.{is_in};
 ghost use Rattle.net_core.specs.Fresh.{bracketed, used_names, node_count};
 ghost use Rattle.net_core.specs.Places.{present, written_of};
 ghost use Rattle.net_core.specs.Reads.{value_of};
@@ -17,14 +17,14 @@ ghost use Rattle.net_work.specs.Slots.{written_slots, inputs_at, AreLinked, AreT
 
 use crate::frame::Frame;
 use crate::links::{Links, links_of};
+use crate::{literal_count, worth};
 use circuit_model::Name;
 use cube_cover::Row;
 use indexmap::IndexMap;
-use input_readers::Places;
 use net_core::{Entry, Network, Parts, found_place};
+use net_readers::Places;
 use std::alloc::{AllocError, Global};
 use std::marker::Model;
-use use_counts::{literal_count, worth};
 
 /// A network whose tables stand at places.
 #[derive(Drop)]

@@ -8,12 +8,12 @@ use Rattle.circuit_model.specs.declared.circuit.Circuit.{Circuit}
 use Rattle.circuit_laws.specs.Edits.{with_tables, with_replaced}
 use Rattle.net_core.proofs.Removals.{tables_differ}
 use Rattle.net_work.specs.Placed.{Placed, standing, circuit_of, table_at, name_at, with_slot}
-use Rattle.table_order.specs.Order.{order_of}
-use Rattle.minimum_rules.specs.Local.{is_local}
-use Rattle.minimum_rules.specs.Minimized.{minimized, is_list_long}
-use Rattle.minimum_rules.specs.Simplified.{with_minimum, is_refused, refusal_along, simplified, simplify_refusal}
-use Rattle.minimum_rules.proofs.Minimal.{minimized_output}
-use Rattle.minimum_rules.proofs.Simplifying.{turn_sound}
+use Rattle.circuit_order.specs.Order.{order_of}
+use Rattle.sdc_simplify.specs.Local.{is_local}
+use Rattle.sdc_simplify.specs.Minimized.{minimized, is_list_long}
+use Rattle.sdc_simplify.specs.Simplified.{with_minimum, is_refused, refusal_along, simplified, simplify_refusal}
+use Rattle.sdc_simplify.proofs.Minimal.{minimized_output}
+use Rattle.sdc_simplify.proofs.InTurns.{turn_sound}
 use Rattle.sdc_simplify.specs.Simplify.{IsCause}
 use Rattle.sdc_simplify.specs.Turns.{own_refusal, IsAlong}
 use Rattle.sdc_simplify.specs.declared.fault.SimplifyFault.{SimplifyFault}

@@ -14,7 +14,7 @@ use Rattle.cube_cover.specs.Covers.{Shape}
 use Rattle.cover_search.specs.Ties.{Tie, keeps, keeps_all}
 use Rattle.cover_search.specs.Views.{tie_of}
 use Rattle.cover_search.specs.declared.tied.Tie.{Tie as Held}
-use Rattle.minimum_rules.specs.Local.{input_bit, reads_within, differs, is_local}
+use Rattle.sdc_simplify.specs.Local.{input_bit, reads_within, differs, is_local}
 use Rattle.net_core.specs.Places.{written_of}
 use Rattle.net_core.specs.Tables.{named}
 use Rattle.net_core.specs.declared.places.Entry.{Entry}

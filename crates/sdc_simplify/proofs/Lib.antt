@@ -4,3 +4,7 @@ pub mod Minima
 pub mod Stands
 pub mod Along
 pub mod Bounds
+pub mod Local
+pub mod Minimal
+pub mod InTurns
+pub mod Small

@@ -15,16 +15,16 @@ use Rattle.cover_min.specs.Minimum.{Meaning, widened, widened_to, with_needed, m
 use Rattle.cover_min.proofs.Minima.{minimum_same}
 use Rattle.cover_search.specs.Ties.{meaning_of as meaning_of_tied}
 use Rattle.cover_search.specs.declared.tied.Tie.{Tie as Held}
-use Rattle.minimum_rules.specs.Local.{is_local}
-use Rattle.minimum_rules.specs.Minimized.{on_rows, meaning_of, minimized, is_list_long}
-use Rattle.minimum_rules.proofs.Minimal.{on_wide, on_value}
+use Rattle.sdc_simplify.specs.Local.{is_local}
+use Rattle.sdc_simplify.specs.Minimized.{on_rows, meaning_of, minimized, is_list_long}
+use Rattle.sdc_simplify.proofs.Minimal.{on_wide, on_value}
 use Rattle.net_core.specs.Places.{written_of}
 use Rattle.net_core.specs.Tables.{places_of, characters_of, named, HasCharacters, IsOverInputs}
 use Rattle.net_core.specs.declared.places.Entry.{Entry}
 use Rattle.net_core.specs.declared.table.Table.{Table}
 use Rattle.net_core.proofs.Rows.{all_places_back}
-use Rattle.table_tidy.specs.Tidy.{tidied}
-use Rattle.table_tidy.proofs.Tidied.{tidied_once}
+use Rattle.circuit_tables.specs.Tidy.{tidied}
+use Rattle.circuit_tables.proofs.Tidied.{tidied_once}
 use Rattle.sdc_simplify.specs.Simplify.{IsCause}
 use Rattle.sdc_simplify.specs.Turns.{own_refusal, seen, AreLocal}
 use Rattle.sdc_simplify.specs.declared.fault.SimplifyFault.{SimplifyFault}

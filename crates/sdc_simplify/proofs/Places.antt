@@ -11,9 +11,9 @@ use Rattle.circuit_laws.proofs.Names.{name_is, name_not, name_apart, different_h
 use Rattle.cube_cover.specs.Covers.{Shape}
 use Rattle.cover_ops.specs.Composed.{AreBelow, placed_rows, inner_point}
 use Rattle.cover_ops.proofs.Compositions.{is_target, AreApart, value-inner_row}
-use Rattle.table_algebra.specs.Taking.{entries}
-use Rattle.table_algebra.proofs.Places.{IsFound, found}
-use Rattle.table_algebra.proofs.Taken.{has_at}
+use Rattle.alg_tables.specs.Taking.{entries}
+use Rattle.alg_tables.proofs.Places.{IsFound, found}
+use Rattle.alg_tables.proofs.Taken.{has_at}
 use Rattle.sdc_simplify.specs.Turns.{bits_at, IsSpread}
 
 -- the bit of a name is that at its place

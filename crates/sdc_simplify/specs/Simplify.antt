@@ -3,7 +3,7 @@
 -- limit is the project's own.
 use Rattle.std.specs.Prelude.{◌≡◌, ℕ, Result, Ok, Err, Option, Some, None, List}
 use Rattle.circuit_model.specs.declared.circuit.Circuit.{Circuit}
-use Rattle.minimum_rules.specs.Simplified.{simplified, simplify_refusal}
+use Rattle.sdc_simplify.specs.Simplified.{simplified, simplify_refusal}
 use Rattle.sdc_simplify.specs.declared.fault.SimplifyFault.{SimplifyFault}
 use Rattle.sdc_simplify.specs.declared.fault.SimplifyFault.TheVariants.{CubeLimit, Memory}
 

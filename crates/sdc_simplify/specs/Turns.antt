@@ -14,9 +14,9 @@ use Rattle.cube_cover.specs.Covers.{Shape}
 use Rattle.cover_search.specs.Ties.{Tie, keeps_all}
 use Rattle.cover_search.specs.Views.{tie_of}
 use Rattle.cover_search.specs.declared.tied.Tie.{Tie as Held}
-use Rattle.minimum_rules.specs.Local.{differs, is_local}
-use Rattle.minimum_rules.specs.Minimized.{is_list_long}
-use Rattle.minimum_rules.specs.Simplified.{with_minimum, refusal_along}
+use Rattle.sdc_simplify.specs.Local.{differs, is_local}
+use Rattle.sdc_simplify.specs.Minimized.{is_list_long}
+use Rattle.sdc_simplify.specs.Simplified.{with_minimum, refusal_along}
 use Rattle.net_work.specs.Placed.{Placed, circuit_of, name_at}
 
 -- why the table of a signal is not made minimal

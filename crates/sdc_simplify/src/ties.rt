@@ -5,13 +5,14 @@ ghost use Rattle.std.specs.List.{list_all};
 ghost use Rattle.circuit_model.specs.Names.{has, all_different};
 ghost use Rattle.circuit_model.specs.Soundness.{IsSound};
 ghost use Rattle.circuit_model.specs.declared.circuit.Table.{Table as TheWritten};
-ghost use Rattle.minimum_rules.specs.Local.{differs};
+ghost use Rattle.sdc_simplify.specs.Local.{differs};
 ghost use Rattle.net_core.specs.Places.{written_of};
 ghost use Rattle.net_core.specs.Tables.{IsOverInputs};
 ghost use Rattle.net_work.specs.Placed.{circuit_of, table_at};
-ghost use Rattle.table_algebra.specs.Taking.{entries};
+ghost use Rattle.alg_tables.specs.Taking.{entries};
 ghost use Rattle.sdc_simplify.specs.Turns.{AreLocal, IsSpread, IsTiedMore, differs_there};
 
+use alg_tables::place_among;
 use circuit_model::Name;
 use cover_ops::place_rows;
 use cover_search::Tie;
@@ -19,7 +20,6 @@ use cube_cover::{Cover, Row};
 use net_core::{Entry, Table};
 use net_work::Work;
 use std::alloc::{AllocError, Global};
-use table_algebra::place_among;
 
 // Whether a name stands among names.
 fn is_among(names: &[Name], name: &Name) -> bool

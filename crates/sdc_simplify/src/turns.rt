@@ -7,8 +7,8 @@ ghost use Rattle.circuit_model.specs.declared.circuit.Circuit.{Circuit as TheCir
 ghost use Rattle.circuit_model.specs.declared.circuit.Table.{Table as TheWritten};
 ghost use Rattle.cover_min.specs.Minimum.{minimum_rows};
 ghost use Rattle.cover_search.specs.Ties.{meaning_of};
-ghost use Rattle.minimum_rules.specs.Local.{is_local};
-ghost use Rattle.minimum_rules.specs.Minimized.{on_rows, minimized, is_list_long};
+ghost use Rattle.sdc_simplify.specs.Local.{is_local};
+ghost use Rattle.sdc_simplify.specs.Minimized.{on_rows, minimized, is_list_long};
 ghost use Rattle.net_core.specs.Places.{written_of};
 ghost use Rattle.net_core.specs.Tables.{named, HasCharacters, IsOverInputs};
 ghost use Rattle.net_work.specs.Placed.{circuit_of, table_at, with_slot};

@@ -5,9 +5,9 @@ use Rattle.circuit_model.specs.declared.circuit.Table.{Table}
 use Rattle.circuit_model.specs.declared.circuit.Circuit.{Circuit}
 use Rattle.net_core.specs.Reads.{IsBounded, HasBounds}
 use Rattle.circuit_laws.specs.Chains.{Chain}
-use Rattle.sweep_rules.specs.Keeping.{IsNoLarger}
-use Rattle.sweep_rules.specs.Rules.{sweep_step}
-use Rattle.sweep_rules.proofs.Larger.{chain_no_larger}
+use Rattle.net_wires.specs.Keeping.{IsNoLarger}
+use Rattle.net_wires.specs.Rules.{sweep_step}
+use Rattle.net_wires.proofs.Larger.{chain_no_larger}
 
 -- rows and inputs that are few enough, as greatest numbers
 rows_within : (tables : List Table) → AllByRecursion IsBounded tables → AllByRecursion (λ (table : Table). length table.rows ≤ 2 ^ 29 - 1) tables

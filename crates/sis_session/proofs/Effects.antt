@@ -20,33 +20,33 @@ use Rattle.blif_lines.specs.declared.fault.BlifFault.{BlifFault}
 use Rattle.blif_read.proofs.WhatIsRead.{spec_sound}
 use Rattle.blif_read.specs.Limits.{IsSoundSpec}
 use Rattle.blif_read.specs.Reader.{read_lines}
-use Rattle.machine_model.specs.Behaviors.{of_machine, of_spec}
-use Rattle.machine_model.specs.Soundness.{IsSound as IsSoundMachine}
-use Rattle.machine_model.specs.Text.{text_of as machine_text_of}
-use Rattle.machine_model.specs.declared.machine.Machine.{Machine}
-use Rattle.machine_model.specs.declared.machine.Spec.{Spec}
-use Rattle.machine_model.specs.declared.machine.Spec.TheVariants as asked
+use Rattle.circuit_model.specs.MachineBehaviors.{of_machine, of_spec}
+use Rattle.circuit_model.specs.MachineSoundness.{IsSound as IsSoundMachine}
+use Rattle.circuit_model.specs.MachineText.{text_of as machine_text_of}
+use Rattle.circuit_model.specs.declared.machine.Machine.{Machine}
+use Rattle.circuit_model.specs.declared.machine.Spec.{Spec}
+use Rattle.circuit_model.specs.declared.machine.Spec.TheVariants as asked
 use Rattle.kiss_format.specs.Reader.{read_lines as machine_lines_read}
 use Rattle.kiss_format.proofs.Sound.{read_sound}
 use Rattle.kiss_format.specs.declared.fault.KissFault.{KissFault}
 use Rattle.genlib_format.specs.Reader.{library_of}
 use Rattle.genlib_format.specs.declared.fault.LibFault.{LibFault}
-use Rattle.sweep_rules.proofs.Chaining.{chain_kept}
-use Rattle.elim_rules.specs.Collapsing.{collapsed}
-use Rattle.minimum_rules.specs.Simplified.{simplified}
-use Rattle.extract_rules.specs.Extracting.{IsExtracted}
-use Rattle.extract_rules.specs.declared.rule.Rule.{Rule as Extraction}
-use Rattle.extract_rules.specs.declared.rule.Rule.TheVariants as extract
-use Rattle.extract_rules.proofs.Keeping.{extracted_refines, reached_extended as extraction_extended}
-use Rattle.resub_rules.specs.Resubbed.{IsResubbed}
-use Rattle.resub_rules.proofs.Keeping.{resubbed_refines, reached_extended as resub_extended}
-use Rattle.decomp_rules.specs.Decomposed.{IsDecomposed}
-use Rattle.decomp_rules.specs.declared.rule.Rule.{Rule}
-use Rattle.decomp_rules.specs.declared.rule.Rule.TheVariants.{Shared, Gates}
-use Rattle.decomp_rules.proofs.Stepping.{reached_extended, decomposed_refines}
-use Rattle.elim_rules.proofs.Stepping.{chain_keeps, chain_refines}
-use Rattle.minimum_rules.proofs.Simplifying.{simplified_reduced, simplified_refines}
-use Rattle.elim_rules.proofs.Gathered.{collapse_reduced, collapse_refines}
+use Rattle.net_wires.proofs.Chaining.{chain_kept}
+use Rattle.net_elim.specs.Collapsing.{collapsed}
+use Rattle.sdc_simplify.specs.Simplified.{simplified}
+use Rattle.net_candidates.specs.Extracting.{IsExtracted}
+use Rattle.net_candidates.specs.declared.rule.Rule.{Rule as Extraction}
+use Rattle.net_candidates.specs.declared.rule.Rule.TheVariants as extract
+use Rattle.net_candidates.proofs.RuleKeeping.{extracted_refines, reached_extended as extraction_extended}
+use Rattle.net_resub.specs.Resubbed.{IsResubbed}
+use Rattle.net_resub.proofs.RuleKeeping.{resubbed_refines, reached_extended as resub_extended}
+use Rattle.net_decomp.specs.Decomposed.{IsDecomposed}
+use Rattle.net_decomp.specs.declared.rule.Rule.{Rule}
+use Rattle.net_decomp.specs.declared.rule.Rule.TheVariants.{Shared, Gates}
+use Rattle.net_decomp.proofs.PartedSteps.{reached_extended, decomposed_refines}
+use Rattle.net_elim.proofs.Stepping.{chain_keeps, chain_refines}
+use Rattle.sdc_simplify.proofs.InTurns.{simplified_reduced, simplified_refines}
+use Rattle.net_elim.proofs.Gathered.{collapse_reduced, collapse_refines}
 use Rattle.std.proofs.lemmas.Option.{same_Some}
 use Rattle.sis_script.specs.declared.command.Change.{Change}
 use Rattle.sis_script.specs.declared.command.Change.TheVariants.{Sweep, Eliminate, Collapse, Simplify, Fx, Gkx, Gcx, Resub, Decomp, TechDecomp}

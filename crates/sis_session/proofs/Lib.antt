@@ -5,3 +5,5 @@ pub mod Scripts
 pub mod Effects
 pub mod Serving
 pub mod Once
+pub mod FormsOnce
+pub mod Lines

@@ -13,22 +13,22 @@ use Rattle.sis_outside.specs.declared.source.TakeFault.TheVariants as take
 use Rattle.circuit_model.specs.Values.{driver}
 use Rattle.circuit_model.specs.declared.circuit.Circuit.{Circuit}
 use Rattle.circuit_model.specs.declared.circuit.Table.{Table}
-use Rattle.algebra_texts.proofs.Once.{factor_line_once, factor_lines_once, kernel_lines_once}
-use Rattle.chain_laws.proofs.Chains.{chain_same}
-use Rattle.sweep_rules.specs.Rules.{sweep_step}
-use Rattle.table_algebra.specs.declared.taking.TakeFault.{TakeFault as TableFault}
-use Rattle.table_algebra.specs.declared.taking.TakeFault.TheVariants.{CubeLimit, TooWide, Memory}
-use Rattle.elim_rules.specs.Eliminating.{eliminate_step}
-use Rattle.elim_rules.specs.Collapsing.{collapse_refusal}
-use Rattle.minimum_rules.specs.Simplified.{simplify_refusal}
-use Rattle.extract_rules.specs.Extracting.{IsExtracted}
-use Rattle.extract_rules.specs.declared.rule.Rule.{Rule as Extraction}
-use Rattle.extract_rules.specs.declared.rule.Rule.TheVariants as extract
-use Rattle.extract_rules.proofs.Ends.{extracted_one, extracted_not_full, extracted_not_unlistable, full_not_unlistable, unlistable_one}
-use Rattle.resub_rules.proofs.Ends.{resubbed_one}
-use Rattle.decomp_rules.specs.declared.rule.Rule.{Rule}
-use Rattle.decomp_rules.specs.declared.rule.Rule.TheVariants.{Shared, Gates}
-use Rattle.decomp_rules.proofs.Ends.{decomposed_one, decomposed_not_full}
+use Rattle.sis_session.proofs.FormsOnce.{factor_line_once, factor_lines_once, kernel_lines_once}
+use Rattle.circuit_laws.proofs.Chains.{chain_same}
+use Rattle.net_wires.specs.Rules.{sweep_step}
+use Rattle.alg_tables.specs.declared.taking.TakeFault.{TakeFault as TableFault}
+use Rattle.alg_tables.specs.declared.taking.TakeFault.TheVariants.{CubeLimit, TooWide, Memory}
+use Rattle.net_elim.specs.Eliminating.{eliminate_step}
+use Rattle.net_elim.specs.Collapsing.{collapse_refusal}
+use Rattle.sdc_simplify.specs.Simplified.{simplify_refusal}
+use Rattle.net_candidates.specs.Extracting.{IsExtracted}
+use Rattle.net_candidates.specs.declared.rule.Rule.{Rule as Extraction}
+use Rattle.net_candidates.specs.declared.rule.Rule.TheVariants as extract
+use Rattle.net_candidates.proofs.Ends.{extracted_one, extracted_not_full, extracted_not_unlistable, full_not_unlistable, unlistable_one}
+use Rattle.net_resub.proofs.Ends.{resubbed_one}
+use Rattle.net_decomp.specs.declared.rule.Rule.{Rule}
+use Rattle.net_decomp.specs.declared.rule.Rule.TheVariants.{Shared, Gates}
+use Rattle.net_decomp.proofs.Ends.{decomposed_one, decomposed_not_full}
 use Rattle.sis_script.specs.declared.command.Change.{Change}
 use Rattle.sis_script.specs.declared.command.Change.TheVariants.{Sweep, Eliminate, Collapse, Simplify, Fx, Gkx, Gcx, Resub, Decomp, TechDecomp}
 use Rattle.sis_script.specs.declared.command.Op.{Op}

@@ -8,16 +8,16 @@ use Rattle.sis_outside.specs.declared.sink.PutFault.{PutFault}
 use Rattle.circuit_model.specs.Values.{driver}
 use Rattle.circuit_model.specs.declared.circuit.Circuit.{Circuit}
 use Rattle.circuit_model.specs.declared.circuit.Table.{Table}
-use Rattle.algebra_texts.specs.Told.{HasManyKernels}
-use Rattle.table_algebra.specs.declared.taking.TakeFault.{TakeFault}
-use Rattle.elim_rules.specs.Collapsing.{collapse_refusal}
-use Rattle.minimum_rules.specs.Simplified.{simplify_refusal}
-use Rattle.extract_rules.specs.declared.rule.Rule.{Rule as Extraction}
-use Rattle.extract_rules.specs.declared.rule.Rule.TheVariants as extract
-use Rattle.decomp_rules.specs.Decomposed.{IsFull}
-use Rattle.decomp_rules.specs.declared.rule.Rule.TheVariants.{Shared, Gates}
-use Rattle.machine_model.specs.Text.{text_of as machine_text_of}
-use Rattle.machine_model.specs.declared.machine.Machine.{Machine}
+use Rattle.sis_session.specs.Told.{HasManyKernels}
+use Rattle.alg_tables.specs.declared.taking.TakeFault.{TakeFault}
+use Rattle.net_elim.specs.Collapsing.{collapse_refusal}
+use Rattle.sdc_simplify.specs.Simplified.{simplify_refusal}
+use Rattle.net_candidates.specs.declared.rule.Rule.{Rule as Extraction}
+use Rattle.net_candidates.specs.declared.rule.Rule.TheVariants as extract
+use Rattle.net_decomp.specs.Decomposed.{IsFull}
+use Rattle.net_decomp.specs.declared.rule.Rule.TheVariants.{Shared, Gates}
+use Rattle.circuit_model.specs.MachineText.{text_of as machine_text_of}
+use Rattle.circuit_model.specs.declared.machine.Machine.{Machine}
 use Rattle.blif_read.specs.Reader.{read_lines}
 use Rattle.kiss_format.specs.Reader.{read_lines as machine_lines_read}
 use Rattle.genlib_format.specs.Reader.{library_of}

@@ -9,27 +9,27 @@ use Rattle.circuit_model.specs.Text.{text_of, table_lines, latch_line}
 use Rattle.circuit_model.specs.Values.{driver}
 use Rattle.circuit_model.specs.declared.circuit.Circuit.{Circuit}
 use Rattle.circuit_model.specs.declared.circuit.Table.{Table}
-use Rattle.machine_model.specs.Text.{text_of as machine_text_of}
-use Rattle.machine_model.specs.declared.machine.Machine.{Machine}
-use Rattle.machine_model.specs.declared.machine.Spec.{Spec}
+use Rattle.circuit_model.specs.MachineText.{text_of as machine_text_of}
+use Rattle.circuit_model.specs.declared.machine.Machine.{Machine}
+use Rattle.circuit_model.specs.declared.machine.Spec.{Spec}
 use Rattle.blif_read.specs.Reader.{read_lines}
 use Rattle.kiss_format.specs.Reader.{read_lines as machine_lines_read}
 use Rattle.genlib_format.specs.Reader.{library_of}
 use Rattle.circuit_laws.specs.Chains.{Chain}
-use Rattle.algebra_texts.specs.Told.{IsFactorLine, AreFactorLines, AreKernelLines, HasManyKernels}
-use Rattle.sweep_rules.specs.Rules.{sweep_step}
-use Rattle.table_algebra.specs.declared.taking.TakeFault.{TakeFault}
-use Rattle.table_algebra.specs.declared.taking.TakeFault.TheVariants.{CubeLimit, TooWide}
-use Rattle.elim_rules.specs.Eliminating.{eliminate_step}
-use Rattle.minimum_rules.specs.Simplified.{simplified, simplify_refusal}
-use Rattle.extract_rules.specs.Extracting.{IsExtracted, IsUnlistable, IsFull as IsExtractionFull}
-use Rattle.extract_rules.specs.declared.rule.Rule.{Rule as Extraction}
-use Rattle.extract_rules.specs.declared.rule.Rule.TheVariants as extract
-use Rattle.resub_rules.specs.Resubbed.{IsResubbed}
-use Rattle.decomp_rules.specs.Decomposed.{IsDecomposed, IsFull}
-use Rattle.decomp_rules.specs.declared.rule.Rule.{Rule}
-use Rattle.decomp_rules.specs.declared.rule.Rule.TheVariants.{Shared, Gates}
-use Rattle.elim_rules.specs.Collapsing.{collapsed, collapse_refusal}
+use Rattle.sis_session.specs.Told.{IsFactorLine, AreFactorLines, AreKernelLines, HasManyKernels}
+use Rattle.net_wires.specs.Rules.{sweep_step}
+use Rattle.alg_tables.specs.declared.taking.TakeFault.{TakeFault}
+use Rattle.alg_tables.specs.declared.taking.TakeFault.TheVariants.{CubeLimit, TooWide}
+use Rattle.net_elim.specs.Eliminating.{eliminate_step}
+use Rattle.sdc_simplify.specs.Simplified.{simplified, simplify_refusal}
+use Rattle.net_candidates.specs.Extracting.{IsExtracted, IsUnlistable, IsFull as IsExtractionFull}
+use Rattle.net_candidates.specs.declared.rule.Rule.{Rule as Extraction}
+use Rattle.net_candidates.specs.declared.rule.Rule.TheVariants as extract
+use Rattle.net_resub.specs.Resubbed.{IsResubbed}
+use Rattle.net_decomp.specs.Decomposed.{IsDecomposed, IsFull}
+use Rattle.net_decomp.specs.declared.rule.Rule.{Rule}
+use Rattle.net_decomp.specs.declared.rule.Rule.TheVariants.{Shared, Gates}
+use Rattle.net_elim.specs.Collapsing.{collapsed, collapse_refusal}
 use Rattle.sis_script.specs.Script.{command_of}
 use Rattle.sis_script.specs.declared.command.Command.{Command}
 use Rattle.sis_script.specs.declared.command.Change.{Change}

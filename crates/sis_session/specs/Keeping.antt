@@ -9,15 +9,15 @@ use Rattle.circuit_model.specs.Behaviors.{RefinesAs}
 use Rattle.circuit_model.specs.Runs.{of_circuit}
 use Rattle.circuit_model.specs.Soundness.{IsSound}
 use Rattle.circuit_model.specs.Text.{text_of}
-use Rattle.machine_model.specs.Behaviors.{of_machine, of_spec}
-use Rattle.machine_model.specs.Soundness.{IsSound as IsSoundMachine}
-use Rattle.machine_model.specs.Text.{text_of as machine_text_of}
-use Rattle.machine_model.specs.declared.machine.Machine.{Machine}
-use Rattle.machine_model.specs.declared.machine.Spec.{Spec}
+use Rattle.circuit_model.specs.MachineBehaviors.{of_machine, of_spec}
+use Rattle.circuit_model.specs.MachineSoundness.{IsSound as IsSoundMachine}
+use Rattle.circuit_model.specs.MachineText.{text_of as machine_text_of}
+use Rattle.circuit_model.specs.declared.machine.Machine.{Machine}
+use Rattle.circuit_model.specs.declared.machine.Spec.{Spec}
 use Rattle.circuit_model.specs.Values.{driver}
 use Rattle.circuit_model.specs.declared.circuit.Circuit.{Circuit}
 use Rattle.circuit_model.specs.declared.circuit.Table.{Table}
-use Rattle.algebra_texts.specs.Told.{HasManyKernels}
+use Rattle.sis_session.specs.Told.{HasManyKernels}
 use Rattle.blif_read.specs.Reader.{read_lines}
 use Rattle.kiss_format.specs.Reader.{read_lines as machine_lines_read}
 use Rattle.genlib_format.specs.Reader.{library_of}
@@ -25,13 +25,13 @@ use Rattle.sis_script.specs.declared.command.Op.{Op}
 use Rattle.sis_script.specs.declared.command.Op.TheVariants.{Echo, Quit, ReadBlif, ReadKiss, ReadLibrary, WriteBlif, WriteKiss, PrintStats, Print, PrintLatch, PrintFactor, PrintKernel, Change as ChangeOp, Undo, Source, Bad}
 use Rattle.sis_script.specs.declared.command.Change.{Change}
 use Rattle.sis_script.specs.declared.command.Change.TheVariants.{Sweep, Eliminate, Collapse, Simplify, Fx, Gkx, Gcx, Resub, Decomp, TechDecomp}
-use Rattle.elim_rules.specs.Collapsing.{collapse_refusal}
-use Rattle.minimum_rules.specs.Simplified.{simplify_refusal}
-use Rattle.extract_rules.specs.Extracting.{IsUnlistable, IsFull as IsExtractionFull}
-use Rattle.extract_rules.specs.declared.rule.Rule.{Rule as Extraction}
-use Rattle.extract_rules.specs.declared.rule.Rule.TheVariants as extract
-use Rattle.decomp_rules.specs.Decomposed.{IsFull}
-use Rattle.decomp_rules.specs.declared.rule.Rule.TheVariants.{Shared, Gates}
+use Rattle.net_elim.specs.Collapsing.{collapse_refusal}
+use Rattle.sdc_simplify.specs.Simplified.{simplify_refusal}
+use Rattle.net_candidates.specs.Extracting.{IsUnlistable, IsFull as IsExtractionFull}
+use Rattle.net_candidates.specs.declared.rule.Rule.{Rule as Extraction}
+use Rattle.net_candidates.specs.declared.rule.Rule.TheVariants as extract
+use Rattle.net_decomp.specs.Decomposed.{IsFull}
+use Rattle.net_decomp.specs.declared.rule.Rule.TheVariants.{Shared, Gates}
 use Rattle.sis_session.specs.Commands.{Changes}
 use Rattle.sis_session.specs.Plan.{MAX_DEPTH, Asked, Nothing, OnStore, OnOut, OnInput}
 use Rattle.sis_session.specs.State.{Held, Library, Written, CircuitWritten, MachineWritten, NetlistWritten}

@@ -4,3 +4,5 @@ pub mod Commands
 pub mod Replies
 pub mod Methods
 pub mod Keeping
+pub mod Texts
+pub mod Told

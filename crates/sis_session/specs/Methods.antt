@@ -9,7 +9,7 @@ use Rattle.sis_outside.specs.declared.store.LoadFault.TheVariants as load
 use Rattle.sis_outside.specs.declared.store.SaveFault.TheVariants as save
 use Rattle.sis_outside.specs.declared.sink.PutFault.TheVariants as put
 use Rattle.circuit_model.specs.declared.circuit.Circuit.{Circuit}
-use Rattle.machine_model.specs.declared.machine.Spec.{Spec}
+use Rattle.circuit_model.specs.declared.machine.Spec.{Spec}
 use Rattle.blif_read.specs.Reader.{read_lines}
 use Rattle.blif_lines.specs.declared.fault.ReadFault.{ReadFault}
 use Rattle.blif_lines.specs.declared.fault.ReadFault.TheVariants as reading

@@ -4,7 +4,7 @@ use Rattle.std.specs.Prelude.{ℕ, List, [], ◌∷◌, ◌++◌, flat_map, code
 use Rattle.sis_base.specs.Written.{spaced}
 use Rattle.circuit_model.specs.Counts.{literals_of}
 use Rattle.circuit_model.specs.declared.circuit.Circuit.{Circuit}
-use Rattle.fault_texts.specs.Texts.{blif_text, kiss_text, library_text}
+use Rattle.sis_session.specs.Texts.{blif_text, kiss_text, library_text}
 use Rattle.net_core.specs.Reads.{sizes_of}
 use Rattle.sis_script.specs.declared.command.ScriptFault.{ScriptFault}
 use Rattle.sis_script.specs.declared.command.ScriptFault.TheVariants.{BadCommand, BadOption, MissingWord}

@@ -3,9 +3,9 @@
 -- and `undo` takes back the last change.
 use Rattle.std.specs.Prelude.{Option, Some, None, List}
 use Rattle.circuit_model.specs.declared.circuit.Circuit.{Circuit}
-use Rattle.machine_model.specs.declared.machine.Machine.{Machine}
-use Rattle.machine_model.specs.declared.machine.Spec.{Spec}
-use Rattle.machine_model.specs.declared.machine.Spec.TheVariants as spec
+use Rattle.circuit_model.specs.declared.machine.Machine.{Machine}
+use Rattle.circuit_model.specs.declared.machine.Spec.{Spec}
+use Rattle.circuit_model.specs.declared.machine.Spec.TheVariants as spec
 use Rattle.genlib_format.specs.declared.gate.Gate.{Gate}
 
 -- a library: its gates, in order

@@ -1,6 +1,6 @@
 //! What the commands tell that print tables as algebra: factored forms and kernels.
 //!
-//! The texts are made by algebra_texts; here stands which tables are told, in the order of the network, and what is refused. The forms of
+//! The texts are made by `factors` and `kernels`; here stands which tables are told, in the order of the network, and what is refused. The forms of
 //! a table are a choice, so each call promises a relation from the network to what is told or refused, and not one text.
 
 ghost use Rattle.std.specs.Prelude.{◌≡◌};
@@ -9,7 +9,7 @@ ghost use Rattle.sis_session.specs.Commands.{FactorsTold, FactorTold, KernelsTol
 ghost use Rattle.sis_session.specs.Methods.{IsToldBy};
 
 use crate::refusal::{Refusal, StepFault};
-use algebra_texts::{KernelFault, factor_line, factor_lines, kernel_lines};
+use crate::{KernelFault, factor_line, factor_lines, kernel_lines};
 use cube_cover::PlainRow;
 use net_core::Network;
 use sis_base::Copied;

@@ -6,19 +6,18 @@
 
 ghost use Rattle.std.specs.Prelude.{◌≡◌, IfOk};
 ghost use Rattle.circuit_laws.specs.Chains.{Chain};
-ghost use Rattle.elim_rules.specs.Eliminating.{eliminate_step};
+ghost use Rattle.net_elim.specs.Eliminating.{eliminate_step};
 ghost use Rattle.net_core.specs.Reads.{HasBounds};
 ghost use Rattle.sis_script.specs.declared.command.Change.TheVariants.{Collapse, Simplify};
-ghost use Rattle.resub_rules.specs.Resubbed.{IsResubbed};
+ghost use Rattle.net_resub.specs.Resubbed.{IsResubbed};
 ghost use Rattle.sis_session.specs.Commands.{Decomposes, Extracts};
 ghost use Rattle.sis_session.specs.Methods.{IsChanged, IsMadeBy};
 
 use crate::refusal::{Refusal, StepFault};
 use cube_cover::PlainRow;
-use decomp_rules::Rule;
-use extract_rules::Rule as Extraction;
+use net_candidates::Rule as Extraction;
 use net_core::{AddFault, Network};
-use net_decomp::decompose;
+use net_decomp::{Rule, decompose};
 use net_elim::{CollapseFault, collapse, eliminate};
 use net_extract::{ExtractFault, extract};
 use net_resub::resubstitute;

@@ -9,7 +9,7 @@ ghost use Rattle.sis_outside.specs.declared.store.SaveFault.{SaveFault as TheSav
 ghost use Rattle.sis_script.specs.declared.command.Change.{Change as TheChange};
 ghost use Rattle.sis_script.specs.declared.command.Op.{Op as TheOp};
 ghost use Rattle.sis_session.specs.Commands.{Plans, last_read};
-ghost use Rattle.machine_model.specs.declared.machine.Spec.{Spec as TheSpec};
+ghost use Rattle.circuit_model.specs.declared.machine.Spec.{Spec as TheSpec};
 ghost use Rattle.sis_session.specs.Keeping.{ChangesOnce, HasText, Holds, IsRefined, IsServed, IsWriting, WritesTo};
 ghost use Rattle.sis_session.specs.Plan.{Asked, Cut, Done, Ending, OnOut, OnStore, Plan, Steps};
 ghost use Rattle.sis_session.specs.State.{Held, Written, nothing_held};

@@ -1,31 +1,47 @@
 //! The session: what is held between two commands, and one step of the command machine.
 //!
-//! The commands are those of SIS (UCB/ERL M92/41) that stand so far. Each has a plan (`specs/Commands`): at most one call on
-//! the outside, and what comes of its answer. Promised: a step goes by a plan of its command (`specs/Plan`), it makes just
-//! the call that the plan says, over every outside, and every answer but `Ok` leaves the session as it was; a script that
-//! comes next is nested no deeper than it may be. Laws over steps (`laws`): what is held refines what was read last,
-//! nothing is saved but the text of the network or the machine, a command that has what it needs is done (`specs/Keeping`), and it ends in
-//! one way.
+//! The commands are those of SIS (UCB/ERL M92/41) that stand so far. Each has a plan
+//! (`specs/Commands`): at most one call on the outside, and what comes of its answer. Promised: a
+//! step goes by a plan of its command (`specs/Plan`), it makes just the call that the plan says,
+//! over every outside, and every answer but `Ok` leaves the session as it was; a script that comes
+//! next is nested no deeper than it may be. Laws over steps (`laws`): what is held refines what was
+//! read last, nothing is saved but the text of the network or the machine, a command that has what
+//! it needs is done (`specs/Keeping`), and it ends in one way.
 //!
-//! Rooms: `session` (what is held, and the step), `printing` (what commands tell), `algebra` (what they tell of tables
-//! as algebra), `changing` (what they make of the network), `outside` (the calls on files and output), `texts` (what is
-//! printed), `refusal`.
+//! Rooms: `session` (what is held, and the step), `printing` (what commands tell), `algebra` (what
+//! they tell of tables as algebra, by the lines of `factors` and `kernels`, `specs/Told`),
+//! `changing` (what they make of the network), `outside` (the calls on files and output), `texts`
+//! (what is printed), `refusal`. What is wrong with a file is told by `blif`, `kiss` and `library`:
+//! just the one text of the fault (`specs/Texts`), in the project's own words.
 #![tactic(auto)]
 
 mod algebra;
+mod blif;
 mod changing;
+mod factors;
+mod kernels;
+mod kiss;
 mod laws;
+mod library;
 mod outside;
 mod printing;
+mod putting;
 mod refusal;
 mod session;
 mod texts;
 
+pub use alg_kernel::KernelFault;
+pub use blif::put_blif_fault;
+pub use factors::{factor_line, factor_lines};
+pub use kernels::kernel_lines;
+pub use kiss::put_kiss_fault;
 pub use laws::{
     changes_have_one_outcome, commands_end_once, commands_have_one_plan, served_commands_are_done,
     steps_keep_refinement, what_is_held_is_written,
 };
+pub use library::put_library_fault;
 pub use outside::load;
+pub use putting::{put_three, put_two};
 pub use refusal::{Failed, Next, Refusal, StepFault};
 pub use session::{MAX_BYTES, MAX_DEPTH, Session};
 pub use texts::{Stats, error_text, refusal_text};

@@ -24,10 +24,9 @@ use crate::printing::{
 use crate::refusal::{Next, Refusal, StepFault};
 use crate::texts::Stats;
 use blif_read::{ReadFault, read};
-use circuit_model::Circuit;
+use circuit_model::{Circuit, Machine, Spec};
 use cube_cover::PlainRow;
 use genlib_format::Library;
-use machine_model::{Machine, Spec};
 use net_core::Network;
 use sis_outside::{Sink, Store};
 use sis_script::{Change, Command, Op};

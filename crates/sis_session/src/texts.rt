@@ -1,11 +1,11 @@
 //! The texts that the program prints: replies, lines of refusals and of faults.
 //!
 //! Each stands here once and is promised byte by byte (`specs/Replies`), so that a script may rely on what it reads. The texts of faults in
-//! files are those of fault_texts.
+//! files are those of `blif`, `kiss` and `library`.
 
 ghost use Rattle.std.specs.Prelude.{◌≡◌, ◌++◌, flat_map, codes, decimal, IfOk, OnOk};
 ghost use Rattle.sis_base.specs.Written.{spaced};
-ghost use Rattle.fault_texts.specs.Texts.{blif_text, kiss_text, library_text};
+ghost use Rattle.sis_session.specs.Texts.{blif_text, kiss_text, library_text};
 ghost use Rattle.sis_session.specs.Replies.{
   echo_line,
   error_line,
@@ -17,8 +17,8 @@ ghost use Rattle.sis_session.specs.Replies.{
 };
 
 use crate::refusal::Refusal;
+use crate::{put_blif_fault, put_kiss_fault, put_library_fault, put_three, put_two};
 use blif_lines::BlifFault;
-use fault_texts::{put_blif_fault, put_kiss_fault, put_library_fault, put_three, put_two};
 use genlib_format::LibFault;
 use kiss_format::KissFault;
 use net_core::Sizes;

@@ -3,7 +3,7 @@ use Rattle.std.proofs.Common.{◌≡◌, List, [], ◌∷◌, refl, sym, subst, 
 use Rattle.std.specs.Prelude.{Bool, Option, Some, None, Ok, Err}
 use Rattle.std.proofs.lemmas.List.{append-nil}
 use Rattle.sis_outside.specs.Calls.{StoreCall, TakeCall, PutCall, Follows}
-use Rattle.sis_words.specs.Asked.{TheOptions, TheScript}
+use Rattle.sis_top.specs.Asked.{TheOptions, TheScript}
 use Rattle.sis_session.specs.Plan.{Nothing, Cut, no_memory}
 use Rattle.sis_session.specs.Keeping.{IsRefined}
 use Rattle.sis_session.specs.State.{nothing_held}

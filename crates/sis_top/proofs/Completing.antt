@@ -11,7 +11,7 @@ use Rattle.sis_outside.specs.declared.source.TakeFault.{TakeFault}
 use Rattle.sis_outside.specs.declared.source.TakeFault.TheVariants as take
 use Rattle.sis_outside.specs.declared.sink.PutFault.{PutFault}
 use Rattle.sis_outside.specs.declared.sink.PutFault.TheVariants as put
-use Rattle.sis_words.specs.Asked.{TheScript, InFile, AsText, OnInput}
+use Rattle.sis_top.specs.Asked.{TheScript, InFile, AsText, OnInput}
 use Rattle.sis_script.specs.declared.command.Op.{Op}
 use Rattle.sis_session.specs.Commands.{Plans}
 use Rattle.sis_session.specs.Keeping.{IsServed}

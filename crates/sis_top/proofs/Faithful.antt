@@ -9,12 +9,12 @@ use Rattle.sis_outside.specs.declared.store.LoadFault.TheVariants as load
 use Rattle.sis_outside.specs.declared.store.SaveFault.{SaveFault}
 use Rattle.sis_outside.specs.declared.source.TakeFault.{TakeFault}
 use Rattle.sis_outside.specs.declared.source.TakeFault.TheVariants as take
-use Rattle.sis_words.specs.Asked.{TheScript, InFile, AsText, OnInput}
+use Rattle.sis_top.specs.Asked.{TheScript, InFile, AsText, OnInput}
 use Rattle.sis_script.specs.declared.command.Op.{Op}
 use Rattle.sis_session.specs.Commands.{Plans, last_read}
 use Rattle.sis_session.specs.Keeping.{HasText, Holds, IsRefined, IsWriting, WritesTo}
 use Rattle.sis_session.specs.Plan.{MAX_BYTES, Outcome, Refuses, Plan, Quiet, Loads, Takes, Asked, OnStore, OnOut, OnInput, Ending, Done, Refused, Cut, Comes, ComesLoaded, ComesPiece, ComesTaken, Goes, Steps, by_plan, no_memory}
-use Rattle.machine_model.specs.declared.machine.Spec.{Spec}
+use Rattle.circuit_model.specs.declared.machine.Spec.{Spec}
 use Rattle.sis_session.specs.State.{Held, Written, CircuitWritten, MachineWritten, NetlistWritten}
 use Rattle.sis_session.specs.declared.refusal.Failed.{Failed}
 use Rattle.sis_session.specs.declared.refusal.Next.{Next}

@@ -5,7 +5,7 @@ use Rattle.sis_outside.specs.Calls.{StoreCall, TakeCall, PutCall, any_of, store_
 use Rattle.sis_outside.specs.Counts.{Rose}
 use Rattle.sis_outside.specs.declared.sink.PutFault.{PutFault}
 use Rattle.sis_outside.specs.declared.sink.PutFault.TheVariants as put
-use Rattle.sis_words.specs.Asked.{TheOptions, TheScript}
+use Rattle.sis_top.specs.Asked.{TheOptions, TheScript}
 use Rattle.sis_session.specs.declared.refusal.Failed.{Failed}
 use Rattle.sis_session.specs.declared.refusal.Failed.TheVariants as failed
 use Rattle.sis_top.specs.Machine.{begun}

@@ -13,3 +13,6 @@ pub mod Completing
 pub mod Faults
 pub mod Serving
 pub mod Single
+pub mod Found
+pub mod Answering
+pub mod UsualWords

@@ -8,7 +8,7 @@ use Rattle.sis_outside.specs.Calls.{StoreCall, TakeCall, PutCall, FilesGo, LeftG
 use Rattle.sis_outside.specs.Files.{Files}
 use Rattle.sis_outside.specs.declared.sink.PutFault.{PutFault}
 use Rattle.sis_outside.specs.declared.sink.PutFault.TheVariants as put
-use Rattle.sis_words.specs.Asked.{TheOptions, TheScript}
+use Rattle.sis_top.specs.Asked.{TheOptions, TheScript}
 use Rattle.sis_session.specs.Plan.{on_store, on_input}
 use Rattle.sis_session.specs.declared.refusal.Failed.{Failed}
 use Rattle.sis_session.specs.declared.refusal.Failed.TheVariants as failed

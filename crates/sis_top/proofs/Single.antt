@@ -6,7 +6,7 @@ use Rattle.sis_outside.specs.Calls.{PutCall}
 use Rattle.sis_script.specs.declared.command.Op.{Op}
 use Rattle.sis_session.specs.Commands.{Plans}
 use Rattle.sis_session.specs.Plan.{Plan, Asked, Ending, Cut, Goes, Steps, by_plan, no_memory}
-use Rattle.machine_model.specs.declared.machine.Spec.{Spec}
+use Rattle.circuit_model.specs.declared.machine.Spec.{Spec}
 use Rattle.sis_session.specs.State.{Held}
 use Rattle.sis_session.specs.declared.refusal.Failed.TheVariants as failed
 use Rattle.sis_session.proofs.Once.{goes_once}

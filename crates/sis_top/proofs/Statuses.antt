@@ -5,7 +5,7 @@ use Rattle.std.proofs.lemmas.List.{append-nil}
 use Rattle.sis_outside.specs.Calls.{StoreCall, TakeCall, PutCall, any_of, store_failed, take_failed, put_failed, Counted}
 use Rattle.sis_outside.specs.declared.sink.PutFault.{PutFault}
 use Rattle.sis_outside.specs.declared.sink.PutFault.TheVariants as put
-use Rattle.sis_words.specs.Asked.{TheOptions, TheScript}
+use Rattle.sis_top.specs.Asked.{TheOptions, TheScript}
 use Rattle.sis_session.specs.Plan.{on_store, on_input, on_out}
 use Rattle.sis_session.specs.declared.refusal.Failed.{Failed}
 use Rattle.sis_session.specs.declared.refusal.Failed.TheVariants as failed

@@ -4,7 +4,7 @@ use Rattle.std.specs.Prelude.{Bool, flat_map}
 use Rattle.std.proofs.lemmas.List.{append-nil}
 use Rattle.std.proofs.lemmas.Grind.{flat_map-append}
 use Rattle.sis_outside.specs.Calls.{StoreCall, TakeCall, PutCall, Follows}
-use Rattle.sis_words.specs.Asked.{TheScript}
+use Rattle.sis_top.specs.Asked.{TheScript}
 use Rattle.sis_session.specs.State.{nothing_held}
 use Rattle.sis_session.specs.Plan.{AskedNone, Ending, on_store, on_input, on_out}
 use Rattle.sis_top.specs.Machine.{Begin, Machine, Turn, IsTurn, Runs, after, begin_plan, begun}

@@ -7,12 +7,12 @@ use Rattle.sis_outside.specs.Calls.{StoreCall, Save, TakeCall, PutCall}
 use Rattle.sis_outside.specs.declared.store.SaveFault.{SaveFault}
 use Rattle.sis_outside.specs.declared.sink.PutFault.{PutFault}
 use Rattle.sis_outside.specs.declared.sink.PutFault.TheVariants as put
-use Rattle.sis_words.specs.Asked.{TheOptions, TheScript}
+use Rattle.sis_top.specs.Asked.{TheOptions, TheScript}
 use Rattle.sis_script.specs.declared.command.Op.{Op}
 use Rattle.sis_session.specs.Keeping.{HasText, Holds, IsRefining, IsWriting}
 use Rattle.sis_session.specs.Plan.{OnStore, OnOut, on_store, on_out, on_input}
 use Rattle.sis_session.specs.Replies.{error_line}
-use Rattle.machine_model.specs.declared.machine.Spec.{Spec}
+use Rattle.circuit_model.specs.declared.machine.Spec.{Spec}
 use Rattle.sis_session.specs.State.{Written}
 use Rattle.sis_session.specs.declared.refusal.Failed.{Failed}
 use Rattle.sis_session.specs.declared.refusal.Failed.TheVariants as failed

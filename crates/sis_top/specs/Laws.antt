@@ -7,7 +7,7 @@ use Rattle.sis_outside.specs.Files.{Files}
 use Rattle.sis_outside.specs.declared.store.LoadFault.{LoadFault}
 use Rattle.sis_outside.specs.declared.store.LoadFault.TheVariants as load
 use Rattle.sis_outside.specs.declared.source.TakeFault.{TakeFault}
-use Rattle.sis_words.specs.Asked.{TheOptions, TheScript, InFile, AsText, OnInput}
+use Rattle.sis_top.specs.Asked.{TheOptions, TheScript, InFile, AsText, OnInput}
 use Rattle.sis_session.specs.Keeping.{IsServed}
 use Rattle.sis_session.specs.Plan.{MAX_BYTES, Asked, OnStore, OnOut, OnInput as FromInput, Cut}
 use Rattle.sis_session.specs.State.{Held}

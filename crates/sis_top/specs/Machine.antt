@@ -5,13 +5,13 @@ use Rattle.std.specs.Prelude.{◌≡◌, ℕ, ◌+◌, Bool, true, false, Option
 use Rattle.sis_outside.specs.Calls.{PutCall}
 use Rattle.sis_outside.specs.declared.sink.PutFault.{PutFault}
 use Rattle.sis_outside.specs.declared.sink.PutFault.TheVariants as put
-use Rattle.sis_words.specs.Asked.{TheScript, InFile, AsText, OnInput}
+use Rattle.sis_top.specs.Asked.{TheScript, InFile, AsText, OnInput}
 use Rattle.sis_script.specs.declared.command.Op.{Op}
 use Rattle.sis_script.specs.declared.command.Command.{Command}
 use Rattle.sis_session.specs.Commands.{Plans, commands_in, last_read}
 use Rattle.sis_session.specs.Plan.{MAX_BYTES, Outcome, Does, Refuses, Plan, Quiet, Loads, Takes, Asked, Ending, Done, Refused, Cut, Steps}
 use Rattle.sis_session.specs.Replies.{refusal_line}
-use Rattle.machine_model.specs.declared.machine.Spec.{Spec}
+use Rattle.circuit_model.specs.declared.machine.Spec.{Spec}
 use Rattle.sis_session.specs.State.{Held, nothing_held}
 use Rattle.sis_session.specs.declared.refusal.Failed.{Failed}
 use Rattle.sis_session.specs.declared.refusal.Failed.TheVariants as failed

@@ -4,19 +4,19 @@
 
 ghost use Rattle.std.specs.Prelude.{◌≤◌, IfOk, length, nat_le, if◌then◌else◌};
 ghost use Rattle.sis_outside.specs.Calls.{Follows};
-ghost use Rattle.sis_words.specs.Asked.{InFile, OnInput, script_in};
+ghost use Rattle.sis_top.specs.Asked.{InFile, OnInput, script_in};
 ghost use Rattle.sis_session.specs.Plan.{AskedNone, Comes, Refuses, MAX_BYTES as longest};
 ghost use Rattle.sis_session.specs.State.{nothing_held};
 ghost use Rattle.sis_session.specs.declared.refusal.Refusal.TheVariants.{LongScript};
 ghost use Rattle.sis_top.specs.Code.{Fits, HasBegun, ended_as};
 ghost use Rattle.sis_top.specs.Machine.{begin_plan, begins};
 
+use crate::ScriptFrom;
 use crate::halt::{Halt, halt_by};
 use crate::input::{Unread, take_script};
 use sis_outside::{Source, Store};
 use sis_script::commands;
 use sis_session::{Failed, MAX_BYTES, Next, Refusal, load};
-use sis_words::ScriptFrom;
 use std::alloc::Global;
 
 /// The commands of a text.

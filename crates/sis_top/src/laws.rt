@@ -5,7 +5,7 @@
 
 ghost use Rattle.std.specs.Prelude.{◌≡◌, Bool, List, [], false};
 ghost use Rattle.std.specs.List.{AllByRecursion};
-ghost use Rattle.sis_words.specs.Asked.{TheScript};
+ghost use Rattle.sis_top.specs.Asked.{TheScript};
 ghost use Rattle.sis_session.specs.Keeping.{IsRefined};
 ghost use Rattle.sis_top.specs.Laws.{AreAlike, HasMemory, IsServedTurn};
 ghost use Rattle.sis_top.specs.Machine.{Machine, Runs, Turn, begun};

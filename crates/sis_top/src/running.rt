@@ -8,7 +8,7 @@
 
 ghost use Rattle.std.specs.Prelude.{◌≡◌, ◌≤◌, ◌<◌, ◌+◌, ◌-◌, ◌++◌, ◌∷◌, ◌||◌, [], Bool, OnErr, OnOk, IfErr, IfOk, reverse, if◌then◌else◌};
 ghost use Rattle.sis_outside.specs.Calls.{Follows};
-ghost use Rattle.sis_words.specs.Asked.{options_in};
+ghost use Rattle.sis_top.specs.Asked.{options_in};
 ghost use Rattle.sis_session.specs.Commands.{Plans};
 ghost use Rattle.sis_session.specs.Plan.{AskedNone, Did};
 ghost use Rattle.sis_session.specs.State.{Held};
@@ -16,13 +16,13 @@ ghost use Rattle.sis_session.specs.declared.refusal.Failed.TheVariants as failed
 ghost use Rattle.sis_top.specs.Code.{Fits, HasEnded, HasRun, HasSettled, HasTold, HasTurned, IsAt, Lands, LandsAt, added_weight, ended_as, heft, weight};
 ghost use Rattle.sis_top.specs.Machine.{Due as TheDue, Machine, begun, deeper, dues, todo_after};
 
+use crate::Options;
 use crate::beginning::begin;
 use crate::halt::{Halt, halt_by};
 use crate::status::Stop;
 use sis_outside::{PutFault, Sink, Source, Store};
 use sis_script::{Command, Commands};
 use sis_session::{Failed, Next, Refusal, Session, refusal_text};
-use sis_words::Options;
 use std::alloc::Global;
 use std::marker::Model;
 

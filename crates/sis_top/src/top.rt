@@ -6,7 +6,7 @@
 ghost use Rattle.std.specs.Prelude.{◌≡◌, ◌⊎◌, IsTrue, None};
 ghost use Rattle.sis_outside.specs.Calls.{Follows, SinkWent, SourceWent, StoreWent};
 ghost use Rattle.sis_outside.specs.Counts.{Rose};
-ghost use Rattle.sis_words.specs.Asked.{options_in, options_of};
+ghost use Rattle.sis_top.specs.Asked.{options_in, options_of};
 ghost use Rattle.sis_top.specs.Call.{IsCall, IsRun, failure_line, failure_text, status_cut, status_of, usage_line};
 ghost use Rattle.sis_top.specs.Code.{HasEndLine};
 ghost use Rattle.sis_top.specs.Laws.{Completes, HasEnding};
@@ -14,12 +14,12 @@ ghost use Rattle.sis_top.specs.declared.status.Status.TheVariants as status;
 
 use crate::running::run;
 use crate::status::{Status, Stop};
+use crate::{Options, WordsFault, read_words};
 use sis_outside::{PutFault, Sink, Source, Store, sinks_went, sources_went, stores_went};
 use sis_session::{
     Failed, error_text, served_commands_are_done, steps_keep_refinement, what_is_held_is_written,
 };
 use sis_text::Word;
-use sis_words::{Options, WordsFault, read_words};
 use std::alloc::Global;
 
 /// What cut a run short, in words.

@@ -13,8 +13,8 @@ use Rattle.circuit_model.specs.declared.circuit.Circuit.{Circuit}
 use Rattle.circuit_laws.proofs.Names.{same_name, has_append}
 use Rattle.circuit_laws.proofs.Drivers.{driver_name, driver_all}
 use Rattle.circuit_laws.proofs.Places.{placed_driver}
-use Rattle.table_order.specs.Order.{IsOrdered}
-use Rattle.table_order.specs.Places.{IsIndex}
+use Rattle.circuit_order.specs.Order.{IsOrdered}
+use Rattle.circuit_order.specs.Places.{IsIndex}
 use Rattle.subject_tree.specs.Trees.{Tree}
 use Rattle.subject_tree.specs.Forest.{fate_of, is_put_fate, is_put, put_driver, AreTrees}
 use Rattle.subject_tree.specs.Reading.{AllTaken, AreRead, IsGrown, IsReady}

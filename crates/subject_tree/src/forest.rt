@@ -9,8 +9,8 @@ ghost use Rattle.circuit_model.specs.Soundness.{outputs_of, IsShaped, IsAcyclic}
 ghost use Rattle.circuit_model.specs.Values.{driver};
 ghost use Rattle.circuit_model.specs.declared.circuit.Circuit.{Circuit as TheCircuit};
 ghost use Rattle.circuit_model.specs.declared.circuit.Table.{Table as TheTable};
-ghost use Rattle.table_order.specs.Order.{IsOrdered};
-ghost use Rattle.table_order.specs.Places.{IsIndex};
+ghost use Rattle.circuit_order.specs.Order.{IsOrdered};
+ghost use Rattle.circuit_order.specs.Places.{IsIndex};
 ghost use Rattle.subject_tree.specs.Trees.{Tree, renamed, size_of};
 ghost use Rattle.subject_tree.specs.Order.{name_at, KeepsNames};
 ghost use Rattle.subject_tree.specs.Arenas.{tree_at, KeepsTrees};
@@ -30,11 +30,11 @@ use crate::pruning::shrink;
 use crate::sizes::size_at;
 use crate::tables::table_number;
 use circuit_model::{Circuit, Name, Table};
+use circuit_order::laws::acyclic_tables_are_ordered;
+use circuit_order::order;
 use indexmap::IndexMap;
 use sis_base::Copied;
 use std::alloc::{AllocError, Global};
-use table_order::laws::acyclic_tables_are_ordered;
-use table_order::order;
 
 /// The root of a tree: the name of its table's output, and the number of the tree.
 #[derive(Debug, Drop)]

@@ -2,7 +2,7 @@
 
 use crate::putting::done;
 use sis_text::Word;
-use sis_words::{Options, WordsFault, read_words};
+use sis_top::{Options, WordsFault, read_words};
 use std::alloc::{AllocError, Global};
 use trial_cases::{Case, CaseFault, put_shown};
 

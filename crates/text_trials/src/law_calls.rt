@@ -24,8 +24,8 @@ fn text_laws() {
 
 /// The laws of sis_words.
 fn words_laws() {
-    sis_words::options_are_asked_for();
-    sis_words::other_words_are_refused();
+    sis_top::options_are_asked_for();
+    sis_top::other_words_are_refused();
 }
 
 /// The laws of sis_script.
@@ -37,18 +37,18 @@ fn script_laws() {
 
 /// The laws of reading and writing files.
 fn file_laws() {
-    gate_lines::laws::tables_are_shaped();
-    gate_lines::laws::tables_have_few_inputs();
-    gate_lines::laws::names_are_words();
-    gate_lines::laws::names_are_signals();
-    gate_lines::laws::tables_have_the_functions_of_gates();
-    gate_lines::laws::pairs_name_each_once();
+    blif_gates::laws::tables_are_shaped();
+    blif_gates::laws::tables_have_few_inputs();
+    blif_gates::laws::names_are_words();
+    blif_gates::laws::names_are_signals();
+    blif_gates::laws::tables_have_the_functions_of_gates();
+    blif_gates::laws::pairs_name_each_once();
     blif_lines::reading_laws::what_is_read_is_sound();
     blif_lines::reading_laws::what_is_read_is_small();
     kiss_format::laws::written_text_is_read();
     kiss_format::laws::read_machine_is_read_again();
     blif_read::reading_laws::what_is_read_is_sound();
     blif_read::reading_laws::what_is_read_is_small();
-    blif_trip::written_text_is_read();
-    blif_trip::read_circuit_is_read_again();
+    blif_write::written_text_is_read();
+    blif_write::read_circuit_is_read_again();
 }

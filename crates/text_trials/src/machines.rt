@@ -1,10 +1,9 @@
 //! What tables of machines are read as.
 
 use crate::putting::{done, ended};
-use circuit_model::Name;
-use fault_texts::put_kiss_fault;
+use circuit_model::{Machine, Name};
 use kiss_format::{ReadFault, machine_text, read};
-use machine_model::Machine;
+use sis_session::put_kiss_fault;
 use std::alloc::{AllocError, Global};
 use trial_cases::{CaseFault, put_line};
 

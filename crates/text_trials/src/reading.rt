@@ -4,10 +4,9 @@ use crate::machines::put_machine;
 use crate::putting::{done, ended};
 use blif_read::{ReadFault, read};
 use blif_write::circuit_text;
-use circuit_model::Circuit;
-use fault_texts::put_blif_fault;
+use circuit_model::{Circuit, Spec};
 use genlib_format::{Library, ReadFault as LibraryFault};
-use machine_model::Spec;
+use sis_session::put_blif_fault;
 use std::alloc::Global;
 use trial_cases::{Case, CaseFault, put_line, text_of};
 

@@ -4,8 +4,7 @@ use crate::putting::done;
 use crate::reading::circuit_in;
 use blif_read::{ReadFault, read};
 use blif_write::{circuit_text, latches_text, table_text, tables_text};
-use circuit_model::{Circuit, Table};
-use machine_model::Spec;
+use circuit_model::{Circuit, Spec, Table};
 use std::alloc::Global;
 use trial_cases::CaseFault;
 

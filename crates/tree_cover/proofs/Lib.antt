@@ -14,3 +14,8 @@ pub mod Standing
 pub mod Stepping
 pub mod Usable
 pub mod Valuing
+pub mod Walking
+pub mod Sequencing
+pub mod GateValuing
+pub mod Mentioned
+pub mod EachGate

@@ -5,3 +5,6 @@ pub mod Fitting
 pub mod Outlines
 pub mod Held
 pub mod Flat
+pub mod Written
+pub mod Postorder
+pub mod Listed

@@ -6,20 +6,18 @@ ghost use Rattle.genlib_format.specs.Soundness.{IsSound as IsSoundLibrary};
 ghost use Rattle.subject_tree.specs.Trees.{size_of};
 ghost use Rattle.subject_tree.specs.Arenas.{tree_at};
 ghost use Rattle.tree_cover.specs.Candidates.{IsLibrary};
-ghost use Rattle.cover_gates.specs.Postorder.{AreBelow};
+ghost use Rattle.tree_cover.specs.Postorder.{AreBelow};
 
 use crate::gates::{Naming, put_gates};
 use crate::libraries::{lack, numbered};
 use crate::texts::{circuit, library, parted, put_area, put_word, tell, tell_number};
 use circuit_model::Circuit;
-use cover_gates::{WrittenCover, write_cover};
 use genlib_format::Library;
-use library_cells::laws::sound_libraries_cover_trees;
-use library_cells::library_patterns;
 use pattern_set::{Patterns, covers_all};
 use std::alloc::{AllocError, Global};
 use subject_tree::{Forest, ForestFault, Root, forest_of};
-use tree_cover::{Choices, best};
+use tree_cover::library_laws::sound_libraries_cover_trees;
+use tree_cover::{Choices, WrittenCover, best, library_patterns, write_cover};
 use trial_cases::CaseFault;
 
 /// The forest of a circuit.

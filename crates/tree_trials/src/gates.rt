@@ -2,10 +2,10 @@
 
 use crate::texts::put_word;
 use circuit_model::Name;
-use cover_gates::{Signal, WrittenCover};
 use genlib_format::{Gate, Library};
 use std::alloc::{AllocError, Global};
 use subject_tree::Leaves;
+use tree_cover::{Signal, WrittenCover};
 use trial_cases::{put_line, put_number};
 
 /// How the signals of a tree's cover are named: leaves by themselves, the last of so many gates by the root, and the

@@ -3,10 +3,10 @@
 use crate::texts::{library, put_area, put_word, tell, tell_number};
 use circuit_model::{Row, Tri};
 use genlib_format::{Gate, LibFault, Library, LimitKind, ReadFault, read};
-use library_cells::{cells, library_patterns};
 use pattern_set::{Cell, PatternFault, Patterns, covers_all};
 use sis_base::Name;
 use std::alloc::{AllocError, Global};
+use tree_cover::{cells, library_patterns};
 use trial_cases::{CaseFault, put_line, text_of};
 
 /// For each gate of a library its name, its area and the number of its pins; or what is wrong with the text.

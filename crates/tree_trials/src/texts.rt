@@ -5,9 +5,8 @@ ghost use Rattle.circuit_model.specs.Soundness.{IsSound as IsSoundCircuit};
 ghost use Rattle.genlib_format.specs.Soundness.{IsSound as IsSoundLibrary};
 
 use blif_read::ReadFault as CircuitFault;
-use circuit_model::Circuit;
+use circuit_model::{Circuit, Spec};
 use genlib_format::{Library, ReadFault as LibraryFault};
-use machine_model::Spec;
 use sis_text::Decimal;
 use std::alloc::{AllocError, Global};
 use trial_cases::{CaseFault, put_line, put_shown, text_of};

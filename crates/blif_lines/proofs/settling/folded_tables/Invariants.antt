@@ -1,6 +1,6 @@
 use Rattle.std.proofs.Common.{◌≡◌, ◌++◌, map, length}
 use Rattle.std.specs.Vec.Iter.{into_iter_items, into_iter_len}
-use Rattle.table_fold.specs.Folding.{folded}
+use Rattle.circuit_tables.specs.Folding.{folded}
 use Rattle.blif_lines.proofs.settling.folded_tables.Given as goal
 
 abbrev pub invariant-loop-table : goal.invariant-loop-table

@@ -1,5 +1,5 @@
 use Rattle.std.proofs.Common.{◌∙◌, List, ℕ, ap, sym, subst}
-use Rattle.graph_cycles.specs.Graphs.{IsGraph, first_cyclic}
+use Rattle.circuit_checks.specs.Graphs.{IsGraph, first_cyclic}
 use Rattle.circuit_checks.proofs.Driving.{graph_is}
 use Rattle.circuit_checks.proofs.cycle.cyclic_place.Goals as goal
 

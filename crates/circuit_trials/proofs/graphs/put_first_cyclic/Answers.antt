@@ -1,5 +1,5 @@
 use Rattle.std.proofs.Common.{sym}
-use Rattle.graph_cycles.proofs.Bounding.{graph_from_test}
+use Rattle.circuit_checks.proofs.Bounding.{graph_from_test}
 use Rattle.circuit_trials.proofs.graphs.put_first_cyclic.Goals as goal
 
 pub first_cyclic-requires : goal.first_cyclic-requires

@@ -1,5 +1,5 @@
 use Rattle.std.proofs.Common.{◌≡◌, take}
-use Rattle.net_needed.specs.Reading.{held_by}
+use Rattle.net_wires.specs.Reading.{held_by}
 use Rattle.circuit_trials.proofs.needed.held.Given as goal
 
 abbrev pub invariant-loop-latch : goal.invariant-loop-latch

@@ -1,4 +1,4 @@
-use Rattle.table_fold.proofs.Once.{listed_once}
+use Rattle.circuit_tables.proofs.Once.{listed_once}
 use Rattle.genlib_expr.specs.Text.{is_name, pins_in}
 use Rattle.std.specs.List.{filter}
 use Rattle.genlib_expr.specs.Texts.{texts}

@@ -1,6 +1,6 @@
 use Rattle.std.proofs.Common.{◌≡◌, map, take, drop}
 use Rattle.std.specs.List.{filter}
-use Rattle.table_fold.specs.Listing.{names_with}
+use Rattle.circuit_tables.specs.Listing.{names_with}
 use Rattle.genlib_expr.specs.Text.{is_name, pins_in, token_of}
 use Rattle.genlib_expr.specs.Texts.{texts}
 use Rattle.genlib_expr.proofs.tokens.tokens_of.Given as goal

@@ -1,5 +1,5 @@
 use Rattle.std.proofs.Common.{◌≡◌, drop}
-use Rattle.machine_model.specs.Clashes.{agree_all}
+use Rattle.circuit_model.specs.Clashes.{agree_all}
 use Rattle.kiss_format.proofs.finding.agree_all.Given as goal
 
 abbrev pub invariant-loop-i : goal.invariant-loop-i

@@ -1,5 +1,5 @@
 use Rattle.std.proofs.Common.{◌≡◌, drop}
-use Rattle.machine_model.specs.Clashes.{clash_with}
+use Rattle.circuit_model.specs.Clashes.{clash_with}
 use Rattle.kiss_format.proofs.finding.clash_with.Given as goal
 
 abbrev pub invariant-loop-place : goal.invariant-loop-place

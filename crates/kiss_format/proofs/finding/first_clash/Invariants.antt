@@ -1,5 +1,5 @@
 use Rattle.std.proofs.Common.{◌≡◌, take, drop}
-use Rattle.machine_model.specs.Clashes.{first_clash, clash_behind}
+use Rattle.circuit_model.specs.Clashes.{first_clash, clash_behind}
 use Rattle.kiss_format.specs.Groups.{AreGroups}
 use Rattle.kiss_format.proofs.finding.first_clash.Given as goal
 

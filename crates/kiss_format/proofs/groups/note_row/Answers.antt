@@ -1,5 +1,5 @@
 use Rattle.std.proofs.Common.{ℕ, ◌==◌, [], ◌∷◌, ◌++◌, sym, ◌∙◌, ap, length, slice_index_or, if◌then◌else◌}
-use Rattle.machine_model.specs.declared.machine.MachineRow.{MachineRow}
+use Rattle.circuit_model.specs.declared.machine.MachineRow.{MachineRow}
 use Rattle.kiss_format.specs.Groups.{group_of}
 use Rattle.kiss_format.proofs.Grouped.{groups_more}
 use Rattle.kiss_format.proofs.groups.note_row.Goals as goal

@@ -1,6 +1,6 @@
 use Rattle.std.proofs.Common.{◌≡◌, ◌++◌, take, map}
 use Rattle.sis_base.specs.Written.{lines_text}
-use Rattle.machine_model.specs.Text.{row_line}
+use Rattle.circuit_model.specs.MachineText.{row_line}
 use Rattle.kiss_format.proofs.writing.put_rows.Given as goal
 
 abbrev pub invariant-loop-row : goal.invariant-loop-row

@@ -1,7 +1,7 @@
 use Rattle.std.proofs.Common.{ℕ, refl, ap, ◌∙◌, subst}
 use Rattle.sis_base.specs.Rows.{HasWidth}
 use Rattle.net_core.specs.Tables.{named, covered}
-use Rattle.table_tidy.specs.Tidy.{tidied}
+use Rattle.circuit_tables.specs.Tidy.{tidied}
 use Rattle.net_core.proofs.Tidied.{named_tidy, tidied_wide}
 use Rattle.net_core.proofs.tidying.tidy.Goals as goal
 

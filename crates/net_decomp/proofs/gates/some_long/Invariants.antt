@@ -1,6 +1,6 @@
 use Rattle.std.proofs.Common.{◌≡◌, map, drop}
 use Rattle.std.specs.List.{list_any}
-use Rattle.decomp_rules.specs.Rules.{is_long}
+use Rattle.net_decomp.specs.Rules.{is_long}
 use Rattle.net_decomp.proofs.gates.some_long.Given as goal
 
 abbrev pub invariant-loop-row : goal.invariant-loop-row

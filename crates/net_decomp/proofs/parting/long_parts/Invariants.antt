@@ -1,5 +1,5 @@
 use Rattle.std.proofs.Common.{◌≡◌, [], ◌∷◌, ◌++◌, map, filter, drop}
-use Rattle.decomp_rules.specs.Rules.{is_long}
+use Rattle.net_decomp.specs.Rules.{is_long}
 use Rattle.net_decomp.proofs.parting.long_parts.Given as goal
 
 abbrev pub invariant-loop-row : goal.invariant-loop-row

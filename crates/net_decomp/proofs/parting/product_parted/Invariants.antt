@@ -1,5 +1,5 @@
 use Rattle.std.proofs.Common.{◌≡◌, true, Some, [], ◌∷◌, ◌++◌, map, take}
-use Rattle.decomp_rules.specs.Rules.{first_literals, later_literals}
+use Rattle.net_decomp.specs.Rules.{first_literals, later_literals}
 use Rattle.net_decomp.proofs.parting.product_parted.Given as goal
 
 abbrev pub invariant-loop-row : goal.invariant-loop-row

@@ -1,5 +1,5 @@
 use Rattle.std.proofs.Common.{◌≡◌, ◌++◌, drop}
-use Rattle.decomp_rules.specs.Rules.{first_literals}
+use Rattle.net_decomp.specs.Rules.{first_literals}
 use Rattle.net_decomp.proofs.rows.first_of.Given as goal
 
 abbrev pub invariant-loop-literal : goal.invariant-loop-literal

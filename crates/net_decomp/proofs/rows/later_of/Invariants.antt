@@ -1,5 +1,5 @@
 use Rattle.std.proofs.Common.{◌≡◌, ◌++◌, drop}
-use Rattle.decomp_rules.specs.Rules.{later_literals}
+use Rattle.net_decomp.specs.Rules.{later_literals}
 use Rattle.net_decomp.proofs.rows.later_of.Given as goal
 
 abbrev pub invariant-loop-literal : goal.invariant-loop-literal

@@ -1,5 +1,5 @@
 use Rattle.std.proofs.Common.{◌≡◌, ◌++◌, map, take}
-use Rattle.decomp_rules.specs.Rules.{padded}
+use Rattle.net_decomp.specs.Rules.{padded}
 use Rattle.net_decomp.proofs.rows.push_padded.Given as goal
 
 abbrev pub invariant-loop-row : goal.invariant-loop-row

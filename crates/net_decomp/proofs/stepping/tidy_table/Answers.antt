@@ -6,8 +6,8 @@ use Rattle.cube_cover.specs.Covers.{Shape}
 use Rattle.net_core.specs.Reads.{IsBounded}
 use Rattle.net_core.specs.Tables.{named, characters_of}
 use Rattle.net_core.specs.declared.table.Table.{Table}
-use Rattle.table_tidy.specs.Tidy.{tidied}
-use Rattle.table_tidy.proofs.Tidied.{tidied_once}
+use Rattle.circuit_tables.specs.Tidy.{tidied}
+use Rattle.circuit_tables.proofs.Tidied.{tidied_once}
 use Rattle.net_decomp.proofs.stepping.tidy_table.Goals as goal
 
 pub returns-clause-tidy : goal.returns-clause-tidy

@@ -2,7 +2,7 @@ use Rattle.std.proofs.Common.{List, ℕ, ap, ◌∙◌}
 use Rattle.std.proofs.lemmas.Option.{same_Some}
 use Rattle.circuit_model.specs.Names.{has}
 use Rattle.circuit_model.specs.declared.circuit.Table.{Table as Written}
-use Rattle.input_readers.specs.Readers.{is_in}
+use Rattle.net_readers.specs.Readers.{is_in}
 use Rattle.net_core.specs.Places.{written_of}
 use Rattle.net_core.specs.Tables.{named}
 use Rattle.net_work.specs.Slots.{inputs_at}

@@ -1,5 +1,5 @@
 use Rattle.net_work.specs.Placed.{standing}
-use Rattle.table_order.specs.Order.{order_of}
+use Rattle.circuit_order.specs.Order.{order_of}
 use Rattle.net_elim.proofs.Along.{along_none}
 use Rattle.net_elim.proofs.Leaving.{collapsed_whole}
 use Rattle.net_elim.proofs.collapsing.collapse_tables.Goals as goal

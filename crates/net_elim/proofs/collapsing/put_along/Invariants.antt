@@ -1,6 +1,6 @@
 use Rattle.std.proofs.Common.{drop}
 use Rattle.net_work.specs.Placed.{standing}
-use Rattle.table_order.specs.Order.{order_of}
+use Rattle.circuit_order.specs.Order.{order_of}
 use Rattle.net_elim.specs.Phases.{IsAlong}
 use Rattle.net_elim.proofs.collapsing.put_along.Given as goal
 

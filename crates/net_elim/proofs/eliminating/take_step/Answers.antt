@@ -1,6 +1,6 @@
 use Rattle.std.proofs.Common.{◌≡◌, ◌<◌, ℤ, Option, Some, None, List, length, set, sym, ap, ◌∙◌, subst, w32}
 use Rattle.std.proofs.lemmas.Int.{to_z-of_z}
-use Rattle.elim_rules.specs.Eliminating.{eliminate_step}
+use Rattle.net_elim.specs.Eliminating.{eliminate_step}
 use Rattle.net_work.specs.Placed.{Placed, standing, circuit_of}
 use Rattle.net_elim.specs.Waiting.{AreWaiting, IsLeast, IsLeastTo}
 use Rattle.net_elim.proofs.Leasts.{value_count, fewer_values}

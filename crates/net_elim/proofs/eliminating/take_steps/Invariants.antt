@@ -1,6 +1,6 @@
 use Rattle.std.proofs.Common.{length}
 use Rattle.circuit_model.specs.Soundness.{IsSound}
-use Rattle.elim_rules.specs.Eliminating.{eliminate_step}
+use Rattle.net_elim.specs.Eliminating.{eliminate_step}
 use Rattle.net_work.specs.Placed.{standing, circuit_of}
 use Rattle.net_elim.specs.Waiting.{AreWaiting}
 use Rattle.net_elim.proofs.Steps.{IsLed}

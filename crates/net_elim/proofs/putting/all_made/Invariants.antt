@@ -1,10 +1,10 @@
 use Rattle.std.proofs.Common.{◌≡◌, ℕ, true, Some, None, take}
 use Rattle.std.specs.List.{AllByRecursion}
 use Rattle.circuit_model.specs.declared.circuit.Table.{Table as TheWritten}
-use Rattle.input_readers.specs.Readers.{is_in}
+use Rattle.net_readers.specs.Readers.{is_in}
 use Rattle.net_core.specs.Places.{written_of}
 use Rattle.net_work.specs.Placed.{table_at}
-use Rattle.table_algebra.specs.Taking.{take_refusal}
+use Rattle.alg_tables.specs.Taking.{take_refusal}
 use Rattle.net_elim.specs.Putting.{IsMade, IsFit, places_made}
 use Rattle.net_elim.proofs.putting.all_made.Given as goal
 

@@ -2,12 +2,12 @@ use Rattle.std.proofs.Common.{◌≡◌, ℕ, true, false, Some, List, is_some, 
 use Rattle.std.specs.List.{AllByRecursion}
 use Rattle.std.proofs.lemmas.Result.{IfErr-weaker, on_ok_weaker}
 use Rattle.circuit_model.specs.declared.circuit.Table.{Table as TheWritten}
-use Rattle.elim_rules.specs.Eliminating.{all_take}
-use Rattle.input_readers.specs.Readers.{is_in}
+use Rattle.net_elim.specs.Eliminating.{all_take}
+use Rattle.net_readers.specs.Readers.{is_in}
 use Rattle.net_core.specs.Places.{written_of}
 use Rattle.net_core.specs.Tables.{named}
 use Rattle.net_work.specs.Placed.{circuit_of, table_at}
-use Rattle.table_algebra.specs.Taking.{take_refusal}
+use Rattle.alg_tables.specs.Taking.{take_refusal}
 use Rattle.net_elim.specs.Putting.{IsMade, AreMade, places_made}
 use Rattle.net_elim.specs.declared.putting.PutFault.TheVariants.{Refused, Memory}
 use Rattle.net_elim.proofs.Places.{ok_both}

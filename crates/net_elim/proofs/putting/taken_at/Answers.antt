@@ -5,7 +5,7 @@ use Rattle.circuit_model.specs.declared.circuit.Table.{Table as TheWritten}
 use Rattle.net_core.specs.Places.{written_of}
 use Rattle.net_core.specs.Tables.{named}
 use Rattle.net_work.specs.Placed.{table_at}
-use Rattle.table_algebra.specs.Taking.{taken_in}
+use Rattle.alg_tables.specs.Taking.{taken_in}
 use Rattle.net_elim.proofs.Readers.{made_is, made_once}
 use Rattle.net_elim.proofs.putting.taken_at.Goals as goal
 

@@ -1,11 +1,11 @@
 use Rattle.std.proofs.Common.{MatchOption}
 use Rattle.std.proofs.lemmas.Result.{IfOk-weaker}
-use Rattle.extract_rules.specs.Extracting.{IsNext, IsDone}
-use Rattle.extract_rules.specs.declared.rule.Rule.TheVariants.{Fx}
-use Rattle.kept_gains.specs.Kept.{Saves, IsFirst}
-use Rattle.name_covers.specs.Literals.{NamedCover}
+use Rattle.net_candidates.specs.Extracting.{IsNext, IsDone}
+use Rattle.net_candidates.specs.declared.rule.Rule.TheVariants.{Fx}
+use Rattle.net_gains.specs.Kept.{Saves, IsFirst}
+use Rattle.cover_names.specs.Literals.{NamedCover}
 use Rattle.net_work.specs.Placed.{standing, circuit_of}
-use Rattle.kept_savings.specs.Saving.{LeavesNarrow}
+use Rattle.net_savings.specs.Saving.{LeavesNarrow}
 use Rattle.net_extract.proofs.Gaining.{counted_found}
 use Rattle.net_extract.proofs.counted.best_counted.Goals as goal
 

@@ -1,7 +1,7 @@
 use Rattle.std.proofs.lemmas.Result.{IfOk-weaker}
-use Rattle.extract_rules.specs.declared.rule.Rule.{Rule}
-use Rattle.kept_savings.specs.Savings.{AreSavings}
-use Rattle.kept_savings.specs.declared.kept.KeptSavings.{KeptSavings}
+use Rattle.net_candidates.specs.declared.rule.Rule.{Rule}
+use Rattle.net_savings.specs.Savings.{AreSavings}
+use Rattle.net_savings.specs.declared.kept.KeptSavings.{KeptSavings}
 use Rattle.net_extract.proofs.finding.savings_of.Goals as goal
 
 pub returns-in-None : goal.returns-in-None

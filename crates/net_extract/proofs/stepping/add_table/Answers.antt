@@ -1,7 +1,7 @@
 use Rattle.std.proofs.Common.{ap, ◌∙◌}
 use Rattle.circuit_model.specs.Names.{all_different}
 use Rattle.net_core.specs.declared.table.Table.{Table}
-use Rattle.kept_savings.proofs.Tabled.{cover_once}
+use Rattle.net_savings.proofs.Tabled.{cover_once}
 use Rattle.net_extract.proofs.stepping.add_table.Goals as goal
 
 pub add_known-requires-clause-once : goal.add_known-requires-clause-once

@@ -1,8 +1,8 @@
 use Rattle.std.proofs.Common.{◌≤◌, sym, subst}
-use Rattle.name_covers.specs.Literals.{NamedCover}
+use Rattle.cover_names.specs.Literals.{NamedCover}
 use Rattle.net_work.specs.Placed.{circuit_of}
-use Rattle.kept_savings.specs.Saving.{literals_in}
-use Rattle.kept_savings.proofs.Found.{candidate_some}
+use Rattle.net_savings.specs.Saving.{literals_in}
+use Rattle.net_savings.proofs.Found.{candidate_some}
 use Rattle.net_extract.proofs.stepping.step.Goals as goal
 
 pub put-requires-clause-some : goal.put-requires-clause-some

@@ -4,7 +4,7 @@ use Rattle.std.specs.List.{list_any}
 use Rattle.std.proofs.lemmas.Bool.{true≢false}
 use borrow.Author.Count.{below_more}
 use Rattle.net_core.specs.Places.{written_of}
-use Rattle.resub_rules.specs.Resubbed.{row_cubes}
+use Rattle.net_resub.specs.Resubbed.{row_cubes}
 use Rattle.net_resub.specs.Listed.{IsNeeded}
 use Rattle.net_resub.proofs.Over.{entry_needs, entry_none}
 use Rattle.net_resub.proofs.listed.rarest_name.Goals as goal

@@ -2,7 +2,7 @@ use Rattle.std.proofs.Common.{◌≡◌, ◌<◌, ℕ, false, None, IfSome}
 use Rattle.std.specs.Prelude.{slice_index_or, is_some}
 use Rattle.std.specs.List.{list_any}
 use Rattle.net_core.specs.Places.{written_of}
-use Rattle.resub_rules.specs.Resubbed.{row_cubes}
+use Rattle.net_resub.specs.Resubbed.{row_cubes}
 use Rattle.net_resub.specs.Listed.{IsNeeded}
 use Rattle.net_resub.proofs.listed.rarest_name.Given as goal
 

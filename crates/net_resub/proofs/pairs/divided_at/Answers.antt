@@ -6,8 +6,8 @@ use Rattle.circuit_model.specs.declared.circuit.Table.{Table}
 use Rattle.net_core.specs.Tables.{named}
 use Rattle.net_core.specs.Places.{written_of}
 use Rattle.net_work.specs.Placed.{table_at}
-use Rattle.resub_rules.specs.Resubbed.{row_cubes, resubbed}
-use Rattle.table_algebra.proofs.Divisions.{divided_once}
+use Rattle.net_resub.specs.Resubbed.{row_cubes, resubbed}
+use Rattle.alg_tables.proofs.Divisions.{divided_once}
 use Rattle.net_resub.proofs.Rows.{divided_is}
 use Rattle.net_resub.proofs.Saving.{saving_places, saving_placed}
 use Rattle.net_resub.proofs.pairs.divided_at.Goals as goal

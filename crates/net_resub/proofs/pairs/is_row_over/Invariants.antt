@@ -1,5 +1,5 @@
 use Rattle.std.proofs.Common.{◌≡◌}
-use Rattle.name_covers.specs.Cubes.{cube_over}
+use Rattle.cover_names.specs.Cubes.{cube_over}
 use Rattle.net_resub.specs.Pairs.{is_cube_over}
 use Rattle.net_resub.proofs.Over.{rest_over}
 use Rattle.net_resub.proofs.pairs.is_row_over.Given as goal

@@ -1,10 +1,10 @@
 use Rattle.std.proofs.Common.{◌≡◌, ℕ, None, IfSome, List, sym, ap, ◌∙◌}
 use Rattle.std.proofs.lemmas.Result.{IfOk-weaker}
-use Rattle.name_covers.specs.Literals.{NamedCover}
+use Rattle.cover_names.specs.Literals.{NamedCover}
 use Rattle.net_core.specs.Tables.{named}
 use Rattle.net_core.specs.Places.{written_of}
-use Rattle.resub_rules.specs.Resubbed.{row_cubes, resubbed}
-use Rattle.table_algebra.specs.Dividing.{divided}
+use Rattle.net_resub.specs.Resubbed.{row_cubes, resubbed}
+use Rattle.alg_tables.specs.Dividing.{divided}
 use Rattle.net_resub.proofs.Rows.{some_weaker}
 use Rattle.net_resub.proofs.pairs.resubbed_table.Goals as goal
 

@@ -1,5 +1,5 @@
 use Rattle.std.proofs.Common.{◌≡◌, map, take}
-use Rattle.name_covers.specs.Cubes.{cube_over}
+use Rattle.cover_names.specs.Cubes.{cube_over}
 use Rattle.net_resub.proofs.pairs.row_cubes.Given as goal
 
 abbrev pub invariant-loop-row : goal.invariant-loop-row

@@ -2,8 +2,8 @@ use Rattle.std.proofs.Common.{◌≡◌, ℕ, List, sym, ap, ◌∙◌}
 use Rattle.circuit_model.specs.Names.{has}
 use Rattle.net_core.specs.Tables.{named}
 use Rattle.net_core.specs.Places.{written_of}
-use Rattle.name_covers.specs.Cubes.{is_over}
-use Rattle.resub_rules.specs.Resubbed.{row_cubes, resubbed}
+use Rattle.cover_names.specs.Cubes.{is_over}
+use Rattle.net_resub.specs.Resubbed.{row_cubes, resubbed}
 use Rattle.net_resub.proofs.Rows.{some_told}
 use Rattle.net_resub.proofs.Saving.{read_saves, unread_saves, saved_is, stays_saves}
 use Rattle.net_resub.proofs.pairs.saving_of.Goals as goal

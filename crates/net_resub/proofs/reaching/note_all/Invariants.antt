@@ -1,5 +1,5 @@
 use Rattle.std.proofs.Common.{◌≡◌, ◌++◌, length, drop}
-use Rattle.graph_cycles.specs.Searching.{marks, fresh}
+use Rattle.circuit_checks.specs.Searching.{marks, fresh}
 use Rattle.net_resub.proofs.reaching.note_all.Given as goal
 
 abbrev pub invariant-loop-place : goal.invariant-loop-place

@@ -1,7 +1,7 @@
 use Rattle.std.proofs.Common.{◌<◌, ◌∙◌, ◌++◌, Bool, false, All, ℕ, List, length, ap, sym, subst}
 use Rattle.std.proofs.lemmas.List.{length-replicate, nil_from_length}
-use Rattle.graph_cycles.specs.Searching.{marks, fresh}
-use Rattle.graph_cycles.proofs.Marking.{at_start, at_step, at_end, step_below, step_falls}
+use Rattle.circuit_checks.specs.Searching.{marks, fresh}
+use Rattle.circuit_checks.proofs.Marking.{at_start, at_step, at_end, step_below, step_falls}
 use Rattle.net_resub.specs.Reaching.{graph_of}
 use Rattle.net_resub.proofs.Graph.{graph_is, graph_long}
 use Rattle.net_resub.proofs.reaching.reached.Goals as goal

@@ -1,5 +1,5 @@
 use Rattle.std.proofs.Common.{◌+◌, length}
-use Rattle.graph_cycles.proofs.Marking.{Searched, unseen}
+use Rattle.circuit_checks.proofs.Marking.{Searched, unseen}
 use Rattle.net_resub.specs.Reaching.{graph_of}
 use Rattle.net_resub.proofs.reaching.reached.Given as goal
 

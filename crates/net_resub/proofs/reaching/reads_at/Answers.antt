@@ -1,6 +1,6 @@
 use Rattle.std.proofs.Common.{◌≡◌, sym, ap, ◌∙◌}
 use Rattle.std.proofs.lemmas.Result.{IfOk-weaker}
-use Rattle.graph_cycles.specs.Graphs.{reads_of}
+use Rattle.circuit_checks.specs.Graphs.{reads_of}
 use Rattle.net_core.specs.Tables.{named}
 use Rattle.net_core.specs.Places.{written_of}
 use Rattle.net_resub.specs.Reaching.{places_named, graph_of}

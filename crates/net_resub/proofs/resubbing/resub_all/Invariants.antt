@@ -2,7 +2,7 @@ use Rattle.circuit_model.specs.Counts.{literals_of}
 use Rattle.circuit_model.specs.Soundness.{IsSound}
 use Rattle.net_core.specs.Reads.{HasBounds}
 use Rattle.net_work.specs.Placed.{circuit_of}
-use Rattle.resub_rules.specs.Resubbed.{IsReached}
+use Rattle.net_resub.specs.Resubbed.{IsReached}
 use Rattle.net_resub.specs.Kept.{IsKept}
 use Rattle.net_resub.proofs.resubbing.resub_all.Given as goal
 

@@ -3,7 +3,7 @@ use Rattle.circuit_model.specs.declared.circuit.Table.{Table}
 use Rattle.net_core.specs.Tables.{named}
 use Rattle.net_core.proofs.Removals.{tables_differ}
 use Rattle.net_work.specs.Placed.{circuit_of}
-use Rattle.resub_rules.proofs.Keeping.{step_extended}
+use Rattle.net_resub.proofs.RuleKeeping.{step_extended}
 use Rattle.net_resub.specs.Best.{worth_at, IsFirst, IsBest}
 use Rattle.net_resub.proofs.Keeping.{kept_set}
 use Rattle.net_resub.proofs.Saving.{saving_places}

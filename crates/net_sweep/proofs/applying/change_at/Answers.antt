@@ -1,6 +1,6 @@
 use Rattle.std.proofs.Common.{sym, ◌∙◌}
 use Rattle.net_sweep.specs.Settled.{changed_by}
-use Rattle.input_readers.proofs.Sets.{on_ok}
+use Rattle.net_readers.proofs.Sets.{on_ok}
 use Rattle.net_sweep.proofs.Changing.{set_changed}
 use Rattle.net_sweep.proofs.applying.change_at.Goals as goal
 

@@ -1,6 +1,6 @@
 use Rattle.std.proofs.Common.{sym, ap, ◌∙◌}
-use Rattle.sweep_rules.specs.Rules.{only_input}
-use Rattle.input_readers.proofs.Sets.{on_ok}
+use Rattle.net_wires.specs.Rules.{only_input}
+use Rattle.net_readers.proofs.Sets.{on_ok}
 use Rattle.net_sweep.proofs.Changing.{collapse_applied, input_apart}
 use Rattle.net_sweep.proofs.applying.collapse_at.Goals as goal
 

@@ -1,5 +1,5 @@
 use Rattle.std.proofs.Common.{sym}
-use Rattle.input_readers.proofs.Sets.{on_ok}
+use Rattle.net_readers.proofs.Sets.{on_ok}
 use Rattle.net_sweep.proofs.Changing.{propagate_applied}
 use Rattle.net_sweep.proofs.applying.propagate_at.Goals as goal
 

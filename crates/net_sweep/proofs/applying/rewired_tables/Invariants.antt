@@ -1,6 +1,6 @@
 use Rattle.std.proofs.Common.{◌≡◌, Some, map, take, slice_get}
 use Rattle.std.specs.Option.{option_map}
-use Rattle.sweep_rules.specs.Rules.{rewired}
+use Rattle.net_wires.specs.Rules.{rewired}
 use Rattle.net_sweep.proofs.applying.rewired_tables.Given as goal
 
 abbrev pub invariant-loop-place : goal.invariant-loop-place

@@ -1,5 +1,5 @@
 use Rattle.std.proofs.Common.{ℕ, ◌<◌, Some, refl, sym, ap, ◌∙◌, subst}
-use Rattle.net_needed.proofs.Searching.{at_place}
+use Rattle.net_wires.proofs.Searching.{at_place}
 use Rattle.net_sweep.proofs.Rewiring.{set_within, set_more}
 use Rattle.net_sweep.proofs.applying.set_tables.Goals as goal
 

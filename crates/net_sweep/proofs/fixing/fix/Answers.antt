@@ -3,7 +3,7 @@ use Rattle.std.specs.Ordering.{nat_cmp}
 use Rattle.std.specs.BTreeSet.{contains}
 use Rattle.indexmap.specs.IndexMap.{get}
 use Rattle.net_sweep.specs.Settled.{is_candidate}
-use Rattle.input_readers.proofs.Sets.{on_ok}
+use Rattle.net_readers.proofs.Sets.{on_ok}
 use Rattle.net_sweep.proofs.Changing.{on_ok_both}
 use Rattle.net_sweep.proofs.Latching.{fixed_beside, fixed_marked}
 use Rattle.net_sweep.proofs.Stepping.{latch_undriven}

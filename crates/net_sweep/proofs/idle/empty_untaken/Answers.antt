@@ -3,7 +3,7 @@ use Rattle.std.specs.Ordering.{nat_cmp}
 use Rattle.std.specs.BTreeSet.{contains}
 use Rattle.indexmap.specs.IndexMap.{get}
 use Rattle.net_sweep.specs.Latches.{left_at, with_latches}
-use Rattle.input_readers.proofs.Sets.{on_ok}
+use Rattle.net_readers.proofs.Sets.{on_ok}
 use Rattle.net_sweep.proofs.Latching.{sound_tables}
 use Rattle.net_sweep.proofs.Emptying.{emptied_set, emptied_led, emptied_marked, emptied_beside}
 use Rattle.net_sweep.proofs.idle.empty_untaken.Goals as goal

@@ -1,5 +1,5 @@
 use Rattle.std.proofs.Common.{◌≡◌, map, take}
-use Rattle.sweep_rules.specs.Rules.{renamed}
+use Rattle.net_wires.specs.Rules.{renamed}
 use Rattle.net_sweep.proofs.rows.names_renamed.Given as goal
 
 abbrev pub invariant-loop-name : goal.invariant-loop-name

@@ -1,5 +1,5 @@
 use Rattle.net_sweep.specs.Columns.{row_at_marks}
-use Rattle.table_fold.proofs.Steps.{rows_more}
+use Rattle.circuit_tables.proofs.FoldSteps.{rows_more}
 use Rattle.net_sweep.proofs.rows.rows_at_bit.Goals as goal
 
 pub loop-row-preserved : goal.loop-row-preserved

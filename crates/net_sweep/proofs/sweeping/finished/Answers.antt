@@ -1,4 +1,4 @@
-use Rattle.net_needed.proofs.Taking.{tables_differ, latches_differ}
+use Rattle.net_wires.proofs.Taking.{tables_differ, latches_differ}
 use Rattle.net_sweep.proofs.Chaining.{next_led, next_falls, all_finished, led_through}
 use Rattle.net_sweep.proofs.sweeping.finished.Goals as goal
 

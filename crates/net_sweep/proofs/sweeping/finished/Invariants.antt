@@ -1,6 +1,6 @@
 use Rattle.std.proofs.Common.{◌≡◌, None}
-use Rattle.sweep_rules.specs.Rules.{fix_constant_latch}
-use Rattle.sweep_rules.proofs.Weight.{weight}
+use Rattle.net_wires.specs.Rules.{fix_constant_latch}
+use Rattle.net_wires.proofs.Weight.{weight}
 use Rattle.net_sweep.specs.Settled.{table_step, HasLed}
 use Rattle.net_sweep.proofs.sweeping.finished.Given as goal
 

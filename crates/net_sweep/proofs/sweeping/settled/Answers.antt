@@ -1,5 +1,5 @@
 use Rattle.std.proofs.Common.{refl, sym, subst}
-use Rattle.net_needed.proofs.Taking.{tables_differ}
+use Rattle.net_wires.proofs.Taking.{tables_differ}
 use Rattle.net_wires.proofs.Carried.{on_value}
 use Rattle.net_sweep.specs.Settled.{HasLed}
 use Rattle.net_sweep.specs.Latches.{left_at, with_latches}

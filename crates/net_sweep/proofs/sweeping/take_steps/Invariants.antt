@@ -1,4 +1,4 @@
-use Rattle.sweep_rules.proofs.Weight.{weight}
+use Rattle.net_wires.proofs.Weight.{weight}
 use Rattle.net_sweep.specs.Settled.{is_candidate}
 use Rattle.net_sweep.specs.Latches.{left_at, with_latches}
 use Rattle.net_sweep.proofs.Stepping.{IsSettling}

@@ -1,7 +1,7 @@
 use Rattle.std.proofs.Common.{List, ◌∷◌, ◌++◌, [], ◌∙◌, sym, ap, Bool, false, get_or, slice_get, unwrap_or, if◌then◌else◌}
 use Rattle.circuit_model.specs.declared.circuit.Tri.{Tri}
 use Rattle.circuit_model.specs.declared.circuit.Tri.TheVariants.{Zero}
-use Rattle.sweep_rules.specs.Rules.{turned_over}
+use Rattle.net_wires.specs.Rules.{turned_over}
 use Rattle.net_wires.proofs.Turning.{row_nothing, row_more}
 use Rattle.net_wires.proofs.edges.row_over.Goals as goal
 

@@ -1,6 +1,6 @@
 use Rattle.std.proofs.lemmas.Result.{err_from_is_err_and}
 use Rattle.net_work.specs.Placed.{standing}
-use Rattle.table_order.specs.Order.{order_of}
+use Rattle.circuit_order.specs.Order.{order_of}
 use Rattle.sdc_simplify.proofs.Along.{turn_there, turn_more, turn_refused}
 use Rattle.sdc_simplify.proofs.simplifying.minimize_along.Goals as goal
 

@@ -1,6 +1,6 @@
 use Rattle.std.proofs.Common.{drop}
 use Rattle.net_work.specs.Placed.{standing}
-use Rattle.table_order.specs.Order.{order_of}
+use Rattle.circuit_order.specs.Order.{order_of}
 use Rattle.sdc_simplify.specs.Turns.{IsAlong}
 use Rattle.sdc_simplify.proofs.simplifying.minimize_along.Given as goal
 

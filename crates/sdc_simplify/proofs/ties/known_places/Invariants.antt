@@ -1,5 +1,5 @@
 use Rattle.std.proofs.Common.{◌≡◌, Some, map, take}
-use Rattle.table_algebra.specs.Taking.{entries}
+use Rattle.alg_tables.specs.Taking.{entries}
 use Rattle.sdc_simplify.proofs.ties.known_places.Given as goal
 
 abbrev pub invariant-loop-name : goal.invariant-loop-name

@@ -1,7 +1,7 @@
 use Rattle.std.proofs.Common.{ℕ, List, not, length, refl, sym, subst}
 use Rattle.std.proofs.lemmas.Result.{on_ok_weaker}
 use Rattle.circuit_laws.proofs.Drivers.{driver_none}
-use Rattle.minimum_rules.specs.Local.{differs}
+use Rattle.sdc_simplify.specs.Local.{differs}
 use Rattle.net_core.specs.Places.{written_of}
 use Rattle.net_work.specs.Placed.{standing, circuit_of}
 use Rattle.sdc_simplify.specs.Turns.{IsTiedMore}

@@ -2,7 +2,7 @@ use Rattle.std.proofs.Common.{ℕ, Bool, Option, Some, List, map, length, sym, a
 use Rattle.sis_base.specs.Rows.{HasWidth}
 use Rattle.cover_ops.specs.Composed.{placed_rows}
 use Rattle.cover_ops.proofs.Compositions.{HasWidth-placed_rows}
-use Rattle.table_algebra.specs.Taking.{entries}
+use Rattle.alg_tables.specs.Taking.{entries}
 use Rattle.sdc_simplify.proofs.Places.{places_below, spread_rows}
 use Rattle.sdc_simplify.proofs.ties.spread_cover.Goals as goal
 

@@ -4,8 +4,8 @@ use Rattle.std.proofs.lemmas.Result.{IfOk-weaker}
 use Rattle.circuit_model.specs.Soundness.{IsShaped}
 use Rattle.circuit_model.specs.declared.circuit.Circuit.{Circuit as TheCircuit}
 use Rattle.circuit_model.specs.declared.circuit.Table.{Table as TheWritten}
-use Rattle.minimum_rules.specs.Local.{is_local}
-use Rattle.minimum_rules.specs.Minimized.{minimized}
+use Rattle.sdc_simplify.specs.Local.{is_local}
+use Rattle.sdc_simplify.specs.Minimized.{minimized}
 use Rattle.net_core.specs.Places.{written_of}
 use Rattle.net_core.specs.Tables.{named}
 use Rattle.net_work.specs.Placed.{circuit_of, table_at}

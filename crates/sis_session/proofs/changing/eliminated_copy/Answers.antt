@@ -2,8 +2,8 @@ use Rattle.std.proofs.Common.{◌<◌, ◌^◌, ℤ, suc, subst, arith, w32}
 use Rattle.std.proofs.lemmas.Int.{to_z-of_z}
 use Rattle.circuit_model.specs.declared.circuit.Circuit.{Circuit}
 use Rattle.circuit_laws.specs.Chains.{Chain}
-use Rattle.elim_rules.specs.Eliminating.{eliminate_step}
-use Rattle.elim_rules.proofs.Small.{chain_bounded}
+use Rattle.net_elim.specs.Eliminating.{eliminate_step}
+use Rattle.net_elim.proofs.Small.{chain_bounded}
 use Rattle.sis_session.proofs.changing.eliminated_copy.Goals as goal
 
 pub returns-clause-bounds : goal.returns-clause-bounds

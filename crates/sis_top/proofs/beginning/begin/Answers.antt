@@ -1,6 +1,6 @@
 use Rattle.sis_outside.specs.Calls.{Follows}
 use Rattle.sis_session.specs.State.{nothing_held}
-use Rattle.sis_words.specs.Asked.{InFile, OnInput}
+use Rattle.sis_top.specs.Asked.{InFile, OnInput}
 use Rattle.sis_top.specs.Machine.{begin_plan}
 use Rattle.sis_top.specs.Code.{ended_as}
 use Rattle.sis_top.proofs.Going.{begun_file, begun_text, begun_input}

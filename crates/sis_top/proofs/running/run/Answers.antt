@@ -1,6 +1,6 @@
 use Rattle.std.proofs.Common.{◌∷◌, ◌||◌, false, List, Err, refl, sym, ap, subst, reverse}
 use Rattle.sis_outside.specs.Calls.{Follows}
-use Rattle.sis_words.specs.Asked.{script_in}
+use Rattle.sis_top.specs.Asked.{script_in}
 use Rattle.sis_session.specs.State.{Held, nothing_held}
 use Rattle.sis_top.specs.Machine.{Begin, Due, begun}
 use Rattle.sis_top.specs.Code.{HasEnded, IsAt, IsCutAt, ended_as}

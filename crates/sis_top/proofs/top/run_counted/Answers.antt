@@ -1,5 +1,5 @@
 use Rattle.sis_outside.specs.Calls.{Follows, SinkWent, SourceWent, StoreWent}
-use Rattle.sis_words.specs.Asked.{options_of}
+use Rattle.sis_top.specs.Asked.{options_of}
 use Rattle.sis_top.proofs.Calling.{called_more}
 use Rattle.sis_top.proofs.top.run_counted.Goals as goal
 

@@ -1,7 +1,7 @@
 use Rattle.std.proofs.Common.{sym, subst}
 use Rattle.std.specs.Prelude.{None}
 use Rattle.sis_outside.specs.Calls.{Follows}
-use Rattle.sis_words.specs.Asked.{options_in}
+use Rattle.sis_top.specs.Asked.{options_in}
 use Rattle.sis_top.specs.Call.{IsRun}
 use Rattle.sis_top.specs.declared.status.Status.{Status}
 use Rattle.sis_top.proofs.Calling.{run_called, run_stopped}

@@ -1,5 +1,5 @@
 use Rattle.sis_outside.specs.Calls.{SinkWent, SourceWent, StoreWent}
-use Rattle.sis_words.specs.Asked.{options_of}
+use Rattle.sis_top.specs.Asked.{options_of}
 use Rattle.sis_top.proofs.Faults.{call_fault, call_usage, each_fault, rose_by}
 use Rattle.sis_top.proofs.Serving.{call_completes}
 use Rattle.sis_top.proofs.Statuses.{call_plain, same_count}

@@ -1,6 +1,6 @@
 use Rattle.std.proofs.Common.{refl}
 use Rattle.sis_outside.specs.Calls.{Follows}
-use Rattle.sis_words.specs.Asked.{options_in, options_of}
+use Rattle.sis_top.specs.Asked.{options_in, options_of}
 use Rattle.sis_top.proofs.Calling.{called_run, called_unused, called_wanting}
 use Rattle.sis_top.proofs.top.run_words.Goals as goal
 

@@ -1,6 +1,6 @@
 use Rattle.std.proofs.Common.{bytes_eq}
 use Rattle.indexmap.specs.IndexMap.{get}
-use Rattle.table_order.proofs.Indexing.{index_more}
+use Rattle.circuit_order.proofs.Indexing.{index_more}
 use Rattle.subject_tree.proofs.forest.index_of.Goals as goal
 
 pub loop-place-preserved : goal.loop-place-preserved

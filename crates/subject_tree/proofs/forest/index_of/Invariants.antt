@@ -1,6 +1,6 @@
 use Rattle.std.proofs.Common.{take, bytes_eq}
 use Rattle.indexmap.specs.IndexMap.{get}
-use Rattle.table_order.specs.Places.{IsIndex}
+use Rattle.circuit_order.specs.Places.{IsIndex}
 use Rattle.subject_tree.proofs.forest.index_of.Given as goal
 
 abbrev pub invariant-loop-place : goal.invariant-loop-place

@@ -1,5 +1,5 @@
 use Rattle.std.proofs.Common.{◌==◌, ◌||◌, not, Bool, List, subst}
-use Rattle.input_readers.proofs.Sets.{on_ok}
+use Rattle.net_readers.proofs.Sets.{on_ok}
 use Rattle.net_resub.specs.Candidates.{is_with}
 use Rattle.net_resub.specs.Divisions.{is_among, HasJust}
 use Rattle.net_resub.specs.Pairs.{saving_at}

@@ -1,5 +1,5 @@
 use Rattle.std.proofs.Common.{refl, sym}
-use Rattle.input_readers.proofs.Sets.{on_ok}
+use Rattle.net_readers.proofs.Sets.{on_ok}
 use Rattle.net_core.specs.Places.{written_of}
 use Rattle.net_resub.specs.Listed.{HasPut, HasPutUnder, is_under}
 use Rattle.net_resub.specs.declared.listed.DivisorLists.{DivisorLists}

@@ -9,6 +9,6 @@ pub returns-in-Some : goal.returns-in-Some
 returns-in-Some c =
     let (tested, is, always, within, other) = c.in-Some.ensures.lookup in
     c.written_bit.ensures
-    ∙ bit_there c.self.inside.circuit c.args.self.now (edge_of (get bytes_eq c.self.inside.signal_of)) c.args.place c.in-Some.table.now (sym c.self.view_is)
+    ∙ bit_there c.self.inside.circuit.it c.args.self.now (edge_of (get bytes_eq c.self.inside.signal_of.it)) c.args.place c.in-Some.table.now (sym c.self.view_is)
     (subst (λ (ts : List Table). c.args.place < length ts) c.as_slice.ensures within.0)
     (subst (λ (ts : List Table). c.in-Some.table.now ≡ get_or ts c.args.place c.in-Some.table.now) c.as_slice.ensures is)

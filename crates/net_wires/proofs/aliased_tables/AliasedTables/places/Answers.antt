@@ -10,6 +10,6 @@ returns c =
     on_value c.places.result
     (λ places is place. is place
     ∙ (c.self.invariant.0 c.name_of.result.now place
-    ∙ (ap (λ (name : List ℕ). has (inputs_at c.self.inside.circuit.tables place) name) c.name_of.ensures
-    ∙ places_there c.self.inside.circuit c.args.self.now (edge_of (get bytes_eq c.self.inside.signal_of)) (edge_of (get bytes_eq c.self.inside.alias_of)) c.args.name.now place (sym c.self.view_is) c.self.invariant.1)))
+    ∙ (ap (λ (name : List ℕ). has (inputs_at c.self.inside.circuit.it.tables place) name) c.name_of.ensures
+    ∙ places_there c.self.inside.circuit.it c.args.self.now (edge_of (get bytes_eq c.self.inside.signal_of.it)) (edge_of (get bytes_eq c.self.inside.alias_of.it)) c.args.name.now place (sym c.self.view_is) c.self.invariant.1)))
     c.places.ensures

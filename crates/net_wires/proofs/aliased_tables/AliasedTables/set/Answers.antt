@@ -6,5 +6,5 @@ use Rattle.net_wires.proofs.aliased_tables.AliasedTables.set.Goals as goal
 
 pub returns : goal.returns
 returns c =
-    table_put c.made.inside.circuit c.args.self.now (edge_of (get bytes_eq c.made.inside.signal_of)) (edge_of (get bytes_eq c.made.inside.alias_of)) c.args.place c.args.table
-    (table_over (edge_of (get bytes_eq c.made.inside.alias_of)) c.args.table) c.change_table.new.circuit (sym (c.made.view_is ∙ c.replace-made.ensures.value)) c.made.invariant.1 refl c.in_ok-change_table.ensures.set
+    table_put c.made.inside.circuit.it c.args.self.now (edge_of (get bytes_eq c.made.inside.signal_of.it)) (edge_of (get bytes_eq c.made.inside.alias_of.it)) c.args.place c.args.table
+    (table_over (edge_of (get bytes_eq c.made.inside.alias_of.it)) c.args.table) c.change_table.new.circuit (sym (c.made.view_is ∙ c.replace-made.ensures.value)) c.made.invariant.1 refl c.in_ok-change_table.ensures.set

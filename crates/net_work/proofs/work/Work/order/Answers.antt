@@ -3,7 +3,7 @@ use Rattle.std.proofs.lemmas.Result.{IfOk-weaker}
 use Rattle.indexmap.specs.IndexMap.{get}
 use Rattle.net_core.specs.Places.{present}
 use Rattle.net_core.specs.declared.places.Entry.{Entry}
-use Rattle.table_order.specs.Order.{order_of}
+use Rattle.circuit_order.specs.Order.{order_of}
 use Rattle.net_work.specs.Placed.{standing, name_at}
 use Rattle.net_work.specs.Slots.{bare}
 use Rattle.net_work.proofs.Ordered.{order_different, order_known, order_placed}

@@ -1,7 +1,7 @@
 use Rattle.std.proofs.Common.{◌≡◌, ℕ, ap, ◌∙◌}
 use Rattle.std.proofs.lemmas.Result.{IfOk-weaker}
 use Rattle.circuit_model.specs.Names.{has}
-use Rattle.input_readers.specs.Readers.{told, is_in}
+use Rattle.net_readers.specs.Readers.{told, is_in}
 use Rattle.net_work.specs.Placed.{Placed}
 use Rattle.net_work.specs.Slots.{inputs_at}
 use Rattle.net_work.proofs.work.Work.readers.Goals as goal

@@ -7,7 +7,7 @@ use Rattle.circuit_model.specs.declared.circuit.Table.{Table as Written}
 use Rattle.net_core.specs.Places.{written_of}
 use Rattle.net_core.specs.Reads.{value_of}
 use Rattle.net_core.specs.Tables.{named}
-use Rattle.use_counts.specs.Uses.{told_uses}
+use Rattle.net_work.specs.Uses.{told_uses}
 use Rattle.net_work.specs.Placed.{Placed, standing, table_at}
 use Rattle.net_work.proofs.Kept.{value_there}
 use Rattle.net_work.proofs.work.Work.value.Goals as goal

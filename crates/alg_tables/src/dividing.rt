@@ -1,0 +1,213 @@
+//! A table divided by a cover of literals by name, and the table of such a cover.
+
+ghost use Rattle.std.specs.Prelude.{◌≡◌, ℕ, suc, Bool, true, Option, Some, None, List, [], ◌∷◌, ◌++◌, length, map, IfOk, IfSome, OnOk};
+ghost use Rattle.std.specs.List.{list_all};
+ghost use Rattle.std.specs.Ordering.{nat_cmp};
+ghost use Rattle.std.specs.Cmp.Lexicographic.{slice_cmp};
+ghost use Rattle.circuit_model.specs.Names.{has};
+ghost use Rattle.alg_div.specs.Steps.{literals_in};
+ghost use Rattle.cover_names.specs.Cubes.{row_over as row_from, is_over, names_in};
+ghost use Rattle.cover_names.specs.declared.literal.Literal.{Literal as TheLiteral};
+ghost use Rattle.net_core.specs.Tables.{named, IsOverInputs};
+ghost use Rattle.alg_tables.specs.Dividing.{divided, sorted_names, cover_table as table_of};
+
+use alg_div::{cover_of, divide, literals_of};
+use circuit_model::{Name, Names};
+use cover_names::{Cube, Literal, row_over};
+use cube_cover::{Cover, Row};
+use net_core::{Table, tidy};
+use sis_base::{Copied, Sequence};
+use std::alloc::{AllocError, Global};
+use std::cmp::Ordering;
+
+// Whether a name is among names.
+fn has_name(names: &[Name], name: &Name) -> bool
+    ensures { result ≡ has names.now name.now }
+{
+    names.iter().any(|other| *name == *other)
+}
+
+// Whether all literals of a cube are of names.
+fn is_cube_over(names: &[Name], cube: &[Literal]) -> bool
+    ensures { result ≡ list_all (λ (literal : TheLiteral). has names.now literal.name) cube.now }
+{
+    for literal in cube {
+        if !has_name(names, &literal.name) {
+            return false;
+        }
+    }
+    true
+}
+
+// Whether all literals of a cover are of names.
+fn is_cover_over(names: &[Name], cover: &[Cube]) -> bool
+    ensures { result ≡ is_over names.now cover.now }
+{
+    for cube in cover {
+        if !is_cube_over(names, cube.as_slice()) {
+            return false;
+        }
+    }
+    true
+}
+
+// The rows of a cover's cubes over names.
+fn rows_over(
+    alloc: Global,
+    names: &[Name],
+    cover: &[Cube],
+) -> Result<Vec<Vec<Option<bool>>>, AllocError>
+    ensures { IfOk result (λ rows. literals_in rows.items ≡ map (row_from names.now) cover.now) }
+{
+    let mut rows = Vec::with_capacity(alloc, cover.len())?;
+    for cube in cover {
+        rows.push(row_over(alloc, names, cube.as_slice())?)?;
+    }
+    Ok(rows)
+}
+
+// Puts rows, with one place more at the end, behind others.
+fn push_ended<R: Row>(
+    alloc: Global,
+    made: &mut Vec<Vec<Option<bool>>>,
+    rows: &[R],
+    place: Option<bool>,
+) -> Result<(), AllocError>
+    ensures { OnOk result (literals_in made.new.items ≡ literals_in made.old.items ++ map (λ row. row ++ place ∷ []) (map R.literals rows.now)) }
+{
+    for row in rows {
+        let mut literals = literals_of(alloc, row)?;
+        literals.push(place)?;
+        made.push(literals)?;
+    }
+    Ok(())
+}
+
+// The quotient's rows with a literal at a new last place, and behind them the remainder's rows with none there.
+fn ended_cover<R: Row>(
+    alloc: Global,
+    width: usize,
+    bit: bool,
+    quotient: &Cover<R>,
+    remainder: &Cover<R>,
+) -> Result<Cover<R>, AllocError>
+    requires quotient { width ≡ suc quotient.now.width }
+    requires remainder { width ≡ suc remainder.now.width }
+    ensures { IfOk result (λ made. made ≡ record { width = width; rows = map (λ row. row ++ Some bit ∷ []) quotient.now.rows ++ map (λ row. row ++ None ∷ []) remainder.now.rows }) }
+{
+    let mut rows = Vec::new(alloc);
+    push_ended(alloc, &mut rows, quotient.rows(), Some(bit))?;
+    push_ended(alloc, &mut rows, remainder.rows(), None)?;
+    let cover = cover_of(alloc, width, rows.as_slice())?;
+    Ok(cover)
+}
+
+// A table with the rows of a quotient and a remainder, and a signal as its last input; nothing is tidied yet.
+fn rejoined_table<R: Row>(
+    alloc: Global,
+    table: &Table<R>,
+    name: &Name,
+    bit: bool,
+    quotient: &Cover<R>,
+    remainder: &Cover<R>,
+) -> Result<Table<R>, AllocError>
+    requires quotient { quotient.now.width ≡ length table.now.inputs }
+    requires remainder { remainder.now.width ≡ length table.now.inputs }
+    ensures inputs { IfOk result (λ made. made.inputs ≡ table.now.inputs ++ name.now ∷ []) }
+    ensures rows { IfOk result (λ made. made.cover.rows ≡ map (λ row. row ++ Some bit ∷ []) quotient.now.rows ++ map (λ row. row ++ None ∷ []) remainder.now.rows) }
+    ensures phase { IfOk result (λ made. made.phase ≡ table.now.phase) }
+    ensures over { IfOk result IsOverInputs }
+{
+    let mut inputs = table.inputs.copy(alloc)?;
+    inputs.push(name.copy(alloc)?)?;
+    let cover = ended_cover(alloc, inputs.len(), bit, quotient, remainder)?;
+    Ok(Table {
+        inputs,
+        cover,
+        phase: table.phase,
+    })
+}
+
+/// What a table becomes where it is divided by a cover, for which the literal of `name` then stands, the positive one where `bit`
+/// is true: the quotient's cubes with that literal and the rows that are left, tidy. `None` where the table stays as it is: it does
+/// not read all that the cover reads, or the quotient has no cube. An error only for want of memory.
+pub fn divided_table<R: Row>(
+    alloc: Global,
+    table: &Table<R>,
+    name: &Name,
+    bit: bool,
+    cover: &[Cube],
+) -> Result<Option<Table<R>>, AllocError>
+    requires { IsOverInputs table.now }
+    ensures some { IfOk result (λ found. IfSome found (λ made. (output : List ℕ) → named output made ≡ divided name.now bit cover.now (named output table.now))) }
+    ensures over { IfOk result (λ found. IfSome found IsOverInputs) }
+    ensures none { IfOk result (λ found. found ≡ None → (output : List ℕ) → divided name.now bit cover.now (named output table.now) ≡ named output table.now) }
+{
+    if !is_cover_over(table.inputs.as_slice(), cover) {
+        return Ok(None);
+    }
+    let rows = rows_over(alloc, table.inputs.as_slice(), cover)?;
+    let divisor = cover_of(alloc, table.inputs.len(), rows.as_slice())?;
+    let _of_one_width = table.cover.rows();
+    let (quotient, remainder) = divide(alloc, &table.cover, &divisor)?;
+    if quotient.rows().is_empty() {
+        return Ok(None);
+    }
+    let rejoined = rejoined_table(alloc, table, name, bit, &quotient, &remainder)?;
+    let tidy_table = tidy(alloc, &rejoined)?;
+    Ok(Some(tidy_table))
+}
+
+// Puts copies of the names of a cube's literals behind the last.
+fn push_cube_names(alloc: Global, names: &mut Vec<Name>, cube: &[Literal]) -> Result<(), AllocError>
+    ensures { OnOk result (names.new.items ≡ names.old.items ++ map (λ (literal : TheLiteral). literal.name) cube.now) }
+{
+    for literal in cube {
+        names.push(literal.name.copy(alloc)?)?;
+    }
+    Ok(())
+}
+
+// The names of a cover's literals, in their order.
+fn all_names(alloc: Global, cover: &[Cube]) -> Result<Vec<Name>, AllocError>
+    ensures { IfOk result (λ names. names.items ≡ names_in cover.now) }
+{
+    let mut names = Vec::new(alloc);
+    for cube in cover {
+        push_cube_names(alloc, &mut names, cube.as_slice())?;
+    }
+    Ok(names)
+}
+
+// How two names stand, byte for byte.
+fn compare_names(one: &Name, other: &Name) -> Ordering
+    ensures { result ≡ slice_cmp nat_cmp one.now other.now }
+{
+    one.as_slice().cmp(other.as_slice())
+}
+
+// The names of a cover, in order, each once.
+fn names_of(alloc: Global, cover: &[Cube]) -> Result<Names, AllocError>
+    ensures { IfOk result (λ names. names ≡ sorted_names cover.now) }
+{
+    let mut names = all_names(alloc, cover)?;
+    names.sort_unstable_by(compare_names);
+    names.dedup();
+    Ok(Sequence::from_vec(names))
+}
+
+/// The table of a cover: its inputs are the cover's names in order, each once, its rows the cubes in the cover's order. An error
+/// only for want of memory.
+pub fn cover_table<R: Row>(alloc: Global, cover: &[Cube]) -> Result<Table<R>, AllocError>
+    ensures table { IfOk result (λ made. (name : List ℕ) → named name made ≡ table_of name cover.now) }
+    ensures over { IfOk result IsOverInputs }
+{
+    let inputs = names_of(alloc, cover)?;
+    let rows = rows_over(alloc, inputs.as_slice(), cover)?;
+    let made = cover_of(alloc, inputs.len(), rows.as_slice())?;
+    Ok(Table {
+        inputs,
+        cover: made,
+        phase: true,
+    })
+}

@@ -1,7 +1,0 @@
-use Rattle.std.proofs.Common.{sym, subst, []}
-use Rattle.algebra_texts.specs.Told.{AreFactorLines}
-use Rattle.algebra_texts.proofs.Lines.{lines_of_none}
-use Rattle.algebra_texts.proofs.factors.factor_lines.Goals as goal
-
-pub loop-table-init : goal.loop-table-init
-loop-table-init c = subst (AreFactorLines []) (sym c.new-text.ensures.items) lines_of_none

@@ -1,9 +1,0 @@
-pub mod Words
-pub mod LineKinds
-pub mod RowTexts
-pub mod Backs
-pub mod NoFaults
-pub mod Said
-pub mod NoKiss
-pub mod Trip
-pub mod Again

@@ -1,4 +1,0 @@
-pub mod Chains
-pub mod Changes
-pub mod Found
-pub mod Mapped

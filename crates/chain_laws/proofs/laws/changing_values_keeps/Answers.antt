@@ -1,8 +1,0 @@
-use Rattle.chain_laws.proofs.Changes.{each_reduced, each_extended}
-use Rattle.chain_laws.proofs.laws.changing_values_keeps.Goals as goal
-
-pub returns-clause-reduced : goal.returns-clause-reduced
-returns-clause-reduced c = each_reduced
-
-pub returns-clause-extended : goal.returns-clause-extended
-returns-clause-extended c = each_extended

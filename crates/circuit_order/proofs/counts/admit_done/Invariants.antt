@@ -1,0 +1,10 @@
+use Rattle.std.proofs.Common.{◌≡◌, ℕ, ◌==◌, ◌&&◌, ◌||◌, take, slice_get}
+use Rattle.std.specs.List.{list_any}
+use Rattle.std.specs.Ordering.{nat_cmp}
+use Rattle.std.specs.BTreeSet.{contains}
+use Rattle.circuit_order.specs.Places.{is_done}
+use Rattle.circuit_order.proofs.counts.admit_done.Given as goal
+
+abbrev pub invariant-loop-place : goal.invariant-loop-place
+invariant-loop-place l =
+    (i : ℕ) → contains nat_cmp l.ready i ≡ (contains nat_cmp l.fn.ready i || (is_done (slice_get l.counts i) && list_any (λ place. place == i) (take l.place-index l.places)))

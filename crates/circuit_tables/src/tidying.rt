@@ -1,0 +1,190 @@
+//! Tidy tables: repeated inputs are folded, repeated rows go, inputs without a literal go, and a table of phase 0 without
+//! rows is the constant 1.
+
+ghost use Rattle.std.specs.Prelude.{◌≡◌, ℕ, ◌||◌, false, List, [], ◌∷◌, ◌++◌, map, bytes_eq, slice_index_or, if◌then◌else◌, IfOk, OnOk};
+ghost use Rattle.indexmap.specs.IndexSet.{contains};
+ghost use Rattle.circuit_tables.specs.Folding.{constant_one as one_of};
+ghost use Rattle.circuit_tables.specs.Tidy.{tidied, chosen, narrowed as narrowed_of, rows_once as once_each, with_phase_one as phase_one_of, with_rows_once as once_of, row_text};
+
+use crate::fold_table;
+use crate::rows::{has_row_or_phase, text_of, used_places};
+use circuit_model::{Name, Row, Rows, Table, Tri};
+use indexmap::IndexSet;
+use sis_base::{Copied, Sequence};
+use std::alloc::{AllocError, Global};
+
+// Whether a place is marked.
+fn is_marked(marks: &[bool], place: usize) -> bool
+    ensures { result ≡ slice_index_or marks.now place false }
+{
+    match marks.get(place) {
+        None => false,
+        Some(mark) => *mark,
+    }
+}
+
+// Puts a copy of an item behind the last where it is marked.
+fn push_marked<T: Copied + Drop>(
+    alloc: Global,
+    made: &mut Sequence<T>,
+    mark: bool,
+    item: &T,
+) -> Result<(), AllocError>
+    ensures { OnOk result (made.new ≡ made.old ++ (if mark then item.now ∷ [] else [])) }
+{
+    if mark {
+        made.push(item.copy(alloc)?)?;
+    }
+    Ok(())
+}
+
+// Copies of the items that are marked.
+fn chosen_items<T: Copied + Drop>(
+    alloc: Global,
+    marks: &[bool],
+    items: &[T],
+) -> Result<Sequence<T>, AllocError>
+    ensures { IfOk result (λ made. made ≡ chosen marks.now items.now) }
+{
+    let mut made = Sequence::new(alloc);
+    for (i, item) in items.iter().enumerate() {
+        push_marked(alloc, &mut made, is_marked(marks, i), item)?;
+    }
+    Ok(made)
+}
+
+// Puts a character behind the last of a row where it is marked.
+fn push_character(row: &mut Row, mark: bool, character: Tri) -> Result<(), AllocError>
+    ensures { OnOk result (row.new ≡ row.old ++ (if mark then character ∷ [] else [])) }
+{
+    if mark {
+        row.push(character)?;
+    }
+    Ok(())
+}
+
+// The marked places of a row.
+fn chosen_row(alloc: Global, marks: &[bool], row: &[Tri]) -> Result<Row, AllocError>
+    ensures { IfOk result (λ made. made ≡ chosen marks.now row.now) }
+{
+    let mut made = Row::new(alloc);
+    for (i, character) in row.iter().enumerate() {
+        push_character(&mut made, is_marked(marks, i), *character)?;
+    }
+    Ok(made)
+}
+
+// The marked places of each row.
+fn chosen_rows(alloc: Global, marks: &[bool], rows: &[Row]) -> Result<Rows, AllocError>
+    ensures { IfOk result (λ made. made ≡ map (chosen marks.now) rows.now) }
+{
+    let mut made = Vec::with_capacity(alloc, rows.len())?;
+    for row in rows {
+        made.push(chosen_row(alloc, marks, row.as_slice())?)?;
+    }
+    Ok(Sequence::from_vec(made))
+}
+
+// The table without the inputs that have no literal.
+#[tactic(auto, unfolding(crate::specs::Tidy::narrowed))]
+fn narrowed(alloc: Global, table: Table) -> Result<Table, AllocError>
+    ensures { IfOk result (λ made. made ≡ narrowed_of table) }
+{
+    let Table {
+        inputs,
+        output,
+        rows,
+        phase,
+    } = table;
+    let marks = used_places(alloc, inputs.as_slice(), rows.as_slice())?;
+    Ok(Table {
+        inputs: chosen_items(alloc, marks.as_slice(), inputs.as_slice())?,
+        output,
+        rows: chosen_rows(alloc, marks.as_slice(), rows.as_slice())?,
+        phase,
+    })
+}
+
+// Puts a row behind the last where it is not among those seen, and notes it.
+fn push_new(
+    alloc: Global,
+    seen: &mut IndexSet<Name>,
+    made: &mut Rows,
+    row: Row,
+) -> Result<(), AllocError>
+    ensures rows { OnOk result (made.new ≡ made.old ++ (if contains bytes_eq seen.old (row_text row) then [] else row ∷ [])) }
+    ensures seen { OnOk result ((text : List ℕ) → contains bytes_eq seen.new text ≡ (bytes_eq (row_text row) text || contains bytes_eq seen.old text)) }
+{
+    let text = text_of(alloc, row.as_slice())?;
+    if seen.insert(text)? {
+        made.push(row)?;
+    }
+    Ok(())
+}
+
+// The rows without those that equal an earlier one.
+fn rows_once(alloc: Global, rows: Rows) -> Result<Rows, AllocError>
+    ensures { IfOk result (λ made. made ≡ once_each rows) }
+{
+    let mut seen = IndexSet::new(alloc);
+    let mut made = Sequence::new(alloc);
+    for row in rows.into_vec() {
+        push_new(alloc, &mut seen, &mut made, row)?;
+    }
+    Ok(made)
+}
+
+// The table of the constant 1.
+fn one_table(alloc: Global, output: Name) -> Result<Table, AllocError>
+    ensures { IfOk result (λ made. made ≡ one_of output) }
+{
+    let mut rows = Sequence::new(alloc);
+    rows.push(Row::new(alloc))?;
+    Ok(Table {
+        inputs: Sequence::new(alloc),
+        output,
+        rows,
+        phase: true,
+    })
+}
+
+// The table, or the constant 1 where no row is left at phase 0.
+#[tactic(auto, unfolding(crate::specs::Tidy::with_phase_one))]
+fn with_phase_one(alloc: Global, table: Table) -> Result<Table, AllocError>
+    ensures { IfOk result (λ made. made ≡ phase_one_of table) }
+{
+    if has_row_or_phase(table.rows.as_slice(), table.phase) {
+        return Ok(table);
+    }
+    one_table(alloc, table.output)
+}
+
+// The table with each row once.
+fn with_rows_once(alloc: Global, table: Table) -> Result<Table, AllocError>
+    ensures { IfOk result (λ made. made ≡ once_of table) }
+{
+    let Table {
+        inputs,
+        output,
+        rows,
+        phase,
+    } = table;
+    Ok(Table {
+        inputs,
+        output,
+        rows: rows_once(alloc, rows)?,
+        phase,
+    })
+}
+
+/// The tidy table of a table: inputs named twice are folded, rows that equal earlier ones go, then inputs without a
+/// literal; where no row is left at phase 0, it is the constant 1. An error only for want of memory.
+#[tactic(auto, unfolding(crate::specs::Tidy::tidied))]
+pub fn tidied_table(alloc: Global, table: Table) -> Result<Table, AllocError>
+    ensures { IfOk result (λ made. made ≡ tidied table) }
+{
+    let folded = fold_table(alloc, table)?;
+    let open = with_phase_one(alloc, folded)?;
+    let once = with_rows_once(alloc, open)?;
+    narrowed(alloc, once)
+}

@@ -1,6 +1,0 @@
-use Rattle.std.proofs.Common.{◌∙◌}
-use Rattle.coded_totals.proofs.InSets.{held}
-use Rattle.coded_totals.proofs.parting.holds.Goals as goal
-
-pub returns : goal.returns
-returns c = c.contains.ensures ∙ held c.args.cube.now c.args.set.now.keys

@@ -1,5 +1,0 @@
-use Rattle.cover_gates.proofs.Valuing.{written-value}
-use Rattle.cover_gates.proofs.laws.covers_have_values.Goals as goal
-
-pub returns : goal.returns
-returns c cmp library functions value driven t start signal gates described = written-value functions value driven cmp library described t start signal gates

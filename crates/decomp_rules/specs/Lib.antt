@@ -1,3 +1,0 @@
-pub mod Partings
-pub mod Rules
-pub mod Decomposed

@@ -1,5 +1,0 @@
-pub mod Putting
-pub mod Stepping
-pub mod Gathered
-pub mod Leasts
-pub mod Small

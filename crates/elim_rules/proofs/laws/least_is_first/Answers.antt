@@ -1,8 +1,0 @@
-use Rattle.elim_rules.proofs.Leasts.{least_first, least_only}
-use Rattle.elim_rules.proofs.laws.least_is_first.Goals as goal
-
-pub returns-clause-first : goal.returns-clause-first
-returns-clause-first c = least_first
-
-pub returns-clause-only : goal.returns-clause-only
-returns-clause-only c = least_only

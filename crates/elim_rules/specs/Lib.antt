@@ -1,2 +1,0 @@
-pub mod Eliminating
-pub mod Collapsing

@@ -1,7 +1,0 @@
-use Rattle.std.proofs.Common.{◌≡◌, map, take}
-use Rattle.name_covers.specs.Literals.{sorted_cube}
-use Rattle.name_covers.specs.Cubes.{cube_over}
-use Rattle.extract_candidates.proofs.cubes.cubes_over.Given as goal
-
-abbrev pub invariant-loop-row : goal.invariant-loop-row
-invariant-loop-row g l = l.cubes.items ≡ map (λ row. sorted_cube (cube_over l.names row)) (map g.R.Row.literals (take l.row-index l.rows))

@@ -1,6 +1,0 @@
-use Rattle.std.proofs.Common.{◌≡◌, ◌++◌, drop}
-use Rattle.extract_rules.specs.Candidates.{own}
-use Rattle.extract_candidates.proofs.parts.own_literals.Given as goal
-
-abbrev pub invariant-loop-literal : goal.invariant-loop-literal
-invariant-loop-literal l = l.literals.items ++ own (drop l.literal-index l.one) l.other ≡ own l.one l.other

@@ -1,7 +1,0 @@
-use Rattle.std.proofs.Common.{◌↔◌, map, drop, Bor}
-use Rattle.name_covers.specs.Literals.{Cube}
-use Rattle.extract_candidates.specs.Pairs.{IsSharedWithSome}
-use Rattle.extract_candidates.proofs.sharers.shares_with_some.Given as goal
-
-abbrev pub invariant-loop-other : goal.invariant-loop-other
-invariant-loop-other l = IsSharedWithSome (map (λ (other : Bor Cube). other.now) (drop l.other-index l.others)) l.one l.cube ↔ IsSharedWithSome (map (λ (other : Bor Cube). other.now) l.others) l.one l.cube

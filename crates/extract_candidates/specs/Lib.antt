@@ -1,6 +1,0 @@
-pub mod Listed
-pub mod Parts
-pub mod Pairs
-pub mod Faults
-pub mod Spots
-pub mod Partners

@@ -1,8 +1,0 @@
-use Rattle.extract_rules.proofs.Keeping.{step_extended, reached_extended}
-use Rattle.extract_rules.proofs.laws.steps_keep.Goals as goal
-
-pub returns-clause-step : goal.returns-clause-step
-returns-clause-step c = step_extended
-
-pub returns-clause-reached : goal.returns-clause-reached
-returns-clause-reached c = reached_extended

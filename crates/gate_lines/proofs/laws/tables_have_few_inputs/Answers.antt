@@ -1,9 +1,0 @@
-use Rattle.std.proofs.Common.{subst, length, ◌≤◌}
-use Rattle.circuit_model.specs.declared.circuit.Table.{Table}
-use Rattle.gate_lines.proofs.Told.{told, sound_found, few}
-use Rattle.gate_lines.proofs.laws.tables_have_few_inputs.Goals as goal
-
-pub returns : goal.returns
-returns c library cell words table sound e =
-    let t = told library cell words table e in
-    subst (λ (table : Table). length table.inputs ≤ 15) t.is (few t.gate words (sound_found library cell t.gate sound.each t.named))

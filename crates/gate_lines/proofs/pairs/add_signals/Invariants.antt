@@ -1,9 +1,0 @@
-use Rattle.std.proofs.Common.{◌≡◌, ◌++◌, take}
-use Rattle.std.specs.List.{filter}
-use Rattle.circuit_model.specs.Names.{has}
-use Rattle.line_words.specs.LineWords.{texts}
-use Rattle.gate_lines.specs.GateLines.{signals_of}
-use Rattle.gate_lines.proofs.pairs.add_signals.Given as goal
-
-abbrev pub invariant-loop-word : goal.invariant-loop-word
-invariant-loop-word l = l.names ≡ l.fn.names ++ filter (has l.among) (signals_of (texts (take l.word-index l.words)))

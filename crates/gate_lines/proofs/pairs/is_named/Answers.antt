@@ -1,6 +1,0 @@
-use Rattle.std.proofs.Common.{◌∙◌}
-use Rattle.gate_lines.proofs.Texts.{any_names}
-use Rattle.gate_lines.proofs.pairs.is_named.Goals as goal
-
-pub returns : goal.returns
-returns c = c.some_names.ensures ∙ any_names c.args.pin.now c.args.words.now

@@ -1,7 +1,0 @@
-use Rattle.gate_lines.specs.GateLines.{gate_rows}
-use Rattle.gate_lines.proofs.Characters.{rows_are}
-use Rattle.gate_lines.proofs.reading.gate_rows.Goals as goal
-
-pub returns : goal.returns
-unfolding gate_rows
-returns c = rows_are c.in_ok-rows.rows _ c.in_ok-rows.ensures

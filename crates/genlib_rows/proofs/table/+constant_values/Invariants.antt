@@ -1,4 +1,0 @@
-use Rattle.genlib_rows.proofs.table.+constant_values.Given as goal
-
-abbrev pub decreases-constant_values : goal.decreases-constant_values
-decreases-constant_values l = l.width

@@ -1,4 +1,0 @@
-use Rattle.genlib_rows.proofs.table.+pin_values.Given as goal
-
-abbrev pub decreases-pin_values : goal.decreases-pin_values
-decreases-pin_values l = l.width

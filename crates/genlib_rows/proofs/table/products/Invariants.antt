@@ -1,6 +1,0 @@
-use Rattle.std.proofs.Common.{◌≡◌, ◌++◌, drop}
-use Rattle.genlib_rows.specs.Tables.{products}
-use Rattle.genlib_rows.proofs.table.products.Given as goal
-
-abbrev pub invariant-loop-i : goal.invariant-loop-i
-invariant-loop-i l = l.made.items ++ products (drop l.i l.left) (drop l.i l.right) ≡ products l.left l.right

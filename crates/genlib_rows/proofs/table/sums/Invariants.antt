@@ -1,6 +1,0 @@
-use Rattle.std.proofs.Common.{◌≡◌, ◌++◌, drop}
-use Rattle.genlib_rows.specs.Tables.{sums}
-use Rattle.genlib_rows.proofs.table.sums.Given as goal
-
-abbrev pub invariant-loop-i : goal.invariant-loop-i
-invariant-loop-i l = l.made.items ++ sums (drop l.i l.left) (drop l.i l.right) ≡ sums l.left l.right

@@ -1,5 +1,0 @@
-use Rattle.std.proofs.Common.{length}
-use Rattle.graph_cycles.proofs.component.close.Given as goal
-
-abbrev pub decreases-loop-last : goal.decreases-loop-last
-decreases-loop-last l = goal.left-loop-last l

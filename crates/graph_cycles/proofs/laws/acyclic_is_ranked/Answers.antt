@@ -1,5 +1,0 @@
-use Rattle.graph_cycles.proofs.Ranking.{rank_of, ranked_from_none}
-use Rattle.graph_cycles.proofs.laws.acyclic_is_ranked.Goals as goal
-
-pub returns : goal.returns
-returns c = λ graph is_graph h. (rank_of graph, ranked_from_none graph is_graph h)

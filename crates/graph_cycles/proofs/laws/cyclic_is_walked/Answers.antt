@@ -1,5 +1,0 @@
-use Rattle.graph_cycles.proofs.Walking.{cyclic_from_walk, walk_from_cyclic}
-use Rattle.graph_cycles.proofs.laws.cyclic_is_walked.Goals as goal
-
-pub returns : goal.returns
-returns c = λ graph place is_graph. ((λ h. walk_from_cyclic graph place h), (λ w. cyclic_from_walk graph is_graph place w.0 w.1))

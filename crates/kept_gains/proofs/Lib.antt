@@ -1,9 +1,0 @@
-pub mod Decoded
-pub mod Numbered
-pub mod Summed
-pub mod Best
-pub mod Taken
-pub mod Places
-pub mod Looked
-pub mod Carried
-pub mod Coded

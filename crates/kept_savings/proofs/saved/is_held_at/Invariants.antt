@@ -1,7 +1,0 @@
-use Rattle.std.proofs.Common.{◌≡◌, ℕ, true, take}
-use Rattle.input_readers.specs.Readers.{is_in}
-use Rattle.kept_savings.specs.Savings.{IsIn}
-use Rattle.kept_savings.proofs.saved.is_held_at.Given as goal
-
-abbrev pub invariant-loop-place : goal.invariant-loop-place
-invariant-loop-place l = (at : ℕ) → is_in (take l.place-index l.places) at ≡ true → IsIn l.own.items at l.cover → ⊥

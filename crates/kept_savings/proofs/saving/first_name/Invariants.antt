@@ -1,6 +1,0 @@
-use Rattle.std.proofs.Common.{◌≡◌, take}
-use Rattle.kept_savings.specs.Saving.{literals_in}
-use Rattle.kept_savings.proofs.saving.first_name.Given as goal
-
-abbrev pub invariant-loop-cube : goal.invariant-loop-cube
-invariant-loop-cube l = literals_in (take l.cube-index l.cover) ≡ 0

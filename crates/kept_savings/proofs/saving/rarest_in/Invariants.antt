@@ -1,7 +1,0 @@
-use Rattle.std.proofs.Common.{◌≡◌, ◌⊎◌}
-use Rattle.alg_div.specs.Cubes.{Has}
-use Rattle.name_covers.specs.declared.literal.Literal.{Literal}
-use Rattle.kept_savings.proofs.saving.rarest_in.Given as goal
-
-abbrev pub invariant-loop-literal : goal.invariant-loop-literal
-invariant-loop-literal g l = (l.rarest ≡ l.initial.name) ⊎ ((literal : Literal) × Has literal l.cube × (literal.name ≡ l.rarest))

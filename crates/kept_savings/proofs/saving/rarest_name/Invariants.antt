@@ -1,7 +1,0 @@
-use Rattle.std.proofs.Common.{◌≡◌, true}
-use Rattle.circuit_model.specs.Names.{has}
-use Rattle.name_covers.specs.Cubes.{names_in}
-use Rattle.kept_savings.proofs.saving.rarest_name.Given as goal
-
-abbrev pub invariant-loop-cube : goal.invariant-loop-cube
-invariant-loop-cube g l = has (names_in l.cover) l.rarest ≡ true

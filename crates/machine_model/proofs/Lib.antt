@@ -1,2 +1,0 @@
-pub mod Refinement
-pub mod Apart

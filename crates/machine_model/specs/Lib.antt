@@ -1,5 +1,0 @@
-pub mod Runs
-pub mod Behaviors
-pub mod Clashes
-pub mod Soundness
-pub mod Text

@@ -1,4 +1,0 @@
-pub mod Local
-pub mod Minimal
-pub mod Simplifying
-pub mod Small

@@ -1,5 +1,0 @@
-use Rattle.minimum_rules.proofs.Local.{local_nowhere}
-use Rattle.minimum_rules.proofs.laws.local_points_do_not_come.Goals as goal
-
-pub returns : goal.returns
-returns c = local_nowhere

@@ -1,9 +1,0 @@
-use Rattle.name_covers.proofs.Orders.{literal_order, cube_order}
-use Rattle.name_covers.proofs.Sorts.{sorted_told}
-use Rattle.name_covers.proofs.laws.sorted_lists_are_told_by_their_items.Goals as goal
-
-pub returns-clause-cubes : goal.returns-clause-cubes
-returns-clause-cubes c = λ one other h. sorted_told literal_order one other h
-
-pub returns-clause-covers : goal.returns-clause-covers
-returns-clause-covers c = λ one other h. sorted_told cube_order one other h

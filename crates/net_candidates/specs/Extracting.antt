@@ -1,0 +1,105 @@
+-- Extraction: the candidate that saves most literals becomes a table, by which all tables that stood before are divided; step by step,
+-- until none saves any.
+-- Source: Brayton, Rudell, Sangiovanni-Vincentelli and Wang, "MIS: A Multiple-Level Logic Optimization System" (1987); the SIS report
+-- (UCB/ERL M92/41), `fx`, `gkx` and `gcx`. The order among candidates that save as much, and the limits, are the project's own.
+use Rattle.std.specs.Prelude.{◌≡◌, ◌⊎◌, ℕ, ◌<◌, ◌≤◌, true, List, ◌∷◌, ◌++◌, map, length}
+use Rattle.std.specs.List.{AllByRecursion}
+use Rattle.std.specs.declared.cmp.Ordering.TheVariants.{Less}
+use Rattle.circuit_model.specs.Counts.{literals_of}
+use Rattle.circuit_model.specs.declared.circuit.Table.{Table}
+use Rattle.circuit_model.specs.declared.circuit.Circuit.{Circuit}
+use Rattle.alg_kernel.specs.Kernels.{MoreKernels}
+use Rattle.circuit_laws.specs.Following.{Follows}
+use Rattle.net_candidates.specs.Candidates.{IsCandidate}
+use Rattle.net_candidates.specs.declared.rule.Rule.{Rule}
+use Rattle.net_candidates.specs.declared.rule.Rule.TheVariants.{Gkx}
+use Rattle.cover_names.specs.Literals.{NamedCover, cover_cmp}
+use Rattle.net_core.specs.Fresh.{IsNewName, node_count}
+use Rattle.net_core.specs.Tables.{places_of}
+use Rattle.circuit_laws.specs.Splits.{with_split}
+use Rattle.alg_tables.specs.Dividing.{cover_table, divided}
+
+-- the circuit with the table of a cover under a name, its last, by which all tables that stood before are divided
+abbrev pub extracted : Circuit → List ℕ → NamedCover → Circuit
+extracted circuit name cover = with_split circuit (divided name true cover) (cover_table name cover)
+
+-- a table stays as it is, or has at most 1,000 inputs once it is divided
+abbrev pub IsNarrow : List ℕ → NamedCover → Table → Type 0
+IsNarrow name cover table = (divided name true cover table ≡ table) ⊎ (length (divided name true cover table).inputs ≤ 1000)
+
+-- a candidate that may be extracted: no table that it adds or changes then has more than 1,000 inputs
+pub record IsOpen (rule : Rule) (circuit : Circuit) (name : List ℕ) (cover : NamedCover) : Type 0 where
+  pub candidate : IsCandidate rule circuit.tables cover
+  pub added : length (cover_table name cover).inputs ≤ 1000
+  pub changed : AllByRecursion (IsNarrow name cover) circuit.tables
+
+-- how many literals there are once a cover is extracted
+abbrev pub literals_after : Circuit → List ℕ → NamedCover → ℕ
+literals_after circuit name cover = literals_of (extracted circuit name cover)
+
+-- the candidate that leaves fewest literals, and fewer than there are; of those that leave as many the first
+pub record IsBest (rule : Rule) (circuit : Circuit) (name : List ℕ) (cover : NamedCover) : Type 0 where
+  pub may : IsOpen rule circuit name cover
+  pub saves : literals_after circuit name cover < literals_of circuit
+  pub most : (other : NamedCover) → IsOpen rule circuit name other → literals_after circuit name cover ≤ literals_after circuit name other
+  pub first : (other : NamedCover) → IsOpen rule circuit name other → literals_after circuit name other ≡ literals_after circuit name cover
+      → cover_cmp other cover ≡ Less → ⊥
+
+-- where kernels are the candidates: a table has more than 10,000 of them
+abbrev pub HasManyKernels : Rule → Table → Type 0
+HasManyKernels Gkx table = MoreKernels 10000 (length table.inputs) (map places_of table.rows)
+HasManyKernels rule table = ⊥
+
+-- the candidates of a table can be listed
+abbrev pub IsListable : Rule → Table → Type 0
+IsListable rule table = HasManyKernels rule table → ⊥
+
+-- the best candidate of a circuit, under the name that is free
+pub record IsNext (rule : Rule) (circuit : Circuit) (name : List ℕ) (cover : NamedCover) : Type 0 where
+  pub listable : AllByRecursion (IsListable rule) circuit.tables
+  pub free : IsNewName circuit name
+  pub best : IsBest rule circuit name cover
+
+-- a step: there is room, and the best candidate is extracted
+pub record IsStep (rule : Rule) (circuit new : Circuit) : Type 0 where
+  pub name : List ℕ
+  pub cover : NamedCover
+  pub next : IsNext rule circuit name cover
+  pub room : node_count circuit < 65535
+  pub made : new ≡ extracted circuit name cover
+
+-- steps lead from one circuit to another one
+pub record IsReached (rule : Rule) (circuit new : Circuit) : Type 0 where
+  pub between : List Circuit
+  pub steps : Follows (IsStep rule) between circuit new
+
+-- the finished form: all candidates can be listed, and none saves a literal under the name that is free
+pub record IsDone (rule : Rule) (circuit : Circuit) : Type 0 where
+  pub listable : AllByRecursion (IsListable rule) circuit.tables
+  pub none : (name : List ℕ) (cover : NamedCover) → IsNewName circuit name → IsOpen rule circuit name cover → literals_of circuit ≤ literals_after circuit name cover
+
+-- steps lead to a circuit that is done
+pub record IsExtracted (rule : Rule) (circuit new : Circuit) : Type 0 where
+  pub reached : IsReached rule circuit new
+  pub done : IsDone rule new
+
+-- steps lead to a circuit that has no room for the next table
+pub record IsFull (rule : Rule) (circuit : Circuit) : Type 0 where
+  pub full : Circuit
+  pub reached : IsReached rule circuit full
+  pub name : List ℕ
+  pub cover : NamedCover
+  pub next : IsNext rule full name cover
+  pub over : 65535 ≤ node_count full
+
+-- steps lead to a circuit whose first table with too many kernels is that of a name
+pub record IsUnlistable (rule : Rule) (circuit : Circuit) (name : List ℕ) : Type 0 where
+  pub last : Circuit
+  pub reached : IsReached rule circuit last
+  pub before : List Table
+  pub table : Table
+  pub after : List Table
+  pub tables : last.tables ≡ before ++ table ∷ after
+  pub first : AllByRecursion (IsListable rule) before
+  pub many : HasManyKernels rule table
+  pub named : table.output ≡ name

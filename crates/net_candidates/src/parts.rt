@@ -1,0 +1,74 @@
+//! What two cubes share and what each has for itself, and the covers of sums and products of two.
+
+ghost use Rattle.std.specs.Prelude.{◌≡◌, [], ◌∷◌, IfOk};
+ghost use Rattle.std.specs.List.{list_any};
+ghost use Rattle.net_candidates.specs.Candidates.{same_literal, shared, own};
+ghost use Rattle.net_candidates.specs.Parts.{IsSumOfTwo};
+
+use cover_names::{Cube, Literal, NamedCover, sorted_cover};
+use sis_base::{Copied, Sequence};
+use std::alloc::{AllocError, Global};
+
+/// Whether a cube has a literal.
+pub fn has_literal(cube: &[Literal], literal: &Literal) -> bool
+    ensures { result ≡ list_any (same_literal literal.now) cube.now }
+{
+    cube.iter().any(|other| *literal == *other)
+}
+
+/// The literals of a cube that another one has too, in the cube's order; an error only for want of memory.
+pub fn shared_literals(alloc: Global, one: &Cube, other: &Cube) -> Result<Cube, AllocError>
+    ensures { IfOk result (λ cube. cube ≡ shared one.now other.now) }
+{
+    let mut literals = Vec::new(alloc);
+    for literal in one.as_slice() {
+        if has_literal(other.as_slice(), literal) {
+            literals.push(literal.copy(alloc)?)?;
+        }
+    }
+    Ok(Sequence::from_vec(literals))
+}
+
+/// The literals of a cube that another one has not, in the cube's order; an error only for want of memory.
+pub fn own_literals(alloc: Global, one: &Cube, other: &Cube) -> Result<Cube, AllocError>
+    ensures { IfOk result (λ cube. cube ≡ own one.now other.now) }
+{
+    let mut literals = Vec::new(alloc);
+    for literal in one.as_slice() {
+        if !has_literal(other.as_slice(), literal) {
+            literals.push(literal.copy(alloc)?)?;
+        }
+    }
+    Ok(Sequence::from_vec(literals))
+}
+
+/// The sorted cover of what each of two cubes has beside the other, where both have something; an error only for want of memory.
+pub fn sum_of_two(alloc: Global, one: &Cube, other: &Cube) -> Result<Option<NamedCover>, AllocError>
+    ensures { IfOk result (λ found. IsSumOfTwo one.now other.now found) }
+{
+    let left = own_literals(alloc, one, other)?;
+    let right = own_literals(alloc, other, one)?;
+    if left.is_empty() || right.is_empty() {
+        return Ok(None);
+    }
+    let mut cubes = Sequence::new(alloc);
+    cubes.push(left)?;
+    cubes.push(right)?;
+    Ok(Some(sorted_cover(cubes)))
+}
+
+/// The cover of the one cube of two literals, in the order given; an error only for want of memory.
+pub fn product_of_two(
+    alloc: Global,
+    one: &Literal,
+    other: &Literal,
+) -> Result<NamedCover, AllocError>
+    ensures { IfOk result (λ cover. cover ≡ (one.now ∷ other.now ∷ []) ∷ []) }
+{
+    let mut cube = Sequence::new(alloc);
+    cube.push(one.copy(alloc)?)?;
+    cube.push(other.copy(alloc)?)?;
+    let mut cover = Sequence::new(alloc);
+    cover.push(cube)?;
+    Ok(cover)
+}

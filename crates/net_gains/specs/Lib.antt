@@ -1,0 +1,10 @@
+pub mod Kept
+pub mod Numbers
+pub mod Codes
+pub mod CodedGains
+pub mod Divisors
+pub mod Orders
+pub mod Mixing
+pub mod Totals
+pub mod Turning
+pub mod Gains

@@ -1,0 +1,69 @@
+//! Tables of numbers, with the totals of what they save together.
+
+ghost use Rattle.std.specs.Prelude.{◌≡◌, ◌<◌, ◌++◌, ◌∷◌, [], length, slice_set, IfOk};
+ghost use Rattle.net_gains.specs.Numbers.{lists_in, tables_in, AreApart, IsCounted};
+
+use crate::Totals;
+use std::alloc::{AllocError, Global};
+
+/// The cubes of tables, each cube by its rising numbers, and the totals of divisors.
+#[derive(Drop)]
+pub(crate) struct Counted {
+    pub(crate) tables: Vec<Vec<Vec<u32>>>,
+    pub(crate) totals: Totals,
+}
+
+impl Counted {
+    /// No tables; takes no memory.
+    pub(crate) fn new(alloc: Global) -> Counted
+        ensures counted { IsCounted result }
+        ensures none { result.tables.items ≡ [] }
+    {
+        Counted {
+            tables: Vec::new(alloc),
+            totals: Totals::new(alloc),
+        }
+    }
+
+    /// The same with one more table; an error only for want of memory.
+    pub(crate) fn with_table(
+        self,
+        alloc: Global,
+        cubes: Vec<Vec<u32>>,
+    ) -> Result<Counted, AllocError>
+        requires counted { IsCounted self }
+        requires apart { AreApart (lists_in cubes.items) }
+        ensures counted { IfOk result IsCounted }
+        ensures tables { IfOk result (λ made. tables_in made.tables.items ≡ tables_in self.tables.items ++ lists_in cubes.items ∷ []) }
+    {
+        let Counted {
+            mut tables,
+            mut totals,
+        } = self;
+        totals.add(alloc, cubes.as_slice())?;
+        tables.push(cubes)?;
+        Ok(Counted { tables, totals })
+    }
+
+    /// The same with the cubes at a place replaced; an error only for want of memory.
+    pub(crate) fn with_cubes(
+        self,
+        alloc: Global,
+        place: usize,
+        cubes: Vec<Vec<u32>>,
+    ) -> Result<Counted, AllocError>
+        requires place { place < length self.tables.items }
+        requires counted { IsCounted self }
+        requires apart { AreApart (lists_in cubes.items) }
+        ensures counted { IfOk result IsCounted }
+        ensures tables { IfOk result (λ made. tables_in made.tables.items ≡ slice_set (tables_in self.tables.items) place (lists_in cubes.items)) }
+    {
+        let Counted {
+            mut tables,
+            mut totals,
+        } = self;
+        totals.exchange(alloc, tables[place].as_slice(), cubes.as_slice())?;
+        tables[place] = cubes;
+        Ok(Counted { tables, totals })
+    }
+}

@@ -1,0 +1,37 @@
+//! Whether the cover of a divisor passes a trial.
+
+ghost use Rattle.std.specs.Prelude.{◌≡◌, ◌≤◌, IfOk, MatchOption};
+ghost use Rattle.net_gains.specs.Divisors.{cover_of};
+ghost use Rattle.net_gains.specs.CodedGains.{literals_in as numbers_in};
+ghost use Rattle.net_gains.specs.Numbers.{Fails, DoesPass};
+
+use crate::SharedDivisor;
+use crate::codes::Codes;
+use crate::trial::Trial;
+use cover_names::NamedCover;
+use std::alloc::{AllocError, Global};
+
+/// The cover of a divisor that has a literal, if there is one and it passes; an error only for want of memory.
+pub(crate) fn passing_cover<T: Trial>(
+    alloc: Global,
+    codes: &Codes,
+    trial: &T,
+    divisor: &SharedDivisor,
+) -> Result<Option<NamedCover>, AllocError>
+    requires ready { T.IsReady trial.now }
+    requires some { 1 ≤ numbers_in (cover_of divisor.now) }
+    ensures { IfOk result (λ found. MatchOption found (Fails (T.Passes trial.now) codes.now (cover_of divisor.now)) (DoesPass (T.Passes trial.now) codes.now (cover_of divisor.now))) }
+{
+    codes.sound();
+    let numbers = divisor.cubes(alloc)?;
+    match codes.cover(alloc, numbers.as_slice())? {
+        None => Ok(None),
+        Some(cover) => {
+            if trial.passes(alloc, &cover)? {
+                Ok(Some(cover))
+            } else {
+                Ok(None)
+            }
+        }
+    }
+}

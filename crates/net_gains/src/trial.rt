@@ -1,0 +1,22 @@
+//! What a cover must pass.
+
+ghost use Rattle.std.specs.Prelude.{◌≡◌, ◌≤◌, true, false, IfOk};
+ghost use Rattle.cover_names.specs.Literals.{NamedCover as TheCover};
+ghost use Rattle.net_gains.specs.Kept.{literals_in};
+
+use cover_names::NamedCover;
+use std::alloc::{AllocError, Global};
+
+/// A trial of covers.
+pub trait Trial {
+    ghost IsReady: { Self → Type 0 };
+
+    ghost Passes: { Self → TheCover → Type 0 };
+
+    /// Whether a cover that has a literal passes, where the trial is ready; an error only for want of memory.
+    fn passes(&self, alloc: Global, cover: &NamedCover) -> Result<bool, AllocError>
+        requires ready { IsReady self.now }
+        requires some { 1 ≤ literals_in cover.now }
+        ensures yes { IfOk result (λ answer. answer ≡ true → Passes self.now cover.now) }
+        ensures no { IfOk result (λ answer. answer ≡ false → Passes self.now cover.now → ⊥) };
+}

@@ -1,5 +1,0 @@
-use Rattle.net_needed.proofs.Reached.{IsReaching}
-use Rattle.net_needed.proofs.needed.reached.Given as goal
-
-abbrev pub invariant-loop-next : goal.invariant-loop-next
-invariant-loop-next l = IsReaching l.fn.roots.keys l.tables l.latches l.names.keys l.next

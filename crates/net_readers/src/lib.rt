@@ -1,0 +1,236 @@
+//! Readers of names: for each name the exact set of places at which it is among the inputs, kept while the inputs of one
+//! place after the other change.
+//!
+//! Source: Brayton, Rudell, Sangiovanni-Vincentelli and Wang, "MIS: A Multiple-Level Logic Optimization System" (1987), the
+//! fanout of a node. What stands at the places is the caller's: a table, an expression. Promised: what is told is what is
+//! read, no more and no less (`specs/Readers.antt`, `AreReaders`). A change goes over the names before and behind it, and over
+//! nothing else; no clause says so. Each error is want of memory; behind it what is told counts for nothing.
+#![tactic(auto)]
+
+ghost use Rattle.std.specs.Prelude.{◌≡◌, ◌==◌, ◌&&◌, ◌||◌, ◌<◌, ℕ, not, Bool, true, false, Some, None, List, [], ◌∷◌, bytes_eq, if◌then◌else◌, MatchBool, IfOk, OnOk};
+ghost use Rattle.std.specs.Ordering.{nat_cmp};
+ghost use Rattle.std.specs.BTreeSet.{contains};
+ghost use Rattle.indexmap.specs.IndexMap.{get};
+ghost use Rattle.circuit_model.specs.Names.{has};
+ghost use Rattle.net_readers.specs.Readers.{Inputs, in_set, told, is_in, with_inputs, AreReaders, HasUntold};
+
+use circuit_model::Name;
+use indexmap::IndexMap;
+use sis_base::{Copied, Sequence};
+use std::alloc::{AllocError, Global};
+use std::collections::BTreeSet;
+
+/// Places, by number.
+pub type Places = Sequence<usize>;
+
+/// For each name the places at which it is read.
+pub struct Readers {
+    pub(crate) sets: IndexMap<Name, BTreeSet<usize>>,
+}
+
+// By hand, so that letting readers go is one call in the functions that own them.
+impl Drop for Readers {
+    fn drop(self) {
+        let Readers { sets: _sets } = self;
+    }
+}
+
+// Takes the set of a name out; one without readers has the empty set.
+fn take_set(
+    alloc: Global,
+    sets: &mut IndexMap<Name, BTreeSet<usize>>,
+    name: &Name,
+) -> BTreeSet<usize>
+    ensures set { (place : ℕ) → contains nat_cmp result place ≡ in_set (get bytes_eq sets.old name.now) place }
+    ensures rest { (other : List ℕ) → get bytes_eq sets.new other ≡ (if bytes_eq name.now other then None else get bytes_eq sets.old other) }
+{
+    match sets.swap_remove(name) {
+        Some(set) => set,
+        None => BTreeSet::new(alloc),
+    }
+}
+
+// Puts the set of a name in.
+fn put_set(
+    sets: &mut IndexMap<Name, BTreeSet<usize>>,
+    name: Name,
+    set: BTreeSet<usize>,
+) -> Result<(), AllocError>
+    ensures { OnOk result ((other : List ℕ) → get bytes_eq sets.new other ≡ (if bytes_eq name other then Some set else get bytes_eq sets.old other)) }
+{
+    let _set = sets.insert(name, set)?;
+    Ok(())
+}
+
+// Whether a place is told for a name.
+fn is_told(sets: &IndexMap<Name, BTreeSet<usize>>, name: &Name, place: usize) -> bool
+    ensures { result ≡ in_set (get bytes_eq sets.now name.now) place }
+{
+    match sets.get(name) {
+        None => false,
+        Some(set) => set.contains(&place),
+    }
+}
+
+// Tells a place for a name.
+fn tell(
+    alloc: Global,
+    sets: &mut IndexMap<Name, BTreeSet<usize>>,
+    name: &Name,
+    place: usize,
+) -> Result<(), AllocError>
+    ensures { OnOk result ((other : List ℕ) (at : ℕ) → in_set (get bytes_eq sets.new other) at ≡ ((bytes_eq name.now other && place == at) || in_set (get bytes_eq sets.old other) at)) }
+{
+    if is_told(sets, name, place) {
+        return Ok(());
+    }
+    let key = name.copy(alloc)?;
+    let mut set = take_set(alloc, sets, name);
+    set.insert(place)?;
+    put_set(sets, key, set)
+}
+
+// Tells a place no more for a name.
+fn untell(
+    alloc: Global,
+    sets: &mut IndexMap<Name, BTreeSet<usize>>,
+    name: &Name,
+    place: usize,
+) -> Result<(), AllocError>
+    ensures { OnOk result ((other : List ℕ) (at : ℕ) → in_set (get bytes_eq sets.new other) at ≡ (not (bytes_eq name.now other && place == at) && in_set (get bytes_eq sets.old other) at)) }
+{
+    let key = name.copy(alloc)?;
+    let mut set = take_set(alloc, sets, name);
+    set.remove(&place);
+    put_set(sets, key, set)
+}
+
+// Tells a place for each of some names.
+fn tell_all(
+    alloc: Global,
+    sets: &mut IndexMap<Name, BTreeSet<usize>>,
+    names: &[Name],
+    place: usize,
+) -> Result<(), AllocError>
+    ensures { OnOk result ((other : List ℕ) (at : ℕ) → in_set (get bytes_eq sets.new other) at ≡ ((has names.now other && place == at) || in_set (get bytes_eq sets.old other) at)) }
+{
+    for name in names {
+        tell(alloc, sets, name, place)?;
+    }
+    Ok(())
+}
+
+// Whether a name stands at a place of a list.
+fn is_at(names: &[Name], place: usize, name: &Name) -> bool
+    ensures { result ≡ true → has names.now name.now ≡ true }
+{
+    match names.get(place) {
+        None => false,
+        Some(other) => name == other,
+    }
+}
+
+// A name that was read before, and that does not stand at the same place of its inputs now, is told no more.
+fn untell_moved(
+    alloc: Global,
+    sets: &mut IndexMap<Name, BTreeSet<usize>>,
+    name: &Name,
+    is_moved: bool,
+    place: usize,
+) -> Result<(), AllocError>
+    ensures { OnOk result ((other : List ℕ) (at : ℕ) → in_set (get bytes_eq sets.new other) at ≡ (not (is_moved && (bytes_eq name.now other && place == at)) && in_set (get bytes_eq sets.old other) at)) }
+{
+    if is_moved {
+        return untell(alloc, sets, name, place);
+    }
+    Ok(())
+}
+
+// The names that were read before are told no more, but those that stand at the same places of its inputs now.
+fn untell_changed(
+    alloc: Global,
+    sets: &mut IndexMap<Name, BTreeSet<usize>>,
+    before: &[Name],
+    now: &[Name],
+    place: usize,
+) -> Result<(), AllocError>
+    ensures { OnOk result (HasUntold before.now now.now place (λ name at. in_set (get bytes_eq sets.old name) at) (λ name at. in_set (get bytes_eq sets.new name) at)) }
+{
+    for (i, name) in before.iter().enumerate() {
+        let is_moved = !is_at(now, i, name);
+        untell_moved(alloc, sets, name, is_moved, place)?;
+    }
+    Ok(())
+}
+
+// The places of a set, in rising order.
+fn places_in(alloc: Global, set: &BTreeSet<usize>) -> Result<Places, AllocError>
+    ensures { IfOk result (λ places. places ≡ set.now.keys) }
+{
+    let mut places = Sequence::new(alloc);
+    for place in set.iter() {
+        places.push(*place)?;
+    }
+    Ok(places)
+}
+
+impl Readers {
+    /// The readers where nothing is read; takes no memory.
+    pub fn of_none(alloc: Global) -> Readers
+        ensures { AreReaders (told result) (λ place. []) }
+    {
+        Readers {
+            sets: IndexMap::new(alloc),
+        }
+    }
+
+    /// Whether a name is read at some place.
+    pub fn has_readers(&self, name: &Name) -> bool
+        ensures { MatchBool result ((place : ℕ) × (told self.now name.now place ≡ true)) ((place : ℕ) → told self.now name.now place ≡ false) }
+    {
+        match self.sets.get(name) {
+            None => false,
+            Some(set) => !set.is_empty(),
+        }
+    }
+
+    /// The places at which a name is read (each once, in rising order, which no clause says); an error only for want of memory.
+    pub fn places(&self, alloc: Global, name: &Name) -> Result<Places, AllocError>
+        ensures { IfOk result (λ places. (place : ℕ) → is_in places place ≡ told self.now name.now place) }
+    {
+        match self.sets.get(name) {
+            None => Ok(Sequence::new(alloc)),
+            Some(set) => places_in(alloc, set),
+        }
+    }
+
+    /// How many places read a name, which no clause says: it serves to choose between ways, for speed alone.
+    pub fn count(&self, name: &Name) -> usize {
+        match self.sets.get(name) {
+            None => 0,
+            Some(set) => set.len(),
+        }
+    }
+
+    /// At a place the names that were read there give place to others, to none where what stood there goes; an error only for
+    /// want of memory.
+    pub fn change(
+        &mut self,
+        alloc: Global,
+        place: usize,
+        before: &[Name],
+        now: &[Name],
+    ) -> Result<(), AllocError>
+        ensures { OnOk result ((inputs : Inputs) → AreReaders (told self.old) inputs → inputs place ≡ before.now → AreReaders (told self.new) (with_inputs inputs place now.now)) }
+    {
+        untell_changed(alloc, &mut self.sets, before, now, place)?;
+        tell_all(alloc, &mut self.sets, now, place)
+    }
+
+    /// At a place where nothing is read some names are read; an error only for want of memory.
+    pub fn add(&mut self, alloc: Global, place: usize, names: &[Name]) -> Result<(), AllocError>
+        ensures { OnOk result ((inputs : Inputs) → AreReaders (told self.old) inputs → inputs place ≡ [] → AreReaders (told self.new) (with_inputs inputs place names.now)) }
+    {
+        tell_all(alloc, &mut self.sets, names, place)
+    }
+}

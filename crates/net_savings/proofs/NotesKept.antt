@@ -1,0 +1,219 @@
+-- What is noted of candidates, kept while tables come and change.
+use Rattle.std.proofs.Common.{◌≡◌, ◌||◌, ℕ, ◌+◌, ◌<◌, ◌==◌, zero, suc, Bool, true, false, Option, Some, None, List, [], ◌∷◌, ◌++◌, length, get_or, take, set, slice_get, bytes_eq, if◌then◌else◌, refl, sym, ap, ap₂, ◌∙◌, subst, inl, inr, arith}
+use Rattle.std.specs.Global.{Vec}
+use Rattle.std.proofs.lemmas.Bool.{false≢true, eq-eqb, or_parts, or_cases, or_left, or_right, cases_lt}
+use Rattle.std.proofs.lemmas.List.{length-set, length-append}
+use Rattle.std.proofs.lemmas.List.Folds.{list_any-append}
+use Rattle.std.proofs.lemmas.Option.{none-some, same_Some}
+use Rattle.circuit_model.specs.declared.circuit.Table.{Table}
+use Rattle.circuit_model.specs.Names.{has}
+use Rattle.circuit_laws.proofs.Names.{has_neither, same_name, name_itself}
+use Rattle.alg_div.specs.Cubes.{Has}
+use Rattle.net_candidates.specs.declared.rule.Rule.{Rule}
+use Rattle.net_readers.specs.Readers.{is_in}
+use Rattle.cover_names.specs.Literals.{NamedCover}
+use Rattle.net_core.proofs.Lookups.{get_set_other}
+use Rattle.net_work.specs.Placed.{Placed, joined, table_at, with_slot, with_last}
+use Rattle.net_savings.specs.Savings.{AreNotes}
+use Rattle.net_savings.proofs.KeptLists.{before, cleared, kept_set, kept_push, within}
+use Rattle.net_savings.proofs.Refreshed.{has_name_next}
+use Rattle.net_savings.proofs.Sharers.{shared_by_same}
+use Rattle.net_savings.proofs.Untouched.{exact_after_set, exact_after_add}
+
+-- a place is not among places, nor the last of them
+not_pushed : (places : List ℕ) (place at : ℕ) → is_in (places ++ place ∷ []) at ≡ false → (is_in places at ≡ false) × (place ≡ at → ⊥)
+not_pushed [] place at h = (refl, λ e. false≢true (sym (or_parts (place == at) false h).0 ∙ eq-eqb place at e))
+not_pushed (first ∷ places) place at h =
+    let parts = or_parts (first == at) (is_in (places ++ place ∷ []) at) h in
+    let rest = not_pushed places place at parts.1 in
+    (none (first == at) (is_in places at) parts.0 rest.0, rest.1)
+  where
+    none : (a b : Bool) → a ≡ false → b ≡ false → (a || b) ≡ false
+    none true b h k = absurd (false≢true (sym h))
+    none false b h k = k
+
+-- what stands in a list with one more
+pub pushed_some : (own : List (Option (Vec NamedCover))) (at : ℕ) (covers : Vec NamedCover) → slice_get (own ++ None ∷ []) at ≡ Some (Some covers) → slice_get own at ≡ Some (Some covers)
+pushed_some [] zero covers e = absurd (none-some covers (same_Some None (Some covers) e))
+pushed_some [] (suc at) covers e = absurd (none-some (Some covers) e)
+pushed_some (first ∷ own) zero covers e = e
+pushed_some (first ∷ own) (suc at) covers e = pushed_some own at covers e
+
+stays_some : (own : List (Option (Vec NamedCover))) (at : ℕ) (covers : Vec NamedCover) → slice_get own at ≡ Some (Some covers) → slice_get (own ++ None ∷ []) at ≡ Some (Some covers)
+stays_some [] at covers e = absurd (none-some (Some covers) e)
+stays_some (first ∷ own) zero covers e = e
+stays_some (first ∷ own) (suc at) covers e = stays_some own at covers e
+
+-- as many places as there are, and one more
+pub first_more : (places : List ℕ) (place : ℕ) → ((at : ℕ) → at < place → is_in places at ≡ true) → (at : ℕ) → at < place + 1 → is_in (places ++ place ∷ []) at ≡ true
+first_more places place all at below =
+    elim (cases_lt at place) as (λ _. is_in (places ++ place ∷ []) at ≡ true) [
+      | inl less ↦ in_front places at (all at less)
+      | inr more ↦ in_back places (let same : place ≡ at = omega (arith, below, more) in same)
+    ]
+  where
+    in_front : (places : List ℕ) (at : ℕ) → is_in places at ≡ true → is_in (places ++ place ∷ []) at ≡ true
+    in_front [] at h = absurd (false≢true h)
+    in_front (first ∷ places) at h = elim (or_cases (first == at) (is_in places at) h) as (λ _. is_in (first ∷ (places ++ place ∷ [])) at ≡ true) [
+      | inl e ↦ or_left (first == at) (is_in (places ++ place ∷ []) at) e
+      | inr k ↦ or_right (first == at) (is_in (places ++ place ∷ []) at) (in_front places at k)
+    ]
+
+    in_back : (places : List ℕ) → place ≡ at → is_in (places ++ place ∷ []) at ≡ true
+    in_back [] e = or_left (place == at) false (eq-eqb place at e)
+    in_back (first ∷ places) e = or_right (first == at) (is_in (places ++ place ∷ []) at) (in_back places e)
+
+-- a table that stands before the last
+not_last : (slots : List (Option Table)) (slot : Option Table) (at : ℕ) (table : Table) → (length slots ≡ at → ⊥) → table_at (slots ++ slot ∷ []) at ≡ Some table → table_at slots at ≡ Some table
+not_last [] slot zero table away e = absurd (away refl)
+not_last [] slot (suc at) table away e = absurd (none-some table e)
+not_last (first ∷ slots) slot zero table away e = e
+not_last (first ∷ slots) slot (suc at) table away e = not_last slots slot at table (λ k. away (omega (arith, k))) e
+
+-- ---- names that are touched
+
+-- names among which are those of two lists
+abbrev pub IsUnion : List (List ℕ) → List (List ℕ) → List (List ℕ) → Type 0
+IsUnion one other both = (name : List ℕ) → has both name ≡ false → (has one name ≡ false) × (has other name ≡ false)
+
+neither : (one other : List (List ℕ)) (name : List ℕ) → has one name ≡ false → has other name ≡ false → has (one ++ other) name ≡ false
+neither one other name first second = list_any-append (bytes_eq name) one other ∙ ap₂ (λ (a b : Bool). a || b) first second
+
+-- a name that is put into a set
+pub put_away : (keys more : List (List ℕ)) (name query : List ℕ) → more ≡ (if has keys name then keys else keys ++ name ∷ []) → has more query ≡ false → (has keys query ≡ false) × (bytes_eq query name ≡ false)
+put_away keys more name query e away = cases (has keys name) refl (sym (ap (λ (names : List (List ℕ)). has names query) e) ∙ away)
+  where
+    apart : (b : Bool) → bytes_eq query name ≡ b → has keys name ≡ true → has keys query ≡ false → bytes_eq query name ≡ false
+    apart true same there h = absurd (false≢true (sym h ∙ (ap (has keys) (same_name query name same) ∙ there)))
+    apart false same there h = same
+
+    alone : (b : Bool) → (b || false) ≡ false → b ≡ false
+    alone true h = absurd (false≢true (sym h))
+    alone false h = refl
+
+    cases : (b : Bool) → has keys name ≡ b → has (if b then keys else keys ++ name ∷ []) query ≡ false → (has keys query ≡ false) × (bytes_eq query name ≡ false)
+    cases true there h = (h, apart (bytes_eq query name) refl there h)
+    cases false there h = (let parts = has_neither keys (name ∷ []) query h in (parts.0, alone (bytes_eq query name) parts.1))
+
+-- one name more of a list
+pub names_away : (names : List (List ℕ)) (i : ℕ) (one d query : List ℕ) → i < length names → one ≡ get_or names i d → has (take i names) query ≡ false → bytes_eq query one ≡ false → has (take (i + 1) names) query ≡ false
+names_away names i one d query below is before apart = cases (has (take (i + 1) names) query) refl
+  where
+    cases : (b : Bool) → has (take (i + 1) names) query ≡ b → has (take (i + 1) names) query ≡ false
+    cases false e = e
+    cases true e = elim (has_name_next names i one d query below is e) as (λ _. has (take (i + 1) names) query ≡ false) [
+      | inl m ↦ absurd (false≢true (sym before ∙ m))
+      | inr same ↦ absurd (false≢true (sym apart ∙ (ap (λ (name : List ℕ). bytes_eq name one) same ∙ name_itself one)))
+    ]
+
+-- more names may be touched
+notes_more : (rule : Rule) (now : Placed) (saving : NamedCover → Option ℕ) (under : List ℕ → List NamedCover) (own : List (Option (Vec NamedCover))) (touched more : List (List ℕ)) (fresh : List ℕ)
+    → ((name : List ℕ) → has more name ≡ false → has touched name ≡ false) → AreNotes rule now saving under own touched fresh → AreNotes rule now saving under own more fresh
+notes_more rule now saving under own touched more fresh fewer notes = record {
+  found = notes.found;
+  lists = notes.lists;
+  long = notes.long;
+  exact = λ name cover m away. notes.exact name cover m (fewer name away);
+  noted = notes.noted;
+  shared = notes.shared;
+  listed = notes.listed;
+}
+
+module _ (rule : Rule) (now : Placed) (saving : NamedCover → Option ℕ) (under : List ℕ → List NamedCover) (own : List (Option (Vec NamedCover))) (touched : List (List ℕ)) (fresh : List ℕ)
+    (notes : AreNotes rule now saving under own touched fresh) where
+  pub notes_set : (place : ℕ) (old new : Table) → table_at now.slots place ≡ Some old → new.output ≡ old.output
+      → AreNotes rule (with_slot now place (Some new)) saving under (set own place None) (touched ++ (old.inputs ++ new.inputs)) (fresh ++ place ∷ [])
+  notes_set place old new there same = record {
+    found = notes.found;
+    lists = kept_set rule now.slots own notes.lists place (Some new);
+    long = length-set own place None ∙ (notes.long ∙ sym (length-set now.slots place (Some new)));
+    exact = λ name cover m away number e.
+        (let first = has_neither touched (old.inputs ++ new.inputs) name away in
+        let second = has_neither old.inputs new.inputs name first.1 in
+        exact_after_set cover name (notes.found.named name cover m) now place number old new there same second.0 second.1 (notes.exact name cover m first.0 number e));
+    noted = λ at covers e. notes.noted at covers (cleared own place at covers e).0;
+    shared = λ one other cover (covers, e) (others, k) by.
+        (let first = cleared own place one covers e in
+        let second = cleared own place other others k in
+        notes.shared one other cover (covers, first.0) (others, second.0)
+        (shared_by_same rule (set now.slots place (Some new)) now.slots one other cover (ap joined (get_set_other now.slots place one (Some new) first.1)) (ap joined (get_set_other now.slots place other (Some new) second.1)) by));
+    listed = λ at table stands away.
+        (let parts = not_pushed fresh place at away in
+        let before : table_at now.slots at ≡ Some table = sym (ap joined (get_set_other now.slots place at (Some new) (λ e. parts.1 (sym e)))) ∙ stands in
+        let (covers, is) = notes.listed at table before parts.0 in
+        (covers, get_set_other own place at None (λ e. parts.1 (sym e)) ∙ is));
+  }
+
+  pub notes_add : (new : Table) → AreNotes rule (with_last now new) saving under (own ++ None ∷ []) (touched ++ new.inputs) (fresh ++ length now.slots ∷ [])
+  notes_add new = record {
+    found = notes.found;
+    lists = record {
+      long = omega (arith, notes.lists.long, length-append own (None ∷ []), length-append now.slots (Some new ∷ []));
+      each = λ at covers e. (kept_push rule now.slots own notes.lists (Some new)).each at covers (pushed_some own at covers e);
+    };
+    long = omega (arith, notes.long, length-append own (None ∷ []), length-append now.slots (Some new ∷ []));
+    exact = λ name cover m away number e.
+        (let parts = has_neither touched new.inputs name away in
+        exact_after_add cover name (notes.found.named name cover m) now number new parts.1 (notes.exact name cover m parts.0 number e));
+    noted = λ at covers e. notes.noted at covers (pushed_some own at covers e);
+    shared = λ one other cover (covers, e) (others, k) by.
+        (let first = pushed_some own one covers e in
+        let second = pushed_some own other others k in
+        notes.shared one other cover (covers, first) (others, second)
+        (shared_by_same rule (now.slots ++ Some new ∷ []) now.slots one other cover (before_last one covers first) (before_last other others second) by));
+    listed = λ at table stands away.
+        (let parts = not_pushed fresh (length now.slots) at away in
+        let (covers, is) = notes.listed at table (not_last now.slots (Some new) at table parts.1 stands) parts.0 in
+        (covers, stays_some own at covers is));
+  }
+    where
+      before_last : (at : ℕ) (covers : Vec NamedCover) → slice_get own at ≡ Some (Some covers) → table_at (now.slots ++ Some new ∷ []) at ≡ table_at now.slots at
+      before_last at covers e = let below : at < length own = within own at (Some covers) e in before now.slots (Some new) at (omega (arith, below, notes.lists.long))
+
+  pub notes_touched : (new_own : List (Option (Vec NamedCover))) (one two before_names now_names : List (List ℕ)) (new_fresh : List ℕ) (place : ℕ) → new_own ≡ set own place None
+      → IsUnion touched before_names one → IsUnion one now_names two → new_fresh ≡ fresh ++ place ∷ [] → (old new : Table) → table_at now.slots place ≡ Some old → new.output ≡ old.output
+      → before_names ≡ old.inputs → now_names ≡ new.inputs → AreNotes rule (with_slot now place (Some new)) saving under new_own two new_fresh
+  notes_touched new_own one two before_names now_names new_fresh place own_is one_is two_is fresh_is old new there same old_is new_is =
+      subst (λ (o : List (Option (Vec NamedCover))). AreNotes rule (with_slot now place (Some new)) saving under o two new_fresh) (sym own_is)
+      (subst (λ (places : List ℕ). AreNotes rule (with_slot now place (Some new)) saving under (set own place None) two places) (sym fresh_is)
+      (notes_more rule (with_slot now place (Some new)) saving under (set own place None) (touched ++ (old.inputs ++ new.inputs)) two (fresh ++ place ∷ [])
+      (λ name away.
+      (let second = two_is name away in
+      let first = one_is name second.0 in
+      neither touched (old.inputs ++ new.inputs) name first.0
+      (neither old.inputs new.inputs name (subst (λ (names : List (List ℕ)). has names name ≡ false) old_is first.1) (subst (λ (names : List (List ℕ)). has names name ≡ false) new_is second.1))))
+      (notes_set place old new there same)))
+
+  pub notes_pushed : (new_own : List (Option (Vec NamedCover))) (names inputs : List (List ℕ)) (new_fresh : List ℕ) (long : ℕ) (new : Table) → new_own ≡ own ++ None ∷ [] → IsUnion touched inputs names → inputs ≡ new.inputs
+      → new_fresh ≡ fresh ++ long ∷ [] → long ≡ length now.slots → AreNotes rule (with_last now new) saving under new_own names new_fresh
+  notes_pushed new_own names inputs new_fresh long new own_is names_is inputs_is fresh_is long_is =
+      subst (λ (o : List (Option (Vec NamedCover))). AreNotes rule (with_last now new) saving under o names new_fresh) (sym own_is)
+      (subst (λ (places : List ℕ). AreNotes rule (with_last now new) saving under (own ++ None ∷ []) names places) (sym (fresh_is ∙ ap (λ (n : ℕ). fresh ++ n ∷ []) long_is))
+      (notes_more rule (with_last now new) saving under (own ++ None ∷ []) (touched ++ new.inputs) names (fresh ++ length now.slots ∷ [])
+      (λ name away.
+      (let parts = names_is name away in
+      neither touched new.inputs name parts.0 (subst (λ (ns : List (List ℕ)). has ns name ≡ false) inputs_is parts.1)))
+      (notes_add new)))
+
+-- nothing is noted, and all places are fresh
+pub notes_begin : (rule : Rule) (now : Placed) (saving : NamedCover → Option ℕ) (under : List ℕ → List NamedCover) (own : List (Option (Vec NamedCover))) (fresh : List ℕ)
+    → ((cover : NamedCover) → saving cover ≡ None) → ((name : List ℕ) → under name ≡ []) → length own ≡ length now.slots
+    → ((at : ℕ) (covers : Vec NamedCover) → slice_get own at ≡ Some (Some covers) → ⊥) → ((at : ℕ) → at < length now.slots → is_in fresh at ≡ true)
+    → AreNotes rule now saving under own [] fresh
+notes_begin rule now saving under own fresh nothing none long empty all = record {
+  found = record {
+    found = λ cover number e. absurd (none-some number (sym (nothing cover) ∙ e));
+    named = λ name cover m. absurd (subst (λ (covers : List NamedCover). Has cover covers) (none name) m);
+  };
+  lists = record { long = omega (arith, long); each = λ at covers e. absurd (empty at covers e) };
+  long = long;
+  exact = λ name cover m away number e. absurd (none-some number (sym (nothing cover) ∙ e));
+  noted = λ at covers e. absurd (empty at covers e);
+  shared = λ one other cover (covers, e) second by. absurd (empty one covers e);
+  listed = λ at table stands away. absurd (false≢true (sym away ∙ all at (stands_below now.slots at table stands)));
+}
+  where
+    stands_below : (slots : List (Option Table)) (at : ℕ) (table : Table) → table_at slots at ≡ Some table → at < length slots
+    stands_below [] at table e = absurd (none-some table e)
+    stands_below (first ∷ slots) zero table e = omega arith
+    stands_below (first ∷ slots) (suc at) table e = let below : at < length slots = stands_below slots at table e in omega (arith, below)

@@ -1,0 +1,12 @@
+use Rattle.std.proofs.Common.{◌≡◌, ℕ, ◌<◌, true, Some, length, slice_get}
+use Rattle.std.specs.Global.{Vec}
+use Rattle.net_readers.specs.Readers.{is_in}
+use Rattle.cover_names.specs.Literals.{NamedCover}
+use Rattle.net_savings.proofs.kept.unknown_lists.Given as goal
+
+abbrev pub invariant-loop-place : goal.invariant-loop-place
+invariant-loop-place l = record {
+  long : length l.lists.items ≡ l.place;
+  none : (at : ℕ) (covers : Vec NamedCover) → slice_get l.lists.items at ≡ Some (Some covers) → ⊥;
+  all : (at : ℕ) → at < l.place → is_in l.places.items at ≡ true;
+}

@@ -1,0 +1,101 @@
+-- What candidates save, kept while tables come and change: what is noted of each, which tables are listed, and what has to be made anew.
+-- Source: the project's own representation.
+use Rattle.std.specs.Prelude.{◌≡◌, ◌⊎◌, ℕ, ◌≤◌, Bool, false, true, Option, Some, None, List, length, slice_get}
+use Rattle.std.specs.Global.{Vec}
+use Rattle.std.specs.List.{list_any}
+use Rattle.circuit_model.specs.Names.{has}
+use Rattle.circuit_model.specs.Soundness.{given}
+use Rattle.circuit_model.specs.declared.circuit.Table.{Table}
+use Rattle.alg_div.specs.Cubes.{Has}
+use Rattle.net_candidates.specs.declared.rule.Rule.{Rule}
+use Rattle.net_readers.specs.Readers.{is_in}
+use Rattle.cover_names.specs.Literals.{NamedCover}
+use Rattle.cover_names.specs.Cubes.{names_in}
+use Rattle.net_work.specs.Placed.{Placed, standing, circuit_of, table_at}
+use Rattle.net_savings.specs.Listing.{AreKept, IsListed}
+use Rattle.net_savings.specs.Sharing.{IsSharedBy}
+use Rattle.net_savings.specs.Orders.{cover_eq}
+use Rattle.net_savings.specs.Ranking.{KnownCovers, saving_in, covers_under}
+use Rattle.net_savings.specs.Saving.{IsSaving}
+use Rattle.net_savings.specs.declared.kept.KeptSavings.{KeptSavings}
+
+-- no signal has the name
+abbrev pub IsUndriven : Placed → List ℕ → Type 0
+IsUndriven placed name = has (given (circuit_of placed)) name ≡ false
+
+-- a cover saves just so many literals, or none where the number is 0
+pub record IsWorth (tables : List Table) (name : List ℕ) (cover : NamedCover) (number : ℕ) : Type 0 where
+  pub saving : 1 ≤ number → IsSaving tables name cover number
+  pub one : (other : ℕ) → IsSaving tables name cover other → other ≡ number
+
+-- it does so under each name that no signal has
+abbrev pub IsExact : Placed → NamedCover → ℕ → Type 0
+IsExact placed cover number = (name : List ℕ) → IsUndriven placed name → IsWorth (standing placed.slots) name cover number
+
+-- what is noted that a cover saves, if anything is, is exact
+abbrev pub IsRight : Placed → (NamedCover → Option ℕ) → NamedCover → Type 0
+IsRight placed saving cover = (number : ℕ) → saving cover ≡ Some number → IsExact placed cover number
+
+-- each cover of which something is noted is found under a name, and each under a name has it
+pub record AreFound (saving : NamedCover → Option ℕ) (under : List ℕ → List NamedCover) : Type 0 where
+  pub found : (cover : NamedCover) (number : ℕ) → saving cover ≡ Some number → (name : List ℕ) × Has cover (under name)
+  pub named : (name : List ℕ) (cover : NamedCover) → Has cover (under name) → has (names_in cover) name ≡ true
+
+-- something is noted of a cover
+abbrev pub IsNoted : (NamedCover → Option ℕ) → NamedCover → Type 0
+IsNoted saving cover = (number : ℕ) × (saving cover ≡ Some number)
+
+-- something is noted of all covers that are listed
+abbrev pub AreNoted : (NamedCover → Option ℕ) → List (Option (Vec NamedCover)) → Type 0
+AreNoted saving own = (place : ℕ) (covers : Vec NamedCover) → slice_get own place ≡ Some (Some covers) → (cover : NamedCover) → Has cover covers.items → IsNoted saving cover
+
+-- something is noted of all covers that tables give together which are listed
+abbrev pub AreNotedShared : Rule → List (Option Table) → (NamedCover → Option ℕ) → List (Option (Vec NamedCover)) → Type 0
+AreNotedShared rule slots saving own = (one other : ℕ) (cover : NamedCover) → IsListed own one → IsListed own other → IsSharedBy rule slots one other cover → IsNoted saving cover
+
+-- what is noted of covers that are found under names that were not touched is exact; all tables are listed but those at fresh places
+pub record AreNotes (rule : Rule) (placed : Placed) (saving : NamedCover → Option ℕ) (under : List ℕ → List NamedCover) (own : List (Option (Vec NamedCover))) (touched : List (List ℕ)) (fresh : List ℕ) : Type 0 where
+  pub found : AreFound saving under
+  pub lists : AreKept rule placed.slots own
+  pub long : length own ≡ length placed.slots
+  pub exact : (name : List ℕ) (cover : NamedCover) → Has cover (under name) → has touched name ≡ false → IsRight placed saving cover
+  pub noted : AreNoted saving own
+  pub shared : AreNotedShared rule placed.slots saving own
+  pub listed : (place : ℕ) (table : Table) → table_at placed.slots place ≡ Some table → is_in fresh place ≡ false → IsListed own place
+
+-- more may be noted than before, all that was right is right, and what is found anew under a name is right
+pub record Grows (placed : Placed) (saving : NamedCover → Option ℕ) (under : List ℕ → List NamedCover) (new : NamedCover → Option ℕ) (new_under : List ℕ → List NamedCover) : Type 0 where
+  pub right : (cover : NamedCover) → IsRight placed saving cover → IsRight placed new cover
+  pub noted : (cover : NamedCover) → IsNoted saving cover → IsNoted new cover
+  pub found : AreFound saving under → AreFound new new_under
+  pub anew : (name : List ℕ) (cover : NamedCover) → Has cover (new_under name) → Has cover (under name) ⊎ IsRight placed new cover
+
+-- all that is noted is exact, and lists are what tables give by themselves
+pub record AreTrue (rule : Rule) (placed : Placed) (known : KnownCovers) (own : List (Option (Vec NamedCover))) : Type 0 where
+  pub found : AreFound (saving_in known) (covers_under known)
+  pub right : (cover : NamedCover) → IsRight placed (saving_in known) cover
+  pub lists : AreKept rule placed.slots own
+  pub long : length own ≡ length placed.slots
+  pub noted : AreNoted (saving_in known) own
+  pub shared : AreNotedShared rule placed.slots (saving_in known) own
+
+-- more is noted than before
+abbrev pub IsGrown : Placed → KnownCovers → KnownCovers → Type 0
+IsGrown placed known new = Grows placed (saving_in known) (covers_under known) (saving_in new) (covers_under new)
+
+-- savings that are kept are those of the tables
+abbrev pub AreSavings : Rule → Placed → KeptSavings → Type 0
+AreSavings rule placed kept = AreNotes rule placed (saving_in kept.ranked) (covers_under kept.ranked) kept.own.items kept.touched.keys kept.fresh.items
+
+-- a cover stands in the list at a place
+abbrev pub IsIn : List (Option (Vec NamedCover)) → ℕ → NamedCover → Type 0
+IsIn own place cover = (covers : Vec NamedCover) × (slice_get own place ≡ Some (Some covers)) × Has cover covers.items
+
+-- whether a cover stands in a list, if there is one
+abbrev pub held : Option (Vec NamedCover) → NamedCover → Bool
+held None cover = false
+held (Some covers) cover = list_any (cover_eq cover) covers.items
+
+abbrev pub held_at : Option (Option (Vec NamedCover)) → NamedCover → Bool
+held_at None cover = false
+held_at (Some list) cover = held list cover

@@ -1,0 +1,24 @@
+//! Why the best candidate is not told.
+
+use circuit_model::Name;
+use std::alloc::AllocError;
+
+/// Why candidates are not listed, or what they save is not kept.
+#[derive(Debug, PartialEq, Drop)]
+pub enum SavingsFault {
+    /// The table of this name has more than 10,000 kernels.
+    ManyKernels(Name),
+    /// There is not enough memory.
+    Memory,
+}
+
+impl From<AllocError> for SavingsFault {
+    ghost use Rattle.std.specs.Prelude.{◌≡◌};
+    ghost use Rattle.net_savings.specs.declared.fault.SavingsFault.TheVariants.{Memory};
+
+    ghost from_gives = { λ _ fault. fault ≡ Memory };
+
+    fn from(_error: AllocError) -> SavingsFault {
+        SavingsFault::Memory
+    }
+}

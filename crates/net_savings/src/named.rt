@@ -1,0 +1,50 @@
+//! Covers in lists, each list under a name.
+
+ghost use Rattle.std.specs.Prelude.{◌≡◌, ◌++◌, ◌∷◌, ◌&&◌, [], List, ℕ, bytes_eq, if◌then◌else◌, OnOk};
+ghost use Rattle.indexmap.specs.IndexMap.{get};
+ghost use Rattle.net_savings.specs.Ranking.{listed};
+
+use circuit_model::Name;
+use cover_names::NamedCover;
+use indexmap::IndexMap;
+use sis_base::{Copied, Sequence};
+use std::alloc::{AllocError, Global};
+
+// Puts a cover behind those under a name.
+fn put_under(
+    alloc: Global,
+    lists: &mut IndexMap<Name, Sequence<NamedCover>>,
+    name: &Name,
+    cover: NamedCover,
+) -> Result<(), AllocError>
+    ensures { OnOk result ((other : List ℕ) → listed (get bytes_eq lists.new other)
+        ≡ (if bytes_eq name.now other then listed (get bytes_eq lists.old other) ++ cover ∷ [] else listed (get bytes_eq lists.old other))) }
+{
+    if let Some(list) = lists.get_mut(name) {
+        list.push(cover)?;
+        return Ok(());
+    }
+    let mut list = Sequence::new(alloc);
+    list.push(cover)?;
+    let key = name.copy(alloc)?;
+    let _none = lists.insert(key, list)?;
+    Ok(())
+}
+
+/// Puts a cover behind those under a name, if it is new; an error only for want of memory.
+pub(crate) fn list_new(
+    alloc: Global,
+    lists: &mut IndexMap<Name, Sequence<NamedCover>>,
+    name: &Name,
+    cover: &NamedCover,
+    is_new: bool,
+) -> Result<(), AllocError>
+    ensures { OnOk result ((other : List ℕ) → listed (get bytes_eq lists.new other)
+        ≡ (if is_new && bytes_eq name.now other then listed (get bytes_eq lists.old other) ++ cover.now ∷ [] else listed (get bytes_eq lists.old other))) }
+{
+    if is_new {
+        let copied = cover.copy(alloc)?;
+        put_under(alloc, lists, name, copied)?;
+    }
+    Ok(())
+}

@@ -1,0 +1,84 @@
+//! Whether a cover leaves all tables narrow: its own, and those that are divided by it.
+
+ghost use Rattle.std.specs.Prelude.{◌≤◌, ◌↔◌, IfOk, IsTrue};
+ghost use Rattle.std.specs.List.{AllByRecursion};
+ghost use Rattle.circuit_model.specs.Soundness.{IsSound};
+ghost use Rattle.net_core.specs.Fresh.{IsNewName};
+ghost use Rattle.net_work.specs.Placed.{standing, circuit_of, table_at};
+ghost use Rattle.net_savings.specs.Saving.{literals_in, IsNarrowIn, LeavesNarrow};
+
+use crate::saving::{INPUT_LIMIT, loss_of, places_for};
+use alg_tables::cover_table;
+use circuit_model::Name;
+use cover_names::Cube;
+use cube_cover::Row;
+use net_core::Table;
+use net_work::Work;
+use std::alloc::{AllocError, Global};
+
+// Whether the table at a place stays or becomes narrow, if one stands there. Division adds one input at most, so that only a table that
+// has as many as may be is divided to see it.
+fn is_narrow_at<R: Row>(
+    alloc: Global,
+    work: &Work<R>,
+    name: &Name,
+    cover: &[Cube],
+    place: usize,
+) -> Result<bool, AllocError>
+    requires sound { IsSound (circuit_of work.now) }
+    requires free { IsNewName (circuit_of work.now) name.now }
+    ensures { IfOk result (λ narrow. IsTrue narrow ↔ IsNarrowIn name.now cover.now (table_at work.now.slots place)) }
+{
+    match work.entry(place) {
+        None => Ok(true),
+        Some(entry) => {
+            if entry.table.inputs.len() < INPUT_LIMIT {
+                Ok(true)
+            } else {
+                let loss = loss_of(alloc, &entry.table, name, cover)?;
+                Ok(loss.is_some())
+            }
+        }
+    }
+}
+
+// Whether all tables at some places stay or become narrow.
+fn are_narrow_at<R: Row>(
+    alloc: Global,
+    work: &Work<R>,
+    name: &Name,
+    cover: &[Cube],
+    places: &[usize],
+) -> Result<bool, AllocError>
+    requires sound { IsSound (circuit_of work.now) }
+    requires free { IsNewName (circuit_of work.now) name.now }
+    ensures { IfOk result (λ narrow. IsTrue narrow ↔ AllByRecursion (λ place. IsNarrowIn name.now cover.now (table_at work.now.slots place)) places.now) }
+{
+    for place in places {
+        if !is_narrow_at(alloc, work, name, cover, *place)? {
+            return Ok(false);
+        }
+    }
+    Ok(true)
+}
+
+/// Whether a cover that is extracted under a new name leaves all tables narrow: none that it adds or changes has more than 1,000 inputs then. An
+/// error only for want of memory.
+pub fn leaves_narrow<R: Row>(
+    alloc: Global,
+    work: &Work<R>,
+    name: &Name,
+    cover: &[Cube],
+) -> Result<bool, AllocError>
+    requires sound { IsSound (circuit_of work.now) }
+    requires free { IsNewName (circuit_of work.now) name.now }
+    requires some { 1 ≤ literals_in cover.now }
+    ensures { IfOk result (λ narrow. IsTrue narrow ↔ LeavesNarrow (standing work.now.slots) name.now cover.now) }
+{
+    let table: Table<R> = cover_table(alloc, cover)?;
+    if INPUT_LIMIT < table.inputs.len() {
+        return Ok(false);
+    }
+    let places = places_for(alloc, work, cover)?;
+    are_narrow_at(alloc, work, name, cover, places.as_slice())
+}

@@ -1,0 +1,41 @@
+//! What tables give by themselves, place by place, where it is known.
+
+ghost use Rattle.std.specs.Prelude.{◌≡◌, ◌↔◌, Some, None, slice_get, slice_set, IsTrue, IfSome};
+ghost use Rattle.net_savings.specs.Listing.{IsListed};
+
+use cover_names::NamedCover;
+
+/// What the tables at places give by themselves, none where it is not known.
+pub(crate) type OwnLists = Vec<Option<Vec<NamedCover>>>;
+
+/// What was known of a place; it is not known any more.
+pub(crate) fn taken(lists: &mut OwnLists, place: usize) -> Option<Vec<NamedCover>>
+    ensures value { IfSome result (λ covers. slice_get lists.old.items place ≡ Some (Some covers)) }
+    ensures rest { lists.new.items ≡ slice_set lists.old.items place None }
+{
+    if place < lists.len() {
+        lists[place].take()
+    } else {
+        None
+    }
+}
+
+/// Whether what the table at a place gives by itself is listed.
+pub(crate) fn is_listed(own: &OwnLists, place: usize) -> bool
+    ensures { IsTrue result ↔ IsListed own.now.items place }
+{
+    match own.get(place) {
+        None => false,
+        Some(None) => false,
+        Some(Some(_covers)) => true,
+    }
+}
+
+/// What the table at a place gives by itself is known, if there is such a place.
+pub(crate) fn put_list(own: &mut OwnLists, place: usize, covers: Vec<NamedCover>)
+    ensures { own.new.items ≡ slice_set own.old.items place (Some covers) }
+{
+    if place < own.len() {
+        own[place] = Some(covers);
+    }
+}

@@ -1,0 +1,51 @@
+//! What candidates save, made anew where changes touched it.
+
+ghost use Rattle.std.specs.Prelude.{◌≡◌, [], IfErr, OnOk};
+ghost use Rattle.circuit_model.specs.Soundness.{IsSound};
+ghost use Rattle.net_core.specs.Fresh.{IsNewName};
+ghost use Rattle.net_work.specs.Placed.{circuit_of};
+ghost use Rattle.net_savings.specs.Listing.{IsUnlisted};
+ghost use Rattle.net_savings.specs.Savings.{AreSavings};
+
+use crate::fault::SavingsFault;
+use crate::kept::KeptSavings;
+use crate::listing::list_places;
+use crate::renewing::renew_touched;
+use circuit_model::Name;
+use cube_cover::Row;
+use indexmap::IndexSet;
+use net_candidates::Rule;
+use net_work::Work;
+use std::alloc::Global;
+use std::mem;
+
+/// All that changes touched is made anew. `ManyKernels` with the name of the first table that has too many kernels; else an error is want
+/// of memory.
+pub(crate) fn refresh<R: Row>(
+    alloc: Global,
+    work: &Work<R>,
+    rule: Rule,
+    name: &Name,
+    kept: &mut KeptSavings,
+) -> Result<(), SavingsFault>
+    requires sound { IsSound (circuit_of work.now) }
+    requires free { IsNewName (circuit_of work.now) name.now }
+    requires savings { AreSavings rule work.now kept.old }
+    ensures savings { OnOk result (AreSavings rule work.now kept.new) }
+    ensures touched { OnOk result (kept.new.touched.keys ≡ []) }
+    ensures fresh { OnOk result (kept.new.fresh.items ≡ []) }
+    ensures stopped { IfErr result (IsUnlisted rule (circuit_of work.now)) }
+{
+    let touched = mem::replace(&mut kept.touched, IndexSet::new(alloc));
+    let fresh = mem::replace(&mut kept.fresh, Vec::new(alloc));
+    renew_touched(alloc, work, name, &mut kept.ranked, touched.as_slice())?;
+    list_places(
+        alloc,
+        work,
+        rule,
+        name,
+        &mut kept.ranked,
+        &mut kept.own,
+        fresh.as_slice(),
+    )
+}

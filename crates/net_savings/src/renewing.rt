@@ -1,0 +1,151 @@
+//! What covers save is noted: anew, where changes touched it, and where it was not known.
+
+ghost use Rattle.std.specs.Prelude.{◌≡◌, ℕ, ◌≤◌, true, List, IfOk, OnOk};
+ghost use Rattle.circuit_model.specs.Names.{has};
+ghost use Rattle.circuit_model.specs.Soundness.{IsSound};
+ghost use Rattle.alg_div.specs.Cubes.{Has};
+ghost use Rattle.cover_names.specs.Literals.{NamedCover as TheCover};
+ghost use Rattle.net_core.specs.Fresh.{IsNewName};
+ghost use Rattle.net_work.specs.Placed.{circuit_of};
+ghost use Rattle.net_savings.specs.Ranking.{saving_in, covers_under, saved};
+ghost use Rattle.net_savings.specs.Saving.{literals_in};
+ghost use Rattle.net_savings.specs.Savings.{IsRight, IsNoted, AreFound, IsGrown};
+
+use crate::covers::RankedCovers;
+use crate::saving::{rarest_name, saving_of};
+use circuit_model::Name;
+use cover_names::NamedCover;
+use cube_cover::Row;
+use net_work::Work;
+use std::alloc::{AllocError, Global};
+
+// A number, 0 where there is none.
+fn number_of(saving: Option<u128>) -> u128
+    ensures { result ≡ saved saving }
+{
+    saving.unwrap_or(0)
+}
+
+// What a cover saves is noted, under a name of it where it is not known yet.
+fn renew<R: Row>(
+    alloc: Global,
+    work: &Work<R>,
+    name: &Name,
+    ranked: &mut RankedCovers,
+    cover: &NamedCover,
+) -> Result<(), AllocError>
+    requires sound { IsSound (circuit_of work.now) }
+    requires free { IsNewName (circuit_of work.now) name.now }
+    requires some { 1 ≤ literals_in cover.now }
+    ensures grown { OnOk result (IsGrown work.now ranked.old ranked.new) }
+    ensures right { OnOk result (IsRight work.now (saving_in ranked.new) cover.now) }
+    ensures noted { OnOk result (IsNoted (saving_in ranked.new) cover.now) }
+{
+    let saving = saving_of(alloc, work, name, cover.as_slice())?;
+    match rarest_name(work, cover.as_slice()) {
+        None => unreachable!(),
+        Some(found) => {
+            ranked.set(alloc, cover, found, number_of(saving))?;
+            Ok(())
+        }
+    }
+}
+
+// What covers save is noted anew.
+fn renew_all<R: Row>(
+    alloc: Global,
+    work: &Work<R>,
+    name: &Name,
+    ranked: &mut RankedCovers,
+    covers: &[NamedCover],
+) -> Result<(), AllocError>
+    requires sound { IsSound (circuit_of work.now) }
+    requires free { IsNewName (circuit_of work.now) name.now }
+    requires some { (cover : TheCover) → Has cover covers.now → 1 ≤ literals_in cover }
+    ensures grown { OnOk result (IsGrown work.now ranked.old ranked.new) }
+    ensures right { OnOk result ((cover : TheCover) → Has cover covers.now → IsRight work.now (saving_in ranked.new) cover) }
+{
+    for cover in covers {
+        renew(alloc, work, name, ranked, cover)?;
+    }
+    Ok(())
+}
+
+// What the covers under a name save is noted anew.
+fn renew_under<R: Row>(
+    alloc: Global,
+    work: &Work<R>,
+    name: &Name,
+    ranked: &mut RankedCovers,
+    touched: &Name,
+) -> Result<(), AllocError>
+    requires sound { IsSound (circuit_of work.now) }
+    requires free { IsNewName (circuit_of work.now) name.now }
+    requires found { AreFound (saving_in ranked.old) (covers_under ranked.old) }
+    ensures grown { OnOk result (IsGrown work.now ranked.old ranked.new) }
+    ensures right { OnOk result ((cover : TheCover) → Has cover (covers_under ranked.new touched.now) → IsRight work.now (saving_in ranked.new) cover) }
+{
+    let covers = ranked.under(alloc, touched)?;
+    renew_all(alloc, work, name, ranked, covers.as_slice())?;
+    Ok(())
+}
+
+/// What the covers under names save is noted anew; an error only for want of memory.
+pub(crate) fn renew_touched<R: Row>(
+    alloc: Global,
+    work: &Work<R>,
+    name: &Name,
+    ranked: &mut RankedCovers,
+    touched: &[Name],
+) -> Result<(), AllocError>
+    requires sound { IsSound (circuit_of work.now) }
+    requires free { IsNewName (circuit_of work.now) name.now }
+    requires found { AreFound (saving_in ranked.old) (covers_under ranked.old) }
+    ensures grown { OnOk result (IsGrown work.now ranked.old ranked.new) }
+    ensures right { OnOk result ((under : List ℕ) (cover : TheCover) → has touched.now under ≡ true → Has cover (covers_under ranked.new under) → IsRight work.now (saving_in ranked.new) cover) }
+{
+    for one in touched {
+        renew_under(alloc, work, name, ranked, one)?;
+    }
+    Ok(())
+}
+
+// What a cover saves is noted, unless it is.
+fn note<R: Row>(
+    alloc: Global,
+    work: &Work<R>,
+    name: &Name,
+    ranked: &mut RankedCovers,
+    cover: &NamedCover,
+) -> Result<(), AllocError>
+    requires sound { IsSound (circuit_of work.now) }
+    requires free { IsNewName (circuit_of work.now) name.now }
+    requires some { 1 ≤ literals_in cover.now }
+    ensures grown { OnOk result (IsGrown work.now ranked.old ranked.new) }
+    ensures noted { OnOk result (IsNoted (saving_in ranked.new) cover.now) }
+{
+    match ranked.saving(cover) {
+        Some(_saving) => Ok(()),
+        None => renew(alloc, work, name, ranked, cover),
+    }
+}
+
+/// What covers save is noted, of those of which nothing is noted yet; an error only for want of memory.
+pub(crate) fn note_all<R: Row>(
+    alloc: Global,
+    work: &Work<R>,
+    name: &Name,
+    ranked: &mut RankedCovers,
+    covers: &[NamedCover],
+) -> Result<(), AllocError>
+    requires sound { IsSound (circuit_of work.now) }
+    requires free { IsNewName (circuit_of work.now) name.now }
+    requires some { (cover : TheCover) → Has cover covers.now → 1 ≤ literals_in cover }
+    ensures grown { OnOk result (IsGrown work.now ranked.old ranked.new) }
+    ensures noted { OnOk result ((cover : TheCover) → Has cover covers.now → IsNoted (saving_in ranked.new) cover) }
+{
+    for cover in covers {
+        note(alloc, work, name, ranked, cover)?;
+    }
+    Ok(())
+}

@@ -1,0 +1,226 @@
+//! What a candidate saves: what the tables that can be divided by it lose, without the literals of its own table.
+
+ghost use Rattle.std.specs.Prelude.{◌≡◌, ℕ, ◌+◌, ◌-◌, ◌≤◌, ◌<◌, ltb, ◌&&◌, ◌⊎◌, true, false, Option, Some, List, length, IfOk, MatchOption};
+ghost use Rattle.std.specs.List.Sorted.{IsStrictlyIncreasing};
+ghost use Rattle.circuit_model.specs.Names.{has, all_different};
+ghost use Rattle.circuit_model.specs.Soundness.{IsSound};
+ghost use Rattle.circuit_model.specs.declared.circuit.Table.{Table as TheTable};
+ghost use Rattle.alg_div.specs.Cubes.{Has};
+ghost use Rattle.net_readers.specs.Readers.{is_in};
+ghost use Rattle.cover_names.specs.Cubes.{is_over, names_in};
+ghost use Rattle.cover_names.specs.declared.literal.Literal.{Literal as TheLiteral};
+ghost use Rattle.net_core.specs.Fresh.{IsNewName};
+ghost use Rattle.net_core.specs.Tables.{named, IsOverInputs};
+ghost use Rattle.net_work.specs.Placed.{standing, circuit_of, table_at};
+ghost use Rattle.net_savings.specs.Saving.{literals_in, IsLoss, AreLosses, IsSaved};
+
+use alg_tables::{cover_table, divided_table};
+use circuit_model::Name;
+use cover_names::{Cube, Literal};
+use cube_cover::Row;
+use net_core::Table;
+use net_readers::Places;
+use net_work::{Work, literal_count};
+use std::alloc::{AllocError, Global};
+
+/// How many inputs a table may have that extraction adds or changes.
+pub(crate) const INPUT_LIMIT: usize = 1_000;
+
+// Whether a name is among names.
+fn has_name(names: &[Name], name: &Name) -> bool
+    ensures { result ≡ has names.now name.now }
+{
+    names.iter().any(|other| *name == *other)
+}
+
+// The name of the first literal of a cover.
+fn first_name(cover: &[Cube]) -> Option<&Name>
+    ensures { MatchOption result (literals_in cover.now ≡ 0) (λ name. has (names_in cover.now) name.now ≡ true) }
+{
+    for cube in cover {
+        if let Some(literal) = cube.as_slice().first() {
+            return Some(&literal.name);
+        }
+    }
+    None
+}
+
+// The one of two names that fewer tables read, the second where as many do.
+fn rarer<'a, R: Row>(work: &Work<R>, one: &'a Name, other: &'a Name) -> &'a Name
+    ensures { (result.now ≡ one.now) ⊎ (result.now ≡ other.now) }
+{
+    if work.reader_count(one) < work.reader_count(other) {
+        one
+    } else {
+        other
+    }
+}
+
+// Of a name and those of a cube's literals the one that fewest tables read.
+fn rarest_in<'a, R: Row>(work: &Work<R>, cube: &'a [Literal], name: &'a Name) -> &'a Name
+    ensures { (result.now ≡ name.now) ⊎ ((literal : TheLiteral) × Has literal cube.now × (literal.name ≡ result.now)) }
+{
+    let mut rarest = name;
+    for literal in cube {
+        rarest = rarer(work, &literal.name, rarest);
+    }
+    rarest
+}
+
+/// The name of a cover's literals that fewest tables read.
+pub(crate) fn rarest_name<'a, R: Row>(work: &Work<R>, cover: &'a [Cube]) -> Option<&'a Name>
+    ensures { MatchOption result (literals_in cover.now ≡ 0) (λ name. has (names_in cover.now) name.now ≡ true) }
+{
+    let mut rarest = first_name(cover)?;
+    for cube in cover {
+        rarest = rarest_in(work, cube.as_slice(), rarest);
+    }
+    Some(rarest)
+}
+
+// Places in rising order, each once.
+fn risen(places: Places) -> Vec<usize>
+    ensures rising { IsStrictlyIncreasing result.items }
+    ensures all { (at : ℕ) → is_in places at ≡ true → is_in result.items at ≡ true }
+    ensures same { (at : ℕ) → is_in result.items at ≡ true → is_in places at ≡ true }
+{
+    let mut sorted = places.into_vec();
+    sorted.sort_unstable();
+    sorted.dedup();
+    sorted
+}
+
+/// Places of the network, each once, in rising order, among which are those of all tables that read all that a cover reads; an error only for
+/// want of memory.
+pub fn places_for<R: Row>(
+    alloc: Global,
+    work: &Work<R>,
+    cover: &[Cube],
+) -> Result<Vec<usize>, AllocError>
+    requires { 1 ≤ literals_in cover.now }
+    ensures rising { IfOk result (λ places. IsStrictlyIncreasing places.items) }
+    ensures within { IfOk result (λ places. (at : ℕ) → is_in places.items at ≡ true → at < length work.now.slots) }
+    ensures all { IfOk result (λ places. (at : ℕ) (table : TheTable) → table_at work.now.slots at ≡ Some table → is_over table.inputs cover.now ≡ true → is_in places.items at ≡ true) }
+{
+    match rarest_name(work, cover) {
+        None => unreachable!(),
+        Some(name) => {
+            let readers = work.readers(alloc, name)?;
+            Ok(risen(readers))
+        }
+    }
+}
+
+// Whether a table has too many inputs, and a name is one of them.
+fn is_wide<R: Row>(table: &Table<R>, name: &Name) -> bool
+    ensures { result ≡ (ltb 1000 (length table.now.inputs) && has table.now.inputs name.now) }
+{
+    INPUT_LIMIT < table.inputs.len() && has_name(table.inputs.as_slice(), name)
+}
+
+/// What a table loses where it is divided by a cover; none where it has too many inputs then.
+pub(crate) fn loss_of<R: Row>(
+    alloc: Global,
+    table: &Table<R>,
+    name: &Name,
+    cover: &[Cube],
+) -> Result<Option<u128>, AllocError>
+    requires over { IsOverInputs table.now }
+    requires once { all_different table.now.inputs ≡ true }
+    requires free { has table.now.inputs name.now ≡ false }
+    ensures { IfOk result (λ loss. (output : List ℕ) → IsLoss name.now cover.now (Some (named output table.now)) loss) }
+{
+    // by this call the rows are known to have the cover's width
+    let _of_one_width = table.cover.rows();
+    match divided_table(alloc, table, name, true, cover)? {
+        None => Ok(Some(0)),
+        Some(made) => {
+            if is_wide(&made, name) {
+                Ok(None)
+            } else {
+                Ok(Some(literal_count(table).saturating_sub(literal_count(&made))))
+            }
+        }
+    }
+}
+
+// What the table at a place loses, if one stands there.
+fn loss_at<R: Row>(
+    alloc: Global,
+    work: &Work<R>,
+    name: &Name,
+    cover: &[Cube],
+    place: usize,
+) -> Result<Option<u128>, AllocError>
+    requires sound { IsSound (circuit_of work.now) }
+    requires free { IsNewName (circuit_of work.now) name.now }
+    ensures { IfOk result (λ loss. IsLoss name.now cover.now (table_at work.now.slots place) loss) }
+{
+    match work.entry(place) {
+        None => Ok(Some(0)),
+        Some(entry) => loss_of(alloc, &entry.table, name, cover),
+    }
+}
+
+// The sum of two numbers; no machine has memory for so many literals that it is too large.
+fn sum_of(one: u128, other: u128) -> Result<u128, AllocError>
+    ensures { IfOk result (λ sum. sum ≡ one + other) }
+{
+    match one.checked_add(other) {
+        None => Err(AllocError),
+        Some(sum) => Ok(sum),
+    }
+}
+
+// What the tables at some places lose together; none where one of them has too many inputs then.
+fn losses_at<R: Row>(
+    alloc: Global,
+    work: &Work<R>,
+    name: &Name,
+    cover: &[Cube],
+    places: &[usize],
+) -> Result<Option<u128>, AllocError>
+    requires sound { IsSound (circuit_of work.now) }
+    requires free { IsNewName (circuit_of work.now) name.now }
+    ensures { IfOk result (λ losses. AreLosses name.now cover.now work.now.slots places.now losses) }
+{
+    let mut total = 0;
+    for place in places {
+        match loss_at(alloc, work, name, cover, *place)? {
+            None => return Ok(None),
+            Some(lost) => total = sum_of(total, lost)?,
+        }
+    }
+    Ok(Some(total))
+}
+
+// How much more than another number one is, if it is.
+fn excess(lost: Option<u128>, own: u128) -> Option<u128>
+    ensures { MatchOption result ((number : ℕ) → lost ≡ Some number → number ≤ own) (λ more. (lost ≡ Some (more + own)) × (1 ≤ more)) }
+{
+    match lost {
+        None => None,
+        Some(lost) => { if own < lost { Some(lost - own) } else { None } }
+    }
+}
+
+/// How many literals a cover saves that is extracted under a new name; none where it saves none, or a table has too many inputs then.
+pub(crate) fn saving_of<R: Row>(
+    alloc: Global,
+    work: &Work<R>,
+    name: &Name,
+    cover: &[Cube],
+) -> Result<Option<u128>, AllocError>
+    requires sound { IsSound (circuit_of work.now) }
+    requires free { IsNewName (circuit_of work.now) name.now }
+    requires some { 1 ≤ literals_in cover.now }
+    ensures { IfOk result (λ saved. IsSaved (standing work.now.slots) name.now cover.now saved) }
+{
+    let table: Table<R> = cover_table(alloc, cover)?;
+    if INPUT_LIMIT < table.inputs.len() {
+        return Ok(None);
+    }
+    let places = places_for(alloc, work, cover)?;
+    let lost = losses_at(alloc, work, name, cover, places.as_slice())?;
+    Ok(excess(lost, literal_count(&table)))
+}

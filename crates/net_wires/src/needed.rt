@@ -1,0 +1,152 @@
+//! What a circuit needs: outputs, latches that the don't-care part reads, and all that what is needed reads.
+//!
+//! Source: the SIS manual (UCB/ERL M92/41), `sweep`: what does not lead to an output goes. The names of what is needed
+//! are walked in the order in which they are found, and each one's table and latch are looked up once.
+
+ghost use Rattle.std.specs.Prelude.{◌≡◌, ℕ, ◌||◌, true, List, slice_get, bytes_eq, IfOk, OnOk};
+ghost use Rattle.indexmap.specs.IndexMap.{get};
+ghost use Rattle.circuit_model.specs.Names.{has, all_different};
+ghost use Rattle.circuit_model.specs.Runs.{latch_outputs};
+ghost use Rattle.circuit_model.specs.Soundness.{outputs_of};
+ghost use Rattle.circuit_tables.specs.Listing.{names_with};
+ghost use Rattle.net_wires.specs.Needed.{dont_care_reads, is_needed};
+ghost use Rattle.net_wires.specs.Rules.{remove_dangling};
+ghost use Rattle.net_wires.specs.Places.{LeadsToTables, LeadsToLatches};
+ghost use Rattle.net_wires.specs.Reading.{read_by_tables, read_by_latches, held_by, IsReached};
+
+use crate::leaves::leaves_read;
+use crate::parts::{are_all_among, latches_among, tables_among, with_parts};
+use crate::places::{latch_of, latch_places, table_of, table_places};
+use circuit_model::{Circuit, Latch, Name, Table};
+use indexmap::{IndexMap, IndexSet};
+use sis_base::Copied;
+use std::alloc::{AllocError, Global};
+
+// Puts names among names, each behind the last where it is new.
+fn add_names(alloc: Global, names: &mut IndexSet<Name>, more: &[Name]) -> Result<(), AllocError>
+    ensures { OnOk result (names.new.keys ≡ names_with names.old.keys more.now) }
+{
+    for name in more {
+        names.insert_full(name.copy(alloc)?)?;
+    }
+    Ok(())
+}
+
+// Puts what the table of a signal reads among names.
+fn add_inputs(
+    alloc: Global,
+    names: &mut IndexSet<Name>,
+    name: &Name,
+    tables: &[Table],
+    places: &IndexMap<Name, usize>,
+) -> Result<(), AllocError>
+    requires differ { all_different (outputs_of tables.now) ≡ true }
+    requires placed { LeadsToTables (get bytes_eq places.now) tables.now }
+    ensures { OnOk result (names.new.keys ≡ names_with names.old.keys (read_by_tables name.now tables.now)) }
+{
+    match table_of(places, tables, name) {
+        None => Ok(()),
+        Some(table) => add_names(alloc, names, table.inputs.as_slice()),
+    }
+}
+
+// Puts what the latch of a signal reads among names.
+fn add_held(
+    alloc: Global,
+    names: &mut IndexSet<Name>,
+    name: &Name,
+    latches: &[Latch],
+    places: &IndexMap<Name, usize>,
+) -> Result<(), AllocError>
+    requires differ { all_different (held_by latches.now) ≡ true }
+    requires placed { LeadsToLatches (get bytes_eq places.now) latches.now }
+    ensures { OnOk result (names.new.keys ≡ names_with names.old.keys (read_by_latches name.now latches.now)) }
+{
+    match latch_of(places, latches, name) {
+        None => Ok(()),
+        Some(latch) => {
+            names.insert_full(latch.input.copy(alloc)?)?;
+            Ok(())
+        }
+    }
+}
+
+// A copy of the name at a place.
+fn name_at(alloc: Global, names: &IndexSet<Name>, place: usize) -> Result<Option<Name>, AllocError>
+    ensures { IfOk result (λ name. name ≡ slice_get names.now.keys place) }
+{
+    match names.as_slice().get(place) {
+        None => Ok(None),
+        Some(name) => Ok(Some(name.copy(alloc)?)),
+    }
+}
+
+// Names and all that the tables and latches read that they lead to.
+fn reached(
+    alloc: Global,
+    roots: IndexSet<Name>,
+    tables: &[Table],
+    table_places: &IndexMap<Name, usize>,
+    latches: &[Latch],
+    latch_places: &IndexMap<Name, usize>,
+) -> Result<IndexSet<Name>, AllocError>
+    requires tables_differ { all_different (outputs_of tables.now) ≡ true }
+    requires tables_placed { LeadsToTables (get bytes_eq table_places.now) tables.now }
+    requires latches_differ { all_different (held_by latches.now) ≡ true }
+    requires latches_placed { LeadsToLatches (get bytes_eq latch_places.now) latches.now }
+    ensures { IfOk result (λ names. IsReached roots.keys tables.now latches.now names.keys) }
+{
+    let mut names = roots;
+    // no set holds so many names, so that the loop does not come to its end
+    for next in 0..usize::MAX {
+        match name_at(alloc, &names, next)? {
+            None => return Ok(names),
+            Some(name) => {
+                add_inputs(alloc, &mut names, &name, tables, table_places)?;
+                add_held(alloc, &mut names, &name, latches, latch_places)?;
+            }
+        }
+    }
+    Err(AllocError)
+}
+
+// What is needed at once: the outputs, and what the don't-care part reads.
+fn roots(alloc: Global, circuit: &Circuit) -> Result<IndexSet<Name>, AllocError>
+    ensures { IfOk result (λ names. (name : List ℕ) → has names.keys name ≡ (has circuit.now.outputs name || dont_care_reads circuit.now name)) }
+{
+    let mut names = leaves_read(alloc, circuit)?;
+    add_names(alloc, &mut names, circuit.outputs.as_slice())?;
+    Ok(names)
+}
+
+// The names of what is needed.
+fn needed_names(alloc: Global, circuit: &Circuit) -> Result<IndexSet<Name>, AllocError>
+    requires tables_differ { all_different (outputs_of circuit.now.tables) ≡ true }
+    requires latches_differ { all_different (latch_outputs circuit.now) ≡ true }
+    ensures { IfOk result (λ names. (name : List ℕ) → has names.keys name ≡ is_needed circuit.now name) }
+{
+    let begun = roots(alloc, circuit)?;
+    let tables = circuit.tables.as_slice();
+    let latches = circuit.latches.as_slice();
+    let to_tables = table_places(alloc, tables)?;
+    let to_latches = latch_places(alloc, latches)?;
+    let names = reached(alloc, begun, tables, &to_tables, latches, &to_latches)?;
+    Ok(names)
+}
+
+/// The circuit of what is needed, where something is not; an error only for want of memory. No two tables and no two
+/// latches may have one signal.
+pub fn dangling_step(alloc: Global, circuit: &Circuit) -> Result<Option<Circuit>, AllocError>
+    requires tables_differ { all_different (outputs_of circuit.now.tables) ≡ true }
+    requires latches_differ { all_different (latch_outputs circuit.now) ≡ true }
+    ensures { IfOk result (λ next. next ≡ remove_dangling circuit.now) }
+{
+    let needed = needed_names(alloc, circuit)?;
+    if are_all_among(circuit, &needed) {
+        return Ok(None);
+    }
+    let tables = tables_among(alloc, circuit.tables.as_slice(), &needed)?;
+    let latches = latches_among(alloc, circuit.latches.as_slice(), &needed)?;
+    let made = with_parts(alloc, circuit, tables, latches)?;
+    Ok(Some(made))
+}

@@ -1,0 +1,56 @@
+//! The counts of one table.
+
+ghost use Rattle.std.specs.Prelude.{◌≡◌, ℕ, ◌+◌, ◌*◌, ◌^◌, ◌≤◌, ◌<◌, pos, ◌-ℤ◌, List, length, map, sum_by, IfOk};
+ghost use Rattle.circuit_model.specs.Counts.{literals_of_row, literals_of_table};
+ghost use Rattle.net_core.specs.Tables.{characters_of, named};
+ghost use Rattle.net_work.specs.Uses.{uses_from, AreUses};
+
+use cube_cover::Row;
+use net_core::{Table, row_literals, rows_uses};
+use std::alloc::{AllocError, Global};
+
+// The greatest count of uses and of literals of which a worth is computed.
+const COUNT_LIMIT: u128 = 1 << 58;
+
+/// How many rows of a table have a literal of each input, in the order of the inputs; an error only for want of memory.
+#[tactic(auto, unfolding(net_core::specs::Tables::named))]
+pub fn uses_by_input<R: Row>(alloc: Global, table: &Table<R>) -> Result<Vec<u64>, AllocError>
+    ensures { IfOk result (λ numbers. (output : List ℕ) → AreUses numbers.items (named output table.now)) }
+{
+    let rows = table.cover.rows();
+    let mut numbers = Vec::with_capacity(alloc, table.inputs.len())?;
+    for place in 0..table.inputs.len() {
+        numbers.push(rows_uses(rows, place) as u64)?;
+    }
+    Ok(numbers)
+}
+
+// The literals of rows.
+fn rows_literals<R: Row>(rows: &[R]) -> u128
+    ensures { result ≡ sum_by literals_of_row (map characters_of (map R.literals rows.now)) }
+{
+    let mut total: u128 = 0;
+    for row in rows {
+        total += row_literals(row) as u128;
+    }
+    total
+}
+
+/// The literals of a table.
+#[tactic(auto, unfolding(circuit_model::specs::Counts::literals_of_table, net_core::specs::Tables::named))]
+pub fn literal_count<R: Row>(table: &Table<R>) -> u128
+    ensures { (output : List ℕ) → result ≡ literals_of_table (named output table.now) }
+{
+    rows_literals(table.cover.rows())
+}
+
+/// n * l - n - l for n uses and l literals; an error only where a count is above 2^58, for which no memory serves.
+pub fn worth(uses: u128, literals: u128) -> Result<i128, AllocError>
+    ensures { IfOk result (λ value. value ≡ pos (uses * literals) -ℤ pos uses -ℤ pos literals) }
+{
+    if uses > COUNT_LIMIT || literals > COUNT_LIMIT {
+        return Err(AllocError);
+    }
+    let both = uses * literals;
+    Ok(both as i128 - uses as i128 - literals as i128)
+}

@@ -1,8 +1,0 @@
-pub mod Pairs
-pub mod Places
-pub mod Covers
-pub mod Rows
-pub mod Sums
-pub mod Products
-pub mod Tables
-pub mod Found

@@ -1,5 +1,0 @@
-use Rattle.pair_gains.proofs.Found.{gaining_candidate}
-use Rattle.pair_gains.proofs.laws.what_gains_is_a_candidate.Goals as goal
-
-pub returns : goal.returns
-returns c = gaining_candidate

@@ -1,9 +1,0 @@
-use Rattle.resub_rules.proofs.Ends.{resubbed_one}
-use Rattle.resub_rules.proofs.Keeping.{resubbed_refines}
-use Rattle.resub_rules.proofs.laws.resubbing_keeps.Goals as goal
-
-pub returns-clause-refines : goal.returns-clause-refines
-returns-clause-refines c = resubbed_refines
-
-pub returns-clause-one : goal.returns-clause-one
-returns-clause-one c = resubbed_one

@@ -1,0 +1,146 @@
+-- Minima stay within the bounds of a network, and so does a network after simplification.
+use Rattle.std.proofs.Common.{◌≡◌, ℕ, ◌+◌, ◌<◌, ◌≤◌, ◌^◌, suc, Bool, true, false, not, ◌&&◌, ltb, if◌then◌else◌, Option, Some, None, List, [], ◌∷◌, ◌++◌, map, fold, length, bytes_eq, refl, sym, ap, subst, arith}
+use Rattle.std.specs.List.{AllByRecursion}
+use Rattle.std.specs.Option.{option_map_or}
+use Rattle.std.proofs.lemmas.Bool.{ltb-false}
+use Rattle.std.proofs.lemmas.List.{length-map, length-append}
+use Rattle.std.proofs.lemmas.Option.{none-some}
+use Rattle.circuit_model.specs.Soundness.{IsShaped, IsSound}
+use Rattle.circuit_model.specs.Values.{driver}
+use Rattle.circuit_model.specs.declared.circuit.Tri.{Tri}
+use Rattle.circuit_model.specs.declared.circuit.Table.{Table}
+use Rattle.circuit_model.specs.declared.circuit.Circuit.{Circuit}
+use Rattle.circuit_laws.specs.Edits.{replaced, with_replaced}
+use Rattle.circuit_laws.proofs.Drivers.{driver_all}
+use Rattle.cover_ops.specs.Shannon.{list_rows}
+use Rattle.cover_min.specs.Points.{has_own_point}
+use Rattle.cover_min.specs.Minimum.{widened, with_needed, needed_behind, minimum_rows}
+use Rattle.net_core.specs.Reads.{IsBounded, HasBounds}
+use Rattle.net_core.specs.Tables.{places_of, characters_of}
+use Rattle.circuit_tables.specs.Folding.{folded}
+use Rattle.circuit_tables.proofs.Folded.{folded_shaped, folded_input_count, folded_row_count}
+use Rattle.circuit_order.specs.Order.{order_of}
+use Rattle.circuit_tables.specs.Tidy.{IsWide, some_row_or_phase_one, used_places, rows_once, chosen, narrowed, with_rows_once, tidied}
+use Rattle.circuit_tables.proofs.Tidied.{chosen_small, once_small, phase_kept}
+use Rattle.sdc_simplify.specs.Local.{is_local}
+use Rattle.sdc_simplify.specs.Minimized.{on_rows, meaning_of, with_minimum_rows, minimized, is_list_long}
+use Rattle.sdc_simplify.specs.Simplified.{with_minimum, is_refused, refusal_along, simplify_refusal, simplified}
+use Rattle.sdc_simplify.proofs.Minimal.{minimum_wide}
+use Rattle.sdc_simplify.proofs.InTurns.{turn_sound}
+
+-- the minimum of rows has no more of them
+needed_few : (on : List Bool → Bool) (kept rows : List (List (Option Bool))) → length (needed_behind on kept rows) ≤ length kept + length rows
+unfolding needed_behind with_needed
+needed_few on kept [] = omega arith
+needed_few on kept (row ∷ rest) = cases (has_own_point on row (kept ++ rest)) (needed_few on (kept ++ row ∷ []) rest) (needed_few on kept rest)
+  where
+    cases : (b : Bool) → length (needed_behind on (kept ++ row ∷ []) rest) ≤ length (kept ++ row ∷ []) + length rest → length (needed_behind on kept rest) ≤ length kept + length rest
+        → length (needed_behind on (if b then kept ++ row ∷ [] else kept) rest) ≤ length kept + suc (length rest)
+    cases true stays goes = let one : length (kept ++ row ∷ []) ≡ length kept + 1 = length-append kept (row ∷ []) in omega (arith, stays, one)
+    cases false stays goes = omega (arith, goes)
+
+minimum_few : (table : Table) (is_free : List Bool → Bool) → length (with_minimum_rows table is_free).rows ≤ length (on_rows table)
+unfolding minimum_rows
+minimum_few table is_free =
+    let off : List Bool → Bool = (meaning_of table is_free).off in
+    let primes : List (List (Option Bool)) = map (widened off) (on_rows table) in
+    let left : List (List (Option Bool)) = needed_behind (meaning_of table is_free).on [] primes in
+    let few : length left ≤ 0 + length primes = needed_few (meaning_of table is_free).on [] primes in
+    let same : length primes ≡ length (on_rows table) = length-map (on_rows table) (widened off) in
+    let written : length (map characters_of left) ≡ length left = length-map left characters_of in
+    omega (arith, few, same, written)
+
+-- what is made tidy of a shaped table has no more rows and no more inputs
+shaped_row : (rows : List (List Tri)) (phase : Bool) → (rows ≡ [] → phase ≡ true) → some_row_or_phase_one rows phase ≡ true
+shaped_row [] phase h = h refl
+shaped_row (row ∷ rows) phase h = refl
+
+narrowed_rows : (table : Table) → length (narrowed (with_rows_once table)).rows ≤ length table.rows
+unfolding narrowed
+narrowed_rows table =
+    let marks : List Bool = used_places table.inputs (rows_once table.rows) in
+    let same : length (map (chosen marks) (rows_once table.rows)) ≡ length (rows_once table.rows) = length-map (rows_once table.rows) (chosen marks) in
+    omega (arith, same, once_small table.rows)
+
+narrowed_inputs : (table : Table) → length (narrowed (with_rows_once table)).inputs ≤ length table.inputs
+unfolding narrowed
+narrowed_inputs table = chosen_small (used_places table.inputs (rows_once table.rows)) table.inputs
+
+tidied_of : (table : Table) → IsShaped table → tidied table ≡ narrowed (with_rows_once (folded table))
+unfolding tidied
+tidied_of table shaped =
+    ap (λ (made : Table). narrowed (with_rows_once made)) (phase_kept (folded table) (shaped_row (folded table).rows (folded table).phase (folded_shaped table shaped).1))
+
+tidied_bounded : (table : Table) → IsShaped table → IsBounded table → IsBounded (tidied table)
+tidied_bounded table shaped bounded =
+    subst IsBounded (sym (tidied_of table shaped)) record {
+      rows = omega (arith, bounded.rows, narrowed_rows (folded table), folded_row_count table shaped);
+      inputs = omega (arith, bounded.inputs, narrowed_inputs (folded table), folded_input_count table);
+    }
+
+-- rows of phase 1 are as many as the table's, or the on-list's, which is not long
+on_few : (table : Table) → is_list_long table ≡ false → length table.rows < 2 ^ 29 → length (on_rows table) < 2 ^ 29
+unfolding is_list_long on_rows
+on_few table short few = cases table.phase short
+  where
+    listed : List (List (Option Bool))
+    listed = list_rows (length table.inputs) false (map places_of table.rows)
+
+    cases : (phase : Bool) → (not phase && ltb 32767 (length listed)) ≡ false → length (if phase then map places_of table.rows else listed) < 2 ^ 29
+    cases true h = let same : length (map places_of table.rows) ≡ length table.rows = length-map table.rows places_of in omega (arith, same, few)
+    cases false h = let most : length listed ≤ 32767 = ltb-false 32767 (length listed) h in omega (arith, most)
+
+pub minimized_bounded : (table : Table) (is_free : List Bool → Bool) → is_list_long table ≡ false → IsWide table → IsBounded table → IsBounded (minimized table is_free)
+unfolding minimized
+minimized_bounded table is_free short wide bounded =
+    tidied_bounded (with_minimum_rows table is_free) (minimum_wide table is_free wide, λ none. refl) record {
+      rows = omega (arith, minimum_few table is_free, on_few table short bounded.rows);
+      inputs = bounded.inputs;
+    }
+
+-- a table that gives place to another one
+replaced_bounded : (tables : List Table) (new : Table) → AllByRecursion IsBounded tables → IsBounded new → AllByRecursion IsBounded (replaced tables new) × (length (replaced tables new) ≡ length tables)
+unfolding replaced
+replaced_bounded [] new all this = (tt, refl)
+replaced_bounded (first ∷ tables) new all this = cases (bytes_eq new.output first.output) (replaced_bounded tables new all.1 this)
+  where
+    cases : (b : Bool) → AllByRecursion IsBounded (replaced tables new) × (length (replaced tables new) ≡ length tables)
+        → AllByRecursion IsBounded (if b then new ∷ tables else first ∷ replaced tables new) × (length (if b then new ∷ tables else first ∷ replaced tables new) ≡ suc (length tables))
+    cases true rest = ((this, all.1), refl)
+    cases false rest = ((all.0, rest.0), ap suc rest.1)
+
+with_bounds : (circuit : Circuit) (new : Table) → HasBounds circuit → IsBounded new → HasBounds (with_replaced circuit new)
+unfolding with_replaced
+with_bounds circuit new bounds this =
+    let made = replaced_bounded circuit.tables new bounds.tables this in record {
+      nodes = omega (arith, bounds.nodes, made.1);
+      tables = made.0;
+    }
+
+pub turn_bounded : (circuit : Circuit) (name : List ℕ) → IsSound circuit → HasBounds circuit → is_refused circuit name ≡ false → HasBounds (with_minimum is_local circuit name)
+unfolding with_minimum
+turn_bounded circuit name sound bounds passed = cases (driver circuit.tables name) refl passed
+  where
+    cases : (found : Option Table) → driver circuit.tables name ≡ found → option_map_or is_list_long found false ≡ false
+        → HasBounds (option_map_or (λ table. with_replaced circuit (minimized table (is_local circuit table))) found circuit)
+    cases None at short = bounds
+    cases (Some table) at short =
+        with_bounds circuit (minimized table (is_local circuit table)) bounds
+        (minimized_bounded table (is_local circuit table) short (driver_all IsShaped circuit.tables sound.shaped name table at).0 (driver_all IsBounded circuit.tables bounds.tables name table at))
+
+-- nothing was refused, so neither this nor the rest
+not_refused : (refused : Bool) (name : List ℕ) (rest : Option (List ℕ)) → (if refused then Some name else rest) ≡ None → (refused ≡ false) × (rest ≡ None)
+not_refused true name rest h = absurd (none-some name (sym h))
+not_refused false name rest h = (refl, h)
+
+pub turns_bounded : (names : List (List ℕ)) (circuit : Circuit) → IsSound circuit → HasBounds circuit → refusal_along is_local circuit names ≡ None
+    → HasBounds (fold (with_minimum is_local) circuit names)
+unfolding refusal_along
+turns_bounded [] circuit sound bounds none = bounds
+turns_bounded (name ∷ names) circuit sound bounds none =
+    let (passed, rest) = not_refused (is_refused circuit name) name (refusal_along is_local (with_minimum is_local circuit name) names) none in
+    turns_bounded names (with_minimum is_local circuit name) (turn_sound circuit name sound) (turn_bounded circuit name sound bounds passed) rest
+
+pub simplified_bounded : (circuit : Circuit) → IsSound circuit → HasBounds circuit → simplify_refusal circuit ≡ None → HasBounds (simplified circuit)
+unfolding simplified
+simplified_bounded circuit sound bounds none = turns_bounded (order_of circuit.tables) circuit sound bounds none

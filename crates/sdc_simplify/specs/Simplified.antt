@@ -1,0 +1,40 @@
+-- Simplification: turn by turn a table gives place to its minimum, under don't-cares that the circuit of that turn has.
+-- Source: the SIS report (UCB/ERL M92/41), `simplify`; De Micheli, "Synthesis and Optimization of Digital Circuits", chapter 8
+-- (simplification of one vertex after the other). Turns come in the order of circuit_order, in which each table stands behind what it
+-- reads.
+use Rattle.std.specs.Prelude.{ℕ, Bool, false, if◌then◌else◌, Option, Some, None, List, [], ◌∷◌, fold}
+use Rattle.std.specs.Option.{option_map_or}
+use Rattle.circuit_model.specs.Values.{driver}
+use Rattle.circuit_model.specs.declared.circuit.Table.{Table}
+use Rattle.circuit_model.specs.declared.circuit.Circuit.{Circuit}
+use Rattle.circuit_laws.specs.Edits.{with_replaced}
+use Rattle.circuit_order.specs.Order.{order_of}
+use Rattle.sdc_simplify.specs.Local.{is_local}
+use Rattle.sdc_simplify.specs.Minimized.{minimized, is_list_long}
+
+-- which points of a table's inputs are free in a circuit
+abbrev pub Freedom : Type 0
+Freedom = Circuit → Table → List Bool → Bool
+
+-- the table of a signal gives place to its minimum; nothing changes where no table drives it
+unfoldable pub with_minimum : Freedom → Circuit → List ℕ → Circuit
+with_minimum is_free circuit name =
+    option_map_or (λ table. with_replaced circuit (minimized table (is_free circuit table))) (driver circuit.tables name) circuit
+
+-- whether the on-list of a signal's table must be made and is too long
+abbrev pub is_refused : Circuit → List ℕ → Bool
+is_refused circuit name = option_map_or is_list_long (driver circuit.tables name) false
+
+-- the first of some signals whose table's on-list must be made and is too long, where the tables before it gave place to their minima
+unfoldable pub refusal_along : Freedom → Circuit → List (List ℕ) → Option (List ℕ)
+refusal_along is_free circuit [] = None
+refusal_along is_free circuit (name ∷ names) =
+    if is_refused circuit name then Some name else refusal_along is_free (with_minimum is_free circuit name) names
+
+-- all tables give place to their minima under local don't-cares; the order is that of the circuit before the first turn
+unfoldable pub simplified : Circuit → Circuit
+simplified circuit = fold (with_minimum is_local) circuit (order_of circuit.tables)
+
+-- why a circuit is not simplified: the first signal in that order whose table's on-list must be made and has more than 32,767 rows
+abbrev pub simplify_refusal : Circuit → Option (List ℕ)
+simplify_refusal circuit = refusal_along is_local circuit (order_of circuit.tables)

@@ -1,4 +1,0 @@
-pub mod Shell
-pub mod Asked
-pub mod Refusing
-pub mod Usual

@@ -1,8 +1,0 @@
-use Rattle.std.proofs.Common.{◌≡◌, drop}
-use Rattle.std.specs.List.{list_all}
-use Rattle.circuit_model.specs.Names.{has}
-use Rattle.name_covers.specs.declared.literal.Literal.{Literal}
-use Rattle.table_algebra.proofs.dividing.is_cube_over.Given as goal
-
-abbrev pub invariant-loop-literal : goal.invariant-loop-literal
-invariant-loop-literal l = list_all (λ (literal : Literal). has l.names literal.name) l.cube ≡ list_all (λ (literal : Literal). has l.names literal.name) (drop l.literal-index l.cube)

@@ -1,6 +1,0 @@
-use Rattle.std.proofs.Common.{◌≡◌, ◌++◌, map, take}
-use Rattle.name_covers.specs.declared.literal.Literal.{Literal}
-use Rattle.table_algebra.proofs.dividing.push_cube_names.Given as goal
-
-abbrev pub invariant-loop-literal : goal.invariant-loop-literal
-invariant-loop-literal l = l.names.items ≡ l.initial.names.items ++ map (λ (literal : Literal). literal.name) (take l.literal-index l.cube)

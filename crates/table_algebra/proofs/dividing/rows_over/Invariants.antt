@@ -1,7 +1,0 @@
-use Rattle.std.proofs.Common.{◌≡◌, map, take}
-use Rattle.alg_div.specs.Steps.{literals_in}
-use Rattle.name_covers.specs.Cubes.{row_over}
-use Rattle.table_algebra.proofs.dividing.rows_over.Given as goal
-
-abbrev pub invariant-loop-cube : goal.invariant-loop-cube
-invariant-loop-cube l = literals_in l.rows.items ≡ map (row_over l.names) (take l.cube-index l.cover)

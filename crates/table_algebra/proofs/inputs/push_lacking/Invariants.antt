@@ -1,6 +1,0 @@
-use Rattle.std.proofs.Common.{◌≡◌, ℕ, List, ◌++◌, take}
-use Rattle.table_algebra.specs.Taking.{entries, lacking}
-use Rattle.table_algebra.proofs.inputs.push_lacking.Given as goal
-
-abbrev pub invariant-loop-i : goal.invariant-loop-i
-invariant-loop-i l = (names : List (List ℕ)) → l.places ≡ entries names l.others → l.made ≡ l.initial.made ++ lacking names (take l.i l.others)

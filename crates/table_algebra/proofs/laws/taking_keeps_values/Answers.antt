@@ -1,8 +1,0 @@
-use Rattle.table_algebra.proofs.Taken.{taken_value, taken_apart}
-use Rattle.table_algebra.proofs.laws.taking_keeps_values.Goals as goal
-
-pub returns-clause-value : goal.returns-clause-value
-returns-clause-value c = taken_value
-
-pub returns-clause-apart : goal.returns-clause-apart
-returns-clause-apart c = taken_apart

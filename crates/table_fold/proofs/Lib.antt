@@ -1,6 +1,0 @@
-pub mod Buffer
-pub mod Folded
-pub mod Mentioned
-pub mod Merging
-pub mod Once
-pub mod Steps

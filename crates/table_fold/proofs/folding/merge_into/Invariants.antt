@@ -1,6 +1,0 @@
-use Rattle.std.proofs.Common.{◌≡◌, drop}
-use Rattle.table_fold.specs.Listing.{merge_row}
-use Rattle.table_fold.proofs.folding.merge_into.Given as goal
-
-abbrev pub invariant-loop-i : goal.invariant-loop-i
-invariant-loop-i l = merge_row l.fn.out.items l.places l.row ≡ merge_row l.out.items (drop l.i l.places) (drop l.i l.row)

@@ -1,7 +1,0 @@
-use Rattle.std.proofs.Common.{take, bytes_eq}
-use Rattle.indexmap.specs.IndexMap.{get}
-use Rattle.table_order.specs.Places.{IsIndex}
-use Rattle.table_order.proofs.index.index_of.Given as goal
-
-abbrev pub invariant-loop-place : goal.invariant-loop-place
-invariant-loop-place l = IsIndex (take l.place l.tables) (get bytes_eq l.index)

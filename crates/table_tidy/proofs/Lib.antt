@@ -1,2 +1,0 @@
-pub mod Tidied
-pub mod Steps

@@ -1,8 +1,0 @@
-use Rattle.table_tidy.proofs.Tidied.{tidied_tidy, tidied_same}
-use Rattle.table_tidy.proofs.laws.tidied_is_tidy.Goals as goal
-
-pub returns-clause-tidy : goal.returns-clause-tidy
-returns-clause-tidy c = tidied_tidy
-
-pub returns-clause-same : goal.returns-clause-same
-returns-clause-same c = tidied_same

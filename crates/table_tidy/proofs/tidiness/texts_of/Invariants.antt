@@ -1,6 +1,0 @@
-use Rattle.std.proofs.Common.{◌≡◌, map, take}
-use Rattle.table_tidy.specs.Tidy.{row_text}
-use Rattle.table_tidy.proofs.tidiness.texts_of.Given as goal
-
-abbrev pub invariant-loop-row : goal.invariant-loop-row
-invariant-loop-row l = l.made.items ≡ map row_text (take l.row-index l.rows)

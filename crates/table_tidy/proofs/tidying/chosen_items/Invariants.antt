@@ -1,6 +1,0 @@
-use Rattle.std.proofs.Common.{◌≡◌, ◌++◌, drop}
-use Rattle.table_tidy.specs.Tidy.{chosen}
-use Rattle.table_tidy.proofs.tidying.chosen_items.Given as goal
-
-abbrev pub invariant-loop-i : goal.invariant-loop-i
-invariant-loop-i g l = l.made ++ chosen (drop l.i l.marks) (drop l.i l.items) ≡ chosen l.marks l.items

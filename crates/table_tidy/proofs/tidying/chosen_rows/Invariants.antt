@@ -1,6 +1,0 @@
-use Rattle.std.proofs.Common.{◌≡◌, map, take}
-use Rattle.table_tidy.specs.Tidy.{chosen}
-use Rattle.table_tidy.proofs.tidying.chosen_rows.Given as goal
-
-abbrev pub invariant-loop-row : goal.invariant-loop-row
-invariant-loop-row l = l.made.items ≡ map (chosen l.marks) (take l.row-index l.rows)
