@@ -24,7 +24,7 @@ use crate::word_list::{
 use circuit_model::{Latches, Name, Names, Table, Tables, Timing};
 use genlib_format::Library;
 use line_words::{add_names, characters, first_word, name_of, other_words};
-use sis_base::{Copied, Sequence};
+use sis_base::{Copied, Sequence, Whole};
 use std::alloc::{AllocError, AllocFailed, Global};
 use std::mem;
 
@@ -389,12 +389,14 @@ impl Draft {
     {
         let place = place_at(self.ended, self.has_part);
         let table = gate_table(alloc, library, place, self.nodes, number, words)?;
+        // A whole, so that letting it go is one call.
+        let table = Whole { it: table };
         self.close()?;
-        let inputs = table.inputs.as_slice();
-        self.drives.push(table.output.copy(alloc)?)?;
+        let inputs = table.it.inputs.as_slice();
+        self.drives.push(table.it.output.copy(alloc)?)?;
         add_gate_signals(alloc, false, &mut self.reads, words, inputs)?;
         add_gate_signals(alloc, self.lists_inputs, &mut self.inner, words, inputs)?;
-        self.tables.push(table)?;
+        self.tables.push(table.into_it())?;
         self.nodes += 1;
         Ok(())
     }

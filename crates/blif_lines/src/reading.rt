@@ -11,6 +11,7 @@ use crate::fault::ReadFault;
 use crate::file_fault::{head_fault, listed_fault, settled_fault};
 use crate::settling::{circuit_of, head_of, settle};
 use genlib_format::Library;
+use sis_base::Whole;
 use sis_text::{Line, texts_at};
 use std::alloc::Global;
 
@@ -60,27 +61,27 @@ fn take_runs(
 }
 
 /// The head of a machine, of the draft behind the last line, if no port is listed twice.
-fn read_head(alloc: Global, draft: Draft) -> Result<Content, ReadFault>
-    ensures { Reads result (read_kept_as true (kept_of draft)) }
+fn read_head(alloc: Global, draft: Whole<Draft>) -> Result<Content, ReadFault>
+    ensures { Reads result (read_kept_as true (kept_of draft.it)) }
 {
-    if let Some(fault) = head_fault(alloc, draft.ports.as_slice())? {
+    if let Some(fault) = head_fault(alloc, draft.it.ports.as_slice())? {
         return Err(ReadFault::Fault(fault));
     }
-    Ok(Content::Head(head_of(draft)))
+    Ok(Content::Head(head_of(draft.into_it())))
 }
 
 /// The circuit of the draft behind the last line, if nothing is wrong with the whole.
 #[tactic(auto, unfolding(crate::specs::Steps::kept_fault, crate::specs::Steps::settled, crate::specs::Steps::settled_fault, crate::specs::Lines::first_of))]
-fn read_circuit(alloc: Global, draft: Draft) -> Result<Content, ReadFault>
-    requires { HasApartTables (kept_of draft) }
-    ensures { Reads result (read_kept_as false (kept_of draft)) }
+fn read_circuit(alloc: Global, draft: Whole<Draft>) -> Result<Content, ReadFault>
+    requires { HasApartTables (kept_of draft.it) }
+    ensures { Reads result (read_kept_as false (kept_of draft.it)) }
 {
     let mut draft = draft;
-    if let Some(fault) = listed_fault(alloc, &draft)? {
+    if let Some(fault) = listed_fault(alloc, &draft.it)? {
         return Err(ReadFault::Fault(fault));
     }
-    settle(alloc, &mut draft)?;
-    if let Some(fault) = settled_fault(alloc, &draft)? {
+    settle(alloc, &mut draft.it)?;
+    if let Some(fault) = settled_fault(alloc, &draft.it)? {
         return Err(ReadFault::Fault(fault));
     }
     Ok(Content::Circuit(circuit_of(alloc, draft)?))
@@ -88,11 +89,11 @@ fn read_circuit(alloc: Global, draft: Draft) -> Result<Content, ReadFault>
 
 /// What is read of a draft behind the last line: its circuit or the head of a machine, if nothing is wrong with the whole.
 #[tactic(auto, unfolding(crate::specs::Steps::read_kept))]
-fn finish(alloc: Global, draft: Draft) -> Result<Content, ReadFault>
-    requires { HasApartTables (kept_of draft) }
-    ensures { Reads result (finished draft) }
+fn finish(alloc: Global, draft: Whole<Draft>) -> Result<Content, ReadFault>
+    requires { HasApartTables (kept_of draft.it) }
+    ensures { Reads result (finished draft.it) }
 {
-    if draft.is_machine() {
+    if draft.it.is_machine() {
         read_head(alloc, draft)
     } else {
         read_circuit(alloc, draft)
@@ -110,7 +111,9 @@ pub fn read_lines(
 ) -> Result<Content, ReadFault>
     ensures { Reads result (read_lines (option_copied library.entry) (map (entry_at source.now) front.now ++ map (entry_at source.now) back.now)) }
 {
-    let mut draft = Draft::new(alloc)?;
-    take_runs(alloc, source, front, back, library, &mut draft)?;
+    let draft = Draft::new(alloc)?;
+    // A whole, so that letting it go is one call.
+    let mut draft = Whole { it: draft };
+    take_runs(alloc, source, front, back, library, &mut draft.it)?;
     finish(alloc, draft)
 }

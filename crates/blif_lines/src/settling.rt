@@ -9,7 +9,7 @@ use crate::draft::{Draft, with_reading};
 use crate::ports::find_ports;
 use circuit_model::{Circuit, Tables};
 use circuit_tables::fold_table;
-use sis_base::Sequence;
+use sis_base::{Sequence, Whole};
 use std::alloc::{AllocError, Global};
 use std::mem;
 
@@ -51,9 +51,18 @@ fn folded_tables(alloc: Global, tables: Tables) -> Result<Tables, AllocError>
     Ok(less)
 }
 
-/// The circuit of a draft that is settled; an error only for want of memory.
-pub fn circuit_of(alloc: Global, draft: Draft) -> Result<Circuit, AllocError>
-    ensures { IfOk result (λ circuit. circuit ≡ settled_circuit draft) }
+/// The circuit of a draft that is settled, with other tables in place of the model's.
+fn circuit_with(draft: Draft, model_tables: Tables) -> Circuit
+    ensures { result ≡ record {
+      name = draft.name;
+      inputs = draft.inputs;
+      outputs = draft.outputs;
+      clocks = draft.clocks;
+      timing = draft.timing;
+      latches = draft.latches;
+      tables = model_tables;
+      dont_care = draft.tables;
+    } }
 {
     let Draft {
         name,
@@ -62,20 +71,29 @@ pub fn circuit_of(alloc: Global, draft: Draft) -> Result<Circuit, AllocError>
         clocks,
         timing,
         latches,
-        model_tables,
         tables,
         ..
     } = draft;
-    Ok(Circuit {
+    Circuit {
         name,
         inputs,
         outputs,
         clocks,
         timing,
         latches,
-        tables: folded_tables(alloc, model_tables)?,
+        tables: model_tables,
         dont_care: tables,
-    })
+    }
+}
+
+/// The circuit of a draft that is settled; an error only for want of memory.
+pub fn circuit_of(alloc: Global, draft: Whole<Draft>) -> Result<Circuit, AllocError>
+    ensures { IfOk result (λ circuit. circuit ≡ settled_circuit draft.it) }
+{
+    let mut draft = draft;
+    let tables = mem::replace(&mut draft.it.model_tables, Sequence::new(alloc));
+    let folded = folded_tables(alloc, tables)?;
+    Ok(circuit_with(draft.into_it(), folded))
 }
 
 /// The head of a machine, of the draft behind the last line.

@@ -15,6 +15,7 @@ use crate::fault::ReadFault;
 use crate::keyword::{Keyword, keyword_of};
 use crate::whole::{finish, no_machine};
 use circuit_model::Machine;
+use sis_base::Whole;
 use sis_text::{Line, bytes_at, logical_lines, texts_at};
 use std::alloc::Global;
 
@@ -105,10 +106,15 @@ fn take_all(
 fn read_by_steps(alloc: Global, source: &[u8], lines: &[Line]) -> Result<Machine, ReadFault>
     ensures { Reads result (finish_by (take_entries no_lines (before_end_of (map (entry_at source.now) lines.now)))) }
 {
-    let mut draft = Draft::new(alloc);
-    let mut machine = no_machine(alloc);
-    take_all(source, lines, &mut draft, &mut machine, alloc)?;
-    Ok(machine)
+    // Wholes, so that letting each go is one call.
+    let mut draft = Whole {
+        it: Draft::new(alloc),
+    };
+    let mut machine = Whole {
+        it: no_machine(alloc),
+    };
+    take_all(source, lines, &mut draft.it, &mut machine.it, alloc)?;
+    Ok(machine.into_it())
 }
 
 /// Reads logical lines of a text as a machine. An error says the first fault of a line, in file order, else the first of

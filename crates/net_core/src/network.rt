@@ -28,7 +28,7 @@ use circuit_model::{
 use circuit_order::order;
 use cube_cover::Row;
 use indexmap::IndexMap;
-use sis_base::{Copied, Sequence};
+use sis_base::{Copied, Sequence, Whole};
 use std::alloc::{AllocError, Global};
 use std::marker::Model;
 
@@ -43,7 +43,6 @@ pub struct Sizes {
 }
 
 /// A sound circuit whose tables are found by their names, and changed one at a time.
-#[derive(Drop)]
 pub struct Network<R: Row> {
     name: Name,
     inputs: Names,
@@ -53,6 +52,22 @@ pub struct Network<R: Row> {
     latches: Vec<Latch>,
     tables: NamedTables<R>,
     dont_care: Tables,
+}
+
+// By hand, so that letting a network go is one call in the functions that own one.
+impl<R: Row> Drop for Network<R> {
+    fn drop(self) {
+        let Network {
+            name: _name,
+            inputs: _inputs,
+            outputs: _outputs,
+            clocks: _clocks,
+            timing: _timing,
+            latches: _latches,
+            tables: _tables,
+            dont_care: _dont_care,
+        } = self;
+    }
 }
 
 /// What a network is made of: the circuit without its tables, the tables at their places, and where each name stands.
@@ -176,24 +191,123 @@ fn drop_timing(latches: &[Latch], timing: &mut Option<Timing>)
     }
 }
 
+// What names a circuit and its signals.
+struct Ports {
+    name: Name,
+    inputs: Names,
+    outputs: Names,
+    clocks: Names,
+}
+
+// By hand, so that letting them go is one call.
+impl Drop for Ports {
+    fn drop(self) {
+        let Ports {
+            name: _name,
+            inputs: _inputs,
+            outputs: _outputs,
+            clocks: _clocks,
+        } = self;
+    }
+}
+
+impl Ports {
+    // The circuit of these names without tables.
+    fn into_frame(
+        self,
+        alloc: Global,
+        timing: Option<Timing>,
+        latches: Latches,
+        dont_care: Tables,
+    ) -> Circuit
+        ensures { result ≡ record { name = self.name; inputs = self.inputs; outputs = self.outputs; clocks = self.clocks; timing = timing; latches = latches; tables = []; dont_care = dont_care } }
+    {
+        let Ports {
+            name,
+            inputs,
+            outputs,
+            clocks,
+        } = self;
+        Circuit {
+            name,
+            inputs,
+            outputs,
+            clocks,
+            timing,
+            latches,
+            tables: Sequence::new(alloc),
+            dont_care,
+        }
+    }
+}
+
+// The circuit with other tables; takes no memory.
+fn circuit_with(frame: Circuit, tables: Tables) -> Circuit
+    ensures { result ≡ with_tables frame tables }
+{
+    Circuit {
+        name: frame.name,
+        inputs: frame.inputs,
+        outputs: frame.outputs,
+        clocks: frame.clocks,
+        timing: frame.timing,
+        latches: frame.latches,
+        tables,
+        dont_care: frame.dont_care,
+    }
+}
+
 impl<R: Row> Network<R> {
+    // The network of a circuit with other tables; takes no memory.
+    fn with(frame: Circuit, tables: NamedTables<R>) -> Network<R>
+        requires { IsSound (with_tables frame tables) }
+        ensures { result ≡ with_tables frame tables }
+    {
+        Network {
+            name: frame.name,
+            inputs: frame.inputs,
+            outputs: frame.outputs,
+            clocks: frame.clocks,
+            timing: frame.timing,
+            latches: frame.latches.into_vec(),
+            tables,
+            dont_care: frame.dont_care,
+        }
+    }
+
+    // Copies of the names of a network.
+    fn ports_copied(&self, alloc: Global) -> Result<Ports, AllocError>
+        ensures { IfOk result (λ ports. (ports.name ≡ self.now.name) × (ports.inputs ≡ self.now.inputs) × (ports.outputs ≡ self.now.outputs) × (ports.clocks ≡ self.now.clocks)) }
+    {
+        Ok(Ports {
+            name: self.name.copy(alloc)?,
+            inputs: self.inputs.copy(alloc)?,
+            outputs: self.outputs.copy(alloc)?,
+            clocks: self.clocks.copy(alloc)?,
+        })
+    }
+
+    // A copy of the circuit, without its tables.
+    fn frame_copied(&self, alloc: Global) -> Result<Circuit, AllocError>
+        ensures { IfOk result (λ frame. frame ≡ with_tables self.now []) }
+    {
+        let ports = self.ports_copied(alloc)?;
+        let timing = timing_copied(alloc, &self.timing)?;
+        let latches = latches_copied(alloc, self.latches.as_slice())?;
+        let dont_care = self.dont_care.copy(alloc)?;
+        Ok(ports.into_frame(alloc, timing, latches, dont_care))
+    }
+
     /// The network of a sound circuit, whose parts move over; the covers of its tables are made, and an error comes only
     /// for want of memory for them.
     pub fn from_circuit(alloc: Global, circuit: Circuit) -> Result<Network<R>, AllocError>
         requires { IsSound circuit }
         ensures { IfOk result (λ network. network ≡ circuit) }
     {
-        let tables = tables_from(alloc, circuit.tables.as_slice())?;
-        Ok(Network {
-            name: circuit.name,
-            inputs: circuit.inputs,
-            outputs: circuit.outputs,
-            clocks: circuit.clocks,
-            timing: circuit.timing,
-            latches: circuit.latches.into_vec(),
-            tables,
-            dont_care: circuit.dont_care,
-        })
+        // A whole, so that letting it go is one call.
+        let whole = Whole { it: circuit };
+        let tables = tables_from(alloc, whole.it.tables.as_slice())?;
+        Ok(Network::with(whole.into_it(), tables))
     }
 
     /// The parts, moved out; takes no memory.
@@ -203,16 +317,26 @@ impl<R: Row> Network<R> {
         ensures over { AreOverInputs result.slots.items }
     {
         self.sound();
-        let NamedTables { slots, places } = self.tables;
+        let Network {
+            name,
+            inputs,
+            outputs,
+            clocks,
+            timing,
+            latches,
+            tables,
+            dont_care,
+        } = self;
+        let NamedTables { slots, places } = tables;
         let frame = Circuit {
-            name: self.name,
-            inputs: self.inputs,
-            outputs: self.outputs,
-            clocks: self.clocks,
-            timing: self.timing,
-            latches: Sequence::from_vec(self.latches),
+            name,
+            inputs,
+            outputs,
+            clocks,
+            timing,
+            latches: Sequence::from_vec(latches),
             tables: Sequence::new(alloc),
-            dont_care: self.dont_care,
+            dont_care,
         };
         Parts {
             frame,
@@ -233,49 +357,31 @@ impl<R: Row> Network<R> {
             slots,
             places,
         } = parts;
-        let tables = NamedTables { slots, places };
-        Network {
-            name: frame.name,
-            inputs: frame.inputs,
-            outputs: frame.outputs,
-            clocks: frame.clocks,
-            timing: frame.timing,
-            latches: frame.latches.into_vec(),
-            tables,
-            dont_care: frame.dont_care,
-        }
+        Network::with(frame, NamedTables { slots, places })
     }
 
     /// The circuit; an error only for want of memory.
     pub fn to_circuit(&self, alloc: Global) -> Result<Circuit, AllocError>
         ensures { IfOk result (λ circuit. circuit ≡ self.now) }
     {
-        Ok(Circuit {
-            name: self.name.copy(alloc)?,
-            inputs: self.inputs.copy(alloc)?,
-            outputs: self.outputs.copy(alloc)?,
-            clocks: self.clocks.copy(alloc)?,
-            timing: timing_copied(alloc, &self.timing)?,
-            latches: latches_copied(alloc, self.latches.as_slice())?,
-            tables: tables_to(alloc, self.tables.slots())?,
-            dont_care: self.dont_care.copy(alloc)?,
-        })
+        // A whole, so that letting it go is one call.
+        let frame = Whole {
+            it: self.frame_copied(alloc)?,
+        };
+        let tables = tables_to(alloc, self.tables.slots())?;
+        Ok(circuit_with(frame.into_it(), tables))
     }
 
     /// The same network; an error only for want of memory.
     pub fn copy(&self, alloc: Global) -> Result<Network<R>, AllocError>
         ensures { IfOk result (λ network. network ≡ self.now) }
     {
-        Ok(Network {
-            name: self.name.copy(alloc)?,
-            inputs: self.inputs.copy(alloc)?,
-            outputs: self.outputs.copy(alloc)?,
-            clocks: self.clocks.copy(alloc)?,
-            timing: timing_copied(alloc, &self.timing)?,
-            latches: latches_copied(alloc, self.latches.as_slice())?.into_vec(),
-            tables: tables_copied(alloc, self.tables.slots())?,
-            dont_care: self.dont_care.copy(alloc)?,
-        })
+        // A whole, so that letting it go is one call.
+        let frame = Whole {
+            it: self.frame_copied(alloc)?,
+        };
+        let tables = tables_copied(alloc, self.tables.slots())?;
+        Ok(Network::with(frame.into_it(), tables))
     }
 
     /// The name of the model.

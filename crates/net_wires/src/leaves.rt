@@ -9,7 +9,7 @@ ghost use Rattle.net_wires.specs.Needed.{dont_care_reads};
 
 use circuit_model::{Circuit, Name, Table};
 use indexmap::IndexSet;
-use sis_base::Copied;
+use sis_base::{Copied, Whole};
 use std::alloc::{AllocError, Global};
 
 /// Whether a name is among names.
@@ -68,11 +68,14 @@ fn undriven_inputs(
 ) -> Result<IndexSet<Name>, AllocError>
     ensures { IfOk result (λ names. (name : List ℕ) → has names.keys name ≡ (not (has driven.now.keys name) && has (table_inputs tables.now) name)) }
 {
-    let mut names = IndexSet::new(alloc);
+    // A whole, so that letting it go is one call.
+    let mut names = Whole {
+        it: IndexSet::new(alloc),
+    };
     for table in tables {
-        add_undriven(alloc, &mut names, driven, table.inputs.as_slice())?;
+        add_undriven(alloc, &mut names.it, driven, table.inputs.as_slice())?;
     }
-    Ok(names)
+    Ok(names.into_it())
 }
 
 /// The leaves that the don't-care part reads; an error only for want of memory.
@@ -81,6 +84,8 @@ pub fn leaves_read(alloc: Global, circuit: &Circuit) -> Result<IndexSet<Name>, A
     ensures { IfOk result (λ names. (name : List ℕ) → has names.keys name ≡ dont_care_reads circuit.now name) }
 {
     let driven = driven_names(alloc, circuit.dont_care.as_slice())?;
-    let names = undriven_inputs(alloc, circuit.dont_care.as_slice(), &driven)?;
+    // A whole, so that letting it go is one call.
+    let driven = Whole { it: driven };
+    let names = undriven_inputs(alloc, circuit.dont_care.as_slice(), &driven.it)?;
     Ok(names)
 }

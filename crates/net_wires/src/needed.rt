@@ -19,7 +19,7 @@ use crate::parts::{are_all_among, latches_among, tables_among, with_parts};
 use crate::places::{latch_of, latch_places, table_of, table_places};
 use circuit_model::{Circuit, Latch, Name, Table};
 use indexmap::{IndexMap, IndexSet};
-use sis_base::Copied;
+use sis_base::{Copied, Whole};
 use std::alloc::{AllocError, Global};
 
 // Puts names among names, each behind the last where it is new.
@@ -125,12 +125,17 @@ fn needed_names(alloc: Global, circuit: &Circuit) -> Result<IndexSet<Name>, Allo
     requires latches_differ { all_different (latch_outputs circuit.now) ≡ true }
     ensures { IfOk result (λ names. (name : List ℕ) → has names.keys name ≡ is_needed circuit.now name) }
 {
-    let begun = roots(alloc, circuit)?;
     let tables = circuit.tables.as_slice();
     let latches = circuit.latches.as_slice();
-    let to_tables = table_places(alloc, tables)?;
-    let to_latches = latch_places(alloc, latches)?;
-    let names = reached(alloc, begun, tables, &to_tables, latches, &to_latches)?;
+    // Wholes, so that letting one go is one call.
+    let to_tables = Whole {
+        it: table_places(alloc, tables)?,
+    };
+    let to_latches = Whole {
+        it: latch_places(alloc, latches)?,
+    };
+    let begun = roots(alloc, circuit)?;
+    let names = reached(alloc, begun, tables, &to_tables.it, latches, &to_latches.it)?;
     Ok(names)
 }
 
@@ -141,12 +146,14 @@ pub fn dangling_step(alloc: Global, circuit: &Circuit) -> Result<Option<Circuit>
     requires latches_differ { all_different (latch_outputs circuit.now) ≡ true }
     ensures { IfOk result (λ next. next ≡ remove_dangling circuit.now) }
 {
+    // A whole, so that letting it go is one call.
     let needed = needed_names(alloc, circuit)?;
-    if are_all_among(circuit, &needed) {
+    let needed = Whole { it: needed };
+    if are_all_among(circuit, &needed.it) {
         return Ok(None);
     }
-    let tables = tables_among(alloc, circuit.tables.as_slice(), &needed)?;
-    let latches = latches_among(alloc, circuit.latches.as_slice(), &needed)?;
+    let tables = tables_among(alloc, circuit.tables.as_slice(), &needed.it)?;
+    let latches = latches_among(alloc, circuit.latches.as_slice(), &needed.it)?;
     let made = with_parts(alloc, circuit, tables, latches)?;
     Ok(Some(made))
 }

@@ -9,16 +9,26 @@ ghost use Rattle.net_work.specs.Frames.{reserved_by, roots_of};
 
 use circuit_model::{Circuit, Latch, Name, Table, Timing};
 use indexmap::IndexSet;
-use sis_base::Copied;
+use sis_base::{Copied, Whole};
 use std::alloc::{AllocError, Global};
 use std::marker::Model;
 
 /// A circuit whose tables do not count; contracts see it as the circuit.
-#[derive(Drop)]
 pub struct Frame {
     circuit: Circuit,
     reserved: IndexSet<Name>,
     roots: IndexSet<Name>,
+}
+
+// By hand, so that letting a frame go is one call in the functions that own one.
+impl Drop for Frame {
+    fn drop(self) {
+        let Frame {
+            circuit: _circuit,
+            reserved: _reserved,
+            roots: _roots,
+        } = self;
+    }
 }
 
 impl Model for Frame {
@@ -118,17 +128,30 @@ fn note_tables(
     Ok(())
 }
 
+// Puts the names that no new table may take, those of tables aside, where no name is yet.
+fn note_reserved(
+    alloc: Global,
+    names: &mut IndexSet<Name>,
+    circuit: &Circuit,
+) -> Result<(), AllocError>
+    requires { names.old.keys ≡ [] }
+    ensures { OnOk result ((name : List ℕ) → has names.new.keys name ≡ has (reserved_by circuit.now) name) }
+{
+    note_all(alloc, names, circuit.inputs.as_slice())?;
+    note_latch_outputs(alloc, names, circuit.latches.as_slice())?;
+    note_all(alloc, names, circuit.outputs.as_slice())?;
+    note_all(alloc, names, circuit.clocks.as_slice())?;
+    note_control(alloc, names, &circuit.timing)?;
+    note_tables(alloc, names, circuit.dont_care.as_slice())?;
+    Ok(())
+}
+
 // The names that no new table may take, those of tables aside.
 fn reserved_names(alloc: Global, circuit: &Circuit) -> Result<IndexSet<Name>, AllocError>
     ensures { IfOk result (λ names. (name : List ℕ) → has names.keys name ≡ has (reserved_by circuit.now) name) }
 {
     let mut names = IndexSet::new(alloc);
-    note_all(alloc, &mut names, circuit.inputs.as_slice())?;
-    note_latch_outputs(alloc, &mut names, circuit.latches.as_slice())?;
-    note_all(alloc, &mut names, circuit.outputs.as_slice())?;
-    note_all(alloc, &mut names, circuit.clocks.as_slice())?;
-    note_control(alloc, &mut names, &circuit.timing)?;
-    note_tables(alloc, &mut names, circuit.dont_care.as_slice())?;
+    note_reserved(alloc, &mut names, circuit)?;
     Ok(names)
 }
 
@@ -147,10 +170,12 @@ impl Frame {
     pub fn of(alloc: Global, circuit: Circuit) -> Result<Frame, AllocError>
         ensures { IfOk result (λ frame. frame ≡ circuit) }
     {
-        let reserved = reserved_names(alloc, &circuit)?;
-        let roots = root_names(alloc, &circuit)?;
+        // A whole, so that letting it go is one call.
+        let whole = Whole { it: circuit };
+        let reserved = reserved_names(alloc, &whole.it)?;
+        let roots = root_names(alloc, &whole.it)?;
         Ok(Frame {
-            circuit,
+            circuit: whole.into_it(),
             reserved,
             roots,
         })
@@ -181,7 +206,11 @@ impl Frame {
     pub fn into_circuit(self) -> Circuit
         ensures { result ≡ self }
     {
-        let Frame { circuit, .. } = self;
+        let Frame {
+            circuit,
+            reserved: _reserved,
+            roots: _roots,
+        } = self;
         circuit
     }
 }

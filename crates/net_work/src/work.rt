@@ -23,17 +23,30 @@ use cube_cover::Row;
 use indexmap::IndexMap;
 use net_core::{Entry, Network, Parts, found_place};
 use net_readers::Places;
+use sis_base::Whole;
 use std::alloc::{AllocError, Global};
 use std::marker::Model;
 
 /// A network whose tables stand at places.
-#[derive(Drop)]
 pub struct Work<R: Row> {
     pub(crate) frame: Frame,
     pub(crate) slots: Vec<Option<Entry<R>>>,
     pub(crate) places: IndexMap<Name, usize>,
     pub(crate) links: Links,
     pub(crate) number: u64,
+}
+
+// By hand, so that letting a working network go is one call in the functions that own one.
+impl<R: Row> Drop for Work<R> {
+    fn drop(self) {
+        let Work {
+            frame: _frame,
+            slots: _slots,
+            places: _places,
+            links: _links,
+            number: _number,
+        } = self;
+    }
 }
 
 impl<R: Row> Model for Work<R> {
@@ -62,12 +75,14 @@ impl<R: Row> Work<R> {
             slots,
             places,
         } = network.into_parts(alloc);
-        let links = links_of(alloc, slots.as_slice())?;
+        // A whole, so that letting it go is one call.
+        let places = Whole { it: places };
         let frame = Frame::of(alloc, frame)?;
+        let links = links_of(alloc, slots.as_slice())?;
         Ok(Work {
             frame,
             slots,
-            places,
+            places: places.into_it(),
             links,
             number: 0,
         })
@@ -82,7 +97,8 @@ impl<R: Row> Work<R> {
             frame,
             slots,
             places,
-            ..
+            links: _links,
+            number: _number,
         } = self;
         Network::from_parts(Parts {
             frame: frame.into_circuit(),

@@ -7,12 +7,23 @@ use std::alloc::{AllocError, Global};
 use trial_cases::{CaseFault, number_of};
 
 /// The objects of the outside.
-#[derive(Drop)]
 pub struct Outside {
     pub store: TrialStore,
     pub input: Wanting<MemSource>,
     pub out: Wanting<MemSink>,
     pub err: Wanting<MemSink>,
+}
+
+// By hand, so that letting them go is one call.
+impl Drop for Outside {
+    fn drop(self) {
+        let Outside {
+            store: _store,
+            input: _input,
+            out: _out,
+            err: _err,
+        } = self;
+    }
 }
 
 impl Outside {

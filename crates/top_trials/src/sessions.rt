@@ -5,6 +5,7 @@ use crate::outside::Outside;
 use crate::parts::{Part, parts};
 use crate::wanting::TrialStore;
 use blif_read::{BlifFault, ReadFault};
+use sis_base::Whole;
 use sis_session::{Refusal, Session, Stats, StepFault, error_text, load, refusal_text};
 use sis_text::Word;
 use std::alloc::{AllocError, Global};
@@ -41,12 +42,13 @@ fn put_calls(
     lines: &[&str],
     store: &mut TrialStore,
 ) -> Result<(), CaseFault> {
-    let mut session = Session::new();
+    // A whole, so that letting the session go is one call.
+    let mut session = Whole { it: Session::new() };
     for line in lines {
         if line.starts_with("@") {
             break;
         }
-        put_call(alloc, out, &mut session, store, line)?;
+        put_call(alloc, out, &mut session.it, store, line)?;
     }
     Ok(())
 }

@@ -5,11 +5,21 @@ use crate::texts::put_line;
 use std::alloc::{AllocError, Global};
 
 /// A case: the words of its first line, that line, and the lines below it.
-#[derive(Drop)]
 pub struct Case<'a> {
     pub head: &'a str,
     pub words: Vec<&'a str>,
     pub lines: Vec<&'a str>,
+}
+
+// By hand, so that letting a case go is one call.
+impl<'a> Drop for Case<'a> {
+    fn drop(self) {
+        let Case {
+            head: _head,
+            words: _words,
+            lines: _lines,
+        } = self;
+    }
 }
 
 impl<'a> Case<'a> {

@@ -9,10 +9,10 @@ pub tables_from-requires-clause-distinct : goal.tables_from-requires-clause-dist
 tables_from-requires-clause-distinct g c =
     ap (λ (ts : List Written). all_different (outputs_of ts)) c.as_slice.ensures ∙ tables_differ c.args.circuit c.requires
 
-pub invariant_of-result : goal.invariant_of-result
-invariant_of-result g c =
+pub with-requires : goal.with-requires
+with-requires g c =
     rw (
-      c.into_vec.ensures,
+      c.into_it.ensures,
       c.in_ok-tables.ensures,
       c.as_slice.ensures,
     ) c.requires

@@ -20,10 +20,10 @@ links_of-requires g c =
 
 pub invariant_of-result : goal.invariant_of-result
 invariant_of-result g c =
-    kept_made c.in_ok-frame.frame c.into_parts-frame.result.slots.items (get bytes_eq c.into_parts-frame.result.places) c.in_ok-links.links c.into_parts-frame.ensures.indexed c.into_parts-frame.ensures.over
+    rw c.into_it.ensures (kept_made c.in_ok-frame.frame c.into_parts-frame.result.slots.items (get bytes_eq c.into_parts-frame.result.places) c.in_ok-links.links c.into_parts-frame.ensures.indexed c.into_parts-frame.ensures.over
     (once_present c.into_parts-frame.result.slots.items
     (subst (λ (circuit : Circuit). AllByRecursion (λ (t : Written). all_different t.inputs ≡ true) circuit.tables) c.into_parts-frame.ensures.circuit c.sound.ensures.table_inputs_once))
-    (subst (λ (slots : List (Option (Entry g.row.R.Denot))). AreLinked c.in_ok-links.links (written_slots slots)) c.as_slice.ensures.value c.in_ok-links.ensures)
+    (subst (λ (slots : List (Option (Entry g.row.R.Denot))). AreLinked c.in_ok-links.links (written_slots slots)) c.as_slice.ensures.value c.in_ok-links.ensures))
 
 pub returns-clause-circuit : goal.returns-clause-circuit
 returns-clause-circuit g c =
