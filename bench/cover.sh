@@ -1,14 +1,14 @@
 #!/usr/bin/env bash
 # Covers of random circuits by the gates of two libraries: (a) 20 gates of up to four literals, (b) the products and sums of up to
-# six literals, each as it is and complemented, and an inverter. The trial program of trees reads, makes the forest and covers it;
+# six literals, each as it is and complemented, and an inverter. The trial program of library calls reads, makes the forest and covers it;
 # reported are the processor time and the peak memory of each part, the heap that the forest and its covers take, and what Debian's
 # berkeley-abc takes for `map -a` (which maps the shared graph and not its trees) in the same run, where it is installed.
-# Usage: bench/cover.sh [PROGRAM [TABLES ..]]   (crates/tree_trials/out/tree_trials where none is named, which `cd crates/tree_trials
+# Usage: bench/cover.sh [PROGRAM [TABLES ..]]   (crates/library_trials/out/library_trials where none is named, which `cd crates/library_trials
 # && rt run` proves and builds; without numbers 3400 and 20000 tables)
 set -u
 top=$(cd "$(dirname "$(readlink -f "$0")")/.." && pwd) || exit 1
 . "$top/bench/common.sh"
-program=${1:-$top/crates/tree_trials/out/tree_trials}
+program=${1:-$top/crates/library_trials/out/library_trials}
 [ -x "$program" ] || { echo "cover.sh: no program $program" >&2; exit 1; }
 [ $# -gt 0 ] && shift
 

@@ -2,12 +2,12 @@
 # Kernels, tautologies and Shannon lists of covers that are dear to any plain method: the product of N sums of two literals, as its
 # 2^N rows (2^N - 1 kernels of 3^N rows in all); a chain of implications (a tautology whose width is its number of rows); the
 # pigeonhole table of N holes (a tautology, whose list is one row). Reports the processor time and the peak memory of the calls
-# `kernels`, `is_tautology` and `on_list`, which the trial program of covers makes.
-# Usage: bench/covers.sh [PROGRAM]   (crates/cover_trials/out/cover_trials where none is named; `cd crates/cover_trials && rt run
+# `kernels`, `is_tautology` and `on_list`, which the trial program of library calls makes.
+# Usage: bench/covers.sh [PROGRAM]   (crates/library_trials/out/library_trials where none is named; `cd crates/library_trials && rt run
 # < /dev/null` proves and builds it)
 set -u
 top=$(cd "$(dirname "$0")/.." && pwd) || exit 1
-program=${1:-$top/crates/cover_trials/out/cover_trials}
+program=${1:-$top/crates/library_trials/out/library_trials}
 [ -x "$program" ] || { echo "covers.sh: no program $program" >&2; exit 1; }
 work=$(mktemp -d) || exit 1
 trap 'rm -rf "$work"' EXIT
@@ -17,7 +17,7 @@ cases() {
 import itertools, sys
 work = sys.argv[1]
 def put(name, call, rows, rest=""):
-    text = f"{call} {len(rows[0])}:" + "".join(row + "/" for row in rows) + rest + "\n"
+    text = f"{call} {len(rows[0])}:" + "".join(row + "/" for row in rows) + rest + "\n==\n"
     open(f"{work}/{name}", "w").write(text)
 def row(width, literals):
     places = ["-"] * width
@@ -45,7 +45,7 @@ import os, resource, subprocess, sys
 program, file = sys.argv[1:]
 answer = subprocess.run([program], stdin=open(file), stdout=subprocess.PIPE).stdout
 used = resource.getrusage(resource.RUSAGE_CHILDREN)
-told = answer.decode().strip()
+told = answer.decode().split("\n", 1)[1].strip() # behind the line of the case
 short = told if len(told) < 40 else f"{len(told)} characters"
 print(f"{os.path.basename(file):30} {used.ru_utime:.2f} s, peak {used.ru_maxrss} kB: {short}")
 PY

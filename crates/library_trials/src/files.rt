@@ -1,0 +1,197 @@
+//! What files of circuits, machines and gates are read as, and what is written.
+
+use crate::puts::{put_circuit, put_names, put_text, put_value};
+use crate::reads::{circuit, library, parted};
+use blif_lines::Content;
+use blif_read::{ReadFault, read};
+use blif_write::{latches_text, tables_text};
+use circuit_model::{Circuit, Machine, Spec};
+use genlib_expr::{Parsed, Token, agree, parse};
+use genlib_format::{Gate, Library, ReadFault as LibraryFault};
+use kiss_format::{ReadFault as KissFault, machine_text};
+use line_words::{name_of, put_characters, put_word};
+use sis_base::Copied;
+use sis_session::{put_blif_fault, put_kiss_fault, put_library_fault};
+use sis_text::{Decimal, logical_lines};
+use std::alloc::Global;
+use tree_cover::cells;
+use trial_cases::{Case, CaseFault, put_line, put_number, text_of};
+
+/// Puts the answer to a case of a file's text.
+pub fn answer(
+    alloc: Global,
+    out: &mut Vec<u8>,
+    case: &Case<'_>,
+    text: &[u8],
+) -> Result<(), CaseFault> {
+    match case.word(1) {
+        "read" => put_read(alloc, out, &read(alloc, text, None)),
+        "read_with_library" => put_with_library(alloc, out, case.lines.as_slice()),
+        "lines" => put_content(alloc, out, text),
+        "parts_text" => put_parts(alloc, out, &circuit(alloc, text)?),
+        "machine" => put_kiss(alloc, out, &kiss_format::read(alloc, text)),
+        "machine_lines" => {
+            let lines = logical_lines(alloc, text)?;
+            put_kiss(
+                alloc,
+                out,
+                &kiss_format::read_lines(alloc, text, lines.as_slice()),
+            )
+        }
+        "gates" => put_library(alloc, out, &genlib_format::read(alloc, text)),
+        "gate_rows" => put_gate(alloc, out, &library(alloc, text)?, case.word(2)),
+        "expression" => put_expression(alloc, out, text),
+        _ => Err(CaseFault::Bad),
+    }
+}
+
+/// Puts a copy of what a text is read as, or the fault.
+fn put_read(
+    alloc: Global,
+    out: &mut Vec<u8>,
+    found: &Result<Spec, ReadFault>,
+) -> Result<(), CaseFault> {
+    match found {
+        Ok(spec) => put_spec(alloc, out, &spec.copy(alloc)?),
+        Err(ReadFault::Fault(fault)) => {
+            put_blif_fault(out, alloc, fault)?;
+            put_text(out, b"")
+        }
+        Err(ReadFault::Memory) => Err(CaseFault::Memory),
+    }
+}
+
+/// Puts a circuit or a machine.
+fn put_spec(alloc: Global, out: &mut Vec<u8>, spec: &Spec) -> Result<(), CaseFault> {
+    match spec {
+        Spec::Circuit(circuit) => put_circuit(alloc, out, circuit),
+        Spec::Machine(machine) => put_machine(alloc, out, machine),
+    }
+}
+
+/// Puts what the lines behind a line `and` are read as, with the library of those before it.
+fn put_with_library(alloc: Global, out: &mut Vec<u8>, lines: &[&str]) -> Result<(), CaseFault> {
+    let (first, rest) = parted(lines);
+    let gates = library(alloc, text_of(alloc, first)?.as_slice())?;
+    let text = text_of(alloc, rest.get(1..).unwrap_or(&[]))?;
+    put_read(alloc, out, &read(alloc, text.as_slice(), Some(&gates)))
+}
+
+/// Puts what the lines of a text are read as, in one run.
+fn put_content(alloc: Global, out: &mut Vec<u8>, text: &[u8]) -> Result<(), CaseFault> {
+    let lines = logical_lines(alloc, text)?;
+    match &blif_lines::read_lines(alloc, text, lines.as_slice(), &[], None) {
+        Ok(Content::Circuit(circuit)) => put_circuit(alloc, out, circuit),
+        other => put_value(alloc, out, other),
+    }
+}
+
+/// Puts the texts of the latches of a circuit and of its tables.
+fn put_parts(alloc: Global, out: &mut Vec<u8>, circuit: &Circuit) -> Result<(), CaseFault> {
+    let latches = latches_text(alloc, &circuit.timing, circuit.latches.as_slice())?;
+    out.extend_from_slice(latches.as_slice())?;
+    let tables = tables_text(alloc, circuit.tables.as_slice())?;
+    Ok(out.extend_from_slice(tables.as_slice())?)
+}
+
+/// Puts the machine that was read, or the fault.
+fn put_kiss(
+    alloc: Global,
+    out: &mut Vec<u8>,
+    found: &Result<Machine, KissFault>,
+) -> Result<(), CaseFault> {
+    match found {
+        Ok(machine) => put_machine(alloc, out, machine),
+        Err(KissFault::Fault(fault)) => {
+            put_kiss_fault(out, alloc, fault)?;
+            put_text(out, b"")
+        }
+        Err(KissFault::Memory) => Err(CaseFault::Memory),
+    }
+}
+
+/// Puts a machine: its name, its ports, and its text.
+fn put_machine(alloc: Global, out: &mut Vec<u8>, machine: &Machine) -> Result<(), CaseFault> {
+    put_line(out, machine.name.as_slice())?;
+    out.extend_from_slice(b"inputs")?;
+    put_names(out, machine.inputs.as_slice())?;
+    out.extend_from_slice(b"outputs")?;
+    put_names(out, machine.outputs.as_slice())?;
+    Ok(machine_text(alloc, machine, out)?)
+}
+
+/// Puts the gates of a library that was read, or the fault.
+fn put_library(
+    alloc: Global,
+    out: &mut Vec<u8>,
+    found: &Result<Library, LibraryFault>,
+) -> Result<(), CaseFault> {
+    match found {
+        Ok(library) => put_gates(alloc, out, library),
+        Err(LibraryFault::Fault(fault)) => {
+            put_library_fault(out, alloc, fault)?;
+            put_text(out, b"")
+        }
+        Err(LibraryFault::Memory) => Err(CaseFault::Memory),
+    }
+}
+
+/// Puts for each gate its name, its area and the number of its pins.
+fn put_gates(alloc: Global, out: &mut Vec<u8>, library: &Library) -> Result<(), CaseFault> {
+    let cells = cells(alloc, library)?;
+    for (gate, cell) in library.gates().iter().zip(cells.iter()) {
+        out.extend_from_slice(gate.cell.as_slice())?;
+        put_word(out, Decimal(cell.area).print(alloc)?.as_slice())?;
+        out.push(b' ')?;
+        put_number(alloc, out, cell.pins)?;
+        put_text(out, b"")?;
+    }
+    Ok(())
+}
+
+/// Puts the output and the pins of the first gate of a name, and its rows; `none` where there is no
+/// such gate.
+fn put_gate(
+    alloc: Global,
+    out: &mut Vec<u8>,
+    library: &Library,
+    cell: &str,
+) -> Result<(), CaseFault> {
+    match library.gate(&name_of(alloc, cell.as_bytes())?) {
+        Some(gate) => put_function(alloc, out, gate),
+        None => put_text(out, b"none"),
+    }
+}
+
+/// Puts the output and the pins of a gate, and its rows.
+fn put_function(alloc: Global, out: &mut Vec<u8>, gate: &Gate) -> Result<(), CaseFault> {
+    out.extend_from_slice(gate.output.as_slice())?;
+    put_names(out, gate.pins.as_slice())?;
+    let rows = gate.rows(alloc)?;
+    for row in rows.as_slice() {
+        put_characters(out, row.as_slice())?;
+        put_text(out, b"")?;
+    }
+    Ok(())
+}
+
+/// Puts the pins and the rows of an expression, and whether it agrees with the product of its first
+/// two pins.
+fn put_expression(alloc: Global, out: &mut Vec<u8>, text: &[u8]) -> Result<(), CaseFault> {
+    match &genlib_expr::read(alloc, text) {
+        Ok(parsed) => put_parsed(alloc, out, parsed),
+        Err(fault) => put_value(alloc, out, fault),
+    }
+}
+
+/// Puts the pins and the rows of an expression, and whether it agrees with the product of its first
+/// two pins.
+fn put_parsed(alloc: Global, out: &mut Vec<u8>, parsed: &Parsed) -> Result<(), CaseFault> {
+    put_names(out, parsed.pins.as_slice())?;
+    let rows = genlib_expr::rows(alloc, parsed.pins.len(), &parsed.expr)?;
+    put_value(alloc, out, &rows)?;
+    match &parse(alloc, &[Token::Name(0), Token::Star, Token::Name(1)]) {
+        Ok(product) => put_value(alloc, out, &agree(alloc, 2, &parsed.expr, product)?),
+        Err(fault) => put_value(alloc, out, fault),
+    }
+}

@@ -1,0 +1,89 @@
+//! Makes each call of a library that can want memory once, with memory enough, on small data.
+//!
+//! A body that only answers want of memory meets its contract; here it would print another answer.
+//! Whole commands are cases of top_trials, which leaves stores, sources and sinks wanting too.
+//!
+//! The first line of a case says the call and its arguments; the text or the words that it is about
+//! stand below, in the forms of trial_cases, and a circuit behind the text of a library and a line
+//! `and`. Circuits are written in the Berkeley Logic Interchange Format. What is in `stdin` and
+//! `stdout` is worked out by hand from the definitions.
+//!
+//! Not called by name, since cases here or commands of top_trials surely run through them:
+//! - `first_cyclic`, `read_gate`, `add_signals`, `add_names`, `characters`, `end_line`: files read;
+//! - `place_rows`: `compose`; `note_place`: `dangling_step`; `from_written`: `tidy`; `fates`,
+//!   `table_number`, `place_of`, and an arena's other vertices: `forest`; `Choices`: `cover`;
+//! - `take_in`, `places_of`: `eliminate`; `divided_table`, `cover_table`: `resub`;
+//! - `Work`'s and `Links`' `set`, `add` and `remove`, `UseCounts`: `eliminate` and `decomp`;
+//! - `cube_over`, `row_over`, `cover_over`, and what net_candidates gives: `fx`, `gkx` and `gcx`;
+//! - `KeptGains`, `Totals`, `Codes`, divisors: `fx`; `KeptSavings`, `RankedCovers`, `best_saved`,
+//!   `leaves_narrow`, `places_for`: `gkx` and `gcx`;
+//! - `factor_line`, `factor_lines`, `kernel_lines`, `load`, `error_text`, `refusal_text`,
+//!   `put_two`, `put_three`, `read_words`, `run_sis`: `print_factor`, `print_kernel`, `read_blif`,
+//!   refusals.
+#![tactic(auto)]
+
+mod circuits;
+mod covers;
+mod files;
+mod functions;
+mod needed;
+mod networks;
+mod oracle;
+mod outside;
+mod puts;
+mod reads;
+mod rows;
+mod texts;
+mod tiles;
+mod trees;
+mod wires;
+
+use cube_cover::PlainRow;
+use std::alloc::Global;
+use std::io;
+use std::io::{Read, Write};
+use trial_cases::{Case, CaseFault, Trial, answers, text_of};
+
+/// The cases of this program.
+struct Calls;
+
+impl Trial for Calls {
+    /// Puts the answer to a case behind a text.
+    fn answer(alloc: Global, out: &mut Vec<u8>, case: &Case<'_>) -> Result<(), CaseFault> {
+        match case.word(0) {
+            "store" => outside::put_store(alloc, out),
+            "source" => outside::put_source(alloc, out),
+            "sink" => outside::put_sink(alloc, out),
+            "functions" => functions::answer(alloc, out, case),
+            "checks" => circuits::put_checks(alloc, out, case),
+            "readers" => wires::put_readers(alloc, out, case),
+            "patterns" | "matches" | "forest" | "vertices" | "cover" | "totals" => {
+                trees::answer(alloc, out, case)
+            }
+            _ => answer_of_text(alloc, out, case),
+        }
+    }
+}
+
+/// Puts the answer to a case whose lines are one text, or to one of rows and covers.
+fn answer_of_text(alloc: Global, out: &mut Vec<u8>, case: &Case<'_>) -> Result<(), CaseFault> {
+    let text = text_of(alloc, case.lines.as_slice())?;
+    match case.word(0) {
+        "text" => texts::answer(alloc, out, case, text.as_slice()),
+        "file" => files::answer(alloc, out, case, text.as_slice()),
+        "circuit" => circuits::answer(alloc, out, case, text.as_slice()),
+        "table" => wires::put_tables(alloc, out, case, text.as_slice()),
+        "aliases" => wires::put_aliases(alloc, out, case, text.as_slice()),
+        "network" => networks::answer(alloc, out, case, text.as_slice()),
+        "work" => networks::put_work(alloc, out, case, text.as_slice()),
+        "command" => networks::put_command(alloc, out, case, text.as_slice()),
+        _ => covers::answer::<PlainRow>(alloc, out, case),
+    }
+}
+
+fn main(rt: HostRuntime) -> io::Result<()> {
+    let mut input = String::new(rt.alloc());
+    rt.stdin().read_to_string(&mut input)?;
+    let out = answers::<Calls>(rt.alloc(), input.as_str())?;
+    rt.stdout().write_all(out.as_slice())
+}

@@ -1,0 +1,57 @@
+//! Whether something of a circuit reads a name.
+
+ghost use Rattle.std.specs.Prelude.{◌≡◌, false, map};
+ghost use Rattle.circuit_model.specs.Names.{has};
+ghost use Rattle.circuit_model.specs.Soundness.{table_inputs};
+ghost use Rattle.circuit_model.specs.declared.circuit.Latch.{Latch as TheLatch};
+ghost use Rattle.circuit_laws.specs.Edits.{is_other};
+ghost use Rattle.circuit_laws.specs.Kept.{IsClosed};
+
+use circuit_model::{Circuit, Latch, Name, Names, Table};
+
+/// Whether a name is among names.
+fn is_among(names: &Names, name: &Name) -> bool
+    ensures { result ≡ has names.now name.now }
+{
+    names.as_slice().iter().any(|other| *name == *other)
+}
+
+/// Whether a table reads a name.
+fn is_table_input(tables: &[Table], name: &Name) -> bool
+    ensures { result ≡ has (table_inputs tables.now) name.now }
+{
+    for table in tables {
+        if is_among(&table.inputs, name) {
+            return true;
+        }
+    }
+    false
+}
+
+/// Whether a latch takes a name.
+fn is_latched(latches: &[Latch], name: &Name) -> bool
+    ensures { result ≡ has (map (λ (latch : TheLatch). latch.input) latches.now) name.now }
+{
+    for latch in latches {
+        if *name == latch.input {
+            return true;
+        }
+    }
+    false
+}
+
+/// Whether something of a circuit reads a name, also of its don't-care part.
+pub fn is_needed(circuit: &Circuit, name: &Name) -> bool
+    ensures { result ≡ false → IsClosed circuit.now (is_other name.now) }
+{
+    if is_table_input(circuit.tables.as_slice(), name) {
+        return true;
+    }
+    if is_table_input(circuit.dont_care.as_slice(), name) {
+        return true;
+    }
+    if is_latched(circuit.latches.as_slice(), name) {
+        return true;
+    }
+    is_among(&circuit.outputs, name)
+}

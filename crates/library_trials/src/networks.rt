@@ -1,0 +1,193 @@
+//! Networks that are changed one table at a time, what they tell, and the commands that change them
+//! whole.
+
+ghost use Rattle.std.specs.Prelude.{◌≡◌, ℕ, true, false, List, map};
+ghost use Rattle.circuit_model.specs.Names.{has};
+ghost use Rattle.circuit_model.specs.Soundness.{outputs_of};
+ghost use Rattle.circuit_laws.specs.Edits.{constant_table};
+ghost use Rattle.net_core.specs.Tables.{named, IsOverInputs};
+
+use crate::needed::is_needed;
+use crate::puts::{put_circuit, put_names, put_table, put_text, put_value};
+use crate::reads::network;
+use circuit_model::Name;
+use cube_cover::{Cover, PlainRow};
+use line_words::name_of;
+use net_candidates::Rule as Extraction;
+use net_core::{AddFault, Network, Table, tidy};
+use net_decomp::{Rule, decompose};
+use net_elim::{collapse, eliminate};
+use net_extract::extract;
+use net_resub::resubstitute;
+use net_sweep::{sweep, swept_copy};
+use net_work::Work;
+use sdc_simplify::simplify;
+use sis_base::Sequence;
+use std::alloc::{AllocError, Global};
+use trial_cases::{Case, CaseFault};
+
+/// Puts the answer to a case of a network: what the call on a name tells, and the network behind
+/// it.
+pub fn answer(
+    alloc: Global,
+    out: &mut Vec<u8>,
+    case: &Case<'_>,
+    text: &[u8],
+) -> Result<(), CaseFault> {
+    let name = name_of(alloc, case.word(2).as_bytes())?;
+    let mut network = network(alloc, text)?;
+    change(alloc, out, &mut network, case.word(1), &name)?;
+    put_network(alloc, out, &network)
+}
+
+/// Puts the text of a network.
+fn put_network(
+    alloc: Global,
+    out: &mut Vec<u8>,
+    network: &Network<PlainRow>,
+) -> Result<(), CaseFault> {
+    let circuit = network.to_circuit(alloc)?;
+    put_circuit(alloc, out, &circuit)
+}
+
+/// Makes a call on a network and a name, and puts what it tells.
+fn change(
+    alloc: Global,
+    out: &mut Vec<u8>,
+    network: &mut Network<PlainRow>,
+    call: &str,
+    name: &Name,
+) -> Result<(), CaseFault> {
+    match call {
+        "order" => put_names(out, network.order(alloc)?.as_slice()),
+        "readers" => put_names(out, network.readers(alloc, name)?.as_slice()),
+        "copy" => put_network(alloc, out, &network.copy(alloc)?),
+        "tidy" => put_tidy(alloc, out, network, name),
+        "replace" => Ok(replace(alloc, network, name)),
+        "remove" => Ok(remove(alloc, network, name)?),
+        "add" => put_value(alloc, out, &add_constant(alloc, network)),
+        "sweep" => put_value(alloc, out, &sweep(alloc, network)),
+        _ => Err(CaseFault::Bad),
+    }
+}
+
+/// The constant 0.
+#[tactic(auto, unfolding(net_core::specs::Tables::named))]
+fn constant(alloc: Global) -> Table<PlainRow>
+    ensures over { IsOverInputs result }
+    ensures written { (name : List ℕ) → named name result ≡ constant_table name false }
+{
+    Table {
+        inputs: Sequence::new(alloc),
+        cover: Cover::new(alloc, 0),
+        phase: true,
+    }
+}
+
+/// Whether a table has the name.
+fn has_table(network: &Network<PlainRow>, name: &Name) -> bool
+    ensures { result ≡ has (outputs_of network.now.tables) name.now }
+{
+    network.table(name).is_some()
+}
+
+/// Puts the constant 0 in the place of a table.
+fn put_constant(alloc: Global, network: &mut Network<PlainRow>, name: &Name)
+    requires { has (outputs_of network.old.tables) name.now ≡ true }
+{
+    network.sound();
+    network.replace(name, constant(alloc));
+}
+
+/// Puts the constant 0 in the place of the table of a name, if there is one.
+fn replace(alloc: Global, network: &mut Network<PlainRow>, name: &Name) {
+    if has_table(network, name) {
+        put_constant(alloc, network, name);
+    }
+}
+
+/// Takes the table or latch of a name away that nothing reads.
+fn remove(alloc: Global, network: &mut Network<PlainRow>, name: &Name) -> Result<(), AllocError> {
+    let circuit = network.to_circuit(alloc)?;
+    if !is_needed(&circuit, name) {
+        network.remove(name);
+    }
+    Ok(())
+}
+
+/// Adds the constant 0.
+fn add_constant(alloc: Global, network: &mut Network<PlainRow>) -> Result<Name, AddFault> {
+    network.add(alloc, constant(alloc))
+}
+
+/// Puts the tidy table of a copy of the table of a name.
+fn put_tidy(
+    alloc: Global,
+    out: &mut Vec<u8>,
+    network: &Network<PlainRow>,
+    name: &Name,
+) -> Result<(), CaseFault> {
+    match network.table(name) {
+        None => put_text(out, b"no table"),
+        Some(table) => {
+            let made = tidy(alloc, &table.copy(alloc)?)?;
+            put_table(alloc, out, &made.to_written(alloc, name)?)
+        }
+    }
+}
+
+/// Puts what the working form of a network tells: the places of its tables in order, those that
+/// read a signal, what the first table is worth, and the name that a new one would take.
+pub fn put_work(
+    alloc: Global,
+    out: &mut Vec<u8>,
+    case: &Case<'_>,
+    text: &[u8],
+) -> Result<(), CaseFault> {
+    let name = name_of(alloc, case.word(1).as_bytes())?;
+    let work = Work::from_network(alloc, network(alloc, text)?)?;
+    put_told(alloc, out, &work, &name)
+}
+
+/// Puts what a working form tells.
+fn put_told(
+    alloc: Global,
+    out: &mut Vec<u8>,
+    work: &Work<PlainRow>,
+    name: &Name,
+) -> Result<(), CaseFault> {
+    put_value(alloc, out, &work.order(alloc)?)?;
+    put_value(alloc, out, &work.readers(alloc, name)?)?;
+    put_value(alloc, out, &work.value(0)?)?;
+    put_names(out, &[work.new_name(alloc)?])
+}
+
+/// A network that a command changed, if it was not refused.
+fn changed(alloc: Global, network: Network<PlainRow>, command: &str) -> Option<Network<PlainRow>> {
+    match command {
+        "sweep" => swept_copy(alloc, &network).ok().map(|(made, _)| made),
+        "eliminate" => eliminate(alloc, network, -1, 32767).ok(),
+        "collapse" => collapse(alloc, network).ok(),
+        "decomp" => decompose(alloc, network, Rule::Shared).ok(),
+        "tech_decomp" => decompose(alloc, network, Rule::Gates(2, 2)).ok(),
+        "fx" => extract(alloc, network, Extraction::Fx).ok(),
+        "gkx" => extract(alloc, network, Extraction::Gkx).ok(),
+        "gcx" => extract(alloc, network, Extraction::Gcx).ok(),
+        "resub" => resubstitute(alloc, network).ok(),
+        "simplify" => simplify(alloc, network).ok(),
+        _ => None,
+    }
+}
+
+/// Puts the network that a command makes of that of a text.
+pub fn put_command(
+    alloc: Global,
+    out: &mut Vec<u8>,
+    case: &Case<'_>,
+    text: &[u8],
+) -> Result<(), CaseFault> {
+    match &changed(alloc, network(alloc, text)?, case.word(1)) {
+        None => put_text(out, b"refused"),
+        Some(made) => put_network(alloc, out, made),
+    }
+}

@@ -1,0 +1,93 @@
+//! Rows and covers as texts: a row is written by a character for each place, `1`, `0` or `-`, with
+//! `/` behind it, a cover by its width, `:`, and its rows.
+
+use crate::puts::put_text;
+use alg_div::row_of;
+use cube_cover::{Cover, Row};
+use std::alloc::{AllocError, Global};
+use std::fmt::Debug;
+use trial_cases::{CaseFault, number_of, put_number, put_shown};
+
+/// The literals that characters say, with a stroke behind them or without; a dash for any other
+/// than `0` and `1`.
+fn literals(alloc: Global, text: &str) -> Result<Vec<Option<bool>>, AllocError> {
+    let mut made = Vec::new(alloc);
+    for byte in text.strip_suffix('/').unwrap_or(text).bytes() {
+        made.push(match byte {
+            b'0' => Some(false),
+            b'1' => Some(true),
+            _ => None,
+        })?;
+    }
+    Ok(made)
+}
+
+/// Puts those rows of a text behind a cover that are of its width.
+fn push_rows<R: Row>(alloc: Global, cover: &mut Cover<R>, text: &str) -> Result<(), AllocError> {
+    for part in text.split_terminator('/') {
+        let made: R = row_of(alloc, literals(alloc, part)?.as_slice())?;
+        if made.width() == cover.width() {
+            cover.push(made)?;
+        }
+    }
+    Ok(())
+}
+
+/// The cover that a text says.
+pub fn cover<R: Row>(alloc: Global, text: &str) -> Result<Cover<R>, CaseFault> {
+    let (width, rest) = text.split_once(':').ok_or(CaseFault::Bad)?;
+    let mut cover = Cover::new(alloc, number_of(width)?);
+    push_rows(alloc, &mut cover, rest)?;
+    Ok(cover)
+}
+
+/// Puts a row, with a stroke behind it.
+fn put_row<R: Row>(out: &mut Vec<u8>, row: &R) -> Result<(), AllocError> {
+    for place in 0..row.width() {
+        out.push(match row.at(place) {
+            None => b'-',
+            Some(false) => b'0',
+            Some(true) => b'1',
+        })?;
+    }
+    out.push(b'/')?;
+    Ok(())
+}
+
+/// Puts a cover on a line.
+pub fn put_cover<R: Row>(
+    alloc: Global,
+    out: &mut Vec<u8>,
+    cover: &Cover<R>,
+) -> Result<(), CaseFault> {
+    put_number(alloc, out, cover.width())?;
+    out.push(b':')?;
+    for row in cover.rows() {
+        put_row(out, row)?;
+    }
+    put_text(out, b"")
+}
+
+/// Puts a cover that was to be made, or why there is none.
+pub fn put_made<R: Row, E: Debug + Drop>(
+    alloc: Global,
+    out: &mut Vec<u8>,
+    made: &Result<Cover<R>, E>,
+) -> Result<(), CaseFault> {
+    match made {
+        Ok(cover) => put_cover(alloc, out, cover),
+        Err(fault) => {
+            put_shown(alloc, out, fault)?;
+            Ok(())
+        }
+    }
+}
+
+/// Puts a row that was to be made, on a line.
+pub fn put_made_row<R: Row>(
+    out: &mut Vec<u8>,
+    made: Result<R, AllocError>,
+) -> Result<(), CaseFault> {
+    put_row(out, &made?)?;
+    put_text(out, b"")
+}

@@ -1,0 +1,115 @@
+//! Tables by themselves, who reads what, and circuits whose signals change places.
+
+use crate::puts::{put_circuit, put_table, put_text, put_value};
+use crate::reads::{circuit, names};
+use circuit_model::{Name, Table};
+use circuit_tables::{fold_table, is_tidy_table, tidied_table};
+use line_words::name_of;
+use net_readers::Readers;
+use net_wires::{AliasedTables, constant_table, rows_over};
+use sis_base::Copied;
+use std::alloc::Global;
+use trial_cases::{Case, CaseFault};
+
+/// Puts the answer to a case of the tables of a circuit, whose inputs take the names of a word.
+pub fn put_tables(
+    alloc: Global,
+    out: &mut Vec<u8>,
+    case: &Case<'_>,
+    text: &[u8],
+) -> Result<(), CaseFault> {
+    let circuit = circuit(alloc, text)?;
+    for table in circuit.tables.as_slice() {
+        put_of_table(alloc, out, case, table)?;
+    }
+    Ok(())
+}
+
+/// Puts the answer about a table whose inputs take the names of a word.
+fn put_of_table(
+    alloc: Global,
+    out: &mut Vec<u8>,
+    case: &Case<'_>,
+    table: &Table,
+) -> Result<(), CaseFault> {
+    let mut renamed = table.copy(alloc)?;
+    renamed.inputs = names(alloc, case.word(2))?;
+    match case.word(1) {
+        "fold_table" => put_table(alloc, out, &fold_table(alloc, renamed)?),
+        "tidied_table" => put_table(alloc, out, &tidied_table(alloc, renamed)?),
+        "rows_over" => put_value(
+            alloc,
+            out,
+            &rows_over(alloc, &[true], table.rows.as_slice())?,
+        ),
+        "is_tidy_table" => put_value(alloc, out, &is_tidy_table(alloc, &renamed)?),
+        _ => Err(CaseFault::Bad),
+    }
+}
+
+/// Puts whether a signal is read, how many places read it, and which, where the place 0 read the
+/// names of a word and then those of the third, and the place 1 those of the second.
+pub fn put_readers(alloc: Global, out: &mut Vec<u8>, case: &Case<'_>) -> Result<(), CaseFault> {
+    let mut readers = Readers::of_none(alloc);
+    tell_readers(alloc, &mut readers, case)?;
+    let name = name_of(alloc, case.word(4).as_bytes())?;
+    put_value(alloc, out, &readers.has_readers(&name))?;
+    put_value(alloc, out, &readers.count(&name))?;
+    put_value(alloc, out, &readers.places(alloc, &name)?)
+}
+
+/// Tells who reads what.
+fn tell_readers(alloc: Global, readers: &mut Readers, case: &Case<'_>) -> Result<(), CaseFault> {
+    let before = names(alloc, case.word(1))?;
+    readers.add(alloc, 0, before.as_slice())?;
+    readers.add(alloc, 1, names(alloc, case.word(2))?.as_slice())?;
+    let now = names(alloc, case.word(3))?;
+    readers.change(alloc, 0, before.as_slice(), now.as_slice())?;
+    Ok(())
+}
+
+/// Puts the circuit of a text in which two signals changed places, the first turned over, the first
+/// table gave place to the constant 1, and the constant 0 was added.
+pub fn put_aliases(
+    alloc: Global,
+    out: &mut Vec<u8>,
+    case: &Case<'_>,
+    text: &[u8],
+) -> Result<(), CaseFault> {
+    let one = name_of(alloc, case.word(1).as_bytes())?;
+    let other = name_of(alloc, case.word(2).as_bytes())?;
+    let mut aliased = AliasedTables::from_circuit(alloc, circuit(alloc, text)?)?;
+    exchange(alloc, out, &mut aliased, &one, &other)?;
+    put_circuit(alloc, out, &aliased.into_circuit(alloc)?)
+}
+
+/// Two signals change places; puts who reads the first one then, and the first table once that is
+/// changed.
+fn exchange(
+    alloc: Global,
+    out: &mut Vec<u8>,
+    aliased: &mut AliasedTables,
+    one: &Name,
+    other: &Name,
+) -> Result<(), CaseFault> {
+    if *one == *other {
+        return Err(CaseFault::Bad);
+    }
+    aliased.exchange_aliases(alloc, one, other, true)?;
+    put_value(alloc, out, &aliased.places(alloc, one)?)?;
+    change_first(alloc, aliased, one)?;
+    match &aliased.table(alloc, 0)? {
+        None => put_text(out, b"no table"),
+        Some(table) => put_table(alloc, out, table),
+    }
+}
+
+/// The first table gives place to the constant 1, and the constant 0 is added.
+fn change_first(alloc: Global, aliased: &mut AliasedTables, name: &Name) -> Result<(), CaseFault> {
+    if aliased.len() > 0 {
+        let constant = constant_table(alloc, name.copy(alloc)?, true)?;
+        aliased.set(alloc, 0, constant)?;
+    }
+    aliased.add_constant(alloc, name_of(alloc, b"l")?, false)?;
+    Ok(())
+}

@@ -1,5 +1,0 @@
-use Rattle.net_trials.proofs.Changes.{constant_fits}
-use Rattle.net_trials.proofs.edits.add_constant.Goals as goal
-
-pub add-requires-clause-fitting : goal.add-requires-clause-fitting
-add-requires-clause-fitting c name = rw (c.constant.ensures.written name) (constant_fits c.args.network.now name)
