@@ -20,6 +20,7 @@ use circuit_model::{Circuit, Name};
 use cube_cover::Row;
 use net_core::Network;
 use net_wires::{AliasedTables, dangling_step};
+use sis_base::Whole;
 use std::alloc::{AllocError, Global};
 
 /// How many tables and latches a sweep took away; a latch that became a table counts as a latch alone.
@@ -115,11 +116,14 @@ fn finished<R: Row>(alloc: Global, circuit: Circuit) -> Result<Circuit, AllocErr
     ensures chain { IfOk result (λ end. Chain sweep_step circuit end) }
     ensures sound { IfOk result (λ end. IsSound end) }
 {
-    let mut end = settled::<R>(alloc, circuit)?;
-    while let Some(next) = dangling_step(alloc, &end)? {
-        end = settled::<R>(alloc, next)?;
+    let begun = settled::<R>(alloc, circuit)?;
+    // A whole, so that letting it go is one call.
+    let mut end = Whole { it: begun };
+    while let Some(next) = dangling_step(alloc, &end.it)? {
+        let further = settled::<R>(alloc, next)?;
+        end = Whole { it: further };
     }
-    Ok(end)
+    Ok(end.into_it())
 }
 
 // How many of the named tables, and of so many latches, a circuit has no more.
@@ -146,12 +150,15 @@ pub fn swept_copy<R: Row>(
     ensures counts { IfOk result (λ made. (made.1.tables ≡ tables_gone network.now made.0) × (made.1.latches ≡ latches_gone network.now made.0)) }
 {
     network.sound();
+    // Wholes, so that letting one go is one call.
     let circuit = network.to_circuit(alloc)?;
-    let tables = outputs(alloc, circuit.tables.as_slice())?;
-    let latches = circuit.latches.len();
-    let end = finished::<R>(alloc, circuit)?;
-    let swept = gone(alloc, tables.as_slice(), latches, &end)?;
-    let made = Network::from_circuit(alloc, end)?;
+    let begun = Whole { it: circuit };
+    let tables = outputs(alloc, begun.it.tables.as_slice())?;
+    let latches = begun.it.latches.len();
+    let end = finished::<R>(alloc, begun.into_it())?;
+    let swept_end = Whole { it: end };
+    let swept = gone(alloc, tables.as_slice(), latches, &swept_end.it)?;
+    let made = Network::from_circuit(alloc, swept_end.into_it())?;
     Ok((made, swept))
 }
 

@@ -5,7 +5,7 @@ use Rattle.net_sweep.specs.Settled.{table_step, HasLed}
 use Rattle.net_sweep.proofs.sweeping.finished.Given as goal
 
 abbrev pub invariant-loop-end : goal.invariant-loop-end
-invariant-loop-end g l = HasLed l.fn.circuit l.end × (table_step l.end ≡ None) × (fix_constant_latch l.end ≡ None)
+invariant-loop-end g l = HasLed l.fn.circuit l.end.it × (table_step l.end.it ≡ None) × (fix_constant_latch l.end.it ≡ None)
 
 abbrev pub decreases-loop-end : goal.decreases-loop-end
-decreases-loop-end g l = weight l.end
+decreases-loop-end g l = weight l.end.it
