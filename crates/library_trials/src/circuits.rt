@@ -10,7 +10,7 @@ use circuit_checks::{
 use circuit_model::{Bits, Circuit, Name, timing_copied};
 use circuit_order::order;
 use net_wires::{dangling_step, driven_names, is_among, leaves_read};
-use sis_base::{Copied, Sequence};
+use sis_base::{Copied, Sequence, Whole};
 use std::alloc::{AllocError, Global};
 use trial_cases::{Case, CaseFault};
 
@@ -25,7 +25,7 @@ pub fn answer(
     put_about(alloc, out, case, &circuit)
 }
 
-/// Puts the answer about a circuit.
+/// Puts the answer about a circuit. What is copied is a whole, so that letting it go is one call.
 fn put_about(
     alloc: Global,
     out: &mut Vec<u8>,
@@ -36,8 +36,22 @@ fn put_about(
 {
     match case.word(1) {
         "simulate" => put_run(alloc, out, circuit, case.word(2), case.word(3)),
-        "copy" => put_circuit(alloc, out, &circuit.copy(alloc)?),
-        "timing" => put_value(alloc, out, &timing_copied(alloc, &circuit.timing)?),
+        "copy" => put_circuit(
+            alloc,
+            out,
+            &Whole {
+                it: circuit.copy(alloc)?,
+            }
+            .it,
+        ),
+        "timing" => put_value(
+            alloc,
+            out,
+            &Whole {
+                it: timing_copied(alloc, &circuit.timing)?,
+            }
+            .it,
+        ),
         "order" => put_order(alloc, out, circuit),
         "dangling_step" => put_needed(alloc, out, circuit),
         "leaves_read" => put_leaves(alloc, out, circuit),
@@ -112,13 +126,17 @@ fn put_needed(alloc: Global, out: &mut Vec<u8>, circuit: &Circuit) -> Result<(),
 /// Puts of the letters a to d those that tables drive, and those that are leaves which the
 /// don't-care part reads.
 fn put_leaves(alloc: Global, out: &mut Vec<u8>, circuit: &Circuit) -> Result<(), CaseFault> {
-    let driven = driven_names(alloc, circuit.tables.as_slice())?;
-    let leaves = leaves_read(alloc, circuit)?;
+    let driven = Whole {
+        it: driven_names(alloc, circuit.tables.as_slice())?,
+    };
+    let leaves = Whole {
+        it: leaves_read(alloc, circuit)?,
+    };
     for name in names(alloc, "abcd")?.as_slice() {
         put_value(
             alloc,
             out,
-            &(is_among(&driven, name), is_among(&leaves, name)),
+            &(is_among(&driven.it, name), is_among(&leaves.it, name)),
         )?;
     }
     Ok(())

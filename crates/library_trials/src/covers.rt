@@ -12,7 +12,7 @@ use alg_kernel::kernels;
 use circuit_model::Name;
 use cover_ops::{compose, off_list, on_list};
 use cube_cover::{Cover, PlainRow, Row};
-use sis_base::Copied;
+use sis_base::{Copied, Whole};
 use std::alloc::Global;
 use trial_cases::{Case, CaseFault, number_of};
 
@@ -145,13 +145,17 @@ fn put_quotient<R: Row>(
     f: &Cover<R>,
     case: &Case<'_>,
 ) -> Result<(), CaseFault> {
-    let d: Cover<R> = cover(alloc, case.word(2))?;
-    if f.width() != d.width() {
+    let d: Whole<Cover<R>> = Whole {
+        it: cover(alloc, case.word(2))?,
+    };
+    if f.width() != d.it.width() {
         return Err(CaseFault::Bad);
     }
-    let (quotient, remainder) = divide(alloc, f, &d)?;
-    put_cover(alloc, out, &quotient)?;
-    put_cover(alloc, out, &remainder)
+    let parts = Whole {
+        it: divide(alloc, f, &d.it)?,
+    };
+    put_cover(alloc, out, &parts.it.0)?;
+    put_cover(alloc, out, &parts.it.1)
 }
 
 /// Puts the kernels of a cover, each on a line, or why there are none.

@@ -10,14 +10,14 @@ use genlib_expr::{Parsed, Token, agree, parse};
 use genlib_format::{Gate, Library, ReadFault as LibraryFault};
 use kiss_format::{ReadFault as KissFault, machine_text};
 use line_words::{name_of, put_characters, put_word};
-use sis_base::Copied;
+use sis_base::{Copied, Whole};
 use sis_session::{put_blif_fault, put_kiss_fault, put_library_fault};
 use sis_text::{Decimal, logical_lines};
 use std::alloc::Global;
 use tree_cover::cells;
 use trial_cases::{Case, CaseFault, put_line, put_number, text_of};
 
-/// Puts the answer to a case of a file's text.
+/// Puts the answer to a case of a file's text. What is read is a whole, let go in one call.
 pub fn answer(
     alloc: Global,
     out: &mut Vec<u8>,
@@ -25,21 +25,60 @@ pub fn answer(
     text: &[u8],
 ) -> Result<(), CaseFault> {
     match case.word(1) {
-        "read" => put_read(alloc, out, &read(alloc, text, None)),
+        "read" => put_read(
+            alloc,
+            out,
+            &Whole {
+                it: read(alloc, text, None),
+            }
+            .it,
+        ),
         "read_with_library" => put_with_library(alloc, out, case.lines.as_slice()),
         "lines" => put_content(alloc, out, text),
-        "parts_text" => put_parts(alloc, out, &circuit(alloc, text)?),
-        "machine" => put_kiss(alloc, out, &kiss_format::read(alloc, text)),
+        "parts_text" => put_parts(
+            alloc,
+            out,
+            &Whole {
+                it: circuit(alloc, text)?,
+            }
+            .it,
+        ),
+        "machine" => put_kiss(
+            alloc,
+            out,
+            &Whole {
+                it: kiss_format::read(alloc, text),
+            }
+            .it,
+        ),
         "machine_lines" => {
             let lines = logical_lines(alloc, text)?;
             put_kiss(
                 alloc,
                 out,
-                &kiss_format::read_lines(alloc, text, lines.as_slice()),
+                &Whole {
+                    it: kiss_format::read_lines(alloc, text, lines.as_slice()),
+                }
+                .it,
             )
         }
-        "gates" => put_library(alloc, out, &genlib_format::read(alloc, text)),
-        "gate_rows" => put_gate(alloc, out, &library(alloc, text)?, case.word(2)),
+        "gates" => put_library(
+            alloc,
+            out,
+            &Whole {
+                it: genlib_format::read(alloc, text),
+            }
+            .it,
+        ),
+        "gate_rows" => put_gate(
+            alloc,
+            out,
+            &Whole {
+                it: library(alloc, text)?,
+            }
+            .it,
+            case.word(2),
+        ),
         "expression" => put_expression(alloc, out, text),
         _ => Err(CaseFault::Bad),
     }
@@ -72,9 +111,14 @@ fn put_spec(alloc: Global, out: &mut Vec<u8>, spec: &Spec) -> Result<(), CaseFau
 /// Puts what the lines behind a line `and` are read as, with the library of those before it.
 fn put_with_library(alloc: Global, out: &mut Vec<u8>, lines: &[&str]) -> Result<(), CaseFault> {
     let (first, rest) = parted(lines);
-    let gates = library(alloc, text_of(alloc, first)?.as_slice())?;
+    let gates = Whole {
+        it: library(alloc, text_of(alloc, first)?.as_slice())?,
+    };
     let text = text_of(alloc, rest.get(1..).unwrap_or(&[]))?;
-    put_read(alloc, out, &read(alloc, text.as_slice(), Some(&gates)))
+    let found = Whole {
+        it: read(alloc, text.as_slice(), Some(&gates.it)),
+    };
+    put_read(alloc, out, &found.it)
 }
 
 /// Puts what the lines of a text are read as, in one run.

@@ -7,7 +7,7 @@ use circuit_tables::{fold_table, is_tidy_table, tidied_table};
 use line_words::name_of;
 use net_readers::Readers;
 use net_wires::{AliasedTables, constant_table, rows_over};
-use sis_base::Copied;
+use sis_base::{Copied, Whole};
 use std::alloc::Global;
 use trial_cases::{Case, CaseFault};
 
@@ -18,8 +18,10 @@ pub fn put_tables(
     case: &Case<'_>,
     text: &[u8],
 ) -> Result<(), CaseFault> {
-    let circuit = circuit(alloc, text)?;
-    for table in circuit.tables.as_slice() {
+    let circuit = Whole {
+        it: circuit(alloc, text)?,
+    };
+    for table in circuit.it.tables.as_slice() {
         put_of_table(alloc, out, case, table)?;
     }
     Ok(())
@@ -32,17 +34,34 @@ fn put_of_table(
     case: &Case<'_>,
     table: &Table,
 ) -> Result<(), CaseFault> {
-    let mut renamed = table.copy(alloc)?;
-    renamed.inputs = names(alloc, case.word(2))?;
+    // A whole, so that letting it go is one call.
+    let mut renamed = Whole {
+        it: table.copy(alloc)?,
+    };
+    renamed.it.inputs = names(alloc, case.word(2))?;
     match case.word(1) {
-        "fold_table" => put_table(alloc, out, &fold_table(alloc, renamed)?),
-        "tidied_table" => put_table(alloc, out, &tidied_table(alloc, renamed)?),
+        "fold_table" => put_table(
+            alloc,
+            out,
+            &Whole {
+                it: fold_table(alloc, renamed.into_it())?,
+            }
+            .it,
+        ),
+        "tidied_table" => put_table(
+            alloc,
+            out,
+            &Whole {
+                it: tidied_table(alloc, renamed.into_it())?,
+            }
+            .it,
+        ),
         "rows_over" => put_value(
             alloc,
             out,
             &rows_over(alloc, &[true], table.rows.as_slice())?,
         ),
-        "is_tidy_table" => put_value(alloc, out, &is_tidy_table(alloc, &renamed)?),
+        "is_tidy_table" => put_value(alloc, out, &is_tidy_table(alloc, &renamed.it)?),
         _ => Err(CaseFault::Bad),
     }
 }
@@ -78,9 +97,18 @@ pub fn put_aliases(
 ) -> Result<(), CaseFault> {
     let one = name_of(alloc, case.word(1).as_bytes())?;
     let other = name_of(alloc, case.word(2).as_bytes())?;
-    let mut aliased = AliasedTables::from_circuit(alloc, circuit(alloc, text)?)?;
-    exchange(alloc, out, &mut aliased, &one, &other)?;
-    put_circuit(alloc, out, &aliased.into_circuit(alloc)?)
+    let mut aliased = Whole {
+        it: AliasedTables::from_circuit(alloc, circuit(alloc, text)?)?,
+    };
+    exchange(alloc, out, &mut aliased.it, &one, &other)?;
+    put_circuit(
+        alloc,
+        out,
+        &Whole {
+            it: aliased.into_it().into_circuit(alloc)?,
+        }
+        .it,
+    )
 }
 
 /// Two signals change places; puts who reads the first one then, and the first table once that is
