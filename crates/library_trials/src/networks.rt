@@ -19,7 +19,7 @@ use net_decomp::{Rule, decompose};
 use net_elim::{collapse, eliminate};
 use net_extract::extract;
 use net_resub::resubstitute;
-use net_sweep::{sweep, swept_copy};
+use net_sweep::{SweepFault, Swept, sweep};
 use net_work::Work;
 use sdc_simplify::simplify;
 use sis_base::Sequence;
@@ -66,9 +66,16 @@ fn change(
         "replace" => Ok(replace(alloc, network, name)),
         "remove" => Ok(remove(alloc, network, name)?),
         "add" => put_value(alloc, out, &add_constant(alloc, network)),
-        "sweep" => put_value(alloc, out, &sweep(alloc, network)),
+        "sweep" => put_value(alloc, out, &sweep_in_place(alloc, network)),
         _ => Err(CaseFault::Bad),
     }
+}
+
+/// Puts the swept network in the place of a network, and tells how many tables and latches went.
+fn sweep_in_place(alloc: Global, network: &mut Network<PlainRow>) -> Result<Swept, SweepFault> {
+    let (made, swept) = sweep(alloc, network)?;
+    *network = made;
+    Ok(swept)
 }
 
 /// The constant 0.
@@ -162,10 +169,10 @@ fn put_told(
     put_names(out, &[work.new_name(alloc)?])
 }
 
-/// A network that a command changed, if it was not refused.
-fn changed(alloc: Global, network: Network<PlainRow>, command: &str) -> Option<Network<PlainRow>> {
+/// What a command makes of a network, if it is not refused.
+fn changed(alloc: Global, network: &Network<PlainRow>, command: &str) -> Option<Network<PlainRow>> {
     match command {
-        "sweep" => swept_copy(alloc, &network).ok().map(|(made, _)| made),
+        "sweep" => sweep(alloc, network).ok().map(|(made, _)| made),
         "eliminate" => eliminate(alloc, network, -1, 32767).ok(),
         "collapse" => collapse(alloc, network).ok(),
         "decomp" => decompose(alloc, network, Rule::Shared).ok(),
@@ -186,7 +193,8 @@ pub fn put_command(
     case: &Case<'_>,
     text: &[u8],
 ) -> Result<(), CaseFault> {
-    match &changed(alloc, network(alloc, text)?, case.word(1)) {
+    let network = network(alloc, text)?;
+    match &changed(alloc, &network, case.word(1)) {
         None => put_text(out, b"refused"),
         Some(made) => put_network(alloc, out, made),
     }

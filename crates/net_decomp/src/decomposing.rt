@@ -39,7 +39,8 @@ fn part_until_done<R: Row>(
     Ok(count)
 }
 
-// The tables at all places are parted until they are done, those with them that are added meanwhile.
+// The tables at all places are parted until they are done, those with them that are added
+// meanwhile.
 fn part_all<R: Row>(
     alloc: Global,
     work: &mut Work<R>,
@@ -49,8 +50,10 @@ fn part_all<R: Row>(
     requires sound { IsSound (circuit_of work.old) }
     requires nodes { nodes ≡ node_count (circuit_of work.old) }
     ensures sound { OnOk result (IsSound (circuit_of work.new)) }
-    ensures decomposed { OnOk result (IsDecomposed rule (circuit_of work.old) (circuit_of work.new)) }
-    ensures bounds { OnOk result (HasBounds (circuit_of work.old) → HasBounds (circuit_of work.new)) }
+    ensures decomposed { OnOk result
+        (IsDecomposed rule (circuit_of work.old) (circuit_of work.new)) }
+    ensures bounds { OnOk result (HasBounds (circuit_of work.old)
+        → HasBounds (circuit_of work.new)) }
     ensures full { IfErr result (λ fault. fault ≡ NodeLimit → IsFull rule (circuit_of work.old)) }
 {
     let mut count = nodes;
@@ -70,20 +73,21 @@ fn nodes_of<R: Row>(network: &Network<R>) -> u128
     sizes.tables as u128 + sizes.latches as u128 + sizes.dont_cares as u128
 }
 
-/// Parts the tables of a network by a rule until all are done, always the earliest one that is not; parts become tables that stand
-/// last, under the least free names. `NodeLimit` exactly where a step has parts and with them there would be more than 65,535 tables
-/// and latches, those of the don't-care part counted. `Memory` stands also for a tidy table of 2^30 inputs or 2^29 rows that would be
-/// made. The network is lost with an error.
+/// A network after decomposition, beside the one that stays. Tables are parted by a rule until all
+/// are done, always the earliest one that is not; parts become tables that stand last, under the
+/// least free names. `NodeLimit` exactly where a step has parts and with them there would be more
+/// than 65,535 tables and latches, those of the don't-care part counted. `Memory` stands also for a
+/// tidy table of 2^30 inputs or 2^29 rows that would be made.
 pub fn decompose<R: Row>(
     alloc: Global,
-    network: Network<R>,
+    network: &Network<R>,
     rule: Rule,
 ) -> Result<Network<R>, AddFault>
-    ensures decomposed { HasDecomposed rule network result }
-    ensures bounds { HasBounds network → IfOk result HasBounds }
+    ensures decomposed { HasDecomposed rule network.now result }
+    ensures bounds { HasBounds network.now → IfOk result HasBounds }
 {
-    let nodes = nodes_of(&network);
-    let mut work = Work::from_network(alloc, network)?;
+    let nodes = nodes_of(network);
+    let mut work = Work::of(alloc, network)?;
     part_all(alloc, &mut work, nodes, rule)?;
     Ok(work.into_network())
 }

@@ -36,12 +36,20 @@ fn taken_from<R: Row>(
 ) -> Result<Table<R>, TakeFault>
     requires there { is_some (table_at work.now.slots place) ≡ true }
     requires reader { is_some (table_at work.now.slots reader) ≡ true }
-    requires apart { (inner : TheWritten) → table_at work.now.slots place ≡ Some inner → has inner.inputs inner.output ≡ false }
-    ensures ok { IfOk result (λ made. (inner outer : TheWritten) → table_at work.now.slots place ≡ Some inner → table_at work.now.slots reader ≡ Some outer → named outer.output made ≡ taken_in inner outer) }
+    requires apart { (inner : TheWritten) → table_at work.now.slots place ≡ Some inner
+        → has inner.inputs inner.output ≡ false }
+    ensures ok { IfOk result (λ made. (inner outer : TheWritten)
+        → table_at work.now.slots place ≡ Some inner → table_at work.now.slots reader ≡ Some outer
+        → named outer.output made ≡ taken_in inner outer) }
     ensures over { IfOk result IsOverInputs }
     ensures once { IfOk result (λ made. all_different made.inputs ≡ true) }
-    ensures within { OnOk result ((inner outer : TheWritten) → table_at work.now.slots place ≡ Some inner → table_at work.now.slots reader ≡ Some outer → take_refusal 32767 32767 inner outer ≡ None) }
-    ensures fault { IfErr result (λ fault. (fault ≡ NoMemory) ⊎ ((inner outer : TheWritten) → table_at work.now.slots place ≡ Some inner → table_at work.now.slots reader ≡ Some outer → take_refusal 32767 32767 inner outer ≡ Some fault)) }
+    ensures within { OnOk result ((inner outer : TheWritten)
+        → table_at work.now.slots place ≡ Some inner → table_at work.now.slots reader ≡ Some outer
+        → take_refusal 32767 32767 inner outer ≡ None) }
+    ensures fault { IfErr result (λ fault. (fault ≡ NoMemory)
+        ⊎ ((inner outer : TheWritten) → table_at work.now.slots place ≡ Some inner
+        → table_at work.now.slots reader ≡ Some outer
+        → take_refusal 32767 32767 inner outer ≡ Some fault)) }
 {
     match work.entry(place) {
         None => unreachable!(),
@@ -52,7 +60,8 @@ fn taken_from<R: Row>(
 // The fault of a network for that of the table at a place.
 fn fault_at<R: Row>(alloc: Global, work: &Work<R>, place: usize, fault: TakeFault) -> CollapseFault
     requires { is_some (table_at work.now.slots place) ≡ true }
-    ensures { (outer : TheWritten) → table_at work.now.slots place ≡ Some outer → IsCause (Some (outer.output, fault)) result }
+    ensures { (outer : TheWritten) → table_at work.now.slots place ≡ Some outer
+        → IsCause (Some (outer.output, fault)) result }
 {
     match work.entry(place) {
         None => unreachable!(),
@@ -72,10 +81,18 @@ fn put_into<R: Row>(
 ) -> Result<(), CollapseFault>
     requires there { is_some (table_at work.old.slots place) ≡ true }
     requires reader { is_some (table_at work.old.slots reader) ≡ true }
-    requires apart { (inner : TheWritten) → table_at work.old.slots place ≡ Some inner → has inner.inputs inner.output ≡ false }
-    ensures put { OnOk result ((inner outer : TheWritten) → table_at work.old.slots place ≡ Some inner → table_at work.old.slots reader ≡ Some outer → work.new ≡ with_slot work.old reader (Some (taken_in inner outer))) }
-    ensures within { OnOk result ((inner outer : TheWritten) → table_at work.old.slots place ≡ Some inner → table_at work.old.slots reader ≡ Some outer → take_refusal 32767 32767 inner outer ≡ None) }
-    ensures fault { IfErr result (λ fault. (inner outer : TheWritten) → table_at work.old.slots place ≡ Some inner → table_at work.old.slots reader ≡ Some outer → IsCause (option_map (λ (found : TheTakeFault). (outer.output, found)) (take_refusal 32767 32767 inner outer)) fault) }
+    requires apart { (inner : TheWritten) → table_at work.old.slots place ≡ Some inner
+        → has inner.inputs inner.output ≡ false }
+    ensures put { OnOk result ((inner outer : TheWritten)
+        → table_at work.old.slots place ≡ Some inner → table_at work.old.slots reader ≡ Some outer
+        → work.new ≡ with_slot work.old reader (Some (taken_in inner outer))) }
+    ensures within { OnOk result ((inner outer : TheWritten)
+        → table_at work.old.slots place ≡ Some inner → table_at work.old.slots reader ≡ Some outer
+        → take_refusal 32767 32767 inner outer ≡ None) }
+    ensures fault { IfErr result (λ fault. (inner outer : TheWritten)
+        → table_at work.old.slots place ≡ Some inner → table_at work.old.slots reader ≡ Some outer
+        → IsCause (option_map (λ (found : TheTakeFault). (outer.output, found))
+        (take_refusal 32767 32767 inner outer)) fault) }
 {
     match taken_from(alloc, work, place, reader) {
         Ok(table) => {
@@ -95,11 +112,16 @@ fn put_each<R: Row>(
 ) -> Result<(), CollapseFault>
     requires sound { IsSound (circuit_of work.old) }
     requires there { is_some (table_at work.old.slots place) ≡ true }
-    requires exact { (inner : TheWritten) → table_at work.old.slots place ≡ Some inner → (at : ℕ) → is_in readers.now at ≡ has (inputs_at work.old.slots at) inner.output }
+    requires exact { (inner : TheWritten) → table_at work.old.slots place ≡ Some inner → (at : ℕ)
+        → is_in readers.now at ≡ has (inputs_at work.old.slots at) inner.output }
     requires rising { IsNonDecreasing readers.now }
-    ensures put { OnOk result ((inner : TheWritten) → table_at work.old.slots place ≡ Some inner → IsPutInAll inner work.old work.new) }
-    ensures within { OnOk result ((inner : TheWritten) → table_at work.old.slots place ≡ Some inner → refusal_among inner (standing work.old.slots) ≡ None) }
-    ensures fault { IfErr result (λ fault. (inner : TheWritten) → table_at work.old.slots place ≡ Some inner → IsCause (refusal_among inner (standing work.old.slots)) fault) }
+    ensures put { OnOk result ((inner : TheWritten) → table_at work.old.slots place ≡ Some inner
+        → IsPutInAll inner work.old work.new) }
+    ensures within { OnOk result ((inner : TheWritten) → table_at work.old.slots place ≡ Some inner
+        → refusal_among inner (standing work.old.slots) ≡ None) }
+    ensures fault { IfErr result (λ fault. (inner : TheWritten)
+        → table_at work.old.slots place ≡ Some inner
+        → IsCause (refusal_among inner (standing work.old.slots)) fault) }
 {
     for reader in readers {
         put_into(alloc, work, place, *reader)?;
@@ -107,33 +129,25 @@ fn put_each<R: Row>(
     Ok(())
 }
 
-// Some places in rising order.
-fn risen(places: Vec<usize>) -> Vec<usize>
-    ensures same { (at : ℕ) → is_in result.items at ≡ is_in places.items at }
-    ensures rising { IsNonDecreasing result.items }
-{
-    let mut sorted = places;
-    sorted.sort_unstable();
-    sorted
-}
-
 // The places of the tables that read that at a place, in rising order.
 fn readers_of<R: Row>(alloc: Global, work: &Work<R>, place: usize) -> Result<Vec<usize>, AllocError>
     requires { is_some (table_at work.now.slots place) ≡ true }
-    ensures exact { IfOk result (λ readers. (inner : TheWritten) → table_at work.now.slots place ≡ Some inner → (at : ℕ) → is_in readers.items at ≡ has (inputs_at work.now.slots at) inner.output) }
+    ensures exact { IfOk result (λ readers. (inner : TheWritten)
+        → table_at work.now.slots place ≡ Some inner → (at : ℕ)
+        → is_in readers.items at ≡ has (inputs_at work.now.slots at) inner.output) }
     ensures rising { IfOk result (λ readers. IsNonDecreasing readers.items) }
 {
     match work.entry(place) {
         None => unreachable!(),
         Some(inner) => {
             let readers = work.readers(alloc, &inner.output)?;
-            Ok(risen(readers.into_vec()))
+            Ok(readers.into_vec())
         }
     }
 }
 
-/// The table at a place is taken into all that read it, and stays; refused where a reader cannot take it in, with the first such
-/// reader's name. Behind an error any network may stand.
+/// The table at a place is taken into all that read it, and stays; refused where a reader cannot
+/// take it in, with the first such reader's name. Behind an error any network may stand.
 pub(crate) fn put_at<R: Row>(
     alloc: Global,
     work: &mut Work<R>,
@@ -141,9 +155,13 @@ pub(crate) fn put_at<R: Row>(
 ) -> Result<(), CollapseFault>
     requires sound { IsSound (circuit_of work.old) }
     requires there { is_some (table_at work.old.slots place) ≡ true }
-    ensures put { OnOk result ((inner : TheWritten) → table_at work.old.slots place ≡ Some inner → IsPutInAll inner work.old work.new) }
-    ensures within { OnOk result ((inner : TheWritten) → table_at work.old.slots place ≡ Some inner → refusal_among inner (standing work.old.slots) ≡ None) }
-    ensures fault { IfErr result (λ fault. (inner : TheWritten) → table_at work.old.slots place ≡ Some inner → IsCause (refusal_among inner (standing work.old.slots)) fault) }
+    ensures put { OnOk result ((inner : TheWritten) → table_at work.old.slots place ≡ Some inner
+        → IsPutInAll inner work.old work.new) }
+    ensures within { OnOk result ((inner : TheWritten) → table_at work.old.slots place ≡ Some inner
+        → refusal_among inner (standing work.old.slots) ≡ None) }
+    ensures fault { IfErr result (λ fault. (inner : TheWritten)
+        → table_at work.old.slots place ≡ Some inner
+        → IsCause (refusal_among inner (standing work.old.slots)) fault) }
 {
     let readers = readers_of(alloc, work, place)?;
     put_each(alloc, work, place, readers.as_slice())

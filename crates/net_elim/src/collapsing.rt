@@ -24,8 +24,10 @@ fn put_along<R: Row>(
     places: &[usize],
 ) -> Result<(), CollapseFault>
     requires sound { IsSound (circuit_of work.old) }
-    requires order { map (name_at work.old.slots) places.now ≡ map Some (order_of (standing work.old.slots)) }
-    ensures along { OnOk result (IsAlong (order_of (standing work.old.slots)) [] work.old work.new) }
+    requires order { map (name_at work.old.slots) places.now
+        ≡ map Some (order_of (standing work.old.slots)) }
+    ensures along { OnOk result (IsAlong
+        (order_of (standing work.old.slots)) [] work.old work.new) }
     ensures fault { IfErr result (λ fault. IsCause (collapse_refusal (circuit_of work.old)) fault) }
 {
     for place in places {
@@ -37,14 +39,16 @@ fn put_along<R: Row>(
 // All tables are taken into their readers, in order.
 fn put_all<R: Row>(alloc: Global, work: &mut Work<R>) -> Result<(), CollapseFault>
     requires { IsSound (circuit_of work.old) }
-    ensures along { OnOk result (IsAlong (order_of (standing work.old.slots)) [] work.old work.new) }
+    ensures along { OnOk result (IsAlong
+        (order_of (standing work.old.slots)) [] work.old work.new) }
     ensures fault { IfErr result (λ fault. IsCause (collapse_refusal (circuit_of work.old)) fault) }
 {
     let places = work.order(alloc)?;
     put_along(alloc, work, places.as_slice())
 }
 
-// All tables are taken into their readers, in order; then the inner ones go. Behind an error any network may stand.
+// All tables are taken into their readers, in order; then the inner ones go. Behind an error any
+// network may stand.
 fn collapse_tables<R: Row>(alloc: Global, work: &mut Work<R>) -> Result<(), CollapseFault>
     requires { IsSound (circuit_of work.old) }
     ensures collapsed { OnOk result (circuit_of work.new ≡ collapsed (circuit_of work.old)) }
@@ -56,15 +60,17 @@ fn collapse_tables<R: Row>(alloc: Global, work: &mut Work<R>) -> Result<(), Coll
     Ok(())
 }
 
-/// Takes each table of a network into all that read it, in the order in which each stands behind what it reads; then the inner
-/// tables go, and what is left reads inputs and latches alone. `CubeLimit` with the name of the first reader for which a list of
-/// rows, or what it becomes, has more than 32,767 rows; else `TooWide` with its name and the count of its inputs where these are
-/// more than 1,000: the first such reader, tables in order and their readers in table order. The network is lost with an error.
-pub fn collapse<R: Row>(alloc: Global, network: Network<R>) -> Result<Network<R>, CollapseFault>
-    ensures collapsed { HasCollapsed network result }
-    ensures bounds { HasBounds network → IfOk result HasBounds }
+/// A network after collapse, beside the one that stays. Each table is taken into all that read it,
+/// in the order in which each stands behind what it reads; then the inner tables go, and what is
+/// left reads inputs and latches alone. `CubeLimit` with the name of the first reader for which a
+/// list of rows, or what it becomes, has more than 32,767 rows; else `TooWide` with its name and
+/// the count of its inputs where these are more than 1,000: the first such reader, tables in order
+/// and their readers in table order.
+pub fn collapse<R: Row>(alloc: Global, network: &Network<R>) -> Result<Network<R>, CollapseFault>
+    ensures collapsed { HasCollapsed network.now result }
+    ensures bounds { HasBounds network.now → IfOk result HasBounds }
 {
-    let mut work = Work::from_network(alloc, network)?;
+    let mut work = Work::of(alloc, network)?;
     match collapse_tables(alloc, &mut work) {
         Ok(()) => Ok(work.into_network()),
         Err(fault) => Err(fault),

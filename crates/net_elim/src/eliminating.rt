@@ -1,10 +1,11 @@
 //! Elimination, step by step.
 
-ghost use Rattle.std.specs.Prelude.{◌≡◌, ℕ, ℤ, ◌<◌, Ok, Bool, true, false, not, ◌&&◌, if◌then◌else◌, Some, None, length, is_some, slice_set, int_lt, IfOk, OnOk};
+ghost use Rattle.std.specs.Prelude.{◌≡◌, ℕ, ℤ, ◌+◌, ◌^◌, ◌<◌, Ok, Bool, true, false, not, ◌&&◌, if◌then◌else◌, Some, None, length, is_some, slice_set, int_lt, IfOk, OnOk};
 ghost use Rattle.circuit_model.specs.Soundness.{IsSound};
 ghost use Rattle.circuit_model.specs.declared.circuit.Table.{Table as TheWritten};
 ghost use Rattle.circuit_laws.specs.Chains.{Chain};
 ghost use Rattle.net_elim.specs.Eliminating.{all_take, with_eliminated, eliminate_step};
+ghost use Rattle.net_core.specs.Reads.{HasBounds};
 ghost use Rattle.net_readers.specs.Readers.{is_in};
 ghost use Rattle.net_work.specs.Placed.{standing, circuit_of, table_at, with_slot};
 ghost use Rattle.net_elim.specs.Putting.{with_put};
@@ -19,8 +20,8 @@ use net_core::Network;
 use net_work::Work;
 use std::alloc::{AllocError, Global};
 
-/// The table at a place is taken into all that read it, and goes; or a reader cannot take it in, and nothing changed. An error only
-/// for want of memory, and then any network may stand.
+/// The table at a place is taken into all that read it, and goes; or a reader cannot take it in,
+/// and nothing changed. An error only for want of memory, and then any network may stand.
 pub(crate) fn eliminate_at<R: Row>(
     alloc: Global,
     work: &mut Work<R>,
@@ -29,9 +30,15 @@ pub(crate) fn eliminate_at<R: Row>(
 ) -> Result<bool, AllocError>
     requires sound { IsSound (circuit_of work.old) }
     requires there { is_some (table_at work.old.slots place) ≡ true }
-    ensures answer { IfOk result (λ done. (inner : TheWritten) → table_at work.old.slots place ≡ Some inner → done ≡ all_take rows (circuit_of work.old) inner) }
-    ensures done { IfOk result (λ done. done ≡ true → (inner : TheWritten) → table_at work.old.slots place ≡ Some inner → work.new ≡ with_slot (with_put inner work.old) place None) }
-    ensures circuit { IfOk result (λ done. done ≡ true → (inner : TheWritten) → table_at work.old.slots place ≡ Some inner → circuit_of work.new ≡ with_eliminated (circuit_of work.old) inner) }
+    ensures answer { IfOk result (λ done. (inner : TheWritten)
+        → table_at work.old.slots place ≡ Some inner
+        → done ≡ all_take rows (circuit_of work.old) inner) }
+    ensures done { IfOk result (λ done. done ≡ true → (inner : TheWritten)
+        → table_at work.old.slots place ≡ Some inner
+        → work.new ≡ with_slot (with_put inner work.old) place None) }
+    ensures circuit { IfOk result (λ done. done ≡ true → (inner : TheWritten)
+        → table_at work.old.slots place ≡ Some inner
+        → circuit_of work.new ≡ with_eliminated (circuit_of work.old) inner) }
     ensures same { IfOk result (λ done. done ≡ false → work.new ≡ work.old) }
 {
     match put_at(alloc, work, place, rows) {
@@ -50,7 +57,8 @@ fn counted(
     value: Result<i128, AllocError>,
     threshold: i32,
 ) -> Result<Option<i128>, AllocError>
-    ensures { IfOk result (λ made. (worth : ℤ) × (value ≡ Ok worth) × (made ≡ when (counts && not (int_lt threshold worth)) worth)) }
+    ensures { IfOk result (λ made. (worth : ℤ) × (value ≡ Ok worth)
+        × (made ≡ when (counts && not (int_lt threshold worth)) worth)) }
 {
     match value {
         Err(fault) => Err(fault),
@@ -97,7 +105,8 @@ fn renew<R: Row>(
     waiting: &mut Waiting,
 ) -> Result<(), AllocError>
     requires { place < length waiting.old }
-    ensures { OnOk result (waiting.new ≡ slice_set waiting.old place (worth_at threshold work.now place)) }
+    ensures { OnOk result (waiting.new
+        ≡ slice_set waiting.old place (worth_at threshold work.now place)) }
 {
     waiting.set(place, worth_of(work, place, threshold)?)
 }
@@ -118,7 +127,8 @@ fn renew_all<R: Row>(
     Ok(())
 }
 
-// The table at a place is eliminated, if its readers can take it in; what tables are worth then is told anew.
+// The table at a place is eliminated, if its readers can take it in; what tables are worth then is
+// told anew.
 fn try_at<R: Row>(
     alloc: Global,
     work: &mut Work<R>,
@@ -130,10 +140,17 @@ fn try_at<R: Row>(
     requires sound { IsSound (circuit_of work.old) }
     requires there { is_some (table_at work.old.slots place) ≡ true }
     requires waiting { AreWaiting threshold rows work.old waiting.old }
-    ensures answer { IfOk result (λ done. (inner : TheWritten) → table_at work.old.slots place ≡ Some inner → done ≡ all_take rows (circuit_of work.old) inner) }
-    ensures done { IfOk result (λ done. done ≡ true → (inner : TheWritten) → table_at work.old.slots place ≡ Some inner → work.new ≡ with_slot (with_put inner work.old) place None) }
-    ensures circuit { IfOk result (λ done. done ≡ true → (inner : TheWritten) → table_at work.old.slots place ≡ Some inner → circuit_of work.new ≡ with_eliminated (circuit_of work.old) inner) }
-    ensures same { IfOk result (λ done. done ≡ false → (work.new ≡ work.old) × (waiting.new ≡ waiting.old)) }
+    ensures answer { IfOk result (λ done. (inner : TheWritten)
+        → table_at work.old.slots place ≡ Some inner
+        → done ≡ all_take rows (circuit_of work.old) inner) }
+    ensures done { IfOk result (λ done. done ≡ true → (inner : TheWritten)
+        → table_at work.old.slots place ≡ Some inner
+        → work.new ≡ with_slot (with_put inner work.old) place None) }
+    ensures circuit { IfOk result (λ done. done ≡ true → (inner : TheWritten)
+        → table_at work.old.slots place ≡ Some inner
+        → circuit_of work.new ≡ with_eliminated (circuit_of work.old) inner) }
+    ensures same { IfOk result (λ done. done ≡ false
+        → (work.new ≡ work.old) × (waiting.new ≡ waiting.old)) }
     ensures waiting { OnOk result (AreWaiting threshold rows work.new waiting.new) }
 {
     let touched = touched_by(alloc, work, place)?;
@@ -145,8 +162,8 @@ fn try_at<R: Row>(
     }
 }
 
-// Takes the next step, if there is one: of the tables that are worth least the first that its readers can take in goes. One that
-// they refuse waits no more, until a step touches it.
+// Takes the next step, if there is one: of the tables that are worth least the first that its
+// readers can take in goes. One that they refuse waits no more, until a step touches it.
 fn take_step<R: Row>(
     alloc: Global,
     work: &mut Work<R>,
@@ -156,9 +173,11 @@ fn take_step<R: Row>(
 ) -> Result<bool, AllocError>
     requires sound { IsSound (circuit_of work.old) }
     requires waiting { AreWaiting threshold rows work.old waiting.old }
-    ensures step { IfOk result (λ taken. eliminate_step threshold rows (circuit_of work.old) ≡ (if taken then Some (circuit_of work.new) else None)) }
+    ensures step { IfOk result (λ taken. eliminate_step threshold rows (circuit_of work.old)
+        ≡ (if taken then Some (circuit_of work.new) else None)) }
     ensures same { IfOk result (λ taken. taken ≡ false → work.new ≡ work.old) }
-    ensures fewer { IfOk result (λ taken. taken ≡ true → length (standing work.new.slots) < length (standing work.old.slots)) }
+    ensures fewer { IfOk result (λ taken. taken ≡ true
+        → length (standing work.new.slots) < length (standing work.old.slots)) }
     ensures waiting { OnOk result (AreWaiting threshold rows work.new waiting.new) }
 {
     while let Some(place) = waiting.first() {
@@ -179,25 +198,28 @@ fn take_steps<R: Row>(
 ) -> Result<(), AllocError>
     requires { IsSound (circuit_of work.old) }
     ensures sound { OnOk result (IsSound (circuit_of work.new)) }
-    ensures chain { OnOk result (Chain (eliminate_step threshold rows) (circuit_of work.old) (circuit_of work.new)) }
+    ensures chain { OnOk result (Chain (eliminate_step threshold rows) (circuit_of work.old)
+        (circuit_of work.new)) }
 {
     let mut waiting = all_worths(alloc, work, threshold)?;
     while take_step(alloc, work, &mut waiting, threshold, rows)? {}
     Ok(())
 }
 
-/// Eliminates table after table: always the first inner table of least value, not above the threshold, that all its readers can take
-/// in with no list of more than 32,767 rows and no result of more than `rows` rows or 1,000 inputs; until there is none. An error only
-/// for want of memory, and then the network is lost.
+/// A network after elimination, beside the one that stays. Table after table is eliminated: always
+/// the first inner table of least value, not above the threshold, that all its readers can take in
+/// with no list of more than 32,767 rows and no result of more than `rows` rows or 1,000 inputs;
+/// until there is none. An error only for want of memory.
 pub fn eliminate<R: Row>(
     alloc: Global,
-    network: Network<R>,
+    network: &Network<R>,
     threshold: i32,
     rows: usize,
 ) -> Result<Network<R>, AllocError>
-    ensures { IfOk result (λ new. Chain (eliminate_step threshold rows) network new) }
+    ensures chain { IfOk result (λ new. Chain (eliminate_step threshold rows) network.now new) }
+    ensures bounds { rows + 1 < 2 ^ 29 → HasBounds network.now → IfOk result HasBounds }
 {
-    let mut work = Work::from_network(alloc, network)?;
+    let mut work = Work::of(alloc, network)?;
     take_steps(alloc, &mut work, threshold, rows)?;
     Ok(work.into_network())
 }

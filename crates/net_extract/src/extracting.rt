@@ -22,7 +22,8 @@ fn take_steps<R: Row>(alloc: Global, work: &mut Work<R>, rule: Rule) -> Result<(
     requires { IsSound (circuit_of work.old) }
     ensures sound { OnOk result (IsSound (circuit_of work.new)) }
     ensures extracted { OnOk result (IsExtracted rule (circuit_of work.old) (circuit_of work.new)) }
-    ensures bounds { OnOk result (HasBounds (circuit_of work.old) → HasBounds (circuit_of work.new)) }
+    ensures bounds { OnOk result (HasBounds (circuit_of work.old)
+        → HasBounds (circuit_of work.new)) }
     ensures stopped { IfErr result (IsEnd rule (circuit_of work.old)) }
 {
     let mut known = known_of(alloc, work, rule)?;
@@ -30,19 +31,21 @@ fn take_steps<R: Row>(alloc: Global, work: &mut Work<R>, rule: Rule) -> Result<(
     Ok(())
 }
 
-/// Extracts candidates of a rule from a network as long as one saves literals: always the one that saves most, of those that save as
-/// much the first. New tables stand last, under the least free names. `KernelLimit` where a table has more than 10,000 kernels and they
-/// are asked for, with the first such table's name; `NodeLimit` exactly where a candidate saves
-/// literals and with its table there would be more than 65,535 tables and latches, those of the don't-care part counted. The network is lost with an error.
+/// A network after extraction, beside the one that stays. Candidates of a rule are extracted as
+/// long as one saves literals: always the one that saves most, of those that save as much the
+/// first. New tables stand last, under the least free names. `KernelLimit` where a table has more
+/// than 10,000 kernels and they are asked for, with the first such table's name; `NodeLimit`
+/// exactly where a candidate saves literals and with its table there would be more than 65,535
+/// tables and latches, those of the don't-care part counted.
 pub fn extract<R: Row>(
     alloc: Global,
-    network: Network<R>,
+    network: &Network<R>,
     rule: Rule,
 ) -> Result<Network<R>, ExtractFault>
-    ensures extracted { HasExtracted rule network result }
-    ensures bounds { HasBounds network → IfOk result HasBounds }
+    ensures extracted { HasExtracted rule network.now result }
+    ensures bounds { HasBounds network.now → IfOk result HasBounds }
 {
-    let mut work = Work::from_network(alloc, network)?;
+    let mut work = Work::of(alloc, network)?;
     take_steps(alloc, &mut work, rule)?;
     Ok(work.into_network())
 }

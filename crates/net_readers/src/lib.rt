@@ -1,13 +1,16 @@
-//! Readers of names: for each name the exact set of places at which it is among the inputs, kept while the inputs of one
-//! place after the other change.
+//! Readers of names: for each name the exact set of places at which it is among the inputs, kept
+//! while the inputs of one place after the other change.
 //!
-//! Source: Brayton, Rudell, Sangiovanni-Vincentelli and Wang, "MIS: A Multiple-Level Logic Optimization System" (1987), the
-//! fanout of a node. What stands at the places is the caller's: a table, an expression. Promised: what is told is what is
-//! read, no more and no less (`specs/Readers.antt`, `AreReaders`). A change goes over the names before and behind it, and over
-//! nothing else; no clause says so. Each error is want of memory; behind it what is told counts for nothing.
+//! Source: Brayton, Rudell, Sangiovanni-Vincentelli and Wang, "MIS: A Multiple-Level Logic
+//! Optimization System" (1987), the fanout of a node. What stands at the places is the caller's: a
+//! table, an expression. Promised: what is told is what is read, no more and no less
+//! (`specs/Readers.antt`, `AreReaders`). A change goes over the names before and behind it, and
+//! over nothing else; no clause says so. Each error is want of memory; behind it what is told
+//! counts for nothing.
 #![tactic(auto)]
 
 ghost use Rattle.std.specs.Prelude.{◌≡◌, ◌==◌, ◌&&◌, ◌||◌, ◌<◌, ℕ, not, Bool, true, false, Some, None, List, [], ◌∷◌, bytes_eq, if◌then◌else◌, MatchBool, IfOk, OnOk};
+ghost use Rattle.std.specs.List.Sorted.{IsStrictlyIncreasing};
 ghost use Rattle.std.specs.Ordering.{nat_cmp};
 ghost use Rattle.std.specs.BTreeSet.{contains};
 ghost use Rattle.indexmap.specs.IndexMap.{get};
@@ -41,8 +44,10 @@ fn take_set(
     sets: &mut IndexMap<Name, BTreeSet<usize>>,
     name: &Name,
 ) -> BTreeSet<usize>
-    ensures set { (place : ℕ) → contains nat_cmp result place ≡ in_set (get bytes_eq sets.old name.now) place }
-    ensures rest { (other : List ℕ) → get bytes_eq sets.new other ≡ (if bytes_eq name.now other then None else get bytes_eq sets.old other) }
+    ensures set { (place : ℕ) → contains nat_cmp result place
+        ≡ in_set (get bytes_eq sets.old name.now) place }
+    ensures rest { (other : List ℕ) → get bytes_eq sets.new other
+        ≡ (if bytes_eq name.now other then None else get bytes_eq sets.old other) }
 {
     match sets.swap_remove(name) {
         Some(set) => set,
@@ -56,7 +61,9 @@ fn put_set(
     name: Name,
     set: BTreeSet<usize>,
 ) -> Result<(), AllocError>
-    ensures { OnOk result ((other : List ℕ) → get bytes_eq sets.new other ≡ (if bytes_eq name other then Some set else get bytes_eq sets.old other)) }
+    ensures { OnOk result ((other : List ℕ)
+        → get bytes_eq sets.new other
+        ≡ (if bytes_eq name other then Some set else get bytes_eq sets.old other)) }
 {
     let _set = sets.insert(name, set)?;
     Ok(())
@@ -79,7 +86,9 @@ fn tell(
     name: &Name,
     place: usize,
 ) -> Result<(), AllocError>
-    ensures { OnOk result ((other : List ℕ) (at : ℕ) → in_set (get bytes_eq sets.new other) at ≡ ((bytes_eq name.now other && place == at) || in_set (get bytes_eq sets.old other) at)) }
+    ensures { OnOk result ((other : List ℕ) (at : ℕ)
+        → in_set (get bytes_eq sets.new other) at
+        ≡ ((bytes_eq name.now other && place == at) || in_set (get bytes_eq sets.old other) at)) }
 {
     if is_told(sets, name, place) {
         return Ok(());
@@ -97,7 +106,10 @@ fn untell(
     name: &Name,
     place: usize,
 ) -> Result<(), AllocError>
-    ensures { OnOk result ((other : List ℕ) (at : ℕ) → in_set (get bytes_eq sets.new other) at ≡ (not (bytes_eq name.now other && place == at) && in_set (get bytes_eq sets.old other) at)) }
+    ensures { OnOk result ((other : List ℕ) (at : ℕ)
+        → in_set (get bytes_eq sets.new other) at
+        ≡ (not (bytes_eq name.now other && place == at)
+        && in_set (get bytes_eq sets.old other) at)) }
 {
     let key = name.copy(alloc)?;
     let mut set = take_set(alloc, sets, name);
@@ -112,7 +124,9 @@ fn tell_all(
     names: &[Name],
     place: usize,
 ) -> Result<(), AllocError>
-    ensures { OnOk result ((other : List ℕ) (at : ℕ) → in_set (get bytes_eq sets.new other) at ≡ ((has names.now other && place == at) || in_set (get bytes_eq sets.old other) at)) }
+    ensures { OnOk result ((other : List ℕ) (at : ℕ)
+        → in_set (get bytes_eq sets.new other) at
+        ≡ ((has names.now other && place == at) || in_set (get bytes_eq sets.old other) at)) }
 {
     for name in names {
         tell(alloc, sets, name, place)?;
@@ -130,7 +144,8 @@ fn is_at(names: &[Name], place: usize, name: &Name) -> bool
     }
 }
 
-// A name that was read before, and that does not stand at the same place of its inputs now, is told no more.
+// A name that was read before, and that does not stand at the same place of its inputs now, is told
+// no more.
 fn untell_moved(
     alloc: Global,
     sets: &mut IndexMap<Name, BTreeSet<usize>>,
@@ -138,7 +153,10 @@ fn untell_moved(
     is_moved: bool,
     place: usize,
 ) -> Result<(), AllocError>
-    ensures { OnOk result ((other : List ℕ) (at : ℕ) → in_set (get bytes_eq sets.new other) at ≡ (not (is_moved && (bytes_eq name.now other && place == at)) && in_set (get bytes_eq sets.old other) at)) }
+    ensures { OnOk result ((other : List ℕ) (at : ℕ)
+        → in_set (get bytes_eq sets.new other) at
+        ≡ (not (is_moved && (bytes_eq name.now other && place == at))
+        && in_set (get bytes_eq sets.old other) at)) }
 {
     if is_moved {
         return untell(alloc, sets, name, place);
@@ -146,7 +164,8 @@ fn untell_moved(
     Ok(())
 }
 
-// The names that were read before are told no more, but those that stand at the same places of its inputs now.
+// The names that were read before are told no more, but those that stand at the same places of its
+// inputs now.
 fn untell_changed(
     alloc: Global,
     sets: &mut IndexMap<Name, BTreeSet<usize>>,
@@ -154,7 +173,9 @@ fn untell_changed(
     now: &[Name],
     place: usize,
 ) -> Result<(), AllocError>
-    ensures { OnOk result (HasUntold before.now now.now place (λ name at. in_set (get bytes_eq sets.old name) at) (λ name at. in_set (get bytes_eq sets.new name) at)) }
+    ensures { OnOk result (HasUntold before.now now.now place
+        (λ name at. in_set (get bytes_eq sets.old name) at)
+        (λ name at. in_set (get bytes_eq sets.new name) at)) }
 {
     for (i, name) in before.iter().enumerate() {
         let is_moved = !is_at(now, i, name);
@@ -165,7 +186,8 @@ fn untell_changed(
 
 // The places of a set, in rising order.
 fn places_in(alloc: Global, set: &BTreeSet<usize>) -> Result<Places, AllocError>
-    ensures { IfOk result (λ places. places ≡ set.now.keys) }
+    ensures keys { IfOk result (λ places. places ≡ set.now.keys) }
+    ensures rising { IsStrictlyIncreasing set.now.keys }
 {
     let mut places = Sequence::new(alloc);
     for place in set.iter() {
@@ -186,7 +208,8 @@ impl Readers {
 
     /// Whether a name is read at some place.
     pub fn has_readers(&self, name: &Name) -> bool
-        ensures { MatchBool result ((place : ℕ) × (told self.now name.now place ≡ true)) ((place : ℕ) → told self.now name.now place ≡ false) }
+        ensures { MatchBool result ((place : ℕ) × (told self.now name.now place ≡ true))
+            ((place : ℕ) → told self.now name.now place ≡ false) }
     {
         match self.sets.get(name) {
             None => false,
@@ -194,9 +217,12 @@ impl Readers {
         }
     }
 
-    /// The places at which a name is read (each once, in rising order, which no clause says); an error only for want of memory.
+    /// The places at which a name is read, each once, in rising order; an error only for want of
+    /// memory.
     pub fn places(&self, alloc: Global, name: &Name) -> Result<Places, AllocError>
-        ensures { IfOk result (λ places. (place : ℕ) → is_in places place ≡ told self.now name.now place) }
+        ensures exact { IfOk result (λ places. (place : ℕ)
+            → is_in places place ≡ told self.now name.now place) }
+        ensures rising { IfOk result IsStrictlyIncreasing }
     {
         match self.sets.get(name) {
             None => Ok(Sequence::new(alloc)),
@@ -204,7 +230,8 @@ impl Readers {
         }
     }
 
-    /// How many places read a name, which no clause says: it serves to choose between ways, for speed alone.
+    /// How many places read a name, which no clause says: it serves to choose between ways, for
+    /// speed alone.
     pub fn count(&self, name: &Name) -> usize {
         match self.sets.get(name) {
             None => 0,
@@ -212,8 +239,8 @@ impl Readers {
         }
     }
 
-    /// At a place the names that were read there give place to others, to none where what stood there goes; an error only for
-    /// want of memory.
+    /// At a place the names that were read there give place to others, to none where what stood
+    /// there goes; an error only for want of memory.
     pub fn change(
         &mut self,
         alloc: Global,
@@ -221,7 +248,9 @@ impl Readers {
         before: &[Name],
         now: &[Name],
     ) -> Result<(), AllocError>
-        ensures { OnOk result ((inputs : Inputs) → AreReaders (told self.old) inputs → inputs place ≡ before.now → AreReaders (told self.new) (with_inputs inputs place now.now)) }
+        ensures { OnOk result ((inputs : Inputs) → AreReaders (told self.old) inputs
+            → inputs place ≡ before.now → AreReaders (told self.new)
+            (with_inputs inputs place now.now)) }
     {
         untell_changed(alloc, &mut self.sets, before, now, place)?;
         tell_all(alloc, &mut self.sets, now, place)
@@ -229,7 +258,8 @@ impl Readers {
 
     /// At a place where nothing is read some names are read; an error only for want of memory.
     pub fn add(&mut self, alloc: Global, place: usize, names: &[Name]) -> Result<(), AllocError>
-        ensures { OnOk result ((inputs : Inputs) → AreReaders (told self.old) inputs → inputs place ≡ [] → AreReaders (told self.new) (with_inputs inputs place names.now)) }
+        ensures { OnOk result ((inputs : Inputs) → AreReaders (told self.old) inputs
+            → inputs place ≡ [] → AreReaders (told self.new) (with_inputs inputs place names.now)) }
     {
         tell_all(alloc, &mut self.sets, names, place)
     }

@@ -2,8 +2,8 @@
 //!
 //! Source: Brayton, Rudell, Sangiovanni-Vincentelli and Wang, "MIS: A Multiple-Level Logic
 //! Optimization System" (1987); the SIS report (UCB/ERL M92/41), `resub`. `specs/Resubbed.antt` has
-//! the candidates, the steps and the end; `laws` says what they keep. Promised: the network becomes
-//! the end of the steps.
+//! the candidates, the steps and the end; `laws` says what they keep. Promised: the end of the
+//! steps, beside the network that stays.
 //!
 //! `pairs` says what one division makes and saves, `reaching` whether a signal leads to another
 //! one, `divisions` in which order divisions are made, `listed` keeps the places of tables under

@@ -23,10 +23,13 @@ fn resub_once<R: Row>(
 ) -> Result<bool, AllocError>
     requires sound { IsSound (circuit_of work.old) }
     requires kept { IsKept work.old.slots kept.old }
-    ensures done { IfOk result (λ made. made ≡ false → (work.new ≡ work.old) × IsDone (circuit_of work.old)) }
-    ensures step { IfOk result (λ made. made ≡ true → IsStep (circuit_of work.old) (circuit_of work.new)) }
+    ensures done { IfOk result (λ made. made ≡ false
+        → (work.new ≡ work.old) × IsDone (circuit_of work.old)) }
+    ensures step { IfOk result (λ made. made ≡ true
+        → IsStep (circuit_of work.old) (circuit_of work.new)) }
     ensures sound { IfOk result (λ made. made ≡ true → IsSound (circuit_of work.new)) }
-    ensures bounds { IfOk result (λ made. made ≡ true → HasBounds (circuit_of work.old) → HasBounds (circuit_of work.new)) }
+    ensures bounds { IfOk result (λ made. made ≡ true → HasBounds (circuit_of work.old)
+        → HasBounds (circuit_of work.new)) }
     ensures kept { OnOk result (IsKept work.new.slots kept.new) }
 {
     match best_division(alloc, work, &kept.divisions)? {
@@ -46,21 +49,23 @@ fn resub_all<R: Row>(alloc: Global, work: &mut Work<R>) -> Result<(), AllocError
     requires { IsSound (circuit_of work.old) }
     ensures sound { OnOk result (IsSound (circuit_of work.new)) }
     ensures resubbed { OnOk result (IsResubbed (circuit_of work.old) (circuit_of work.new)) }
-    ensures bounds { OnOk result (HasBounds (circuit_of work.old) → HasBounds (circuit_of work.new)) }
+    ensures bounds { OnOk result (HasBounds (circuit_of work.old)
+        → HasBounds (circuit_of work.new)) }
 {
     let mut kept = Kept::of(alloc, work)?;
     while resub_once(alloc, work, &mut kept)? {}
     Ok(())
 }
 
-/// Divides tables of a network by the rows of others until no division saves a literal: always the one that saves most, of those that
-/// save as much the one of the first table, and for that table by the first one. An error only for want of memory; the network is lost
-/// with it.
-pub fn resubstitute<R: Row>(alloc: Global, network: Network<R>) -> Result<Network<R>, AllocError>
-    ensures resubbed { IfOk result (λ made. IsResubbed network made) }
-    ensures bounds { HasBounds network → IfOk result HasBounds }
+/// A network after resubstitution, beside the one that stays. Tables are divided by the rows of
+/// others until no division saves a literal: always the one that saves most, of those that save as
+/// much the one of the first table, and for that table by the first one. An error only for want of
+/// memory.
+pub fn resubstitute<R: Row>(alloc: Global, network: &Network<R>) -> Result<Network<R>, AllocError>
+    ensures resubbed { IfOk result (λ made. IsResubbed network.now made) }
+    ensures bounds { HasBounds network.now → IfOk result HasBounds }
 {
-    let mut work = Work::from_network(alloc, network)?;
+    let mut work = Work::of(alloc, network)?;
     resub_all(alloc, &mut work)?;
     Ok(work.into_network())
 }

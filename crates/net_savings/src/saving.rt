@@ -1,4 +1,5 @@
-//! What a candidate saves: what the tables that can be divided by it lose, without the literals of its own table.
+//! What a candidate saves: what the tables that can be divided by it lose, without the literals of
+//! its own table.
 
 ghost use Rattle.std.specs.Prelude.{◌≡◌, ℕ, ◌+◌, ◌-◌, ◌≤◌, ◌<◌, ltb, ◌&&◌, ◌⊎◌, true, false, Option, Some, List, length, IfOk, MatchOption};
 ghost use Rattle.std.specs.List.Sorted.{IsStrictlyIncreasing};
@@ -19,7 +20,6 @@ use circuit_model::Name;
 use cover_names::{Cube, Literal};
 use cube_cover::Row;
 use net_core::Table;
-use net_readers::Places;
 use net_work::{Work, literal_count};
 use std::alloc::{AllocError, Global};
 
@@ -35,7 +35,8 @@ fn has_name(names: &[Name], name: &Name) -> bool
 
 // The name of the first literal of a cover.
 fn first_name(cover: &[Cube]) -> Option<&Name>
-    ensures { MatchOption result (literals_in cover.now ≡ 0) (λ name. has (names_in cover.now) name.now ≡ true) }
+    ensures { MatchOption result (literals_in cover.now ≡ 0)
+        (λ name. has (names_in cover.now) name.now ≡ true) }
 {
     for cube in cover {
         if let Some(literal) = cube.as_slice().first() {
@@ -58,7 +59,8 @@ fn rarer<'a, R: Row>(work: &Work<R>, one: &'a Name, other: &'a Name) -> &'a Name
 
 // Of a name and those of a cube's literals the one that fewest tables read.
 fn rarest_in<'a, R: Row>(work: &Work<R>, cube: &'a [Literal], name: &'a Name) -> &'a Name
-    ensures { (result.now ≡ name.now) ⊎ ((literal : TheLiteral) × Has literal cube.now × (literal.name ≡ result.now)) }
+    ensures { (result.now ≡ name.now)
+        ⊎ ((literal : TheLiteral) × Has literal cube.now × (literal.name ≡ result.now)) }
 {
     let mut rarest = name;
     for literal in cube {
@@ -69,7 +71,8 @@ fn rarest_in<'a, R: Row>(work: &Work<R>, cube: &'a [Literal], name: &'a Name) ->
 
 /// The name of a cover's literals that fewest tables read.
 pub(crate) fn rarest_name<'a, R: Row>(work: &Work<R>, cover: &'a [Cube]) -> Option<&'a Name>
-    ensures { MatchOption result (literals_in cover.now ≡ 0) (λ name. has (names_in cover.now) name.now ≡ true) }
+    ensures { MatchOption result (literals_in cover.now ≡ 0)
+        (λ name. has (names_in cover.now) name.now ≡ true) }
 {
     let mut rarest = first_name(cover)?;
     for cube in cover {
@@ -78,20 +81,8 @@ pub(crate) fn rarest_name<'a, R: Row>(work: &Work<R>, cover: &'a [Cube]) -> Opti
     Some(rarest)
 }
 
-// Places in rising order, each once.
-fn risen(places: Places) -> Vec<usize>
-    ensures rising { IsStrictlyIncreasing result.items }
-    ensures all { (at : ℕ) → is_in places at ≡ true → is_in result.items at ≡ true }
-    ensures same { (at : ℕ) → is_in result.items at ≡ true → is_in places at ≡ true }
-{
-    let mut sorted = places.into_vec();
-    sorted.sort_unstable();
-    sorted.dedup();
-    sorted
-}
-
-/// Places of the network, each once, in rising order, among which are those of all tables that read all that a cover reads; an error only for
-/// want of memory.
+/// Places of the network, each once, in rising order, among which are those of all tables that read
+/// all that a cover reads; an error only for want of memory.
 pub fn places_for<R: Row>(
     alloc: Global,
     work: &Work<R>,
@@ -99,14 +90,17 @@ pub fn places_for<R: Row>(
 ) -> Result<Vec<usize>, AllocError>
     requires { 1 ≤ literals_in cover.now }
     ensures rising { IfOk result (λ places. IsStrictlyIncreasing places.items) }
-    ensures within { IfOk result (λ places. (at : ℕ) → is_in places.items at ≡ true → at < length work.now.slots) }
-    ensures all { IfOk result (λ places. (at : ℕ) (table : TheTable) → table_at work.now.slots at ≡ Some table → is_over table.inputs cover.now ≡ true → is_in places.items at ≡ true) }
+    ensures within { IfOk result (λ places. (at : ℕ) → is_in places.items at ≡ true
+        → at < length work.now.slots) }
+    ensures all { IfOk result (λ places. (at : ℕ) (table : TheTable)
+        → table_at work.now.slots at ≡ Some table → is_over table.inputs cover.now ≡ true
+        → is_in places.items at ≡ true) }
 {
     match rarest_name(work, cover) {
         None => unreachable!(),
         Some(name) => {
             let readers = work.readers(alloc, name)?;
-            Ok(risen(readers))
+            Ok(readers.into_vec())
         }
     }
 }
@@ -128,7 +122,8 @@ pub(crate) fn loss_of<R: Row>(
     requires over { IsOverInputs table.now }
     requires once { all_different table.now.inputs ≡ true }
     requires free { has table.now.inputs name.now ≡ false }
-    ensures { IfOk result (λ loss. (output : List ℕ) → IsLoss name.now cover.now (Some (named output table.now)) loss) }
+    ensures { IfOk result (λ loss. (output : List ℕ)
+        → IsLoss name.now cover.now (Some (named output table.now)) loss) }
 {
     // by this call the rows are known to have the cover's width
     let _of_one_width = table.cover.rows();
@@ -182,7 +177,8 @@ fn losses_at<R: Row>(
 ) -> Result<Option<u128>, AllocError>
     requires sound { IsSound (circuit_of work.now) }
     requires free { IsNewName (circuit_of work.now) name.now }
-    ensures { IfOk result (λ losses. AreLosses name.now cover.now work.now.slots places.now losses) }
+    ensures { IfOk result (λ losses. AreLosses name.now cover.now work.now.slots places.now
+        losses) }
 {
     let mut total = 0;
     for place in places {
@@ -196,7 +192,8 @@ fn losses_at<R: Row>(
 
 // How much more than another number one is, if it is.
 fn excess(lost: Option<u128>, own: u128) -> Option<u128>
-    ensures { MatchOption result ((number : ℕ) → lost ≡ Some number → number ≤ own) (λ more. (lost ≡ Some (more + own)) × (1 ≤ more)) }
+    ensures { MatchOption result ((number : ℕ) → lost ≡ Some number → number ≤ own)
+        (λ more. (lost ≡ Some (more + own)) × (1 ≤ more)) }
 {
     match lost {
         None => None,
@@ -204,7 +201,8 @@ fn excess(lost: Option<u128>, own: u128) -> Option<u128>
     }
 }
 
-/// How many literals a cover saves that is extracted under a new name; none where it saves none, or a table has too many inputs then.
+/// How many literals a cover saves that is extracted under a new name; none where it saves none, or
+/// a table has too many inputs then.
 pub(crate) fn saving_of<R: Row>(
     alloc: Global,
     work: &Work<R>,

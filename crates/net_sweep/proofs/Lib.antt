@@ -9,3 +9,4 @@ pub mod Latching
 pub mod Stepping
 pub mod Enqueuing
 pub mod Emptying
+pub mod Bounds

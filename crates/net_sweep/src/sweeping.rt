@@ -1,9 +1,10 @@
 //! Sweep of a network.
 
-ghost use Rattle.std.specs.Prelude.{◌≡◌, ◌-◌, not, None, count_by, length, IfOk, OnOk, OnErr};
+ghost use Rattle.std.specs.Prelude.{◌≡◌, ◌-◌, not, None, count_by, length, IfOk, OnOk};
 ghost use Rattle.circuit_model.specs.Names.{has};
 ghost use Rattle.circuit_model.specs.Soundness.{IsSound, outputs_of};
 ghost use Rattle.circuit_laws.specs.Chains.{Chain};
+ghost use Rattle.net_core.specs.Reads.{HasBounds};
 ghost use Rattle.net_wires.specs.Keeping.{IsKept};
 ghost use Rattle.net_wires.specs.Rules.{fix_constant_latch, sweep_step};
 ghost use Rattle.net_wires.specs.Sweeping.{IsSwept, tables_gone, latches_gone};
@@ -23,7 +24,8 @@ use net_wires::{AliasedTables, dangling_step};
 use sis_base::Whole;
 use std::alloc::{AllocError, Global};
 
-/// How many tables and latches a sweep took away; a latch that became a table counts as a latch alone.
+/// How many tables and latches a sweep took away; a latch that became a table counts as a latch
+/// alone.
 #[derive(Clone, Copy, Debug, PartialEq, Eq)]
 pub struct Swept {
     /// How many of the tables' signals no table drives any more.
@@ -57,7 +59,8 @@ fn take_steps<R: Row>(
     requires sound { IsSound (with_latches aliased.old (left_at tracked.old.slots.items)) }
     requires candidates { AreCandidates (is_candidate candidates.old) aliased.old.tables }
     requires ready { IsReady tracked.old aliased.old }
-    ensures led { OnOk result (HasLed (with_latches aliased.old (left_at tracked.old.slots.items)) (with_latches aliased.new (left_at tracked.new.slots.items))) }
+    ensures led { OnOk result (HasLed (with_latches aliased.old (left_at tracked.old.slots.items))
+        (with_latches aliased.new (left_at tracked.new.slots.items))) }
     ensures next { OnOk result (IsNextStep aliased.new tracked.new.slots.items None) }
 {
     while let Some(step) = next_step::<R>(alloc, aliased, candidates, tracked)? {
@@ -75,14 +78,16 @@ fn settle<R: Row>(
 ) -> Result<(), AllocError>
     requires sound { IsSound (with_latches aliased.old (left_at tracked.old.slots.items)) }
     requires ready { IsReady tracked.old aliased.old }
-    ensures led { OnOk result (HasLed (with_latches aliased.old (left_at tracked.old.slots.items)) (with_latches aliased.new (left_at tracked.new.slots.items))) }
+    ensures led { OnOk result (HasLed (with_latches aliased.old (left_at tracked.old.slots.items))
+        (with_latches aliased.new (left_at tracked.new.slots.items))) }
     ensures next { OnOk result (IsNextStep aliased.new tracked.new.slots.items None) }
 {
     let mut candidates = all_candidates(alloc, aliased.len())?;
     take_steps::<R>(alloc, aliased, &mut candidates, tracked)
 }
 
-// The circuit where none of the first five rules applies any more, whose latches are told beside it.
+// The circuit where none of the first five rules applies any more, whose latches are told beside
+// it.
 fn settled_beside<R: Row>(
     alloc: Global,
     circuit: Circuit,
@@ -90,7 +95,9 @@ fn settled_beside<R: Row>(
 ) -> Result<Circuit, AllocError>
     requires sound { IsSound (with_latches circuit (left_at tracked.old.slots.items)) }
     requires ready { IsReady tracked.old circuit }
-    ensures led { IfOk result (λ end. HasLed (with_latches circuit (left_at tracked.old.slots.items)) (with_latches end (left_at tracked.new.slots.items))) }
+    ensures led { IfOk result (λ end. HasLed
+        (with_latches circuit (left_at tracked.old.slots.items))
+        (with_latches end (left_at tracked.new.slots.items))) }
     ensures next { IfOk result (λ end. IsNextStep end tracked.new.slots.items None) }
 {
     let mut aliased = AliasedTables::from_circuit(alloc, circuit)?;
@@ -128,7 +135,8 @@ fn finished<R: Row>(alloc: Global, circuit: Circuit) -> Result<Circuit, AllocErr
 
 // How many of the named tables, and of so many latches, a circuit has no more.
 fn gone(alloc: Global, tables: &[Name], latches: usize, end: &Circuit) -> Result<Swept, AllocError>
-    ensures tables { IfOk result (λ swept. swept.tables ≡ count_by (λ name. not (has (outputs_of end.now.tables) name)) tables.now) }
+    ensures tables { IfOk result (λ swept. swept.tables
+        ≡ count_by (λ name. not (has (outputs_of end.now.tables) name)) tables.now) }
     ensures latches { IfOk result (λ swept. swept.latches ≡ latches - length end.now.latches) }
 {
     let count = count_undriven(alloc, tables, end.tables.as_slice())?;
@@ -138,16 +146,15 @@ fn gone(alloc: Global, tables: &[Name], latches: usize, end: &Circuit) -> Result
     })
 }
 
-/// A network swept, beside the one that stays: the end of the chain of steps, and how many tables and latches went. An
-/// error only for want of memory.
-pub fn swept_copy<R: Row>(
-    alloc: Global,
-    network: &Network<R>,
-) -> Result<(Network<R>, Swept), SweepFault>
+/// A network after sweep, beside the one that stays: the end of the chain of steps, and how many
+/// tables and latches went. An error only for want of memory.
+pub fn sweep<R: Row>(alloc: Global, network: &Network<R>) -> Result<(Network<R>, Swept), SweepFault>
     ensures chain { IfOk result (λ made. Chain sweep_step network.now made.0) }
     ensures kept { IfOk result (λ made. IsKept network.now made.0) }
     ensures finished { IfOk result (λ made. IsSwept made.0) }
-    ensures counts { IfOk result (λ made. (made.1.tables ≡ tables_gone network.now made.0) × (made.1.latches ≡ latches_gone network.now made.0)) }
+    ensures counts { IfOk result (λ made. (made.1.tables ≡ tables_gone network.now made.0)
+        × (made.1.latches ≡ latches_gone network.now made.0)) }
+    ensures bounds { HasBounds network.now → IfOk result (λ made. HasBounds made.0) }
 {
     network.sound();
     // Wholes, so that letting one go is one call.
@@ -160,18 +167,4 @@ pub fn swept_copy<R: Row>(
     let swept = gone(alloc, tables.as_slice(), latches, &swept_end.it)?;
     let made = Network::from_circuit(alloc, swept_end.into_it())?;
     Ok((made, swept))
-}
-
-/// Sweeps a network: it becomes the end of the chain of steps; how many tables and latches went is answered. An error, only
-/// for want of memory, changes nothing.
-pub fn sweep<R: Row>(alloc: Global, network: &mut Network<R>) -> Result<Swept, SweepFault>
-    ensures chain { OnOk result (Chain sweep_step network.old network.new) }
-    ensures kept { OnOk result (IsKept network.old network.new) }
-    ensures finished { OnOk result (IsSwept network.new) }
-    ensures counts { IfOk result (λ swept. (swept.tables ≡ tables_gone network.old network.new) × (swept.latches ≡ latches_gone network.old network.new)) }
-    ensures err { OnErr result (network.new ≡ network.old) }
-{
-    let (made, swept) = swept_copy(alloc, network)?;
-    *network = made;
-    Ok(swept)
 }

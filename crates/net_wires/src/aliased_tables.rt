@@ -1,6 +1,7 @@
 //! A circuit whose tables are kept over aliases, with exact readers of the aliases.
 
 ghost use Rattle.std.specs.Prelude.{◌≡◌, ◌<◌, ◌++◌, ℕ, Bool, false, Some, None, List, [], ◌∷◌, length, map, slice_get, slice_set, bytes_eq, IfOk, OnOk};
+ghost use Rattle.std.specs.List.Sorted.{IsStrictlyIncreasing};
 ghost use Rattle.std.specs.Option.{option_map_or};
 ghost use Rattle.circuit_model.specs.Names.{has};
 ghost use Rattle.circuit_model.specs.Soundness.{table_inputs};
@@ -21,8 +22,9 @@ use std::alloc::{AllocError, Global};
 use std::marker::Model;
 use std::mem;
 
-/// A circuit on which rules run: two signals change places in all tables at once, and who reads a signal is known. Contracts
-/// see it as that circuit. Behind an error, which is want of memory alone, any circuit may stand.
+/// A circuit on which rules run: two signals change places in all tables at once, and who reads a
+/// signal is known. Contracts see it as that circuit. Behind an error, which is want of memory
+/// alone, any circuit may stand.
 #[derive(Drop)]
 pub struct AliasedTables {
     // the circuit with aliases in the places of the signals that its tables read
@@ -45,9 +47,12 @@ impl Model for AliasedTables {
 
     ghost Value = { TheCircuit };
 
-    ghost view = { λ over. with_tables over.circuit.it (map (table_over (edge_of (get bytes_eq over.signal_of.it))) over.circuit.it.tables) };
+    ghost view = { λ over. with_tables over.circuit.it
+        (map (table_over (edge_of (get bytes_eq over.signal_of.it))) over.circuit.it.tables) };
 
-    ghost invariant = { λ over. AreReaders (told over.readers) (inputs_at over.circuit.it.tables) × ArePaired (edge_of (get bytes_eq over.signal_of.it)) (edge_of (get bytes_eq over.alias_of.it)) };
+    ghost invariant = { λ over. AreReaders (told over.readers) (inputs_at over.circuit.it.tables)
+        × ArePaired (edge_of (get bytes_eq over.signal_of.it))
+        (edge_of (get bytes_eq over.alias_of.it)) };
 }
 
 // The readers of each signal in tables.
@@ -80,7 +85,8 @@ fn push_table(circuit: &mut Circuit, table: Table) -> Result<(), AllocError>
     Ok(())
 }
 
-// The table at a place of a circuit gives place to another one, over aliases, and the readers are those of the new tables.
+// The table at a place of a circuit gives place to another one, over aliases, and the readers are
+// those of the new tables.
 fn change_table(
     alloc: Global,
     circuit: &mut Circuit,
@@ -91,7 +97,9 @@ fn change_table(
 ) -> Result<(), AllocError>
     requires within { place < length circuit.old.tables }
     requires listed { AreReaders (told readers.old) (inputs_at circuit.old.tables) }
-    ensures set { OnOk result (circuit.new ≡ with_tables circuit.old (slice_set circuit.old.tables place (over_edges (edge_of (get bytes_eq aliases.now)) table))) }
+    ensures set { OnOk result (circuit.new
+        ≡ with_tables circuit.old (slice_set circuit.old.tables place
+        (over_edges (edge_of (get bytes_eq aliases.now)) table))) }
     ensures listed { OnOk result (AreReaders (told readers.new) (inputs_at circuit.new.tables)) }
 {
     let kept = table_over(alloc, aliases, table)?;
@@ -120,8 +128,14 @@ fn pair(
     signal: &Name,
     inverts: bool,
 ) -> Result<(), AllocError>
-    ensures signals { OnOk result ((name : List ℕ) → edge_of (get bytes_eq signals.new) name ≡ with_edge alias.now (record { name = signal.now; is_complemented = inverts }) (edge_of (get bytes_eq signals.old)) name) }
-    ensures aliases { OnOk result ((name : List ℕ) → edge_of (get bytes_eq aliases.new) name ≡ with_edge signal.now (record { name = alias.now; is_complemented = inverts }) (edge_of (get bytes_eq aliases.old)) name) }
+    ensures signals { OnOk result ((name : List ℕ)
+        → edge_of (get bytes_eq signals.new) name
+        ≡ with_edge alias.now (record { name = signal.now; is_complemented = inverts })
+        (edge_of (get bytes_eq signals.old)) name) }
+    ensures aliases { OnOk result ((name : List ℕ)
+        → edge_of (get bytes_eq aliases.new) name
+        ≡ with_edge signal.now (record { name = alias.now; is_complemented = inverts })
+        (edge_of (get bytes_eq aliases.old)) name) }
 {
     let to_signal = Edge {
         name: signal.copy(alloc)?,
@@ -144,7 +158,9 @@ fn exchange_edges(
     other: &Name,
     inverts: bool,
 ) -> Result<(), AllocError>
-    ensures { OnOk result (HaveExchangedAliases (edge_of (get bytes_eq signals.old)) (edge_of (get bytes_eq aliases.old)) (edge_of (get bytes_eq signals.new)) (edge_of (get bytes_eq aliases.new)) one.now other.now inverts) }
+    ensures { OnOk result (HaveExchangedAliases (edge_of (get bytes_eq signals.old))
+        (edge_of (get bytes_eq aliases.old)) (edge_of (get bytes_eq signals.new))
+        (edge_of (get bytes_eq aliases.new)) one.now other.now inverts) }
 {
     let first = edge_from(alloc, aliases, one)?;
     let second = edge_from(alloc, aliases, other)?;
@@ -234,7 +250,8 @@ impl AliasedTables {
         }
     }
 
-    /// The constant that the table at a place is written as, if there is a table and it is written so.
+    /// The constant that the table at a place is written as, if there is a table and it is written
+    /// so.
     pub fn bit(&self, place: usize) -> Option<bool>
         ensures { result ≡ option_map_or bit_written (slice_get self.now.tables place) None }
     {
@@ -246,7 +263,8 @@ impl AliasedTables {
 
     /// How many inputs the table at a place has; 0 where there is no table.
     pub fn width(&self, place: usize) -> usize
-        ensures { result ≡ option_map_or (λ (table : TheTable). length table.inputs) (slice_get self.now.tables place) 0 }
+        ensures { result ≡ option_map_or (λ (table : TheTable). length table.inputs)
+            (slice_get self.now.tables place) 0 }
     {
         match self.circuit.it.tables.as_slice().get(place) {
             None => 0,
@@ -261,22 +279,28 @@ impl AliasedTables {
         self.readers.has_readers(name_of(&self.alias_of.it, name))
     }
 
-    /// The places of the tables that read a signal; an error only for want of memory.
+    /// The places of the tables that read a signal, each once, in rising order; an error only for
+    /// want of memory.
     pub fn places(&self, alloc: Global, name: &Name) -> Result<Places, AllocError>
-        ensures { IfOk result (λ places. (place : ℕ) → is_in places place ≡ has (inputs_at self.now.tables place) name.now) }
+        ensures exact { IfOk result (λ places. (place : ℕ)
+            → is_in places place ≡ has (inputs_at self.now.tables place) name.now) }
+        ensures rising { IfOk result IsStrictlyIncreasing }
     {
         self.readers.places(alloc, name_of(&self.alias_of.it, name))
     }
 
-    /// How many tables read a signal, which no clause says: it serves to choose between ways, for speed alone.
+    /// How many tables read a signal, which no clause says: it serves to choose between ways, for
+    /// speed alone.
     pub fn count(&self, name: &Name) -> usize {
         self.readers.count(name_of(&self.alias_of.it, name))
     }
 
-    /// The table at a place, which has one, gives place to another one; an error only for want of memory.
+    /// The table at a place, which has one, gives place to another one; an error only for want of
+    /// memory.
     pub fn set(&mut self, alloc: Global, place: usize, table: Table) -> Result<(), AllocError>
         requires { place < length self.old.tables }
-        ensures { OnOk result (self.new ≡ with_tables self.old (slice_set self.old.tables place table)) }
+        ensures { OnOk result (self.new ≡ with_tables self.old
+            (slice_set self.old.tables place table)) }
     {
         let mut made = mem::replace(self, AliasedTables::empty(alloc));
         change_table(
@@ -291,8 +315,9 @@ impl AliasedTables {
         Ok(())
     }
 
-    /// Two signals, which are different, change places among the inputs of all tables, the characters of the first turned over
-    /// or not; outputs, latches and the don't-care part stay. An error only for want of memory.
+    /// Two signals, which are different, change places among the inputs of all tables, the
+    /// characters of the first turned over or not; outputs, latches and the don't-care part stay.
+    /// An error only for want of memory.
     pub fn exchange_aliases(
         &mut self,
         alloc: Global,
@@ -301,7 +326,8 @@ impl AliasedTables {
         inverts: bool,
     ) -> Result<(), AllocError>
         requires { bytes_eq one.now other.now ≡ false }
-        ensures { OnOk result (self.new ≡ with_tables self.old (map (exchanged one.now other.now inverts) self.old.tables)) }
+        ensures { OnOk result (self.new ≡ with_tables self.old
+            (map (exchanged one.now other.now inverts) self.old.tables)) }
     {
         let mut made = mem::replace(self, AliasedTables::empty(alloc));
         exchange_edges(

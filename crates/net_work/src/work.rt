@@ -1,6 +1,7 @@
 //! The working network.
 
 ghost use Rattle.std.specs.Prelude.{◌≡◌, ℕ, ◌+◌, ◌<◌, ◌≤◌, ◌↔◌, Bool, true, false, not, ◌||◌, Option, Some, None, List, [], ◌∷◌, ◌++◌, length, is_some, slice_get, slice_set, bytes_eq, IfSome, IfOk, OnOk, IsTrue};
+ghost use Rattle.std.specs.List.Sorted.{IsStrictlyIncreasing};
 ghost use Rattle.std.specs.Option.{option_map};
 ghost use Rattle.indexmap.specs.IndexMap.{get};
 ghost use Rattle.circuit_model.specs.Names.{has, all_different};
@@ -60,10 +61,21 @@ impl<R: Row> Model for Work<R> {
 
     ghost view = { λ w. record { frame = w.frame; slots = written_slots w.slots.items } };
 
-    ghost invariant = { λ w. IsKeptUp w.frame w.slots.items (get bytes_eq w.places) w.links w.number };
+    ghost invariant = { λ w. IsKeptUp w.frame w.slots.items
+        (get bytes_eq w.places) w.links w.number };
 }
 
 impl<R: Row> Work<R> {
+    /// The working form of a copy of a network, which stays; an error only for want of memory.
+    pub fn of(alloc: Global, network: &Network<R>) -> Result<Work<R>, AllocError>
+        ensures circuit { IfOk result (λ work. circuit_of work ≡ network.now) }
+        ensures sound { IsSound network.now }
+    {
+        network.sound();
+        let copy = network.copy(alloc)?;
+        Work::from_network(alloc, copy)
+    }
+
     /// The working form of a network, whose parts move over; an error only for want of memory.
     pub fn from_network(alloc: Global, network: Network<R>) -> Result<Work<R>, AllocError>
         ensures circuit { IfOk result (λ work. circuit_of work ≡ network) }
@@ -107,9 +119,11 @@ impl<R: Row> Work<R> {
         })
     }
 
-    /// The table at a place and its name, if a table stands there. Its cover has a place for each input, and it names each once.
+    /// The table at a place and its name, if a table stands there. Its cover has a place for each
+    /// input, and it names each once.
     pub fn entry(&self, place: usize) -> Option<&Entry<R>>
-        ensures table { option_map (λ entry. written_of entry.now) result ≡ table_at self.now.slots place }
+        ensures table { option_map (λ entry. written_of entry.now) result
+            ≡ table_at self.now.slots place }
         ensures over { IfSome result (λ entry. IsOverInputs entry.now.table) }
         ensures once { IfSome result (λ entry. all_different entry.now.table.inputs ≡ true) }
     {
@@ -128,7 +142,8 @@ impl<R: Row> Work<R> {
 
     /// The place of the table of a name, if there is one.
     pub fn place_of(&self, name: &Name) -> Option<usize>
-        ensures some { IfSome result (λ place. (table : TheWritten) × (table_at self.now.slots place ≡ Some table) × (table.output ≡ name.now)) }
+        ensures some { IfSome result (λ place. (table : TheWritten)
+            × (table_at self.now.slots place ≡ Some table) × (table.output ≡ name.now)) }
         ensures known { is_some result ≡ has (outputs_of (standing self.now.slots)) name.now }
     {
         found_place(&self.places, name)
@@ -141,21 +156,28 @@ impl<R: Row> Work<R> {
         !self.frame.is_root(name)
     }
 
-    /// The places of the tables that read a signal, each once; an error only for want of memory.
+    /// The places of the tables that read a signal, each once, in rising order; an error only for
+    /// want of memory.
     pub fn readers(&self, alloc: Global, name: &Name) -> Result<Places, AllocError>
-        ensures { IfOk result (λ places. (place : ℕ) → is_in places place ≡ has (inputs_at self.now.slots place) name.now) }
+        ensures exact { IfOk result (λ places. (place : ℕ)
+            → is_in places place ≡ has (inputs_at self.now.slots place) name.now) }
+        ensures rising { IfOk result IsStrictlyIncreasing }
     {
         self.links.readers.places(alloc, name)
     }
 
-    /// How many tables read a name, which no clause says: it serves to choose between ways, for speed alone.
+    /// How many tables read a name, which no clause says: it serves to choose between ways, for
+    /// speed alone.
     pub fn reader_count(&self, name: &Name) -> usize {
         self.links.readers.count(name)
     }
 
-    /// What the table at a place is worth: n * l - n - l for its n uses and its l literals; an error only for want of memory.
+    /// What the table at a place is worth: n * l - n - l for its n uses and its l literals; an
+    /// error only for want of memory.
     pub fn value(&self, place: usize) -> Result<i128, AllocError>
-        ensures { IfOk result (λ value. (table : TheWritten) → table_at self.now.slots place ≡ Some table → value ≡ value_of (standing self.now.slots) table.output) }
+        ensures { IfOk result (λ value. (table : TheWritten)
+            → table_at self.now.slots place ≡ Some table
+            → value ≡ value_of (standing self.now.slots) table.output) }
     {
         match self.entry(place) {
             None => Ok(0),

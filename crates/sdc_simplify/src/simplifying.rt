@@ -16,15 +16,18 @@ use net_core::Network;
 use net_work::Work;
 use std::alloc::Global;
 
-// The tables at places, which are in order, become minimal one after the other. Behind an error any network may stand.
+// The tables at places, which are in order, become minimal one after the other. Behind an error any
+// network may stand.
 fn minimize_along<R: Row>(
     alloc: Global,
     work: &mut Work<R>,
     places: &[usize],
 ) -> Result<(), SimplifyFault>
     requires sound { IsSound (circuit_of work.old) }
-    requires order { map (name_at work.old.slots) places.now ≡ map Some (order_of (standing work.old.slots)) }
-    ensures along { OnOk result (IsAlong (order_of (standing work.old.slots)) [] work.old work.new) }
+    requires order { map (name_at work.old.slots) places.now
+        ≡ map Some (order_of (standing work.old.slots)) }
+    ensures along { OnOk result (IsAlong
+        (order_of (standing work.old.slots)) [] work.old work.new) }
     ensures fault { IfErr result (λ fault. IsCause (simplify_refusal (circuit_of work.old)) fault) }
 {
     for place in places {
@@ -45,14 +48,15 @@ fn minimize_all<R: Row>(alloc: Global, work: &mut Work<R>) -> Result<(), Simplif
     minimize_along(alloc, work, places.as_slice())
 }
 
-/// Makes each table of a network minimal under its local don't-cares, in the order in which each stands behind what it reads.
-/// `CubeLimit` with the name of the first table, in that order, that gives its function by the rows where it is 0 and whose list of
-/// those where it is 1 has more than 32,767 rows in its turn. The network is lost with an error.
-pub fn simplify<R: Row>(alloc: Global, network: Network<R>) -> Result<Network<R>, SimplifyFault>
-    ensures simplified { HasSimplified network result }
-    ensures bounds { HasBounds network → IfOk result HasBounds }
+/// A network after simplification, beside the one that stays. Each table becomes minimal under its
+/// local don't-cares, in the order in which each stands behind what it reads. `CubeLimit` with the
+/// name of the first table, in that order, that gives its function by the rows where it is 0 and
+/// whose list of those where it is 1 has more than 32,767 rows in its turn.
+pub fn simplify<R: Row>(alloc: Global, network: &Network<R>) -> Result<Network<R>, SimplifyFault>
+    ensures simplified { HasSimplified network.now result }
+    ensures bounds { HasBounds network.now → IfOk result HasBounds }
 {
-    let mut work = Work::from_network(alloc, network)?;
+    let mut work = Work::of(alloc, network)?;
     match minimize_all(alloc, &mut work) {
         Ok(()) => Ok(work.into_network()),
         Err(fault) => Err(fault),

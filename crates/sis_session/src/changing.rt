@@ -1,15 +1,14 @@
-//! What the commands make of the network that change it: a new one beside the old one, within the bounds in which literals are
-//! counted.
+//! What the commands make of the network that change it: a new one beside the old one, within the
+//! bounds in which literals are counted.
 //!
-//! Each takes a copy, since the crates below own the network that they change, and an error loses it: the old one stays as it was where a
-//! command is refused, and is kept for `undo` where it is done. `change_network` is the one call that the session makes.
+//! The old one stays as it was where a command is refused, and is kept for `undo` where it is done.
+//! `change_network` is the one call that the session makes; here faults become refusals.
 
 ghost use Rattle.std.specs.Prelude.{◌≡◌, IfOk};
 ghost use Rattle.circuit_laws.specs.Chains.{Chain};
 ghost use Rattle.net_elim.specs.Eliminating.{eliminate_step};
 ghost use Rattle.net_core.specs.Reads.{HasBounds};
 ghost use Rattle.sis_script.specs.declared.command.Change.TheVariants.{Collapse, Simplify};
-ghost use Rattle.net_resub.specs.Resubbed.{IsResubbed};
 ghost use Rattle.sis_session.specs.Commands.{Decomposes, Extracts};
 ghost use Rattle.sis_session.specs.Methods.{IsChanged, IsMadeBy};
 
@@ -21,13 +20,13 @@ use net_decomp::{Rule, decompose};
 use net_elim::{CollapseFault, collapse, eliminate};
 use net_extract::{ExtractFault, extract};
 use net_resub::resubstitute;
-use net_sweep::{SweepFault, swept_copy};
+use net_sweep::{SweepFault, sweep};
 use sdc_simplify::{SimplifyFault, simplify};
 use sis_script::Change;
 use std::alloc::{AllocError, Global};
 
 /// A network after elimination.
-fn eliminated_copy(
+fn eliminated(
     alloc: Global,
     network: &Network<PlainRow>,
     threshold: i32,
@@ -37,23 +36,16 @@ fn eliminated_copy(
     ensures chain { IfOk result (λ new. Chain (eliminate_step threshold rows) network.now new) }
     ensures bounds { IfOk result HasBounds }
 {
-    network.sound();
-    let copy = network.copy(alloc)?;
-    let new = eliminate(alloc, copy, threshold, rows as usize)?;
-    Ok(new)
+    eliminate(alloc, network, threshold, rows as usize)
 }
 
 /// A network after collapse, or the refusal of a table that cannot take another one in.
-fn collapsed_copy(
-    alloc: Global,
-    network: &Network<PlainRow>,
-) -> Result<Network<PlainRow>, StepFault>
+fn collapsed(alloc: Global, network: &Network<PlainRow>) -> Result<Network<PlainRow>, StepFault>
     requires { HasBounds network.now }
     ensures changes { IsChanged Collapse network.now result }
     ensures bounds { IfOk result HasBounds }
 {
-    let copy = network.copy(alloc)?;
-    match collapse(alloc, copy) {
+    match collapse(alloc, network) {
         Ok(new) => Ok(new),
         Err(CollapseFault::CubeLimit(name)) => { Err(StepFault::Refused(Refusal::CubeLimit(name))) }
         Err(CollapseFault::TooWide(name, count)) => {
@@ -64,24 +56,21 @@ fn collapsed_copy(
 }
 
 /// A network after simplification, or the refusal of a table whose list of rows is too long.
-fn simplified_copy(
-    alloc: Global,
-    network: &Network<PlainRow>,
-) -> Result<Network<PlainRow>, StepFault>
+fn simplified(alloc: Global, network: &Network<PlainRow>) -> Result<Network<PlainRow>, StepFault>
     requires { HasBounds network.now }
     ensures changes { IsChanged Simplify network.now result }
     ensures bounds { IfOk result HasBounds }
 {
-    let copy = network.copy(alloc)?;
-    match simplify(alloc, copy) {
+    match simplify(alloc, network) {
         Ok(new) => Ok(new),
         Err(SimplifyFault::CubeLimit(name)) => Err(StepFault::Refused(Refusal::CubeLimit(name))),
         Err(SimplifyFault::Memory) => Err(StepFault::Memory),
     }
 }
 
-/// A network after extraction by a rule, or the refusal of a table with too many kernels, or of one table more.
-fn extracted_copy(
+/// A network after extraction by a rule, or the refusal of a table with too many kernels, or of one
+/// table more.
+fn extracted(
     alloc: Global,
     network: &Network<PlainRow>,
     rule: Extraction,
@@ -90,8 +79,7 @@ fn extracted_copy(
     ensures extracted { IsMadeBy (Extracts rule network.now) result }
     ensures bounds { IfOk result HasBounds }
 {
-    let copy = network.copy(alloc)?;
-    match extract(alloc, copy, rule) {
+    match extract(alloc, network, rule) {
         Ok(new) => Ok(new),
         Err(ExtractFault::KernelLimit(name)) => {
             Err(StepFault::Refused(Refusal::KernelLimit(name)))
@@ -101,22 +89,8 @@ fn extracted_copy(
     }
 }
 
-/// A network after resubstitution.
-fn resubbed_copy(
-    alloc: Global,
-    network: &Network<PlainRow>,
-) -> Result<Network<PlainRow>, AllocError>
-    requires { HasBounds network.now }
-    ensures resubbed { IfOk result (λ new. IsResubbed network.now new) }
-    ensures bounds { IfOk result HasBounds }
-{
-    let copy = network.copy(alloc)?;
-    let new = resubstitute(alloc, copy)?;
-    Ok(new)
-}
-
 /// A network after decomposition by a rule, or the refusal where there is no room.
-fn decomposed_copy(
+fn decomposed(
     alloc: Global,
     network: &Network<PlainRow>,
     rule: Rule,
@@ -125,8 +99,7 @@ fn decomposed_copy(
     ensures decomposed { IsMadeBy (Decomposes rule network.now) result }
     ensures bounds { IfOk result HasBounds }
 {
-    let copy = network.copy(alloc)?;
-    match decompose(alloc, copy, rule) {
+    match decompose(alloc, network, rule) {
         Ok(new) => Ok(new),
         Err(AddFault::NodeLimit) => Err(StepFault::Refused(Refusal::NodeLimit)),
         Err(AddFault::Memory) => Err(StepFault::Memory),
@@ -134,7 +107,6 @@ fn decomposed_copy(
 }
 
 /// What a change makes of a network: a new one beside it.
-#[tactic(auto, using(crate::proofs::Bounds::bounds_swept))]
 pub fn change_network(
     alloc: Global,
     network: &Network<PlainRow>,
@@ -145,27 +117,25 @@ pub fn change_network(
     ensures bounds { IfOk result HasBounds }
 {
     match change {
-        Change::Sweep => match swept_copy(alloc, network) {
+        Change::Sweep => match sweep(alloc, network) {
             Ok((swept, _)) => Ok(swept),
             Err(SweepFault::Memory) => Err(StepFault::Memory),
         },
-        Change::Eliminate(threshold, rows) => {
-            match eliminated_copy(alloc, network, threshold, rows) {
-                Ok(new) => Ok(new),
-                Err(_) => Err(StepFault::Memory),
-            }
-        }
-        Change::Collapse => collapsed_copy(alloc, network),
-        Change::Simplify => simplified_copy(alloc, network),
-        Change::Fx => extracted_copy(alloc, network, Extraction::Fx),
-        Change::Gkx => extracted_copy(alloc, network, Extraction::Gkx),
-        Change::Gcx => extracted_copy(alloc, network, Extraction::Gcx),
-        Change::Resub => match resubbed_copy(alloc, network) {
+        Change::Eliminate(threshold, rows) => match eliminated(alloc, network, threshold, rows) {
             Ok(new) => Ok(new),
             Err(_) => Err(StepFault::Memory),
         },
-        Change::Decomp => decomposed_copy(alloc, network, Rule::Shared),
-        Change::TechDecomp(products, sums) => decomposed_copy(
+        Change::Collapse => collapsed(alloc, network),
+        Change::Simplify => simplified(alloc, network),
+        Change::Fx => extracted(alloc, network, Extraction::Fx),
+        Change::Gkx => extracted(alloc, network, Extraction::Gkx),
+        Change::Gcx => extracted(alloc, network, Extraction::Gcx),
+        Change::Resub => match resubstitute(alloc, network) {
+            Ok(new) => Ok(new),
+            Err(_) => Err(StepFault::Memory),
+        },
+        Change::Decomp => decomposed(alloc, network, Rule::Shared),
+        Change::TechDecomp(products, sums) => decomposed(
             alloc,
             network,
             Rule::Gates(products as usize, sums as usize),

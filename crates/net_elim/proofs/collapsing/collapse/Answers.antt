@@ -6,8 +6,12 @@ use Rattle.net_elim.proofs.collapsing.collapse.Goals as goal
 
 pub into_network-requires : goal.into_network-requires
 into_network-requires g c =
-    sound_collapsed c.args.network (circuit_of c.in_ok-work.work) (circuit_of c.collapse_tables.new.work) c.in_ok-work.ensures.sound c.in_ok-work.ensures.circuit c.in-Ok.ensures.collapsed
+    sound_collapsed c.args.network.now (circuit_of c.in_ok-work.work)
+    (circuit_of c.collapse_tables.new.work) c.in_ok-work.ensures.sound
+    c.in_ok-work.ensures.circuit c.in-Ok.ensures.collapsed
 
 pub returns-in-Ok-clause-bounds : goal.returns-in-Ok-clause-bounds
 returns-in-Ok-clause-bounds g c =
-    bounds_kept c.args.network (circuit_of c.in_ok-work.work) c.into_network.result c.in_ok-work.ensures.sound c.in_ok-work.ensures.circuit (c.into_network.ensures ∙ c.in-Ok.ensures.collapsed) c.in-Ok.ensures.none
+    bounds_kept c.args.network.now (circuit_of c.in_ok-work.work) c.into_network.result
+    c.in_ok-work.ensures.sound c.in_ok-work.ensures.circuit
+    (c.into_network.ensures ∙ c.in-Ok.ensures.collapsed) c.in-Ok.ensures.none

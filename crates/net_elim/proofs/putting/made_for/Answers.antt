@@ -16,29 +16,43 @@ use Rattle.net_elim.proofs.putting.made_for.Goals as goal
 
 pub all_made-requires-clause-apart : goal.all_made-requires-clause-apart
 unfolding named
-all_made-requires-clause-apart g c = own_apart c.args.work.now c.args.place (written_of c.in-Some.inner.now) c.requires.sound (sym c.in-Some.ensures.table)
+all_made-requires-clause-apart g c = own_apart c.args.work.now c.args.place
+    (written_of c.in-Some.inner.now) c.requires.sound (sym c.in-Some.ensures.table)
 
 pub returns-clause-made : goal.returns-clause-made
 returns-clause-made g c =
-    ok_both c.all_made.result (λ made. places_made made.items ≡ c.as_slice.result.now) (λ made. AllByRecursion (IsMade (written_of c.in-Some.inner.now) c.args.work.now.slots) made.items)
-    (λ made. (inner : TheWritten) → table_at c.args.work.now.slots c.args.place ≡ Some inner → AreMade inner c.args.work.now.slots made.items)
+    ok_both c.all_made.result (λ made. places_made made.items ≡ c.as_slice.result.now)
+    (λ made. AllByRecursion (IsMade (written_of c.in-Some.inner.now) c.args.work.now.slots)
+    made.items)
+    (λ made. (inner : TheWritten) → table_at c.args.work.now.slots c.args.place ≡ Some inner
+    → AreMade inner c.args.work.now.slots made.items)
     (λ made places all.
-    made_all c.args.work.now c.args.place c.in-Some.inner.now c.as_slice.result.now made.items c.in-Some.ensures.table
-    (λ at. ap (λ (ps : List ℕ). is_in ps at) c.as_slice.ensures ∙ c.in_ok-readers-in-Some.ensures at) places all)
+    made_all c.args.work.now c.args.place c.in-Some.inner.now c.as_slice.result.now made.items
+    c.in-Some.ensures.table
+    (λ at. ap (λ (ps : List ℕ). is_in ps at) c.as_slice.ensures
+    ∙ c.in_ok-readers-in-Some.ensures.exact at) places all)
     c.all_made.ensures.places c.all_made.ensures.made
 
 pub returns-clause-within : goal.returns-clause-within
 returns-clause-within g c =
     on_ok_weaker c.all_made.result
     (λ fits.
-    entry_takes c.args.rows c.args.work.now c.args.place c.in-Some.inner.now c.as_slice.result.now c.in-Some.ensures.table
-    (λ at. ap (λ (ps : List ℕ). is_in ps at) c.as_slice.ensures ∙ c.in_ok-readers-in-Some.ensures at) fits)
+    entry_takes c.args.rows c.args.work.now c.args.place c.in-Some.inner.now c.as_slice.result.now
+    c.in-Some.ensures.table
+    (λ at. ap (λ (ps : List ℕ). is_in ps at) c.as_slice.ensures
+    ∙ c.in_ok-readers-in-Some.ensures.exact at) fits)
     c.all_made.ensures.within
 
 pub returns-clause-fault : goal.returns-clause-fault
 returns-clause-fault g c =
     IfErr-weaker c.all_made.result
-    (λ fault. (fault ≡ Memory) ⊎ ((fault ≡ Refused) × ((place : ℕ) × ((outer : TheWritten) → table_at c.args.work.now.slots place ≡ Some outer → is_some (take_refusal 32767 c.args.rows (written_of c.in-Some.inner.now) outer) ≡ true) × (is_some (table_at c.args.work.now.slots place) ≡ true))))
-    (λ fault. (fault ≡ Memory) ⊎ ((fault ≡ Refused) × ((inner : TheWritten) → table_at c.args.work.now.slots c.args.place ≡ Some inner → all_take c.args.rows (circuit_of c.args.work.now) inner ≡ false)))
-    (λ fault h. entry_refused c.args.rows c.args.work.now c.args.place c.in-Some.inner.now fault c.in-Some.ensures.table h)
+    (λ fault. (fault ≡ Memory) ⊎ ((fault ≡ Refused)
+    × ((place : ℕ) × ((outer : TheWritten) → table_at c.args.work.now.slots place ≡ Some outer
+    → is_some (take_refusal 32767 c.args.rows (written_of c.in-Some.inner.now) outer) ≡ true)
+    × (is_some (table_at c.args.work.now.slots place) ≡ true))))
+    (λ fault. (fault ≡ Memory) ⊎ ((fault ≡ Refused)
+    × ((inner : TheWritten) → table_at c.args.work.now.slots c.args.place ≡ Some inner
+    → all_take c.args.rows (circuit_of c.args.work.now) inner ≡ false)))
+    (λ fault h. entry_refused c.args.rows c.args.work.now c.args.place c.in-Some.inner.now fault
+    c.in-Some.ensures.table h)
     c.all_made.ensures.fault
