@@ -1,15 +1,19 @@
 //! Words `pin=signal`, as they stand in the text that is read.
 
-ghost use Rattle.std.specs.Prelude.{◌≡◌, ◌≤◌, ◌++◌, ◌∷◌, [], nat_lt, length, find, bytes_eq, option_copied, if◌then◌else◌, OnOk};
+ghost use Rattle.std.specs.Prelude.{◌≡◌, ◌≤◌, ◌++◌, ◌∷◌, [], nat_lt, length, find, bytes_eq};
+ghost use Rattle.std.specs.Prelude.{option_copied, if◌then◌else◌, OnOk, OnErr};
 ghost use Rattle.std.specs.List.{list_all, list_any, filter};
 ghost use Rattle.circuit_model.specs.Names.{has};
 ghost use Rattle.line_words.specs.LineWords.{texts, long_name};
 ghost use Rattle.genlib_format.specs.Words.{before};
-ghost use Rattle.blif_gates.specs.GateLines.{pin_in as pin_of, signal_in as signal_of, is_pair as is_pair_word, pins_of, signals_of, signal_for as signal_named};
+ghost use Rattle.blif_gates.specs.GateLines.{pin_in as pin_of, signal_in as signal_of};
+ghost use Rattle.blif_gates.specs.GateLines.{is_pair as is_pair_word, pins_of, signals_of};
+ghost use Rattle.blif_gates.specs.GateLines.{signal_for as signal_named};
 
 use circuit_model::{Name, Names};
 use line_words::name_of;
 use std::alloc::{AllocError, Global};
+use std::mem;
 
 /// How many bytes stand before the first `=`.
 #[tactic(auto, unfolding(genlib_format::specs::Words::before))]
@@ -106,14 +110,17 @@ fn is_among(names: &[Name], signal: &[u8]) -> bool
     names.iter().any(|name| signal == name.as_slice())
 }
 
-/// Puts a signal behind the last of some names, where it stands among others; an error only for want of memory.
+/// Puts a signal behind the last of some names, where it stands among others. An error only for
+/// want of memory; then nothing is put.
 fn add_signal(
     alloc: Global,
-    names: &mut Names,
+    names: &mut Vec<Name>,
     signal: &[u8],
     among: &[Name],
 ) -> Result<(), AllocError>
-    ensures { OnOk result (names.new ≡ (if has among.now signal.now then names.old ++ signal.now ∷ [] else names.old)) }
+    ensures ok { OnOk result (names.new.items ≡ (if has among.now signal.now
+        then names.old.items ++ signal.now ∷ [] else names.old.items)) }
+    ensures err { OnErr result (names.new.items ≡ names.old.items) }
 {
     if is_among(among, signal) {
         names.push(name_of(alloc, signal)?)?;
@@ -121,25 +128,51 @@ fn add_signal(
     Ok(())
 }
 
-/// Puts those signals that words mention and that stand among other names behind the last of some names, in the order of the
-/// words; an error only for want of memory.
+/// Puts those signals that words mention and that stand among other names behind the last of some
+/// names. An error only for want of memory; then nothing is put.
+#[tactic(auto, using(std::proofs::lemmas::Grind::common_steps))]
+fn put_signals(
+    alloc: Global,
+    names: &mut Vec<Name>,
+    words: &[&[u8]],
+    among: &[Name],
+) -> Result<(), AllocError>
+    ensures ok { OnOk result (names.new.items
+        ≡ names.old.items ++ filter (has among.now) (signals_of (texts words.now))) }
+    ensures err { OnErr result (names.new.items ≡ names.old.items) }
+{
+    let len = names.len();
+    for word in words {
+        if let Err(fault) = add_signal(alloc, names, signal_in(word), among) {
+            names.truncate(len);
+            return Err(fault);
+        }
+    }
+    Ok(())
+}
+
+/// Puts those signals that words mention and that stand among other names behind the last of some
+/// names, in the order of the words. An error only for want of memory; then nothing is put.
 pub fn add_signals(
     alloc: Global,
     names: &mut Names,
     words: &[&[u8]],
     among: &[Name],
 ) -> Result<(), AllocError>
-    ensures { OnOk result (names.new ≡ names.old ++ filter (has among.now) (signals_of (texts words.now))) }
+    ensures ok { OnOk result (names.new
+        ≡ names.old ++ filter (has among.now) (signals_of (texts words.now))) }
+    ensures err { OnErr result (names.new ≡ names.old) }
 {
-    for word in words {
-        add_signal(alloc, names, signal_in(word), among)?;
-    }
-    Ok(())
+    let mut items = mem::replace(names, Names::new(alloc)).into_vec();
+    let put = put_signals(alloc, &mut items, words, among);
+    *names = Names::from_vec(items);
+    put
 }
 
 /// The first word whose signal is longer than a name may be.
 fn first_long<'a, 'w>(words: &'w [&'a [u8]]) -> Option<&'w &'a [u8]>
-    ensures { option_copied result ≡ find (λ word. nat_lt 1023 (length (signal_of word.now))) words.now }
+    ensures { option_copied result
+        ≡ find (λ word. nat_lt 1023 (length (signal_of word.now))) words.now }
 {
     words.iter().find(|word| signal_in(word).len() > 1023)
 }

@@ -1,6 +1,6 @@
 //! What is kept of the lines that are read, and what each kind of line makes of it.
 
-ghost use Rattle.std.specs.Prelude.{◌≡◌, ℕ, Option, List, ◌<◌, [], length, option_copied, IfOk, OnOk, IfSome};
+ghost use Rattle.std.specs.Prelude.{◌≡◌, ℕ, Option, List, ◌<◌, [], length, option_copied, IfOk, OnOk, OnErr, IfSome};
 ghost use Rattle.sis_text.specs.Entries.{Entry};
 ghost use Rattle.line_words.specs.LineWords.{texts};
 ghost use Rattle.genlib_format.specs.declared.gate.Gate.{Gate as TheGate};
@@ -137,10 +137,11 @@ fn model_name(alloc: Global, words: &[&[u8]]) -> Result<Name, AllocError>
     }
 }
 
-/// Tables with the one that was read behind them; an error only for want of memory.
+/// Tables with the one that was read behind them. An error only for want of memory; then none is put.
 #[tactic(auto, unfolding(crate::specs::Steps::tables_with))]
 pub fn with_reading(tables: &mut Tables, reading: Option<Reading>) -> Result<(), AllocFailed<Table>>
-    ensures { OnOk result (tables.new ≡ tables_with tables.old reading) }
+    ensures ok { OnOk result (tables.new ≡ tables_with tables.old reading) }
+    ensures err { OnErr result (tables.new ≡ tables.old) }
 {
     match reading {
         None => Ok(()),

@@ -1,6 +1,6 @@
 //! Gates by the words of their lines, with a library or without one.
 
-ghost use Rattle.std.specs.Prelude.{◌≡◌, ◌<◌, option_copied, IfOk, OnOk};
+ghost use Rattle.std.specs.Prelude.{◌≡◌, ◌<◌, option_copied, IfOk, OnOk, OnErr};
 ghost use Rattle.std.specs.List.{filter};
 ghost use Rattle.circuit_model.specs.Names.{has};
 ghost use Rattle.line_words.specs.LineWords.{texts, other_words as others_of};
@@ -68,8 +68,8 @@ pub fn gate_table(
     Ok(table)
 }
 
-/// Puts the signals of a `.gate` line that its table reads behind the last of some names, where they still grow; an error only
-/// for want of memory.
+/// Puts the signals of a `.gate` line that its table reads behind the last of some names, where
+/// they still grow. An error only for want of memory; then nothing is put.
 pub fn add_gate_signals(
     alloc: Global,
     had: bool,
@@ -77,7 +77,9 @@ pub fn add_gate_signals(
     words: &[&[u8]],
     inputs: &[Name],
 ) -> Result<(), AllocError>
-    ensures { OnOk result (names.new ≡ with_more had names.old (filter (has inputs.now) (signals_of (others_of (texts words.now))))) }
+    ensures ok { OnOk result (names.new ≡ with_more had names.old
+        (filter (has inputs.now) (signals_of (others_of (texts words.now))))) }
+    ensures err { OnErr result (names.new ≡ names.old) }
 {
     if !had {
         add_signals(alloc, names, other_words(words), inputs)?;

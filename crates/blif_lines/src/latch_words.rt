@@ -1,6 +1,6 @@
 //! Latches by the words of their lines.
 
-ghost use Rattle.std.specs.Prelude.{◌≡◌, ◌-◌, ◌++◌, IfOk, OnOk, slice_index};
+ghost use Rattle.std.specs.Prelude.{◌≡◌, ◌-◌, ◌++◌, IfOk, OnOk, OnErr, slice_index};
 ghost use Rattle.line_words.specs.LineWords.{texts};
 ghost use Rattle.blif_lines.specs.Reader.{latch_of, init_of as init_by, kind_by, control_by, timing_of as timing_by, same_kind as same_kinds, same_control as same_controls, same_timing as same_timings};
 ghost use Rattle.blif_lines.specs.Steps.{timing_with, mixed_with};
@@ -30,9 +30,11 @@ fn init_of(words: &[&[u8]]) -> u8
     }
 }
 
-/// Puts the latch of a line behind some latches; an error only for want of memory.
+/// Puts the latch of a line behind some latches. An error only for want of memory; then nothing is
+/// put.
 pub fn add_latch(alloc: Global, latches: &mut Latches, words: &[&[u8]]) -> Result<(), AllocError>
-    ensures { OnOk result (latches.new ≡ latches.old ++ latch_of (texts words.now)) }
+    ensures ok { OnOk result (latches.new ≡ latches.old ++ latch_of (texts words.now)) }
+    ensures err { OnErr result (latches.new ≡ latches.old) }
 {
     match words {
         [input, output, rest @ ..] => {

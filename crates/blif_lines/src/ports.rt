@@ -1,6 +1,6 @@
 //! Ports that no line lists: the names that are beside others.
 
-ghost use Rattle.std.specs.Prelude.{◌≡◌, not, ◌++◌, ◌∷◌, [], IfOk, OnOk, if◌then◌else◌};
+ghost use Rattle.std.specs.Prelude.{◌≡◌, not, ◌++◌, ◌∷◌, [], IfOk, OnOk, OnErr, if◌then◌else◌};
 ghost use Rattle.circuit_model.specs.Names.{has};
 ghost use Rattle.circuit_checks.specs.Sets.{with_name, Alike};
 ghost use Rattle.blif_lines.specs.Reader.{names_beside as beside};
@@ -58,7 +58,8 @@ fn names_beside(alloc: Global, others: &[Name], names: &[Name]) -> Result<Names,
     Ok(found)
 }
 
-/// Makes ports that no line lists those of some names that are not among others; an error only for want of memory.
+/// Makes ports that no line lists those of some names that are not among others. An error only for
+/// want of memory; then the ports stay.
 pub fn find_ports(
     alloc: Global,
     listed: bool,
@@ -66,7 +67,9 @@ pub fn find_ports(
     others: &[Name],
     names: &[Name],
 ) -> Result<(), AllocError>
-    ensures { OnOk result (ports.new ≡ listed_or listed ports.old (beside others.now names.now)) }
+    ensures ok { OnOk result (ports.new
+        ≡ listed_or listed ports.old (beside others.now names.now)) }
+    ensures err { OnErr result (ports.new ≡ ports.old) }
 {
     if !listed {
         *ports = names_beside(alloc, others, names)?;

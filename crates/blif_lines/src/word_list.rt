@@ -1,6 +1,6 @@
 //! The words of one line, as they stand in the text that is read.
 
-ghost use Rattle.std.specs.Prelude.{◌≡◌, take, bytes_eq, codes, IfOk, OnOk, if◌then◌else◌};
+ghost use Rattle.std.specs.Prelude.{◌≡◌, take, bytes_eq, codes, IfOk, OnOk, OnErr, if◌then◌else◌};
 ghost use Rattle.std.specs.List.{list_any};
 ghost use Rattle.circuit_model.specs.Names.{has};
 ghost use Rattle.sis_text.specs.Words.{begins_with};
@@ -137,14 +137,16 @@ pub fn latch_output<'a, 'w>(words: &'w [&'a [u8]]) -> &'w [&'a [u8]]
     }
 }
 
-/// Puts a name for each word behind the last of some names, where they still grow; an error only for want of memory.
+/// Puts a name for each word behind the last of some names, where they still grow. An error only
+/// for want of memory; then nothing is put.
 pub fn add_more(
     alloc: Global,
     had: bool,
     names: &mut Names,
     words: &[&[u8]],
 ) -> Result<(), AllocError>
-    ensures { OnOk result (names.new ≡ with_more had names.old (texts words.now)) }
+    ensures ok { OnOk result (names.new ≡ with_more had names.old (texts words.now)) }
+    ensures err { OnErr result (names.new ≡ names.old) }
 {
     if !had {
         add_names(alloc, names, words)?;

@@ -12,3 +12,4 @@ pub mod Mentions
 pub mod Sound
 pub mod ReadSteps
 pub mod Shorter
+pub mod Worked

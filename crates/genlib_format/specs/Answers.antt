@@ -1,8 +1,9 @@
 -- What a reader answers, beside what it should; want of memory is free.
+-- Source: the project's own.
 use Rattle.std.specs.Prelude.{◌≡◌, ℕ, Option, Some, None, Result, Ok, Err, List}
 use Rattle.genlib_expr.specs.Text.{pins_of, depth_of}
 use Rattle.genlib_expr.specs.declared.expression.Parsed.{Parsed}
-use Rattle.genlib_format.specs.Faults.{nodes_in}
+use Rattle.genlib_format.specs.Spelling.{nodes_in}
 use Rattle.genlib_format.specs.declared.gate.Gate.{Gate}
 use Rattle.genlib_format.specs.declared.fault.LibFault.{LibFault}
 use Rattle.genlib_format.specs.declared.fault.LibFault.TheVariants.{BadExpr}
@@ -21,9 +22,12 @@ Leaves (Ok done) new fault should = (fault ≡ None) × (new ≡ should)
 Leaves (Err (read_fault.Fault found)) new fault should = fault ≡ Some found
 Leaves (Err read_fault.Memory) new fault should = Unit {0}
 
--- the expression of a text, with its pins and its depth, or the fault of its line where it spells none
+-- the expression of a text, with its pins and its depth, or the fault of its line where it spells
+-- none
 abbrev pub Parses : Result Parsed ReadFault → ℕ → List ℕ → Type 0
-Parses (Ok parsed) line text = (nodes_in text ≡ Some parsed.expr) × (parsed.pins ≡ pins_of text) × (parsed.depth ≡ depth_of text)
+Parses (Ok parsed) line text =
+    (nodes_in text ≡ Some parsed.expr) × (parsed.pins ≡ pins_of text)
+    × (parsed.depth ≡ depth_of text)
 Parses (Err (read_fault.Fault fault)) line text = (nodes_in text ≡ None) × (fault ≡ BadExpr line)
 Parses (Err read_fault.Memory) line text = Unit {0}
 

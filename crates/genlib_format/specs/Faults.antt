@@ -1,19 +1,21 @@
 -- What is wrong with the entry of a gate.
--- Source: the genlib format of SIS (UCB/ERL M92/41): area and delays are numbers, each pin of the expression has one PIN line,
--- and one line with the name `*` stands for all pins without one of their own. The order of the causes and the limits are
--- the project's own.
-use Rattle.std.specs.Prelude.{ℕ, Bool, not, ◌&&◌, ◌||◌, nat_lt, is_none, is_some, if◌then◌else◌, Option, Some, None, List, [], ◌∷◌, ◌++◌, length, find, option_map, bytes_eq, codes}
+-- Source: the genlib format of SIS (UCB/ERL M92/41): area, loads and delays are numbers, each pin
+-- of the expression has one PIN line, and one line with the name `*` stands for all pins without
+-- one of their own. The order of the causes and the limits are the project's own.
+use Rattle.std.specs.Prelude.{ℕ, Bool, not, ◌&&◌, ◌||◌, nat_lt, is_none, if◌then◌else◌}
+use Rattle.std.specs.Prelude.{Option, Some, None, List, [], ◌∷◌, ◌++◌, length, find, option_map}
+use Rattle.std.specs.Prelude.{bytes_eq, codes}
 use Rattle.std.specs.List.{list_all, list_any}
 use Rattle.circuit_model.specs.Names.{has}
-use Rattle.sis_text.specs.Decimals.{decimal_of}
-use Rattle.genlib_expr.specs.Text.{pins_of, tokens_of, depth_of}
-use Rattle.genlib_expr.specs.Machine.{run, start}
-use Rattle.genlib_expr.specs.declared.node.Node.{Node}
+use Rattle.genlib_expr.specs.Text.{pins_of, depth_of}
 use Rattle.genlib_format.specs.declared.gates.GateLines.{GateLines}
 use Rattle.genlib_format.specs.declared.pins.PinLine.{PinLine}
+use Rattle.genlib_format.specs.Pins.{is_number}
+use Rattle.genlib_format.specs.Spelling.{nodes_in}
 use Rattle.genlib_format.specs.declared.fault.LimitKind.TheVariants as limit
 use Rattle.genlib_format.specs.declared.fault.LibFault.{LibFault}
-use Rattle.genlib_format.specs.declared.fault.LibFault.TheVariants.{BadNumber, BadExpr, BadPin, Limit}
+use Rattle.genlib_format.specs.declared.fault.LibFault.TheVariants.{BadNumber, BadExpr, BadPin}
+use Rattle.genlib_format.specs.declared.fault.LibFault.TheVariants.{Limit}
 
 -- a fault where a test holds
 abbrev pub when : Bool → LibFault → Option LibFault
@@ -25,21 +27,11 @@ first_of [] = None
 first_of (None ∷ causes) = first_of causes
 first_of (Some cause ∷ causes) = Some cause
 
--- whether a word is a number
-abbrev pub is_number : List ℕ → Bool
-is_number word = is_some (decimal_of word)
-
--- whether the delays of a pin are numbers
-abbrev pub has_delays : PinLine → Bool
-has_delays pin = is_number pin.rise && is_number pin.fall
-
--- a number is wanting
+-- a number is wanting: the area, or one of the six of a pin
 unfoldable pub number_fault : GateLines → Option LibFault
-number_fault lines = when (not (is_number lines.area && list_all has_delays lines.pins)) (BadNumber lines.line)
-
--- the nodes of the expression that a text spells by the grammar; none where it spells none (`laws` says so)
-unfoldable pub nodes_in : List ℕ → Option (List Node)
-nodes_in text = run (tokens_of text) start
+number_fault lines =
+    let good = is_number lines.area && list_all (λ (pin : PinLine). pin.is_numeric) lines.pins in
+    when (not good) (BadNumber lines.line)
 
 -- the text spells no expression
 unfoldable pub expression_fault : GateLines → Option LibFault
@@ -47,14 +39,17 @@ expression_fault lines = when (is_none (nodes_in lines.text)) (BadExpr lines.lin
 
 -- the first name of more than 1,023 bytes, by its length
 unfoldable pub long_name : List (List ℕ) → Option LibFault
-long_name names = option_map (λ (name : List ℕ). Limit limit.Name (length name)) (find (λ name. nat_lt 1023 (length name)) names)
+long_name names =
+    option_map (λ (name : List ℕ). Limit limit.Name (length name))
+    (find (λ name. nat_lt 1023 (length name)) names)
 
 -- a name of more than 1,023 bytes, more than 64 parentheses in one another, more than 15 pins
 unfoldable pub limit_fault : GateLines → Option LibFault
 limit_fault lines = first_of
     (long_name (lines.cell ∷ lines.output ∷ pins_of lines.text)
     ∷ when (nat_lt 64 (depth_of lines.text)) (Limit limit.Depth (depth_of lines.text))
-    ∷ when (nat_lt 15 (length (pins_of lines.text))) (Limit limit.Pins (length (pins_of lines.text)))
+    ∷ when (nat_lt 15 (length (pins_of lines.text)))
+    (Limit limit.Pins (length (pins_of lines.text)))
     ∷ [])
 
 -- the name that stands for all pins without a line of their own
@@ -79,16 +74,22 @@ wrong_line before pins (line ∷ lines) =
 
 -- the first pin without a line, where no line stands for all others
 unfoldable pub bare_pin : List PinLine → List (List ℕ) → Option (List ℕ)
-bare_pin lines pins = if has_line lines star then None else find (λ pin. not (has_line lines pin)) pins
+bare_pin lines pins =
+    if has_line lines star then None else find (λ pin. not (has_line lines pin)) pins
 
 -- the first name that is wrong: the output as a pin, a line's name, a pin without a line
 unfoldable pub wrong_name : List ℕ → List (List ℕ) → List PinLine → Option (List ℕ)
 wrong_name output pins lines = first_of
-    ((if has pins output then Some output else None) ∷ wrong_line [] pins lines ∷ bare_pin lines pins ∷ [])
+    ((if has pins output then Some output else None)
+    ∷ wrong_line [] pins lines
+    ∷ bare_pin lines pins
+    ∷ [])
 
 unfoldable pub pin_fault : GateLines → Option LibFault
-pin_fault lines = option_map (λ name. BadPin name) (wrong_name lines.output (pins_of lines.text) lines.pins)
+pin_fault lines =
+    option_map (λ name. BadPin name) (wrong_name lines.output (pins_of lines.text) lines.pins)
 
 -- what is wrong with the entry of a gate, whatever stands before it
 unfoldable pub lines_fault : GateLines → Option LibFault
-lines_fault lines = first_of (number_fault lines ∷ expression_fault lines ∷ limit_fault lines ∷ pin_fault lines ∷ [])
+lines_fault lines = first_of
+    (number_fault lines ∷ expression_fault lines ∷ limit_fault lines ∷ pin_fault lines ∷ [])

@@ -3,6 +3,7 @@ pub mod Statements
 pub mod Pins
 pub mod Gates
 pub mod Entries
+pub mod Spelling
 pub mod Faults
 pub mod Reader
 pub mod Answers

@@ -1,7 +1,8 @@
 -- What a library file is read as: its gates, or its first fault.
--- Source: the genlib format of SIS (UCB/ERL M92/41). Two gates of one name must be the same cell; the order of the causes
--- and the limits are the project's own.
-use Rattle.std.specs.Prelude.{ℕ, suc, ◌==◌, ◌&&◌, Bool, not, nat_le, unwrap_or, Option, Some, None, Result, Ok, Err, List, [], ◌∷◌, ◌++◌, length, find, map, bytes_eq}
+-- Source: the genlib format of SIS (UCB/ERL M92/41). Two gates of one name must be the same cell;
+-- the order of the causes and the limits are the project's own.
+use Rattle.std.specs.Prelude.{ℕ, suc, ◌==◌, ◌&&◌, Bool, not, nat_le, unwrap_or, Option, Some, None}
+use Rattle.std.specs.Prelude.{Result, Ok, Err, List, [], ◌∷◌, ◌++◌, length, find, map, bytes_eq}
 use Rattle.std.specs.Cmp.Lexicographic.{pointwise}
 use Rattle.std.specs.Option.{option_map_or, option_or}
 use Rattle.sis_text.specs.Decimals.{decimal_of}
@@ -21,7 +22,8 @@ use Rattle.genlib_format.specs.declared.fault.LibFault.{LibFault}
 use Rattle.genlib_format.specs.declared.fault.LibFault.TheVariants.{BadEntry, GateTwice, Limit}
 use Rattle.genlib_format.specs.Words.{words_in}
 use Rattle.genlib_format.specs.Entries.{entries_of}
-use Rattle.genlib_format.specs.Faults.{when, first_of, nodes_in, star, is_named, lines_fault}
+use Rattle.genlib_format.specs.Faults.{when, first_of, star, is_named, lines_fault}
+use Rattle.genlib_format.specs.Spelling.{nodes_in}
 
 -- the number of a word; 0 where it is none
 unfoldable pub number_in : List ℕ → Decimal
@@ -37,7 +39,9 @@ line_for lines pin = option_or (find (is_named pin) lines) (find (is_named star)
 
 -- the delays of a pin
 unfoldable pub block_for : List PinLine → List ℕ → Block
-block_for lines pin = option_map_or block_in (line_for lines pin) (record { rise = record { 0 = 0 }; fall = record { 0 = 0 } })
+block_for lines pin =
+    option_map_or block_in (line_for lines pin)
+    (record { rise = record { 0 = 0 }; fall = record { 0 = 0 } })
 
 -- the gate that an entry says: its pins are the names of its expression, in order of first mention
 unfoldable pub gate_of : GateLines → Gate
@@ -57,8 +61,11 @@ gate_named gates name = find (λ (gate : Gate). bytes_eq name gate.cell) gates
 -- whether two gates have the same output, pins, area and function
 unfoldable pub is_same_cell : Gate → Gate → Bool
 is_same_cell gate other =
-    bytes_eq gate.output other.output && pointwise bytes_eq gate.pins other.pins && gate.area.0 == other.area.0
-    && same (length gate.pins) (function_of (formula_of gate.expr)) (function_of (formula_of other.expr))
+    bytes_eq gate.output other.output && pointwise bytes_eq gate.pins other.pins
+    && gate.area.0 == other.area.0
+    && same (length gate.pins)
+    (function_of (formula_of gate.expr))
+    (function_of (formula_of other.expr))
 
 -- a gate with the delays of another
 abbrev pub with_blocks : Gate → Gate → Gate
@@ -90,13 +97,17 @@ unfoldable pub entry_fault : ℕ → List Gate → Entry → Option LibFault
 entry_fault count gates (entry.Misshapen line) = Some (BadEntry line)
 entry_fault count gates entry.Latch = one_too_many count
 entry_fault count gates (entry.Gate lines) = first_of
-    (lines_fault lines ∷ twice_fault (gate_named gates lines.cell) (gate_of lines) ∷ one_too_many count ∷ [])
+    (lines_fault lines
+    ∷ twice_fault (gate_named gates lines.cell) (gate_of lines)
+    ∷ one_too_many count
+    ∷ [])
 
 -- the gates behind an entry
 unfoldable pub gates_with : List Gate → Entry → List Gate
 gates_with gates (entry.Misshapen line) = gates
 gates_with gates entry.Latch = gates
-gates_with gates (entry.Gate lines) = gates ++ settled (gate_named gates lines.cell) (gate_of lines) ∷ []
+gates_with gates (entry.Gate lines) =
+    gates ++ settled (gate_named gates lines.cell) (gate_of lines) ∷ []
 
 -- a fault, or what is read where there is none
 abbrev pub unless : {A : Type 0} → Option LibFault → A → Result A LibFault
@@ -108,10 +119,13 @@ abbrev pub onward : Option LibFault → Result (List Gate) LibFault → Result (
 onward None rest = rest
 onward (Some fault) rest = Err fault
 
--- what entries are read as behind so many entries and these gates: the first fault, or all gates in order
+-- what entries are read as behind so many entries and these gates: the first fault, or all gates in
+-- order
 unfoldable pub read_entries : ℕ → List Gate → List Entry → Result (List Gate) LibFault
 read_entries count gates [] = Ok gates
-read_entries count gates (entry ∷ entries) = onward (entry_fault count gates entry) (read_entries (suc count) (gates_with gates entry) entries)
+read_entries count gates (entry ∷ entries) =
+    onward (entry_fault count gates entry)
+    (read_entries (suc count) (gates_with gates entry) entries)
 
 -- what the bytes of a file are read as
 unfoldable pub library_of : List ℕ → Result (List Gate) LibFault

@@ -1,38 +1,25 @@
 //! What is wrong with the entry of a gate, whatever stands before it.
 
-ghost use Rattle.std.specs.Prelude.{◌≡◌, ◌≤◌, bytes_eq, ℕ, List, ◌∷◌, [], ◌&&◌, ◌||◌, not, nat_lt, None, length, find, is_some, map, option_map, option_copied, take};
+ghost use Rattle.std.specs.Prelude.{◌≡◌, ◌≤◌, bytes_eq, ℕ, List, ◌∷◌, [], ◌&&◌, ◌||◌, not, nat_lt};
+ghost use Rattle.std.specs.Prelude.{None, length, find, map, option_map, option_copied, take};
 ghost use Rattle.std.specs.List.{list_all, list_any};
 ghost use Rattle.circuit_model.specs.Names.{has};
 ghost use Rattle.genlib_expr.specs.Text.{pins_of, depth_of};
 ghost use Rattle.genlib_format.specs.declared.pins.PinLine.{PinLine as ThePinLine};
-ghost use Rattle.genlib_format.specs.Faults.{is_number, has_delays, number_fault, limit_fault, star, is_named, has_line, wrong_line, bare_pin, wrong_name, long_name};
+ghost use Rattle.genlib_format.specs.Faults.{number_fault, limit_fault, star, is_named, has_line};
+ghost use Rattle.genlib_format.specs.Faults.{wrong_line, bare_pin, wrong_name, long_name};
 
 use crate::fault::{LibFault, LimitKind};
 use crate::gates::GateLines;
-use crate::pins::PinLine;
+use crate::pins::{PinLine, is_number};
 use genlib_expr::Parsed;
 use sis_base::Name;
-use sis_text::Decimal;
 
-/// Whether a word is a number.
-fn is_number(word: &Name) -> bool
-    ensures { result ≡ is_number word.now }
+/// Whether the numbers of all pins are numbers.
+fn are_numeric(pins: &[PinLine]) -> bool
+    ensures { result ≡ list_all (λ (pin : ThePinLine). pin.is_numeric) pins.now }
 {
-    Decimal::parse(word.as_slice()).is_some()
-}
-
-/// Whether the delays of a pin are numbers.
-fn has_delays(pin: &PinLine) -> bool
-    ensures { result ≡ has_delays pin.now }
-{
-    is_number(&pin.rise) && is_number(&pin.fall)
-}
-
-/// Whether the delays of all pins are numbers.
-fn have_delays(pins: &[PinLine]) -> bool
-    ensures { result ≡ list_all has_delays pins.now }
-{
-    pins.iter().all(|pin| has_delays(pin))
+    pins.iter().all(|pin| pin.is_numeric)
 }
 
 /// The fault of a number that is wanting.
@@ -40,7 +27,7 @@ fn have_delays(pins: &[PinLine]) -> bool
 pub fn number_fault(lines: &GateLines) -> Option<LibFault>
     ensures { result ≡ number_fault lines.now }
 {
-    if is_number(&lines.area) && have_delays(lines.pins.as_slice()) {
+    if is_number(&lines.area) && are_numeric(lines.pins.as_slice()) {
         return None;
     }
     Some(LibFault::BadNumber(lines.line))
@@ -114,7 +101,8 @@ pub fn has_line(lines: &[PinLine], name: &[u8]) -> bool
 
 /// Whether the name of a line is neither `*` nor a pin, or has a line before.
 fn is_wrong(before: &[PinLine], pins: &[Name], name: &Name) -> bool
-    ensures { result ≡ (not (bytes_eq star name.now || has pins.now name.now) || has_line before.now name.now) }
+    ensures { result ≡ (not (bytes_eq star name.now || has pins.now name.now)
+        || has_line before.now name.now) }
 {
     !(b"*".as_slice() == name.as_slice() || has(pins, name)) || has_line(before, name.as_slice())
 }
@@ -134,7 +122,8 @@ fn wrong_line<'a>(pins: &[Name], lines: &'a [PinLine]) -> Option<&'a Name>
 
 /// The first pin that has no line.
 fn first_bare<'a>(lines: &[PinLine], pins: &'a [Name]) -> Option<&'a Name>
-    ensures { option_copied result ≡ find (λ (pin : List ℕ). not (has_line lines.now pin)) pins.now }
+    ensures { option_copied result
+        ≡ find (λ (pin : List ℕ). not (has_line lines.now pin)) pins.now }
 {
     pins.iter().find(|pin| !has_line(lines, pin.as_slice()))
 }

@@ -7,7 +7,9 @@ ghost use Rattle.genlib_expr.specs.Formula.{formula_of};
 ghost use Rattle.genlib_expr.specs.Text.{pins_of, depth_of};
 ghost use Rattle.genlib_expr.specs.Functions.{function_of};
 ghost use Rattle.genlib_format.specs.Answers.{Gives, Parses};
-ghost use Rattle.genlib_format.specs.Faults.{nodes_in, is_named, first_of, limit_fault, pin_fault, lines_fault};
+ghost use Rattle.genlib_format.specs.Spelling.{nodes_in};
+ghost use Rattle.genlib_format.specs.Faults.{is_named, first_of, limit_fault, pin_fault};
+ghost use Rattle.genlib_format.specs.Faults.{lines_fault};
 ghost use Rattle.genlib_format.specs.Reader.{number_in, block_in, line_for, block_for, gate_of};
 
 use crate::checks::{limit_fault, number_fault, wrong_name};
@@ -20,7 +22,8 @@ use sis_base::{Copied, Name, Sequence};
 use sis_text::Decimal;
 use std::alloc::{AllocError, Global};
 
-/// How long a pin's change takes to come out, in millionths, where the output rises and where it falls.
+/// How long a pin's change takes to come out, in millionths, where the output rises and where it
+/// falls.
 #[derive(Clone, Copy, Debug, PartialEq, Eq)]
 pub struct Block {
     pub rise: Decimal,
@@ -36,8 +39,8 @@ impl Copied for Block {
 /// The delays of pins, in order.
 pub type Blocks = Sequence<Block>;
 
-/// A gate of a library: its cell, its area in millionths, its output, its pins in order of first mention, its expression
-/// over their places, and the delays of each pin.
+/// A gate of a library: its cell, its area in millionths, its output, its pins in order of first
+/// mention, its expression over their places, and the delays of each pin.
 #[derive(Debug, Drop)]
 pub struct Gate {
     pub cell: Name,
@@ -49,10 +52,11 @@ pub struct Gate {
 }
 
 impl Gate {
-    /// The rows of the gate's function over its pins, in the order of Shannon's expansion; an error only for want of
-    /// memory.
+    /// The rows of the gate's function over its pins, in the order of Shannon's expansion; an error
+    /// only for want of memory.
     pub fn rows(&self, alloc: Global) -> Result<Rows, AllocError>
-        ensures { IfOk result (λ rows. map (map literal_of) rows ≡ shannon (length self.now.pins) (function_of (formula_of self.now.expr))) }
+        ensures { IfOk result (λ rows. map (map literal_of) rows
+            ≡ shannon (length self.now.pins) (function_of (formula_of self.now.expr))) }
     {
         rows(alloc, self.pins.len(), &self.expr)
     }
@@ -146,7 +150,8 @@ fn parsed_fault(
 ) -> Result<Option<LibFault>, AllocError>
     requires pins { parsed.now.pins ≡ pins_of lines.now.text }
     requires depth { parsed.now.depth ≡ depth_of lines.now.text }
-    ensures { IfOk result (λ fault. fault ≡ first_of (limit_fault lines.now ∷ pin_fault lines.now ∷ [])) }
+    ensures { IfOk result (λ fault. fault
+        ≡ first_of (limit_fault lines.now ∷ pin_fault lines.now ∷ [])) }
 {
     if let Some(fault) = limit_fault(lines, parsed) {
         return Ok(Some(fault));

@@ -1,11 +1,16 @@
 //! Words as a reader takes them.
 
-ghost use Rattle.std.specs.Prelude.{◌≡◌, ◌++◌, nat_lt, length, map, find, option_copied, IfOk, OnOk};
+ghost use Rattle.std.specs.Prelude.{◌≡◌, ◌++◌, ◌∷◌, [], nat_lt, length, map, find, option_copied};
+ghost use Rattle.std.specs.Prelude.{IfOk, OnOk, OnErr};
 ghost use Rattle.std.specs.List.{list_all};
-ghost use Rattle.line_words.specs.LineWords.{texts, first_word as first_of, other_words as others_of, long_name as long_among, is_character as is_character_byte, character_of as character_by};
+ghost use Rattle.line_words.specs.LineWords.{texts, first_word as first_of};
+ghost use Rattle.line_words.specs.LineWords.{other_words as others_of, long_name as long_among};
+ghost use Rattle.line_words.specs.LineWords.{is_character as is_character_byte};
+ghost use Rattle.line_words.specs.LineWords.{character_of as character_by};
 
 use circuit_model::{Name, Names, Row, Tri};
 use std::alloc::{AllocError, Global};
+use std::mem;
 
 /// The first word; the empty one where there is none.
 pub fn first_word<'a>(words: &[&'a [u8]]) -> &'a [u8]
@@ -34,14 +39,42 @@ pub fn name_of(alloc: Global, word: &[u8]) -> Result<Name, AllocError>
     Name::from_slice(alloc, word)
 }
 
-/// Puts a name for each word behind the last of some names; an error only for want of memory.
-pub fn add_names(alloc: Global, names: &mut Names, words: &[&[u8]]) -> Result<(), AllocError>
-    ensures { OnOk result (names.new ≡ names.old ++ texts words.now) }
+/// Puts the name of a word behind the last. An error only for want of memory; then nothing is put.
+fn put_name(alloc: Global, names: &mut Vec<Name>, word: &[u8]) -> Result<(), AllocError>
+    ensures ok { OnOk result (names.new.items ≡ names.old.items ++ word.now ∷ []) }
+    ensures err { OnErr result (names.new.items ≡ names.old.items) }
 {
+    names.push(name_of(alloc, word)?)?;
+    Ok(())
+}
+
+/// Puts a name for each word behind the last. An error only for want of memory; then nothing is
+/// put.
+#[tactic(auto, using(std::proofs::lemmas::Grind::common_steps))]
+fn put_names(alloc: Global, names: &mut Vec<Name>, words: &[&[u8]]) -> Result<(), AllocError>
+    ensures ok { OnOk result (names.new.items ≡ names.old.items ++ texts words.now) }
+    ensures err { OnErr result (names.new.items ≡ names.old.items) }
+{
+    let len = names.len();
     for word in words {
-        names.push(name_of(alloc, word)?)?;
+        if let Err(fault) = put_name(alloc, names, word) {
+            names.truncate(len);
+            return Err(fault);
+        }
     }
     Ok(())
+}
+
+/// Puts a name for each word behind the last of some names. An error only for want of memory; then
+/// nothing is put.
+pub fn add_names(alloc: Global, names: &mut Names, words: &[&[u8]]) -> Result<(), AllocError>
+    ensures ok { OnOk result (names.new ≡ names.old ++ texts words.now) }
+    ensures err { OnErr result (names.new ≡ names.old) }
+{
+    let mut items = mem::replace(names, Names::new(alloc)).into_vec();
+    let put = put_names(alloc, &mut items, words);
+    *names = Names::from_vec(items);
+    put
 }
 
 /// The first of some words that is longer than a name may be.

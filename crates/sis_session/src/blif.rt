@@ -1,6 +1,6 @@
 //! What is wrong with a file of a circuit.
 
-ghost use Rattle.std.specs.Prelude.{◌≡◌, ◌++◌, OnOk};
+ghost use Rattle.std.specs.Prelude.{◌≡◌, ◌++◌, OnOk, OnErr};
 ghost use Rattle.sis_session.specs.Texts.{blif_limit_word, blif_text};
 
 use crate::kiss::put_kiss_fault;
@@ -20,10 +20,11 @@ fn limit_word(kind: LimitKind) -> &'static [u8]
     }
 }
 
-/// Puts a fault of a file of a circuit; an error only for want of memory.
+/// Puts a fault of a file of a circuit. An error only for want of memory; then nothing is put.
 #[tactic(auto, unfolding(crate::specs::Texts::blif_text), using(std::proofs::lemmas::Grind::common_steps))]
 pub fn put_blif_fault(out: &mut Vec<u8>, alloc: Global, fault: &BlifFault) -> Result<(), AllocError>
-    ensures { OnOk result (out.new.items ≡ out.old.items ++ blif_text fault.now) }
+    ensures ok { OnOk result (out.new.items ≡ out.old.items ++ blif_text fault.now) }
+    ensures err { OnErr result (out.new.items ≡ out.old.items) }
 {
     match fault {
         BlifFault::UnknownWord(line) => put_line(out, alloc, *line, b"unknown word"),

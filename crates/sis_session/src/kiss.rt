@@ -1,6 +1,6 @@
 //! What is wrong with a table of a machine.
 
-ghost use Rattle.std.specs.Prelude.{◌≡◌, ◌++◌, OnOk, codes, decimal};
+ghost use Rattle.std.specs.Prelude.{◌≡◌, ◌++◌, OnOk, OnErr, codes, decimal};
 ghost use Rattle.sis_session.specs.Texts.{kiss_limit_word, kiss_text};
 
 use crate::putting::{put_limit, put_line, put_two};
@@ -18,7 +18,7 @@ fn limit_word(kind: LimitKind) -> &'static [u8]
     }
 }
 
-/// Puts which rows clash.
+/// Puts which rows clash. An error only for want of memory; then nothing is put.
 #[tactic(auto, using(std::proofs::lemmas::Grind::common_steps))]
 fn put_clash(
     out: &mut Vec<u8>,
@@ -26,17 +26,20 @@ fn put_clash(
     earlier: usize,
     later: usize,
 ) -> Result<(), AllocError>
-    ensures { OnOk result (out.new.items ≡ out.old.items ++ (codes "rows " ++ (decimal earlier ++ (codes " and " ++ (decimal later ++ codes " clash"))))) }
+    ensures ok { OnOk result (out.new.items ≡ out.old.items
+        ++ (codes "rows " ++ (decimal earlier ++ (codes " and "
+        ++ (decimal later ++ codes " clash"))))) }
+    ensures err { OnErr result (out.new.items ≡ out.old.items) }
 {
     let text = format!(in alloc; "rows {earlier} and {later} clash")?;
-    out.extend_from_slice(text.as_bytes())?;
-    Ok(())
+    out.extend_from_slice(text.as_bytes())
 }
 
-/// Puts a fault of a table of a machine; an error only for want of memory.
+/// Puts a fault of a table of a machine. An error only for want of memory; then nothing is put.
 #[tactic(auto, unfolding(crate::specs::Texts::kiss_text), using(std::proofs::lemmas::Grind::common_steps))]
 pub fn put_kiss_fault(out: &mut Vec<u8>, alloc: Global, fault: &KissFault) -> Result<(), AllocError>
-    ensures { OnOk result (out.new.items ≡ out.old.items ++ kiss_text fault.now) }
+    ensures ok { OnOk result (out.new.items ≡ out.old.items ++ kiss_text fault.now) }
+    ensures err { OnErr result (out.new.items ≡ out.old.items) }
 {
     match fault {
         KissFault::BadHeader(line) => put_line(out, alloc, *line, b"bad header"),

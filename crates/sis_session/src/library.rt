@@ -1,6 +1,6 @@
 //! What is wrong with a file of gates.
 
-ghost use Rattle.std.specs.Prelude.{◌≡◌, ◌++◌, OnOk};
+ghost use Rattle.std.specs.Prelude.{◌≡◌, ◌++◌, OnOk, OnErr};
 ghost use Rattle.sis_session.specs.Texts.{library_limit_word, library_text};
 
 use crate::putting::{put_limit, put_line, put_three, put_two};
@@ -19,14 +19,15 @@ fn limit_word(kind: LimitKind) -> &'static [u8]
     }
 }
 
-/// Puts a fault of a file of gates; an error only for want of memory.
+/// Puts a fault of a file of gates. An error only for want of memory; then nothing is put.
 #[tactic(auto, unfolding(crate::specs::Texts::library_text), using(std::proofs::lemmas::Grind::common_steps))]
 pub fn put_library_fault(
     out: &mut Vec<u8>,
     alloc: Global,
     fault: &LibFault,
 ) -> Result<(), AllocError>
-    ensures { OnOk result (out.new.items ≡ out.old.items ++ library_text fault.now) }
+    ensures ok { OnOk result (out.new.items ≡ out.old.items ++ library_text fault.now) }
+    ensures err { OnErr result (out.new.items ≡ out.old.items) }
 {
     match fault {
         LibFault::BadEntry(line) => put_line(out, alloc, *line, b"bad entry"),

@@ -1,9 +1,10 @@
 //! The texts that the program prints: replies, lines of refusals and of faults.
 //!
-//! Each stands here once and is promised byte by byte (`specs/Replies`), so that a script may rely on what it reads. The texts of faults in
-//! files are those of `blif`, `kiss` and `library`.
+//! Each stands here once and is promised byte by byte (`specs/Replies`), so that a script may rely
+//! on what it reads. The texts of faults in files are those of `blif`, `kiss` and `library`. A put
+//! for which memory is wanting leaves what it was lent as it was.
 
-ghost use Rattle.std.specs.Prelude.{◌≡◌, ◌++◌, flat_map, codes, decimal, IfOk, OnOk};
+ghost use Rattle.std.specs.Prelude.{◌≡◌, ◌++◌, flat_map, codes, decimal, IfOk, OnOk, OnErr};
 ghost use Rattle.sis_base.specs.Written.{spaced};
 ghost use Rattle.sis_session.specs.Texts.{blif_text, kiss_text, library_text};
 ghost use Rattle.sis_session.specs.Replies.{
@@ -16,6 +17,7 @@ ghost use Rattle.sis_session.specs.Replies.{
   script_fault_text,
 };
 
+use crate::putting::cut_on_error;
 use crate::refusal::Refusal;
 use crate::{put_blif_fault, put_kiss_fault, put_library_fault, put_three, put_two};
 use blif_lines::BlifFault;
@@ -51,52 +53,55 @@ pub fn echo_text(alloc: Global, words: &[RawWord]) -> Result<Vec<u8>, AllocError
 /// Puts words, each with a blank before it.
 #[tactic(auto, using(std::proofs::lemmas::Grind::common_steps))]
 fn put_spaced(out: &mut Vec<u8>, words: &[RawWord]) -> Result<(), AllocError>
-    ensures { OnOk result (out.new.items ≡ out.old.items ++ flat_map spaced words.now) }
+    ensures ok { OnOk result (out.new.items ≡ out.old.items ++ flat_map spaced words.now) }
+    ensures err { OnErr result (out.new.items ≡ out.old.items) }
 {
+    let len = out.len();
     for word in words {
-        out.push(32)?;
-        out.extend_from_slice(word.as_slice())?;
+        if let Err(fault) = put_two(out, b" ".as_slice(), word.as_slice()) {
+            out.truncate(len);
+            return Err(fault);
+        }
     }
-    Ok(())
-}
-
-/// Puts a label and a number.
-#[tactic(auto, using(std::proofs::lemmas::Grind::common_steps))]
-fn put_count(out: &mut Vec<u8>, alloc: Global, label: &[u8], number: u128) -> Result<(), AllocError>
-    ensures { OnOk result (out.new.items ≡ out.old.items ++ (label.now ++ decimal number)) }
-{
-    let text = format!(in alloc; "{number}")?;
-    out.extend_from_slice(label)?;
-    out.extend_from_slice(text.as_bytes())?;
     Ok(())
 }
 
 /// Puts the numbers of the ports and the tables.
 #[tactic(auto, using(std::proofs::lemmas::Grind::common_steps))]
 fn put_first_counts(out: &mut Vec<u8>, alloc: Global, stats: Stats) -> Result<(), AllocError>
-    ensures { OnOk result (out.new.items ≡ out.old.items ++ (codes " pi=" ++ (decimal stats.sizes.inputs ++ (codes " po=" ++ (decimal stats.sizes.outputs ++ (codes " nodes=" ++ decimal stats.sizes.tables)))))) }
+    ensures ok { OnOk result (out.new.items ≡ out.old.items
+        ++ (codes " pi=" ++ (decimal stats.sizes.inputs
+        ++ (codes " po=" ++ (decimal stats.sizes.outputs
+        ++ (codes " nodes=" ++ decimal stats.sizes.tables)))))) }
+    ensures err { OnErr result (out.new.items ≡ out.old.items) }
 {
     let sizes = stats.sizes;
-    put_count(out, alloc, b" pi=".as_slice(), sizes.inputs as u128)?;
-    put_count(out, alloc, b" po=".as_slice(), sizes.outputs as u128)?;
-    put_count(out, alloc, b" nodes=".as_slice(), sizes.tables as u128)?;
-    Ok(())
+    let text = format!(in alloc;
+        " pi={} po={} nodes={}",
+        sizes.inputs, sizes.outputs, sizes.tables
+    )?;
+    out.extend_from_slice(text.as_bytes())
 }
 
 /// Puts the numbers of the latches, the literals and the don't-care tables.
 #[tactic(auto, using(std::proofs::lemmas::Grind::common_steps))]
 fn put_last_counts(out: &mut Vec<u8>, alloc: Global, stats: Stats) -> Result<(), AllocError>
-    ensures { OnOk result (out.new.items ≡ out.old.items ++ (codes " latches=" ++ (decimal stats.sizes.latches ++ (codes " lits=" ++ (decimal stats.lits ++ (codes " dc=" ++ decimal stats.sizes.dont_cares)))))) }
+    ensures ok { OnOk result (out.new.items ≡ out.old.items
+        ++ (codes " latches=" ++ (decimal stats.sizes.latches
+        ++ (codes " lits=" ++ (decimal stats.lits
+        ++ (codes " dc=" ++ decimal stats.sizes.dont_cares)))))) }
+    ensures err { OnErr result (out.new.items ≡ out.old.items) }
 {
     let sizes = stats.sizes;
-    put_count(out, alloc, b" latches=".as_slice(), sizes.latches as u128)?;
-    put_count(out, alloc, b" lits=".as_slice(), stats.lits)?;
-    put_count(out, alloc, b" dc=".as_slice(), sizes.dont_cares as u128)?;
-    Ok(())
+    let text = format!(in alloc;
+        " latches={} lits={} dc={}",
+        sizes.latches, stats.lits, sizes.dont_cares
+    )?;
+    out.extend_from_slice(text.as_bytes())
 }
 
-/// A name and how large its network is, as a line: inputs, outputs, tables, latches, literals, don't-care tables. An
-/// error only for want of memory.
+/// A name and how large its network is, as a line: inputs, outputs, tables, latches, literals,
+/// don't-care tables. An error only for want of memory.
 #[tactic(auto, unfolding(crate::specs::Replies::numbers_line), using(std::proofs::lemmas::Grind::common_steps))]
 pub fn stats_text(alloc: Global, name: &[u8], stats: Stats) -> Result<Vec<u8>, AllocError>
     ensures { IfOk result (λ text. text.items ≡ numbers_line name.now stats) }
@@ -123,10 +128,10 @@ fn script_fault_text(fault: ScriptFault) -> &'static [u8]
 /// Puts a text.
 #[tactic(auto, using(std::proofs::lemmas::Grind::common_steps))]
 fn put_text(out: &mut Vec<u8>, text: &[u8]) -> Result<(), AllocError>
-    ensures { OnOk result (out.new.items ≡ out.old.items ++ text.now) }
+    ensures ok { OnOk result (out.new.items ≡ out.old.items ++ text.now) }
+    ensures err { OnErr result (out.new.items ≡ out.old.items) }
 {
-    out.extend_from_slice(text)?;
-    Ok(())
+    out.extend_from_slice(text)
 }
 
 /// Puts the name of a file and what is wrong with it as a circuit.
@@ -137,11 +142,14 @@ fn put_circuit_fault(
     file: &Word,
     fault: &BlifFault,
 ) -> Result<(), AllocError>
-    ensures { OnOk result (out.new.items ≡ out.old.items ++ file_text file.now (blif_text fault.now)) }
+    ensures ok { OnOk result (out.new.items
+        ≡ out.old.items ++ file_text file.now (blif_text fault.now)) }
+    ensures err { OnErr result (out.new.items ≡ out.old.items) }
 {
+    let len = out.len();
     put_two(out, file.text().as_bytes(), b": ".as_slice())?;
-    put_blif_fault(out, alloc, fault)?;
-    Ok(())
+    let put = put_blif_fault(out, alloc, fault);
+    cut_on_error(out, len, put)
 }
 
 /// Puts the name of a file and what is wrong with it as a machine.
@@ -152,11 +160,14 @@ fn put_machine_fault(
     file: &Word,
     fault: &KissFault,
 ) -> Result<(), AllocError>
-    ensures { OnOk result (out.new.items ≡ out.old.items ++ file_text file.now (kiss_text fault.now)) }
+    ensures ok { OnOk result (out.new.items
+        ≡ out.old.items ++ file_text file.now (kiss_text fault.now)) }
+    ensures err { OnErr result (out.new.items ≡ out.old.items) }
 {
+    let len = out.len();
     put_two(out, file.text().as_bytes(), b": ".as_slice())?;
-    put_kiss_fault(out, alloc, fault)?;
-    Ok(())
+    let put = put_kiss_fault(out, alloc, fault);
+    cut_on_error(out, len, put)
 }
 
 /// Puts the name of a file and what is wrong with it as a library.
@@ -167,11 +178,14 @@ fn put_gates_fault(
     file: &Word,
     fault: &LibFault,
 ) -> Result<(), AllocError>
-    ensures { OnOk result (out.new.items ≡ out.old.items ++ file_text file.now (library_text fault.now)) }
+    ensures ok { OnOk result (out.new.items
+        ≡ out.old.items ++ file_text file.now (library_text fault.now)) }
+    ensures err { OnErr result (out.new.items ≡ out.old.items) }
 {
+    let len = out.len();
     put_two(out, file.text().as_bytes(), b": ".as_slice())?;
-    put_library_fault(out, alloc, fault)?;
-    Ok(())
+    let put = put_library_fault(out, alloc, fault);
+    cut_on_error(out, len, put)
 }
 
 /// Puts how many inputs the table of a name would have.
@@ -182,19 +196,19 @@ fn put_width(
     count: usize,
     name: &RawWord,
 ) -> Result<(), AllocError>
-    ensures { OnOk result (out.new.items ≡ out.old.items ++ (decimal count ++ (codes " inputs at " ++ name.now))) }
+    ensures ok { OnOk result (out.new.items
+        ≡ out.old.items ++ (decimal count ++ (codes " inputs at " ++ name.now))) }
+    ensures err { OnErr result (out.new.items ≡ out.old.items) }
 {
-    let number = format!(in alloc; "{count}")?;
-    out.extend_from_slice(number.as_bytes())?;
-    out.extend_from_slice(b" inputs at ".as_slice())?;
-    out.extend_from_slice(name.as_slice())?;
-    Ok(())
+    let head = format!(in alloc; "{count} inputs at ")?;
+    put_two(out, head.as_bytes(), name.as_slice())
 }
 
 /// Puts why a command is refused.
 #[tactic(auto, unfolding(crate::specs::Replies::refusal_text), using(std::proofs::lemmas::Grind::common_steps))]
 fn put_refusal(out: &mut Vec<u8>, alloc: Global, refusal: &Refusal) -> Result<(), AllocError>
-    ensures { OnOk result (out.new.items ≡ out.old.items ++ refusal_text refusal.now) }
+    ensures ok { OnOk result (out.new.items ≡ out.old.items ++ refusal_text refusal.now) }
+    ensures err { OnErr result (out.new.items ≡ out.old.items) }
 {
     match refusal {
         Refusal::Script(fault) => out.extend_from_slice(script_fault_text(*fault)),
@@ -228,14 +242,16 @@ fn put_refusal(out: &mut Vec<u8>, alloc: Global, refusal: &Refusal) -> Result<()
 /// Puts the head of a line on the error output: the line of the script.
 #[tactic(auto, using(std::proofs::lemmas::Grind::common_steps))]
 fn put_head(out: &mut Vec<u8>, alloc: Global, line: usize) -> Result<(), AllocError>
-    ensures { OnOk result (out.new.items ≡ out.old.items ++ (codes "sis: line " ++ (decimal line ++ codes ": "))) }
+    ensures ok { OnOk result (out.new.items
+        ≡ out.old.items ++ (codes "sis: line " ++ (decimal line ++ codes ": "))) }
+    ensures err { OnErr result (out.new.items ≡ out.old.items) }
 {
     let text = format!(in alloc; "sis: line {line}: ")?;
-    out.extend_from_slice(text.as_bytes())?;
-    Ok(())
+    out.extend_from_slice(text.as_bytes())
 }
 
-/// The line on the error output for a command of this line that is refused; an error only for want of memory.
+/// The line on the error output for a command of this line that is refused; an error only for want
+/// of memory.
 #[tactic(auto, unfolding(crate::specs::Replies::refusal_line, crate::specs::Replies::error_line), using(std::proofs::lemmas::Grind::common_steps))]
 pub fn refusal_text(alloc: Global, line: usize, refusal: &Refusal) -> Result<Vec<u8>, AllocError>
     ensures { IfOk result (λ text. text.items ≡ refusal_line line refusal.now) }
