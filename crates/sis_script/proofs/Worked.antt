@@ -1,140 +1,305 @@
--- Worked words of commands with options: `eliminate [-l ROWS] T`, where T is an integer, `tech_decomp [-a N] [-o N]`,
--- `simplify [-m nocomp]` and `resub [-a]`.
-use Rattle.std.proofs.Common.{◌≡◌, ℕ, Some, None, Result, Ok, Err, List, [], ◌∷◌, ℤ, pos, negsuc, refl}
+-- Worked words: what the list of commands makes of them, each by computing.
+use Rattle.std.proofs.Common.{◌≡◌, Some, None, [], ◌∷◌, pos, negsuc, refl}
 use Rattle.std.specs.Prelude.{codes}
+use Rattle.std.specs.Str.{is_utf8, chars}
+use Rattle.std.proofs.Math.Utf8.{encode}
 use Rattle.sis_text.specs.Decimals.{number_of}
+use Rattle.sis_script.specs.Bounds.{most_rows, usual_rows, least_inputs, most_inputs, usual_inputs}
 use Rattle.sis_script.specs.Kinds.{number_within, integer_of, value_of}
 use Rattle.sis_script.specs.Grammar.{fill, parse_at, parse}
-use Rattle.sis_script.specs.Script.{parse_change}
-use Rattle.sis_script.specs.declared.script.ChangeVerb.TheVariants as changing
-use Rattle.sis_script.specs.declared.command.ScriptFault.{ScriptFault}
-use Rattle.sis_script.specs.declared.command.ScriptFault.TheVariants.{BadOption, MissingWord}
-use Rattle.sis_script.specs.declared.kinds.Kind.TheVariants as kind
-use Rattle.sis_script.specs.declared.kinds.Value.TheVariants as value
-use Rattle.sis_script.specs.declared.grammar.OptionForm.{OptionForm}
-use Rattle.sis_script.specs.declared.grammar.OptionGiven.{OptionGiven}
-use Rattle.sis_script.specs.declared.grammar.Given.{Given}
+use Rattle.sis_script.specs.Script.{form_named, number_given, op_by, op_of}
+use Rattle.sis_script.specs.declared.command.Op.TheVariants.{Echo, Quit, ReadBlif, ReadKiss, ReadLibrary, WriteBlif, WriteKiss, PrintStats, Print, PrintLatch, PrintFactor, PrintKernel, Change, Undo, Source, Bad}
+use Rattle.sis_script.specs.declared.command.Change.TheVariants.{Sweep, Eliminate, Collapse, Simplify, Fx, Gkx, Gcx, Resub, Decomp, TechDecomp}
+use Rattle.sis_script.specs.declared.command.ScriptFault.TheVariants.{BadCommand, BadOption, MissingWord}
 
-valued : ℕ → ℕ → ℕ → OptionForm
-valued letter least most = record { letter = letter; kind = Some (kind.Number least most) }
+-- each word of the list is its command
 
-eliminate : List (List ℕ) → Result Given ScriptFault
-eliminate words = parse_change changing.Eliminate words
+no_word : op_of ([]) ≡ Bad BadCommand
+unfolding op_of
+no_word = refl
 
-tech_decomp : List (List ℕ) → Result Given ScriptFault
-tech_decomp words = parse_change changing.TechDecomp words
+no_command : op_of (codes "frob" ∷ []) ≡ Bad BadCommand
+unfolding op_of op_by form_named
+no_command = refl
 
-simplify : List (List ℕ) → Result Given ScriptFault
-simplify words = parse_change changing.Simplify words
+prefix : op_of (codes "print_" ∷ []) ≡ Bad BadCommand
+unfolding op_of op_by form_named
+prefix = refl
 
-resub : List (List ℕ) → Result Given ScriptFault
-resub words = parse_change changing.Resub words
+quits : op_of (codes "quit" ∷ []) ≡ Quit
+unfolding op_of op_by form_named number_given parse fill
+quits = refl
 
-with_number : ℕ → ℕ → OptionGiven
-with_number letter number = record { letter = letter; value = Some (value.Number number) }
+reads_blif : op_of (codes "read_blif" ∷ codes "a" ∷ []) ≡ ReadBlif (codes "a")
+unfolding op_of op_by form_named number_given parse fill value_of is_utf8 chars encode
+reads_blif = refl
 
-threshold : List OptionGiven → ℤ → Result Given ScriptFault
-threshold options number = Ok (record { options = options; words = value.Integer number ∷ [] })
+reads_kiss : op_of (codes "read_kiss" ∷ codes "a" ∷ []) ≡ ReadKiss (codes "a")
+unfolding op_of op_by form_named number_given parse fill value_of is_utf8 chars encode
+reads_kiss = refl
 
-only_options : List OptionGiven → Result Given ScriptFault
-only_options options = Ok (record { options = options; words = [] })
+reads_library : op_of (codes "read_library" ∷ codes "a" ∷ []) ≡ ReadLibrary (codes "a")
+unfolding op_of op_by form_named number_given parse fill value_of is_utf8 chars encode
+reads_library = refl
 
-negative_alone : eliminate (codes "-1" ∷ []) ≡ threshold [] (negsuc 0)
-unfolding eliminate threshold valued parse parse_at fill value_of number_within integer_of number_of
+writes_blif : op_of (codes "write_blif" ∷ []) ≡ WriteBlif None
+unfolding op_of op_by form_named number_given parse fill
+writes_blif = refl
+
+writes_blif_to : op_of (codes "write_blif" ∷ codes "a" ∷ []) ≡ WriteBlif (Some (codes "a"))
+unfolding op_of op_by form_named number_given parse fill value_of is_utf8 chars encode
+writes_blif_to = refl
+
+writes_kiss : op_of (codes "write_kiss" ∷ []) ≡ WriteKiss None
+unfolding op_of op_by form_named number_given parse fill
+writes_kiss = refl
+
+writes_kiss_to : op_of (codes "write_kiss" ∷ codes "a" ∷ []) ≡ WriteKiss (Some (codes "a"))
+unfolding op_of op_by form_named number_given parse fill value_of is_utf8 chars encode
+writes_kiss_to = refl
+
+prints_stats : op_of (codes "print_stats" ∷ []) ≡ PrintStats
+unfolding op_of op_by form_named number_given parse fill
+prints_stats = refl
+
+prints_all : op_of (codes "print" ∷ []) ≡ Print None
+unfolding op_of op_by form_named number_given parse fill
+prints_all = refl
+
+prints_name : op_of (codes "print" ∷ codes "a" ∷ []) ≡ Print (Some (codes "a"))
+unfolding op_of op_by form_named number_given parse fill value_of
+prints_name = refl
+
+prints_latches : op_of (codes "print_latch" ∷ []) ≡ PrintLatch
+unfolding op_of op_by form_named number_given parse fill
+prints_latches = refl
+
+prints_factors : op_of (codes "print_factor" ∷ []) ≡ PrintFactor None
+unfolding op_of op_by form_named number_given parse fill
+prints_factors = refl
+
+prints_factor : op_of (codes "print_factor" ∷ codes "a" ∷ []) ≡ PrintFactor (Some (codes "a"))
+unfolding op_of op_by form_named number_given parse fill value_of
+prints_factor = refl
+
+prints_kernels : op_of (codes "print_kernel" ∷ codes "a" ∷ []) ≡ PrintKernel (codes "a")
+unfolding op_of op_by form_named number_given parse fill value_of
+prints_kernels = refl
+
+undoes : op_of (codes "undo" ∷ []) ≡ Undo
+unfolding op_of op_by form_named number_given parse fill
+undoes = refl
+
+runs_file : op_of (codes "source" ∷ codes "a" ∷ []) ≡ Source (codes "a")
+unfolding op_of op_by form_named number_given parse fill value_of is_utf8 chars encode
+runs_file = refl
+
+echoes_nothing : op_of (codes "echo" ∷ []) ≡ Echo []
+unfolding op_of op_by form_named
+echoes_nothing = refl
+
+echoes : op_of (codes "echo" ∷ codes "-n" ∷ codes "a" ∷ []) ≡ Echo (codes "-n" ∷ codes "a" ∷ [])
+unfolding op_of op_by form_named
+echoes = refl
+
+sweeps : op_of (codes "sweep" ∷ []) ≡ Change Sweep
+unfolding op_of op_by form_named number_given parse fill
+sweeps = refl
+
+collapses : op_of (codes "collapse" ∷ []) ≡ Change Collapse
+unfolding op_of op_by form_named number_given parse fill
+collapses = refl
+
+simplifies : op_of (codes "simplify" ∷ []) ≡ Change Simplify
+unfolding op_of op_by form_named number_given parse fill parse_at
+simplifies = refl
+
+extracts_two_cubes : op_of (codes "fx" ∷ []) ≡ Change Fx
+unfolding op_of op_by form_named number_given parse fill
+extracts_two_cubes = refl
+
+extracts_kernels : op_of (codes "gkx" ∷ []) ≡ Change Gkx
+unfolding op_of op_by form_named number_given parse fill
+extracts_kernels = refl
+
+extracts_cubes : op_of (codes "gcx" ∷ []) ≡ Change Gcx
+unfolding op_of op_by form_named number_given parse fill
+extracts_cubes = refl
+
+resubstitutes : op_of (codes "resub" ∷ []) ≡ Change Resub
+unfolding op_of op_by form_named number_given parse fill parse_at
+resubstitutes = refl
+
+decomposes : op_of (codes "decomp" ∷ []) ≡ Change Decomp
+unfolding op_of op_by form_named number_given parse fill
+decomposes = refl
+
+-- words that lack, are one too many, or are of another kind
+
+file_lacks : op_of (codes "read_blif" ∷ []) ≡ Bad MissingWord
+unfolding op_of op_by form_named parse fill
+file_lacks = refl
+
+file_is_option : op_of (codes "read_blif" ∷ codes "-n" ∷ []) ≡ Bad BadOption
+unfolding op_of op_by form_named parse fill value_of is_utf8 chars encode
+file_is_option = refl
+
+name_lacks : op_of (codes "print_kernel" ∷ []) ≡ Bad MissingWord
+unfolding op_of op_by form_named parse fill
+name_lacks = refl
+
+name_is_option : op_of (codes "print" ∷ codes "-x" ∷ []) ≡ Print (Some (codes "-x"))
+unfolding op_of op_by form_named number_given parse fill value_of
+name_is_option = refl
+
+second_file : op_of (codes "write_blif" ∷ codes "a" ∷ codes "-n" ∷ []) ≡ Bad BadOption
+unfolding op_of op_by form_named parse fill value_of is_utf8 chars encode
+second_file = refl
+
+word_for_none : op_of (codes "quit" ∷ codes "now" ∷ []) ≡ Bad BadOption
+unfolding op_of op_by form_named parse fill
+word_for_none = refl
+
+-- `eliminate [-l ROWS] T`, where T is an integer
+
+negative_alone :
+    op_of (codes "eliminate" ∷ codes "-1" ∷ []) ≡
+    Change (Eliminate (negsuc 0) usual_rows)
+unfolding op_of op_by form_named number_given parse fill parse_at
+    value_of number_within integer_of number_of
 negative_alone = refl
 
-negative_behind : eliminate (codes "-l" ∷ codes "5" ∷ codes "-1" ∷ []) ≡ threshold (with_number 108 5 ∷ []) (negsuc 0)
-unfolding eliminate threshold with_number valued parse parse_at fill value_of number_within integer_of number_of
-negative_behind = refl
+negative_after :
+    op_of (codes "eliminate" ∷ codes "-l" ∷ codes "5" ∷ codes "-1" ∷ []) ≡
+    Change (Eliminate (negsuc 0) 5)
+unfolding op_of op_by form_named number_given parse fill parse_at
+    value_of number_within integer_of number_of
+negative_after = refl
 
-leading_zeros : eliminate (codes "007" ∷ []) ≡ threshold [] (pos 7)
-unfolding eliminate threshold valued parse parse_at fill value_of number_within integer_of number_of
+leading_zeros : op_of (codes "eliminate" ∷ codes "007" ∷ []) ≡ Change (Eliminate (pos 7) usual_rows)
+unfolding op_of op_by form_named number_given parse fill parse_at
+    value_of number_within integer_of number_of
 leading_zeros = refl
 
-negative_zero : eliminate (codes "-0" ∷ []) ≡ threshold [] (pos 0)
-unfolding eliminate threshold valued parse parse_at fill value_of number_within integer_of number_of
+negative_zero : op_of (codes "eliminate" ∷ codes "-0" ∷ []) ≡ Change (Eliminate (pos 0) usual_rows)
+unfolding op_of op_by form_named number_given parse fill parse_at
+    value_of number_within integer_of number_of
 negative_zero = refl
 
-least_integer : eliminate (codes "-2147483648" ∷ []) ≡ threshold [] (negsuc 2147483647)
-unfolding eliminate threshold valued parse parse_at fill value_of number_within integer_of number_of
+least_integer :
+    op_of (codes "eliminate" ∷ codes "-2147483648" ∷ []) ≡
+    Change (Eliminate (negsuc 2147483647) usual_rows)
+unfolding op_of op_by form_named number_given parse fill parse_at
+    value_of number_within integer_of number_of
 least_integer = refl
 
-past_integers : eliminate (codes "2147483648" ∷ []) ≡ Err BadOption
-unfolding eliminate valued parse parse_at fill value_of number_within integer_of number_of
+past_integers : op_of (codes "eliminate" ∷ codes "2147483648" ∷ []) ≡ Bad BadOption
+unfolding op_of op_by form_named parse fill parse_at value_of number_within integer_of number_of
 past_integers = refl
 
-two_signs : eliminate (codes "--1" ∷ []) ≡ Err BadOption
-unfolding eliminate valued parse parse_at fill value_of number_within integer_of number_of
+two_signs : op_of (codes "eliminate" ∷ codes "--1" ∷ []) ≡ Bad BadOption
+unfolding op_of op_by form_named parse fill parse_at value_of number_within integer_of number_of
 two_signs = refl
 
-no_threshold : eliminate [] ≡ Err MissingWord
-unfolding eliminate valued parse parse_at fill
+no_threshold : op_of (codes "eliminate" ∷ []) ≡ Bad MissingWord
+unfolding op_of op_by form_named parse fill parse_at
 no_threshold = refl
 
-no_rows : eliminate (codes "-l" ∷ []) ≡ Err MissingWord
-unfolding eliminate valued parse parse_at
+no_rows : op_of (codes "eliminate" ∷ codes "-l" ∷ []) ≡ Bad MissingWord
+unfolding op_of op_by form_named parse fill parse_at
 no_rows = refl
 
-past_rows : eliminate (codes "-l" ∷ codes "32768" ∷ codes "1" ∷ []) ≡ Err BadOption
-unfolding eliminate valued parse parse_at fill value_of number_within integer_of number_of
+last_rows :
+    op_of (codes "eliminate" ∷ codes "-l" ∷ codes "32767" ∷ codes "1" ∷ []) ≡
+    Change (Eliminate (pos 1) most_rows)
+unfolding op_of op_by form_named number_given parse fill parse_at
+    value_of number_within integer_of number_of
+last_rows = refl
+
+past_rows : op_of (codes "eliminate" ∷ codes "-l" ∷ codes "32768" ∷ codes "1" ∷ []) ≡ Bad BadOption
+unfolding op_of op_by form_named parse fill parse_at value_of number_within integer_of number_of
 past_rows = refl
 
-rows_twice : eliminate (codes "-l" ∷ codes "5" ∷ codes "-l" ∷ codes "6" ∷ codes "1" ∷ []) ≡ Err BadOption
-unfolding eliminate valued parse parse_at fill value_of number_within integer_of number_of
+zero_rows : op_of (codes "eliminate" ∷ codes "-l" ∷ codes "0" ∷ codes "1" ∷ []) ≡ Bad BadOption
+unfolding op_of op_by form_named parse fill parse_at value_of number_within integer_of number_of
+zero_rows = refl
+
+rows_twice :
+    op_of (codes "eliminate" ∷ codes "-l" ∷ codes "5" ∷ codes "-l" ∷ codes "6" ∷ codes "1" ∷ []) ≡
+    Bad BadOption
+unfolding op_of op_by form_named parse fill parse_at value_of number_within integer_of number_of
 rows_twice = refl
 
-rows_late : eliminate (codes "1" ∷ codes "-l" ∷ codes "5" ∷ []) ≡ Err BadOption
-unfolding eliminate valued parse parse_at fill value_of number_within integer_of number_of
+rows_late : op_of (codes "eliminate" ∷ codes "1" ∷ codes "-l" ∷ codes "5" ∷ []) ≡ Bad BadOption
+unfolding op_of op_by form_named parse fill parse_at value_of number_within integer_of number_of
 rows_late = refl
 
-no_bounds : tech_decomp [] ≡ only_options []
-unfolding tech_decomp only_options valued parse parse_at fill
+-- `tech_decomp [-a N] [-o N]`
+
+no_bounds : op_of (codes "tech_decomp" ∷ []) ≡ Change (TechDecomp usual_inputs usual_inputs)
+unfolding op_of op_by form_named number_given parse fill parse_at
 no_bounds = refl
 
-any_order : tech_decomp (codes "-o" ∷ codes "3" ∷ codes "-a" ∷ codes "2" ∷ []) ≡ only_options (with_number 111 3 ∷ with_number 97 2 ∷ [])
-unfolding tech_decomp only_options with_number valued parse parse_at fill value_of number_within number_of
+products_alone :
+    op_of (codes "tech_decomp" ∷ codes "-a" ∷ codes "3" ∷ []) ≡
+    Change (TechDecomp 3 usual_inputs)
+unfolding op_of op_by form_named number_given parse fill parse_at value_of number_within number_of
+products_alone = refl
+
+any_order :
+    op_of (codes "tech_decomp" ∷ codes "-o" ∷ codes "3" ∷ codes "-a" ∷ codes "4" ∷ []) ≡
+    Change (TechDecomp 4 3)
+unfolding op_of op_by form_named number_given parse fill parse_at value_of number_within number_of
 any_order = refl
 
-option_for_number : tech_decomp (codes "-a" ∷ codes "-o" ∷ codes "3" ∷ []) ≡ Err BadOption
-unfolding tech_decomp valued parse parse_at fill value_of number_within number_of
+option_for_number :
+    op_of (codes "tech_decomp" ∷ codes "-a" ∷ codes "-o" ∷ codes "3" ∷ []) ≡
+    Bad BadOption
+unfolding op_of op_by form_named parse fill parse_at value_of number_within number_of
 option_for_number = refl
 
-below_bound : tech_decomp (codes "-a" ∷ codes "1" ∷ []) ≡ Err BadOption
-unfolding tech_decomp valued parse parse_at fill value_of number_within number_of
+least_bound :
+    op_of (codes "tech_decomp" ∷ codes "-a" ∷ codes "2" ∷ codes "-o" ∷ codes "1000" ∷ []) ≡
+    Change (TechDecomp least_inputs most_inputs)
+unfolding op_of op_by form_named number_given parse fill parse_at value_of number_within number_of
+least_bound = refl
+
+below_bound : op_of (codes "tech_decomp" ∷ codes "-a" ∷ codes "1" ∷ []) ≡ Bad BadOption
+unfolding op_of op_by form_named parse fill parse_at value_of number_within number_of
 below_bound = refl
 
-word_too_many : tech_decomp (codes "-a" ∷ codes "2" ∷ codes "x" ∷ []) ≡ Err BadOption
-unfolding tech_decomp valued parse parse_at fill value_of number_within number_of
+past_bound : op_of (codes "tech_decomp" ∷ codes "-o" ∷ codes "1001" ∷ []) ≡ Bad BadOption
+unfolding op_of op_by form_named parse fill parse_at value_of number_within number_of
+past_bound = refl
+
+word_too_many :
+    op_of (codes "tech_decomp" ∷ codes "-a" ∷ codes "2" ∷ codes "x" ∷ []) ≡
+    Bad BadOption
+unfolding op_of op_by form_named parse fill parse_at value_of number_within number_of
 word_too_many = refl
 
-no_method : simplify [] ≡ only_options []
-unfolding simplify only_options parse parse_at fill
-no_method = refl
+-- `simplify [-m nocomp]` and `resub [-a]`
 
-method : simplify (codes "-m" ∷ codes "nocomp" ∷ []) ≡ only_options (record { letter = 109; value = Some value.NoComplement } ∷ [])
-unfolding simplify only_options parse parse_at fill value_of
+method : op_of (codes "simplify" ∷ codes "-m" ∷ codes "nocomp" ∷ []) ≡ Change Simplify
+unfolding op_of op_by form_named number_given parse fill parse_at value_of
 method = refl
 
-method_lacks : simplify (codes "-m" ∷ []) ≡ Err MissingWord
-unfolding simplify parse parse_at fill
+method_lacks : op_of (codes "simplify" ∷ codes "-m" ∷ []) ≡ Bad MissingWord
+unfolding op_of op_by form_named parse fill parse_at
 method_lacks = refl
 
-other_method : simplify (codes "-m" ∷ codes "comp" ∷ []) ≡ Err BadOption
-unfolding simplify parse parse_at fill value_of
+other_method : op_of (codes "simplify" ∷ codes "-m" ∷ codes "comp" ∷ []) ≡ Bad BadOption
+unfolding op_of op_by form_named parse fill parse_at value_of
 other_method = refl
 
-no_letter : resub [] ≡ only_options []
-unfolding resub only_options parse parse_at fill
-no_letter = refl
-
-letter : resub (codes "-a" ∷ []) ≡ only_options (record { letter = 97; value = None } ∷ [])
-unfolding resub only_options parse parse_at fill
+letter : op_of (codes "resub" ∷ codes "-a" ∷ []) ≡ Change Resub
+unfolding op_of op_by form_named number_given parse fill parse_at
 letter = refl
 
-letter_twice : resub (codes "-a" ∷ codes "-a" ∷ []) ≡ Err BadOption
-unfolding resub parse parse_at fill
+letter_twice : op_of (codes "resub" ∷ codes "-a" ∷ codes "-a" ∷ []) ≡ Bad BadOption
+unfolding op_of op_by form_named parse fill parse_at
 letter_twice = refl
 
-other_letter : resub (codes "-d" ∷ []) ≡ Err BadOption
-unfolding resub parse parse_at fill
+other_letter : op_of (codes "resub" ∷ codes "-d" ∷ []) ≡ Bad BadOption
+unfolding op_of op_by form_named parse fill parse_at
 other_letter = refl

@@ -1,4 +1,5 @@
--- How options are taken off the front of words, one at a time.
+-- How options are taken off the front of words, one at a time. It serves the private functions that
+-- take them; no public clause cites it.
 -- Source: the grammar of this crate, of which these are the steps.
 use Rattle.std.specs.Prelude.{ℕ, Option, Some, None, Result, Ok, Err, List, [], ◌∷◌}
 use Rattle.sis_script.specs.Kinds.{value_of}

@@ -50,13 +50,15 @@ pub enum Op {
 pub enum Change {
     /// Takes constants, single inputs and what is not needed out of it.
     Sweep,
-    /// Takes inner tables of a value up to this number into their readers, where no reader comes to more rows than this.
+    /// Takes inner tables of a value up to this number into their readers, where no reader comes to
+    /// more rows than this.
     Eliminate(i32, u16),
     /// Takes all inner tables into their readers.
     Collapse,
     /// Makes each table minimal where its inputs' tables leave points free.
     Simplify,
-    /// Makes tables of sums of two cubes and of products of two literals, as long as that saves literals.
+    /// Makes tables of sums of two cubes and of products of two literals, as long as that saves
+    /// literals.
     Fx,
     /// Makes tables of kernels, as long as that saves literals.
     Gkx,
@@ -64,9 +66,11 @@ pub enum Change {
     Gcx,
     /// Divides tables by others that stand already, as long as that saves literals.
     Resub,
-    /// Takes literals that rows of a table share out of them: what else these rows have becomes a table of its own.
+    /// Takes literals that rows of a table share out of them: what else these rows have becomes a
+    /// table of its own.
     Decomp,
-    /// Makes each table a product of at most so many literals, or a sum of at most so many of one literal each.
+    /// Makes each table a product of at most so many literals, or a sum of at most so many of one
+    /// literal each.
     TechDecomp(u16, u16),
 }
 

@@ -1,11 +1,13 @@
 //! The commands of a script.
 //!
-//! The command language is that of SIS (UCB/ERL M92/41) without quoting: commands are parted by `;` and line ends,
-//! words by blanks, and `#` begins a comment. Promised: `commands` answers just the definition's commands, each with
-//! its line (`specs/Script`); the only error is want of memory.
+//! The command language is that of SIS (UCB/ERL M92/41) without quoting: `;` and line ends separate
+//! commands, blanks separate words, and `#` begins a comment. `specs/Script` lists the commands,
+//! each with its options and the slots for its other words. Promised: `commands` returns just the
+//! commands of that definition, each with its line; the only error is want of memory.
 #![tactic(auto)]
 
 mod command;
+mod forms;
 mod grammar;
 mod kinds;
 mod laws;

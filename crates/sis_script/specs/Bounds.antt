@@ -1,0 +1,24 @@
+-- The bounds of the numbers that commands take, and what holds where no number is given.
+-- Source: the SIS manual's `eliminate` and `tech_decomp` (UCB/ERL M92/41); the greatest numbers are
+-- this program's own.
+use Rattle.std.specs.Prelude.{ℕ}
+
+-- the most rows that `eliminate` can be told to allow in a table: as many as a table may have here
+abbrev pub most_rows : ℕ
+most_rows = 32767
+
+-- the most rows that `eliminate` allows in a table where nothing is said
+abbrev pub usual_rows : ℕ
+usual_rows = 1000
+
+-- the fewest inputs to which `tech_decomp` can be told to keep a table
+abbrev pub least_inputs : ℕ
+least_inputs = 2
+
+-- the most inputs to which `tech_decomp` can be told to keep a table: as many as one may have here
+abbrev pub most_inputs : ℕ
+most_inputs = 1000
+
+-- the inputs to which `tech_decomp` keeps a table where nothing is said
+abbrev pub usual_inputs : ℕ
+usual_inputs = 2
