@@ -1,27 +1,31 @@
-//! The program: it makes the real store, input and outputs, hands them to the top call with the words of the
-//! command line, and ends with its status. What a real file or stream holds is trusted and not proved.
+//! The program: it makes the real store, input and outputs, hands them to the top call with the
+//! words of the command line, and ends with its status. What a real file or stream holds is trusted
+//! and not proved.
 #![tactic(auto)]
 
-use sis_adapters::{RealStore, StdSink, StdSource};
+use sis_adapters::{RealStore, StdSink, StdSource, behind_name, words_of};
 use sis_text::Word;
 use sis_top::{Status, run_sis};
 use std::alloc::AllocError;
 use std::env;
 use std::env::Env;
+use std::io::ErrorKind;
 use std::process::ExitCode;
 
-/// The words behind the program's name; where the arguments are not text, one word that is not taken.
+/// The program's name and the words of the command line; where the arguments are not text, a name
+/// and one word that is not taken.
 fn words<R: Env + AllocGlobal>(rt: &R) -> Result<Vec<Word>, AllocError> {
     let alloc = rt.alloc();
-    let mut words = Vec::new(alloc);
-    let Ok(arguments) = env::args(rt) else {
-        words.push(Word::new(alloc, "?")?)?;
-        return Ok(words);
-    };
-    for argument in arguments.skip(1) {
-        words.push(Word::new(alloc, argument.as_str())?)?;
+    match env::args(rt) {
+        Ok(arguments) => words_of(alloc, arguments),
+        Err(error) if error.kind() == ErrorKind::OutOfMemory => Err(AllocError),
+        Err(_) => {
+            let mut words = Vec::new(alloc);
+            words.push(Word::new(alloc, "sis")?)?;
+            words.push(Word::new(alloc, "?")?)?;
+            Ok(words)
+        }
     }
-    Ok(words)
 }
 
 fn main(rt: HostRuntime) -> ExitCode {
@@ -34,7 +38,7 @@ fn main(rt: HostRuntime) -> ExitCode {
     let mut err = StdSink::new(rt.stderr());
     let status = run_sis(
         rt.alloc(),
-        words.as_slice(),
+        behind_name(words.as_slice()),
         &mut store,
         &mut input,
         &mut out,

@@ -2,8 +2,7 @@
 
 ghost use Rattle.std.specs.Prelude.{◌≡◌, ◌<◌, ◌-◌, ◌^◌, ℕ, false, IsTrue};
 ghost use Rattle.std.specs.FinMap.{empty};
-ghost use Rattle.sis_outside.specs.Calls.{StoreKeeps, Load, Save, bytes_of};
-ghost use Rattle.sis_outside.specs.Store.{IsLoadWithin};
+ghost use Rattle.sis_outside.specs.Calls.{IsLoadWithin, StoreKeeps, bytes_of};
 
 use crate::streams::write_whole;
 use sis_outside::{LoadFault, SaveFault, Store};
@@ -37,7 +36,7 @@ impl<'a, R: Files> RealStore<'a, R> {
 /// Reads a whole file of at most `max` bytes.
 fn read_whole<F: Read>(alloc: Global, file: &mut F, max: usize) -> Result<Vec<u8>, LoadFault>
     requires { max < 2 ^ 64 - 1 }
-    ensures { IsLoadWithin max result }
+    ensures { IsLoadWithin max (bytes_of result) }
 {
     let mut bytes = Vec::new(alloc);
     let mut piece = [0u8; PIECE];
@@ -64,7 +63,8 @@ impl<R: Files> Store for RealStore<'_, R> {
 
     ghost misses = { λ store. store.misses };
 
-    ghost calls = { StoreKeeps (λ _. false) (λ _. empty) (λ store. store.faults) (λ store. store.misses) };
+    ghost calls = { StoreKeeps (λ _. false) (λ _. empty) (λ store. store.faults)
+        (λ store. store.misses) };
 
     ghost keeps = { λ old call new kept. kept };
 

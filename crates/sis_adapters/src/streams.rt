@@ -1,9 +1,7 @@
 //! The standard streams as a source and as sinks. They tell no bytes, and count their faults.
 
 ghost use Rattle.std.specs.Prelude.{◌≡◌, ◌≤◌, ◌^◌, ℕ, false, [], IsTrue};
-ghost use Rattle.sis_outside.specs.Calls.{SourceKeeps, SinkKeeps, bytes_of};
-ghost use Rattle.sis_outside.specs.Source.{Takes, IsTakeWithin, TakeFaults};
-ghost use Rattle.sis_outside.specs.Sink.{Puts, PutFaults};
+ghost use Rattle.sis_outside.specs.Calls.{SourceKeeps, SinkKeeps};
 
 use sis_outside::{PutFault, Sink, Source, TakeFault};
 use std::alloc::Global;
@@ -38,10 +36,15 @@ impl<R: Read> Source for StdSource<R> {
     ghost keeps = { λ old call new kept. kept };
 
     fn take(&mut self, alloc: Global, max: usize) -> Result<Vec<u8>, TakeFault> {
-        let mut piece = [0u8; PIECE];
-        let most = max.min(PIECE);
-        match self.reader.read(&mut piece[..most]) {
-            Ok(count) => Vec::from_slice(alloc, &piece[..count]).map_err(|_| TakeFault::Memory),
+        // The buffer comes first: where memory is wanting for it, nothing was read.
+        let Ok(mut piece) = Vec::from_elem(alloc, 0u8, max.min(PIECE)) else {
+            return Err(TakeFault::Memory);
+        };
+        match self.reader.read(piece.as_mut_slice()) {
+            Ok(count) => {
+                piece.truncate(count);
+                Ok(piece)
+            }
             Err(_) => {
                 self.faults = self.faults.saturating_add(1);
                 Err(TakeFault::Failed)

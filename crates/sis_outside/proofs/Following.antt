@@ -1,11 +1,12 @@
 -- What one call leaves, of a list of calls.
 use Rattle.std.specs.Prelude.{◌≡◌, ℕ, ◌≤◌, ◌⊎◌, Bool, true, false, ◌||◌, IsTrue, List, [], ◌∷◌, take, Option, Some, Result, Ok, Err, bytes_eq}
 use Rattle.std.proofs.Common.{inl, inr, cond, refl, sym, subst, ◌∙◌, ap, arith}
+use Rattle.std.specs.List.{AllByRecursion}
 use Rattle.std.specs.Ordering.{nat_cmp}
 use Rattle.std.specs.Cmp.Lexicographic.{slice_cmp, texts_ties, nat_list_cmp_total}
 use Rattle.std.specs.FinMap.{get-insert}
 use Rattle.std.proofs.lemmas.Slice.Eq.{bytes_eq-Decides}
-use Rattle.sis_outside.specs.Calls.{StoreCall, Load, Save, TakeCall, PutCall, store_failed, store_missed, take_failed, put_failed, Counted, Tells, FilesGo, LeftGoes, WrittenGoes, StoreKeeps, SourceKeeps, SinkKeeps, Follows, any_of, StoreWent, SourceWent, SinkWent, IsLeftBy, WasSaved}
+use Rattle.sis_outside.specs.Calls.{StoreCall, Load, Save, TakeCall, PutCall, store_failed, store_missed, take_failed, put_failed, Counted, Tells, FilesGo, LeftGoes, WrittenGoes, IsStoreWithin, IsTakeWithin, Went, StoreKeeps, SourceKeeps, SinkKeeps, Follows, any_of, StoreWent, SourceWent, SinkWent, IsLeftBy, WasSaved}
 use Rattle.sis_outside.specs.Counts.{Rose}
 use Rattle.sis_outside.specs.Files.{Files, file_at, with_file}
 use Rattle.sis_outside.specs.declared.store.SaveFault.{SaveFault}
@@ -33,36 +34,46 @@ follows_counted is count goes one old new [] h = ap count h
 follows_counted is count goes one old new (call ∷ calls) (next, first, rest) =
     counted_through (is call) (any_of is calls) (count old) (count next) (count new) (one old call next first) (follows_counted is count goes one next new calls rest)
 
+-- what holds of each call that goes by a relation
+pub follows_all : {X C : Type 0} (Holds : C → Type 0) (goes : X → C → X → Type 0) → ((old : X) (call : C) (new : X) → goes old call new → Holds call)
+    → (old new : X) (calls : List C) → Follows goes old new calls → AllByRecursion Holds calls
+follows_all Holds goes one old new [] h = tt
+follows_all Holds goes one old new (call ∷ calls) (next, first, rest) = (one old call next first, follows_all Holds goes one next new calls rest)
+
+-- what an object does by a list of calls, from what it does by one
+went_on : {S X C : Type 0} (tells : S → Bool) (shown : S → X) (faults : S → ℕ) (shows : X → C → X → Type 0) (failed : C → Bool) (goes : S → C → S → Type 0)
+    → ((old : S) (call : C) (new : S) → goes old call new → Went tells shown faults shows failed old call new)
+    → (old new : S) (calls : List C) → Follows goes old new calls → Went tells shown faults (λ from made to. Follows shows from to made) (any_of failed) old calls new
+went_on tells shown faults shows failed goes keeps old new calls h =
+    let both = follows_mapped tells shown goes shows (λ o c n g. ((keeps o c n g).told, (keeps o c n g).contents)) old new calls h in record {
+      told = both.0;
+      contents = both.1;
+      counted = follows_counted failed faults goes (λ o c n g. (keeps o c n g).counted) old new calls h;
+    }
+
 pub store_went : {S : Type 0} (tells : S → Bool) (files : S → Files) (faults misses : S → ℕ) (goes : S → StoreCall → S → Type 0)
     → ((old : S) (call : StoreCall) (new : S) → goes old call new → StoreKeeps tells files faults misses old call new)
     → (old new : S) (calls : List StoreCall) → Follows goes old new calls → StoreWent tells files faults misses old new calls
-store_went tells files faults misses goes keeps old new calls h =
-    let both = follows_mapped tells files goes FilesGo (λ o c n g. ((keeps o c n g).told, (keeps o c n g).contents)) old new calls h in record {
-      told = both.0;
-      contents = both.1;
-      failed = follows_counted store_failed faults goes (λ o c n g. (keeps o c n g).failed) old new calls h;
-      missed = follows_counted store_missed misses goes (λ o c n g. (keeps o c n g).missed) old new calls h;
-    }
+store_went tells files faults misses goes keeps old new calls h = (
+  went_on tells files faults FilesGo store_failed goes (λ o c n g. (keeps o c n g).0) old new calls h,
+  (
+    follows_counted store_missed misses goes (λ o c n g. (keeps o c n g).1.0) old new calls h,
+    follows_all IsStoreWithin goes (λ o c n g. (keeps o c n g).1.1) old new calls h,
+  ),
+)
 
 pub source_went : {S : Type 0} (tells : S → Bool) (left : S → List ℕ) (faults : S → ℕ) (goes : S → TakeCall → S → Type 0)
     → ((old : S) (call : TakeCall) (new : S) → goes old call new → SourceKeeps tells left faults old call new)
     → (old new : S) (calls : List TakeCall) → Follows goes old new calls → SourceWent tells left faults old new calls
-source_went tells left faults goes keeps old new calls h =
-    let both = follows_mapped tells left goes LeftGoes (λ o c n g. ((keeps o c n g).told, (keeps o c n g).contents)) old new calls h in record {
-      told = both.0;
-      contents = both.1;
-      failed = follows_counted take_failed faults goes (λ o c n g. (keeps o c n g).failed) old new calls h;
-    }
+source_went tells left faults goes keeps old new calls h = (
+  went_on tells left faults LeftGoes take_failed goes (λ o c n g. (keeps o c n g).0) old new calls h,
+  follows_all IsTakeWithin goes (λ o c n g. (keeps o c n g).1) old new calls h,
+)
 
 pub sink_went : {S : Type 0} (tells : S → Bool) (written : S → List ℕ) (faults : S → ℕ) (goes : S → PutCall → S → Type 0)
     → ((old : S) (call : PutCall) (new : S) → goes old call new → SinkKeeps tells written faults old call new)
     → (old new : S) (calls : List PutCall) → Follows goes old new calls → SinkWent tells written faults old new calls
-sink_went tells written faults goes keeps old new calls h =
-    let both = follows_mapped tells written goes WrittenGoes (λ o c n g. ((keeps o c n g).told, (keeps o c n g).contents)) old new calls h in record {
-      told = both.0;
-      contents = both.1;
-      failed = follows_counted put_failed faults goes (λ o c n g. (keeps o c n g).failed) old new calls h;
-    }
+sink_went tells written faults goes keeps old new calls h = went_on tells written faults WrittenGoes put_failed goes keeps old new calls h
 
 -- the file of a name where one was put
 file_put : (files : Files) (put name bytes : List ℕ) → file_at (with_file files put bytes) name ≡ cond (bytes_eq name put) (Some bytes) (file_at files name)

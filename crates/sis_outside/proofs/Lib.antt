@@ -1,4 +1,5 @@
 pub mod Entries
 pub mod Pieces
+pub mod Records
 pub mod Rises
 pub mod Following

@@ -1,8 +1,9 @@
--- Calls on the objects of the outside, each with its answer; what one call leaves of what an object tells and counts, and
--- what a list of calls leaves.
+-- Calls on the objects of the outside, each with its answer; what a call, and what a list of calls,
+-- leaves of what an object tells and counts.
 -- Source: the project's own rule for the outside, after read(2), write(2) and their errors in POSIX.
-use Rattle.std.specs.Prelude.{◌≡◌, ℕ, ◌<◌, ◌≤◌, ◌↔◌, ◌⊎◌, Bool, true, false, ◌||◌, IsTrue, List, [], ◌∷◌, ◌++◌, length, take, drop, Option, Some, None, Result, Ok, Err}
+use Rattle.std.specs.Prelude.{◌≡◌, ℕ, ◌+◌, ◌<◌, ◌≤◌, ◌↔◌, ◌⊎◌, Bool, true, false, ◌||◌, IsTrue, List, [], ◌∷◌, ◌++◌, length, take, drop, Option, Some, None, Result, Ok, Err}
 use Rattle.std.specs.Global.{Vec}
+use Rattle.std.specs.List.{AllByRecursion}
 use Rattle.sis_outside.specs.Counts.{Rose}
 use Rattle.sis_outside.specs.Files.{Files, file_at, with_file}
 use Rattle.sis_outside.specs.declared.store.LoadFault.{LoadFault}
@@ -75,18 +76,22 @@ Counted false before now = now ≡ before
 abbrev pub Tells : Option (List ℕ) → ℕ → Result (List ℕ) LoadFault → Type 0
 Tells file max (Ok bytes) = file ≡ Some bytes
 Tells file max (Err load.Missing) = file ≡ None
-Tells file max (Err (load.TooLong reached)) = (bytes : List ℕ) × (file ≡ Some bytes) × (max < length bytes)
+Tells file max (Err (load.TooLong reached)) =
+    (bytes : List ℕ) × (file ≡ Some bytes) × (max < length bytes)
 Tells file max (Err load.Failed) = Unit {0}
 Tells file max (Err load.Memory) = Unit {0}
 
--- what a call leaves of the files: a load all of them, a save its file in place; after a failure as before, or with a front
+-- what a call leaves of the files: a load all of them, a save its file in place; after a failure as
+-- before, or with a front
 abbrev pub FilesGo : Files → StoreCall → Files → Type 0
 FilesGo old (Load name max answer) new = (new ≡ old) × Tells (file_at old name) max answer
 FilesGo old (Save name bytes (Ok done)) new = new ≡ with_file old name bytes
-FilesGo old (Save name bytes (Err save.Failed)) new = (new ≡ old) ⊎ ((count : ℕ) × (new ≡ with_file old name (take count bytes)))
+FilesGo old (Save name bytes (Err save.Failed)) new =
+    (new ≡ old) ⊎ ((count : ℕ) × (new ≡ with_file old name (take count bytes)))
 FilesGo old (Save name bytes (Err save.Memory)) new = new ≡ old
 
--- what a take leaves: the piece was in front, none exactly at the end; a failure takes off at most `max` bytes
+-- what a take leaves: the piece was in front, none exactly at the end; a failure takes off at most
+-- `max` bytes
 abbrev pub TakenOff : List ℕ → ℕ → Result (List ℕ) TakeFault → List ℕ → Type 0
 TakenOff old max (Ok piece) new = (old ≡ piece ++ new) × (piece ≡ [] ↔ old ≡ [])
 TakenOff old max (Err source.Failed) new = (count : ℕ) × (count ≤ max) × (new ≡ drop count old)
@@ -104,27 +109,26 @@ PutBehind old piece (Err sink.Memory) new = new ≡ old
 abbrev pub WrittenGoes : List ℕ → PutCall → List ℕ → Type 0
 WrittenGoes old call new = PutBehind old call.piece call.answer new
 
--- one call of a store: it still tells its files or tells none, the files go by the call where they are told, and the counts
--- rise with a failure and with a miss alone
-pub record StoreKeeps {S : Type 0} (tells : S → Bool) (files : S → Files) (faults misses : S → ℕ) (old : S) (call : StoreCall) (new : S) : Type 0 where
-  pub told : tells new ≡ tells old
-  pub contents : IsTrue (tells old) → FilesGo (files old) call (files new)
-  pub failed : Counted (store_failed call) (faults old) (faults new)
-  pub missed : Counted (store_missed call) (misses old) (misses new)
+-- a load gives no more bytes than were asked for, and tells of a longer file by the next number
+abbrev pub IsLoadWithin : ℕ → Result (List ℕ) LoadFault → Type 0
+IsLoadWithin max (Ok bytes) = length bytes ≤ max
+IsLoadWithin max (Err (load.TooLong reached)) = reached ≡ max + 1
+IsLoadWithin max (Err other) = Unit {0}
 
--- the same of a source, of what is left
-pub record SourceKeeps {S : Type 0} (tells : S → Bool) (left : S → List ℕ) (faults : S → ℕ) (old : S) (call : TakeCall) (new : S) : Type 0 where
-  pub told : tells new ≡ tells old
-  pub contents : IsTrue (tells old) → LeftGoes (left old) call (left new)
-  pub failed : Counted (take_failed call) (faults old) (faults new)
+abbrev pub IsStoreWithin : StoreCall → Type 0
+IsStoreWithin (Load name max answer) = IsLoadWithin max answer
+IsStoreWithin (Save name bytes answer) = Unit {0}
 
--- the same of a sink, of what was written
-pub record SinkKeeps {S : Type 0} (tells : S → Bool) (written : S → List ℕ) (faults : S → ℕ) (old : S) (call : PutCall) (new : S) : Type 0 where
-  pub told : tells new ≡ tells old
-  pub contents : IsTrue (tells old) → WrittenGoes (written old) call (written new)
-  pub failed : Counted (put_failed call) (faults old) (faults new)
+-- a take gives no more bytes than were asked for
+abbrev pub IsPieceWithin : ℕ → Result (List ℕ) TakeFault → Type 0
+IsPieceWithin max (Ok piece) = length piece ≤ max
+IsPieceWithin max (Err fault) = Unit {0}
 
--- some calls, one after the other, lead from one state to another; each goes by the relation of one call
+abbrev pub IsTakeWithin : TakeCall → Type 0
+IsTakeWithin call = IsPieceWithin call.max call.answer
+
+-- some calls, one after the other, lead from one state to another; each goes by the relation of one
+-- call
 abbrev pub Follows : {X C : Type 0} → (X → C → X → Type 0) → X → X → List C → Type 0
 Follows goes old new [] = new ≡ old
 Follows {X} goes old new (call ∷ calls) = (next : X) × goes old call next × Follows goes next new calls
@@ -134,26 +138,45 @@ abbrev pub any_of : {C : Type 0} → (C → Bool) → List C → Bool
 any_of is [] = false
 any_of is (call ∷ calls) = is call || any_of is calls
 
--- a list of calls of a store: what is said of one call, of all of them together
-pub record StoreWent {S : Type 0} (tells : S → Bool) (files : S → Files) (faults misses : S → ℕ) (old new : S) (calls : List StoreCall) : Type 0 where
+-- What an object does by a call, or by a list of calls: it tells its contents as before or tells none,
+-- where it tells them they go by the call, and its count of faults rises with a call that failed alone.
+pub record Went {S X C : Type 0} (tells : S → Bool) (shown : S → X) (faults : S → ℕ) (goes : X → C → X → Type 0) (failed : C → Bool) (old : S) (call : C) (new : S) : Type 0 where
   pub told : tells new ≡ tells old
-  pub contents : IsTrue (tells old) → Follows FilesGo (files old) (files new) calls
-  pub failed : Counted (any_of store_failed calls) (faults old) (faults new)
-  pub missed : Counted (any_of store_missed calls) (misses old) (misses new)
+  pub contents : IsTrue (tells old) → goes (shown old) call (shown new)
+  pub counted : Counted (failed call) (faults old) (faults new)
 
--- the same of a source
-pub record SourceWent {S : Type 0} (tells : S → Bool) (left : S → List ℕ) (faults : S → ℕ) (old new : S) (calls : List TakeCall) : Type 0 where
-  pub told : tells new ≡ tells old
-  pub contents : IsTrue (tells old) → Follows LeftGoes (left old) (left new) calls
-  pub failed : Counted (any_of take_failed calls) (faults old) (faults new)
+-- one call of a store: its count of misses rises with a miss alone, and whether files are told or not
+-- the answer keeps within what was asked for
+abbrev pub StoreKeeps : {S : Type 0} → (S → Bool) → (S → Files) → (S → ℕ) → (S → ℕ) → S → StoreCall → S → Type 0
+StoreKeeps tells files faults misses old call new =
+    Went tells files faults FilesGo store_failed old call new
+    × (Counted (store_missed call) (misses old) (misses new) × IsStoreWithin call)
 
--- the same of a sink
-pub record SinkWent {S : Type 0} (tells : S → Bool) (written : S → List ℕ) (faults : S → ℕ) (old new : S) (calls : List PutCall) : Type 0 where
-  pub told : tells new ≡ tells old
-  pub contents : IsTrue (tells old) → Follows WrittenGoes (written old) (written new) calls
-  pub failed : Counted (any_of put_failed calls) (faults old) (faults new)
+-- one call of a source, and one of a sink
+abbrev pub SourceKeeps : {S : Type 0} → (S → Bool) → (S → List ℕ) → (S → ℕ) → S → TakeCall → S → Type 0
+SourceKeeps tells left faults old call new =
+    Went tells left faults LeftGoes take_failed old call new × IsTakeWithin call
 
--- what a save of these bytes may leave under its name: all of them where it is done, a front where it failed
+abbrev pub SinkKeeps : {S : Type 0} → (S → Bool) → (S → List ℕ) → (S → ℕ) → S → PutCall → S → Type 0
+SinkKeeps tells written faults = Went tells written faults WrittenGoes put_failed
+
+-- a list of calls, one after the other: the same of all of them together
+abbrev pub StoreWent : {S : Type 0} → (S → Bool) → (S → Files) → (S → ℕ) → (S → ℕ) → S → S → List StoreCall → Type 0
+StoreWent tells files faults misses old new calls =
+    Went tells files faults (λ from made to. Follows FilesGo from to made) (any_of store_failed) old calls new
+    × (Counted (any_of store_missed calls) (misses old) (misses new) × AllByRecursion IsStoreWithin calls)
+
+abbrev pub SourceWent : {S : Type 0} → (S → Bool) → (S → List ℕ) → (S → ℕ) → S → S → List TakeCall → Type 0
+SourceWent tells left faults old new calls =
+    Went tells left faults (λ from made to. Follows LeftGoes from to made) (any_of take_failed) old calls new
+    × AllByRecursion IsTakeWithin calls
+
+abbrev pub SinkWent : {S : Type 0} → (S → Bool) → (S → List ℕ) → (S → ℕ) → S → S → List PutCall → Type 0
+SinkWent tells written faults old new calls =
+    Went tells written faults (λ from made to. Follows WrittenGoes from to made) (any_of put_failed) old calls new
+
+-- what a save of these bytes may leave under its name: all of them where it is done, a front where it
+-- failed
 abbrev pub IsLeftBy : List ℕ → Result (Unit {0}) SaveFault → List ℕ → Type 0
 IsLeftBy bytes (Ok done) left = left ≡ bytes
 IsLeftBy bytes (Err save.Failed) left = (count : ℕ) × (left ≡ take count bytes)
@@ -163,4 +186,5 @@ IsLeftBy bytes (Err save.Memory) left = ⊥
 abbrev pub WasSaved : List StoreCall → List ℕ → List ℕ → Type 0
 WasSaved [] name left = ⊥
 WasSaved (Load other max answer ∷ calls) name left = WasSaved calls name left
-WasSaved (Save other bytes answer ∷ calls) name left = ((other ≡ name) × IsLeftBy bytes answer left) ⊎ WasSaved calls name left
+WasSaved (Save other bytes answer ∷ calls) name left =
+    ((other ≡ name) × IsLeftBy bytes answer left) ⊎ WasSaved calls name left

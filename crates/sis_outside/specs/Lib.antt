@@ -5,6 +5,4 @@ pub mod MemSink
 pub mod MemSource
 pub mod MemStore
 pub mod Plan
-pub mod Sink
-pub mod Source
-pub mod Store
+pub mod Recording

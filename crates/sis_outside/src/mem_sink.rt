@@ -1,10 +1,9 @@
 //! A sink in memory.
 
-ghost use Rattle.std.specs.Prelude.{◌≡◌, [], true, OnOk, OnErr, IsTrue};
+ghost use Rattle.std.specs.Prelude.{◌≡◌, [], true, OnOk, OnErr};
 ghost use Rattle.sis_outside.specs.Calls.{SinkKeeps};
 ghost use Rattle.sis_outside.specs.MemSink.{PutsByPlan};
 ghost use Rattle.sis_outside.specs.Plan.{with_failure, nothing_planned};
-ghost use Rattle.sis_outside.specs.Sink.{Puts, PutFaults};
 
 use crate::plan::Plan;
 use crate::sink::{PutFault, Sink};
@@ -24,7 +23,8 @@ impl Model for MemSink {
 
     ghost Value = { SinkState };
 
-    ghost view = { λ s. record { written = s.written.items; schedule = s.plan; faults = s.faults } };
+    ghost view = { λ s. record
+        { written = s.written.items; schedule = s.plan; faults = s.faults } };
 }
 
 impl MemSink {
@@ -41,7 +41,8 @@ impl MemSink {
 
     /// Has the put of this number, counted from 0, fail after `passes` bytes of its piece.
     pub fn fail_at(&mut self, call: usize, passes: usize) -> Result<(), AllocError>
-        ensures ok { OnOk result (self.new ≡ record self.old { schedule = with_failure self.old.schedule call passes }) }
+        ensures ok { OnOk result (self.new ≡ record self.old
+            { schedule = with_failure self.old.schedule call passes }) }
         ensures err { OnErr result (self.new ≡ self.old) }
     {
         self.plan.add(call, passes)
@@ -74,7 +75,8 @@ impl Sink for MemSink {
     ghost keeps = { λ old call new kept. kept };
 
     fn put(&mut self, piece: &[u8]) -> Result<(), PutFault>
-        ensures faults { PutFaults result self.old.faults self.new.faults }
+        ensures calls { SinkKeeps (λ s. true) (λ s. s.written) (λ s. s.faults) self.old (record
+            { piece = piece.now; answer = result }) self.new }
         ensures plan { PutsByPlan self.old piece.now result self.new }
     {
         match self.plan.next_call() {

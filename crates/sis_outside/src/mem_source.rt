@@ -1,10 +1,9 @@
 //! A source in memory.
 
-ghost use Rattle.std.specs.Prelude.{◌≡◌, ◌-◌, ◌^◌, ◌≤◌, true, [], IfOk, OnOk, OnErr, IsTrue};
+ghost use Rattle.std.specs.Prelude.{◌≡◌, ◌-◌, ◌^◌, ◌≤◌, true, [], IfOk, OnOk, OnErr};
 ghost use Rattle.sis_outside.specs.Calls.{SourceKeeps, bytes_of};
 ghost use Rattle.sis_outside.specs.MemSource.{TakesByPlan};
 ghost use Rattle.sis_outside.specs.Plan.{with_failure, nothing_planned};
-ghost use Rattle.sis_outside.specs.Source.{Takes, IsTakeWithin, TakeFaults};
 
 use crate::plan::Plan;
 use crate::source::{Source, TakeFault};
@@ -27,15 +26,18 @@ impl Model for MemSource {
 
     ghost Value = { SourceState };
 
-    ghost view = { λ s. record { left = drop s.taken s.bytes.items; most = s.most; schedule = s.plan; faults = s.faults } };
+    ghost view = { λ s. record
+        { left = drop s.taken s.bytes.items; most = s.most; schedule = s.plan; faults = s.faults } };
 
     ghost invariant = { λ s. (s.taken ≤ vec_len s.bytes) × (1 ≤ s.most) };
 }
 
 impl MemSource {
-    /// A source of these bytes, in pieces as long as they are asked for, of which no take is to fail.
+    /// A source of these bytes, in pieces as long as they are asked for, of which no take is to
+    /// fail.
     pub fn new(alloc: Global, bytes: &[u8]) -> Result<Self, AllocError>
-        ensures { IfOk result (λ made. made ≡ record { left = bytes.now; most = 2 ^ 64 - 1; schedule = nothing_planned; faults = 0 }) }
+        ensures { IfOk result (λ made. made ≡ record
+            { left = bytes.now; most = 2 ^ 64 - 1; schedule = nothing_planned; faults = 0 }) }
     {
         Ok(MemSource {
             bytes: bytes.to_vec(alloc)?,
@@ -54,10 +56,11 @@ impl MemSource {
         self.most = most;
     }
 
-    /// Has the take of this number, counted from 0, fail after `passes` bytes are gone, or after as many
-    /// as are asked for where those are fewer.
+    /// Has the take of this number, counted from 0, fail after `passes` bytes are gone, or after as
+    /// many as are asked for where those are fewer.
     pub fn fail_at(&mut self, call: usize, passes: usize) -> Result<(), AllocError>
-        ensures ok { OnOk result (self.new ≡ record self.old { schedule = with_failure self.old.schedule call passes }) }
+        ensures ok { OnOk result (self.new ≡ record self.old
+            { schedule = with_failure self.old.schedule call passes }) }
         ensures err { OnErr result (self.new ≡ self.old) }
     {
         self.plan.add(call, passes)
@@ -91,8 +94,8 @@ impl Source for MemSource {
 
     fn take(&mut self, alloc: Global, max: usize) -> Result<Vec<u8>, TakeFault>
         requires { 1 ≤ max }
-        ensures takes { Takes self.old.left max result self.new.left }
-        ensures faults { TakeFaults result self.old.faults self.new.faults }
+        ensures calls { SourceKeeps (λ s. true) (λ s. s.left) (λ s. s.faults) self.old (record
+            { max = max; answer = bytes_of result }) self.new }
         ensures plan { TakesByPlan self.old max result self.new }
     {
         let rest = self.bytes.len() - self.taken;

@@ -1,15 +1,14 @@
 //! A store in memory.
 
-ghost use Rattle.std.specs.Prelude.{◌≡◌, ◌-◌, ◌^◌, ◌<◌, true, [], IfOk, OnOk, OnErr, IsTrue};
+ghost use Rattle.std.specs.Prelude.{◌≡◌, ◌-◌, ◌^◌, ◌<◌, true, false, [], IfOk, OnOk, OnErr};
 ghost use Rattle.std.specs.Ordering.{nat_cmp};
 ghost use Rattle.std.specs.Cmp.Lexicographic.{slice_cmp};
 ghost use Rattle.std.specs.FinMap as map;
 ghost use Rattle.std.specs.Option.{option_map};
-ghost use Rattle.sis_outside.specs.Calls.{StoreKeeps, Load, Save, bytes_of};
+ghost use Rattle.sis_outside.specs.Calls.{IsLoadWithin, StoreKeeps, Tells, Load, Save, bytes_of, load_failed, load_missed};
 ghost use Rattle.sis_outside.specs.Files.{file_at, with_file};
 ghost use Rattle.sis_outside.specs.MemStore.{LoadsByPlan, SavesByPlan};
 ghost use Rattle.sis_outside.specs.Plan.{with_failure, nothing_planned};
-ghost use Rattle.sis_outside.specs.Store.{Loads, IsLoadWithin, LoadFaults, LoadMisses, Saves, SaveFaults};
 
 use crate::plan::Plan;
 use crate::store::{LoadFault, SaveFault, Store};
@@ -72,12 +71,14 @@ impl Model for MemStore {
 
     ghost coded = { state_code };
 
-    ghost view = { λ s. record { files = from_entries s.entries.items; schedule = s.plan; faults = s.faults; misses = s.misses } };
+    ghost view = { λ s. record
+        { files = from_entries s.entries.items; schedule = s.plan; faults = s.faults; misses = s.misses } };
 }
 
 /// The bytes of the first entry of this name.
 fn first_of<'a>(entries: &'a [Entry], name: &str) -> Option<&'a [u8]>
-    ensures { option_map (λ bytes. bytes.now) result ≡ map.find (slice_cmp nat_cmp) name.now entries.now }
+    ensures { option_map (λ bytes. bytes.now) result ≡ map.find
+        (slice_cmp nat_cmp) name.now entries.now }
 {
     for entry in entries {
         if name == entry.name() {
@@ -90,10 +91,10 @@ fn first_of<'a>(entries: &'a [Entry], name: &str) -> Option<&'a [u8]>
 /// A copy of a file's bytes, of which there are to be at most `max`.
 fn copied_within(alloc: Global, bytes: &[u8], max: usize) -> Result<Vec<u8>, LoadFault>
     requires { max < 2 ^ 64 - 1 }
-    ensures loads { Loads (Some bytes.now) max result }
-    ensures within { IsLoadWithin max result }
-    ensures no_fault { LoadFaults result 0 0 }
-    ensures no_miss { LoadMisses result 0 0 }
+    ensures tells { Tells (Some bytes.now) max (bytes_of result) }
+    ensures within { IsLoadWithin max (bytes_of result) }
+    ensures unfailed { load_failed (bytes_of result) ≡ false }
+    ensures unmissed { load_missed (bytes_of result) ≡ false }
 {
     if bytes.len() > max {
         return Err(LoadFault::TooLong(max + 1));
@@ -107,7 +108,8 @@ fn copied_within(alloc: Global, bytes: &[u8], max: usize) -> Result<Vec<u8>, Loa
 impl MemStore {
     /// A store without files, of which no call is to fail; takes no memory.
     pub fn new(alloc: Global) -> Self
-        ensures { result ≡ record { files = map.empty; schedule = nothing_planned; faults = 0; misses = 0 } }
+        ensures { result ≡ record
+            { files = map.empty; schedule = nothing_planned; faults = 0; misses = 0 } }
     {
         MemStore {
             alloc,
@@ -120,7 +122,8 @@ impl MemStore {
 
     /// Puts a file in place, of an old one of that name too; this is no call that a plan counts.
     pub fn put_file(&mut self, name: &str, bytes: &[u8]) -> Result<(), AllocError>
-        ensures ok { OnOk result (self.new ≡ record self.old { files = with_file self.old.files name.now bytes.now }) }
+        ensures ok { OnOk result (self.new ≡ record self.old
+            { files = with_file self.old.files name.now bytes.now }) }
         ensures err { OnErr result (self.new ≡ self.old) }
     {
         let entry = Entry::new(self.alloc, name, bytes)?;
@@ -128,10 +131,11 @@ impl MemStore {
         Ok(())
     }
 
-    /// Has the load or save of this number, counted from 0 over both, fail: a save after `passes` of its
-    /// bytes, a load without any.
+    /// Has the load or save of this number, counted from 0 over both, fail: a save after `passes`
+    /// of its bytes, a load without any.
     pub fn fail_at(&mut self, call: usize, passes: usize) -> Result<(), AllocError>
-        ensures ok { OnOk result (self.new ≡ record self.old { schedule = with_failure self.old.schedule call passes }) }
+        ensures ok { OnOk result (self.new ≡ record self.old
+            { schedule = with_failure self.old.schedule call passes }) }
         ensures err { OnErr result (self.new ≡ self.old) }
     {
         self.plan.add(call, passes)
@@ -174,10 +178,8 @@ impl Store for MemStore {
 
     fn load(&mut self, alloc: Global, name: &str, max: usize) -> Result<Vec<u8>, LoadFault>
         requires { max < 2 ^ 64 - 1 }
-        ensures loads { Loads (file_at self.old.files name.now) max result }
-        ensures within { IsLoadWithin max result }
-        ensures faults { LoadFaults result self.old.faults self.new.faults }
-        ensures misses { LoadMisses result self.old.misses self.new.misses }
+        ensures calls { StoreKeeps (λ s. true) (λ s. s.files) (λ s. s.faults)
+            (λ s. s.misses) self.old (Load name.now max (bytes_of result)) self.new }
         ensures plan { LoadsByPlan self.old result self.new }
     {
         match self.plan.next_call() {
@@ -196,7 +198,8 @@ impl Store for MemStore {
     }
 
     fn save(&mut self, name: &str, bytes: &[u8]) -> Result<(), SaveFault>
-        ensures faults { SaveFaults result self.old.faults self.new.faults }
+        ensures calls { StoreKeeps (λ s. true) (λ s. s.files) (λ s. s.faults)
+            (λ s. s.misses) self.old (Save name.now bytes.now result) self.new }
         ensures plan { SavesByPlan self.old name.now bytes.now result self.new }
     {
         match self.plan.next_call() {

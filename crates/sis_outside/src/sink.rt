@@ -1,8 +1,7 @@
 //! A sink of bytes, put piece by piece.
 
-ghost use Rattle.std.specs.Prelude.{◌≡◌, ℕ, Bool, IsTrue, List};
+ghost use Rattle.std.specs.Prelude.{ℕ, Bool, List};
 ghost use Rattle.sis_outside.specs.Calls.{PutCall, SinkKeeps};
-ghost use Rattle.sis_outside.specs.Sink.{Puts, PutFaults};
 
 use thiserror::Error;
 
@@ -19,8 +18,8 @@ pub enum PutFault {
 
 /// Bytes that are put behind one another.
 ///
-/// Contracts see whether the sink tells its bytes, those that were written where it does, and how often
-/// it failed. No call changes whether it tells, and the count never falls. `calls` and `keeps` are as in `Store`.
+/// Contracts see whether the sink tells its bytes, those that were written where it does, and how
+/// often it failed. `calls` and `keeps` are as in `Store`.
 pub trait Sink {
     ghost tells: { Self → Bool };
 
@@ -32,13 +31,11 @@ pub trait Sink {
 
     /// Writes the whole piece behind what was written before.
     ///
-    /// After `Failed`, which comes only where the faults rose, a front of the piece is written. `Memory`
-    /// writes nothing.
+    /// After `Failed`, which comes only where the faults rose, a front of the piece is written.
+    /// `Memory` writes nothing.
     fn put(&mut self, piece: &[u8]) -> Result<(), PutFault>
-        ensures calls { calls self.old (record { piece = piece.now; answer = result }) self.new }
-        ensures tells { tells self.new ≡ tells self.old }
-        ensures puts { IsTrue (tells self.old) → Puts (written self.old) piece.now result (written self.new) }
-        ensures faults { PutFaults result (faults self.old) (faults self.new) };
+        ensures calls { calls self.old (record { piece = piece.now; answer = result }) self.new };
 
-    ghost keeps: { (old : Self) (call : PutCall) (new : Self) → calls old call new → SinkKeeps tells written faults old call new };
+    ghost keeps: { (old : Self) (call : PutCall) (new : Self) → calls old call new
+        → SinkKeeps tells written faults old call new };
 }

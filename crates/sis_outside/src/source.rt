@@ -1,8 +1,7 @@
 //! A source of bytes, taken piece by piece.
 
-ghost use Rattle.std.specs.Prelude.{◌≡◌, ℕ, ◌≤◌, Bool, IsTrue, List};
+ghost use Rattle.std.specs.Prelude.{ℕ, ◌≤◌, Bool, List};
 ghost use Rattle.sis_outside.specs.Calls.{TakeCall, SourceKeeps, bytes_of};
-ghost use Rattle.sis_outside.specs.Source.{Takes, IsTakeWithin, TakeFaults};
 
 use std::alloc::Global;
 use thiserror::Error;
@@ -20,8 +19,8 @@ pub enum TakeFault {
 
 /// Bytes that are taken from the front.
 ///
-/// Contracts see whether the source tells its bytes, those that are left where it does, and how often it
-/// failed. No call changes whether it tells, and the count never falls. `calls` and `keeps` are as in `Store`.
+/// Contracts see whether the source tells its bytes, those that are left where it does, and how
+/// often it failed. `calls` and `keeps` are as in `Store`.
 pub trait Source {
     ghost tells: { Self → Bool };
 
@@ -33,15 +32,12 @@ pub trait Source {
 
     /// The next bytes, at least one and at most `max`, or none exactly at the end.
     ///
-    /// After `Failed`, which comes only where the faults rose, at most `max` bytes are gone. `Memory`
-    /// takes nothing.
+    /// After `Failed`, which comes only where the faults rose, at most `max` bytes are gone.
+    /// `Memory` takes nothing.
     fn take(&mut self, alloc: Global, max: usize) -> Result<Vec<u8>, TakeFault>
         requires { 1 ≤ max }
-        ensures calls { calls self.old (record { max = max; answer = bytes_of result }) self.new }
-        ensures tells { tells self.new ≡ tells self.old }
-        ensures takes { IsTrue (tells self.old) → Takes (left self.old) max result (left self.new) }
-        ensures within { IsTakeWithin max result }
-        ensures faults { TakeFaults result (faults self.old) (faults self.new) };
+        ensures calls { calls self.old (record { max = max; answer = bytes_of result }) self.new };
 
-    ghost keeps: { (old : Self) (call : TakeCall) (new : Self) → calls old call new → SourceKeeps tells left faults old call new };
+    ghost keeps: { (old : Self) (call : TakeCall) (new : Self) → calls old call new
+        → SourceKeeps tells left faults old call new };
 }

@@ -1,9 +1,8 @@
 //! A store of files by name: whole files are loaded and saved.
 
-ghost use Rattle.std.specs.Prelude.{◌≡◌, ℕ, ◌-◌, ◌^◌, ◌<◌, Bool, IsTrue};
+ghost use Rattle.std.specs.Prelude.{ℕ, ◌-◌, ◌^◌, ◌<◌, Bool};
 ghost use Rattle.sis_outside.specs.Calls.{StoreCall, Load, Save, StoreKeeps, bytes_of};
-ghost use Rattle.sis_outside.specs.Files.{Files, file_at};
-ghost use Rattle.sis_outside.specs.Store.{Loads, IsLoadWithin, LoadFaults, LoadMisses, Saves, SaveFaults};
+ghost use Rattle.sis_outside.specs.Files.{Files};
 
 use std::alloc::Global;
 use thiserror::Error;
@@ -38,10 +37,11 @@ pub enum SaveFault {
 
 /// Files by name.
 ///
-/// Contracts see whether the store tells its files, the files themselves where it does, how often it
-/// failed and how often a name was missed. No call changes whether it tells, and no count ever falls. `calls`
-/// relates what the store is before a call, the call with its answer, and what the store is after it; `keeps`
-/// says what follows from it, so that contracts can speak of lists of calls over every store.
+/// Contracts see whether the store tells its files, the files themselves where it does, how often
+/// it failed and how often a name was missed. `calls` relates what the store is before a call, the
+/// call with its answer, and what the store is after it; each method promises that relation alone.
+/// `keeps` says what follows from it for every store: no call changes whether it tells, no count
+/// falls, and each answer has its cause and keeps within its bound.
 pub trait Store {
     ghost tells: { Self → Bool };
 
@@ -55,28 +55,19 @@ pub trait Store {
 
     /// The bytes of the file `name`, of which there are at most `max`; the files stay as they are.
     ///
-    /// `Missing` comes only where there is no such file and the misses rose, `TooLong` with `max + 1`
-    /// only where the file has more bytes, and `Failed` only where the faults rose.
+    /// `Missing` comes only where there is no such file and the misses rose, `TooLong` with `max +
+    /// 1` only where the file has more bytes, and `Failed` only where the faults rose.
     fn load(&mut self, alloc: Global, name: &str, max: usize) -> Result<Vec<u8>, LoadFault>
         requires { max < 2 ^ 64 - 1 }
-        ensures calls { calls self.old (Load name.now max (bytes_of result)) self.new }
-        ensures tells { tells self.new ≡ tells self.old }
-        ensures kept { IsTrue (tells self.old) → files self.new ≡ files self.old }
-        ensures loads { IsTrue (tells self.old) → Loads (file_at (files self.old) name.now) max result }
-        ensures within { IsLoadWithin max result }
-        ensures faults { LoadFaults result (faults self.old) (faults self.new) }
-        ensures misses { LoadMisses result (misses self.old) (misses self.new) };
+        ensures calls { calls self.old (Load name.now max (bytes_of result)) self.new };
 
     /// Puts a file of these bytes in place, of an old one of that name too; all other files stay.
     ///
-    /// After `Failed`, which comes only where the faults rose, the file is as before or holds a front of
-    /// the bytes. `Memory` changes nothing.
+    /// After `Failed`, which comes only where the faults rose, the file is as before or holds a
+    /// front of the bytes. `Memory` changes nothing.
     fn save(&mut self, name: &str, bytes: &[u8]) -> Result<(), SaveFault>
-        ensures calls { calls self.old (Save name.now bytes.now result) self.new }
-        ensures tells { tells self.new ≡ tells self.old }
-        ensures saves { IsTrue (tells self.old) → Saves (files self.old) name.now bytes.now result (files self.new) }
-        ensures faults { SaveFaults result (faults self.old) (faults self.new) }
-        ensures misses { misses self.new ≡ misses self.old };
+        ensures calls { calls self.old (Save name.now bytes.now result) self.new };
 
-    ghost keeps: { (old : Self) (call : StoreCall) (new : Self) → calls old call new → StoreKeeps tells files faults misses old call new };
+    ghost keeps: { (old : Self) (call : StoreCall) (new : Self) → calls old call new
+        → StoreKeeps tells files faults misses old call new };
 }

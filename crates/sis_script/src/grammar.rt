@@ -1,8 +1,10 @@
-//! The grammar that all commands share: options first, in any order and each at most once, then the other words.
+//! The grammar that all commands share: options first, in any order and each at most once, then the
+//! other words.
 //!
-//! After the command language of the SIS manual (UCB/ERL M92/41). A command is given by its options, each with its
-//! letter and perhaps a kind of value, and by the slots for its other words. Promised: `parse` answers just what
-//! `specs/Grammar` says that the words give, or the fault that it says; its only error is want of memory.
+//! After the command language of the SIS manual (UCB/ERL M92/41). A command is given by its
+//! options, each with its letter and perhaps a kind of value, and by the slots for its other words.
+//! Promised: `parse` answers just what `specs/Grammar` says that the words give, or the fault that
+//! it says; its only error is want of memory.
 
 ghost use Rattle.std.specs.Prelude.{◌≡◌, ◌==◌, not, map, filter, drop, find, [], ◌∷◌, IfOk, Some, None};
 ghost use Rattle.sis_text.specs.Words.{bytes_at};
@@ -97,7 +99,8 @@ fn fill(
     source: &[u8],
     words: &[Span],
 ) -> Result<Result<Values, ScriptFault>, AllocError>
-    ensures { IfOk result (λ filled. filled ≡ fill slots.now (map (bytes_at source.now) words.now)) }
+    ensures { IfOk result (λ filled. filled ≡ fill slots.now (map
+        (bytes_at source.now) words.now)) }
 {
     let mut values = Sequence::new(alloc);
     for i in 0..words.len() {
@@ -134,7 +137,8 @@ fn fill_front(
     source: &[u8],
     words: &[Span],
 ) -> Result<Result<Values, ScriptFault>, AllocError>
-    ensures { IfOk result (λ filled. filled ≡ fill_front slots.now (map (bytes_at source.now) words.now)) }
+    ensures { IfOk result (λ filled. filled ≡ fill_front slots.now (map
+        (bytes_at source.now) words.now)) }
 {
     if let [first, ..] = words
         && begins_with_dash(bytes_at(source, *first))
@@ -200,7 +204,8 @@ fn value_behind(
     source: &[u8],
     words: &[Span],
 ) -> Result<Result<Option<Value>, ScriptFault>, AllocError>
-    ensures { IfOk result (λ value. value ≡ value_behind kind (map (bytes_at source.now) words.now)) }
+    ensures { IfOk result (λ value. value ≡ value_behind kind (map
+        (bytes_at source.now) words.now)) }
 {
     let Some(kind) = kind else {
         return Ok(Ok(None));
@@ -222,7 +227,8 @@ fn parse_front(
     source: &[u8],
     words: &[Span],
 ) -> Result<Result<Given, ScriptFault>, AllocError>
-    ensures { IfOk result (λ given. given ≡ parse_at Front options.now slots.now (map (bytes_at source.now) words.now)) }
+    ensures { IfOk result (λ given. given ≡ parse_at Front options.now slots.now (map
+        (bytes_at source.now) words.now)) }
 {
     let mut left = options.to_vec(alloc)?;
     let mut given = Sequence::new(alloc);
@@ -248,8 +254,8 @@ fn parse_front(
     }
 }
 
-/// What the words behind a command's name give, by the options that it has and the slots for its other words; the
-/// first fault where they do not fit. An error only for want of memory.
+/// What the words behind a command's name give, by the options that it has and the slots for its
+/// other words; the first fault where they do not fit. An error only for want of memory.
 #[tactic(auto, unfolding(crate::specs::Grammar::parse))]
 pub(crate) fn parse(
     alloc: Global,
@@ -258,7 +264,8 @@ pub(crate) fn parse(
     source: &[u8],
     words: &[Span],
 ) -> Result<Result<Given, ScriptFault>, AllocError>
-    ensures { IfOk result (λ given. given ≡ parse options.now slots.now (map (bytes_at source.now) words.now)) }
+    ensures { IfOk result (λ given. given ≡ parse options.now slots.now (map
+        (bytes_at source.now) words.now)) }
 {
     if !options.is_empty() {
         return parse_front(alloc, options, slots, source, words);

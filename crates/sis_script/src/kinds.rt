@@ -1,7 +1,7 @@
 //! The kinds of words that a command may ask for, and what a word of each kind gives.
 //!
-//! After the command language of the SIS manual (UCB/ERL M92/41). Promised: a word gives just what `specs/Kinds` says;
-//! the only error is want of memory.
+//! After the command language of the SIS manual (UCB/ERL M92/41). Promised: a word gives just what
+//! `specs/Kinds` says; the only error is want of memory.
 
 ghost use Rattle.std.specs.Prelude.{◌≡◌, ◌+◌, ◌-◌, ◌*◌, ◌^◌, ◌<◌, ◌≤◌, min, IfOk, IfSome, Some, None, if◌then◌else◌, true, length};
 ghost use Rattle.std.specs.List.{list_all};
@@ -50,7 +50,8 @@ pub(crate) fn begins_with_dash(word: &[u8]) -> bool
 
 /// The word that may stand for a file, if these bytes are one.
 fn file_word(alloc: Global, bytes: &[u8]) -> Result<Option<Word>, AllocError>
-    ensures { IfOk result (λ word. word ≡ (if is_file_word bytes.now then Some bytes.now else None)) }
+    ensures { IfOk result (λ word. word ≡
+        (if is_file_word bytes.now then Some bytes.now else None)) }
 {
     if begins_with_dash(bytes) {
         return Ok(None);

@@ -7,7 +7,8 @@ pub fn options_come_once()
     ensures { OptionsComeOnce }
 {}
 
-/// The words that are no options fill the slots of their command, each with a value of its slot's kind.
+/// The words that are no options fill the slots of their command, each with a value of its slot's
+/// kind.
 pub fn words_fit_slots()
     ensures { WordsFitSlots }
 {}

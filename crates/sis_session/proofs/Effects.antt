@@ -49,14 +49,12 @@ use Rattle.sdc_simplify.proofs.InTurns.{simplified_reduced, simplified_refines}
 use Rattle.net_elim.proofs.Gathered.{collapse_reduced, collapse_refines}
 use Rattle.std.proofs.lemmas.Option.{same_Some}
 use Rattle.sis_script.specs.declared.command.Change.{Change}
-use Rattle.sis_script.specs.declared.command.Change.TheVariants.{Sweep, Eliminate, Collapse, Simplify, Fx, Gkx, Gcx, Resub, Decomp, TechDecomp}
+use Rattle.sis_script.specs.declared.command.Change.TheVariants as changing
 use Rattle.sis_script.specs.declared.command.Op.{Op}
-use Rattle.sis_script.specs.declared.command.Op.TheVariants.{Echo, Quit, ReadBlif, ReadKiss, ReadLibrary, WriteBlif, WriteKiss, PrintStats, Print, PrintLatch, PrintFactor, PrintKernel, Change as ChangeOp, Undo, Source, Bad}
-use Rattle.sis_session.specs.Commands.{Changes, ChangePlans, Plans, Prints, changed_by, spec_read, commands_in, last_read, latches_told, library_read, machine_read, machine_told, read_as, sends, stats_told, stays, tables_told, text_told, told_of, undo_plan}
-use Rattle.sis_session.specs.Keeping.{RefinesRead, RefinesSpec, MachineRefines, IsRefined, Holds, HasText, IsWriting, WritesTo}
-use Rattle.sis_session.specs.Plan.{MAX_DEPTH, Asked, Nothing, OnStore, OnOut, OnInput, Comes, ComesLoaded, ComesSaved, ComesPut, Done, Ending, Goes, Loads, Outcome, Does, Refuses, Plan, Quiet, Puts, Saves, Takes, Steps, by_plan, no_memory}
-use Rattle.sis_session.specs.Replies.{echo_line}
-use Rattle.sis_session.specs.State.{Held, Library, Written, CircuitWritten, MachineWritten, NetlistWritten, nothing_held, with_read, with_spec, with_machine, with_library, with_exchanged}
+use Rattle.sis_session.specs.Commands.{Blif, ChangedBy, Changes, ChangesNetwork, Ends, Form, Format, FormPlans, IsWrong, Kiss, Plans, Reads, ReadsLibrary, Replies, Sources, StaysTold, TakesBack, Tells, TheMachine, TheNetwork, Writes, blif_read, commands_in, form_of, kiss_read, last_read, library_held, machine_of, network_of, part_of, read_by, reply_with, spec_held, spec_in, undo_outcome, written_text}
+use Rattle.sis_session.specs.Keeping.{RefinesSpec, MachineRefines, IsRefined, IsTextOf, IsWriting, WritesTo}
+use Rattle.sis_session.specs.Plan.{MAX_DEPTH, Asked, Nothing, OnStore, OnOut, OnInput, Comes, ComesLoaded, ComesSaved, ComesPut, Done, Ending, Goes, Loads, Outcome, Does, Refuses, Plan, Quiet, Puts, Reply, Saves, Takes, Steps, by_plan, no_memory, replies, sends}
+use Rattle.sis_session.specs.State.{Held, Library, held_spec, nothing_held, with_read, with_spec, with_machine, with_library, with_exchanged}
 use Rattle.sis_session.specs.declared.refusal.Next.{Next}
 use Rattle.sis_session.specs.declared.refusal.Next.TheVariants.{Go, Script}
 use Rattle.sis_session.specs.declared.refusal.Next.TheVariants as onward
@@ -67,6 +65,11 @@ use Rattle.sis_session.specs.declared.refusal.Refusal.TheVariants as refusal
 abbrev Leaves : (Held → Type 0) → Outcome → Type 0
 Leaves is (Does held next) = is held
 Leaves is (Refuses why) = Unit {0}
+
+-- what is held has a property once a reply was given
+abbrev OnOkReply : (Held → Type 0) → Result Reply Refusal → Type 0
+OnOkReply is (Ok reply) = is reply.held
+OnOkReply is (Err why) = Unit {0}
 
 abbrev Leads : (Held → Type 0) → Plan → Type 0
 Leads is plan = (asked : Asked) (held' : Held) (next : Next) → Goes plan asked (Done held' next) → is held'
@@ -124,12 +127,19 @@ puts_leads is reply outcome leaves (OnStore (Save saved sent answer)) held' next
 puts_leads is reply outcome leaves (OnOut call) held' next goes = put_leads is outcome call.answer held' next leaves goes.1
 puts_leads is reply outcome leaves (OnInput calls) held' next goes = absurd goes
 
-sends_leads : (is : Held → Type 0) (held : Held) (file : Option (List ℕ)) (told : Result (List ℕ) Refusal) → is held → Leads is (sends held file told)
-sends_leads is held None (Ok []) holds = quiet_leads is (stays held) holds
-sends_leads is held None (Ok (byte ∷ bytes)) holds = puts_leads is (byte ∷ bytes) (stays held) holds
-sends_leads is held (Some name) (Ok text) holds = saves_leads is name text (stays held) holds
-sends_leads is held None (Err why) holds = quiet_leads is (Refuses why) tt
-sends_leads is held (Some name) (Err why) holds = quiet_leads is (Refuses why) tt
+replies_leads : (is : Held → Type 0) (text : List ℕ) (outcome : Outcome) → Leaves is outcome → Leads is (replies text outcome)
+replies_leads is [] outcome leaves = quiet_leads is outcome leaves
+replies_leads is (byte ∷ bytes) outcome leaves = puts_leads is (byte ∷ bytes) outcome leaves
+
+sends_leads : (is : Held → Type 0) (file : Option (List ℕ)) (reply : Result Reply Refusal) → OnOkReply is reply → Leads is (sends file reply)
+sends_leads is None (Ok reply) holds = replies_leads is reply.text (Does reply.held Go) holds
+sends_leads is (Some name) (Ok reply) holds = saves_leads is name reply.text (Does reply.held Go) holds
+sends_leads is None (Err why) holds = quiet_leads is (Refuses why) tt
+sends_leads is (Some name) (Err why) holds = quiet_leads is (Refuses why) tt
+
+stays_ok : (is : Held → Type 0) (held : Held) (what : Result (List ℕ) Refusal) → is held → OnOkReply is (reply_with held what)
+stays_ok is held (Ok text) holds = holds
+stays_ok is held (Err why) holds = tt
 
 -- what is read is sound
 sound_spec : (library : Option Library) (bytes : List ℕ) (read : Spec) → read_lines library (entries_of bytes) ≡ Ok read → IsSoundSpec read
@@ -179,24 +189,36 @@ machine_held held machine sound = record {
   machine = machine_refines machine sound;
 }
 
-spec_leaves : (held : Held) (name bytes : List ℕ) (read : Option Spec) (answer : Result Spec BlifFault) → read_lines held.library (entries_of bytes) ≡ answer
-    → Leaves (λ h. IsRefined (last_read (ReadBlif name) h read) h) (read_as (with_spec held) (λ fault. refusal.Blif name fault) answer)
-spec_leaves held name bytes read (Ok (asked.Circuit circuit)) reads = circuit_held held circuit (sound_spec held.library bytes (asked.Circuit circuit) reads)
-spec_leaves held name bytes read (Ok (asked.Machine machine)) reads = machine_held held machine (sound_spec held.library bytes (asked.Machine machine) reads)
-spec_leaves held name bytes read (Err fault) reads = tt
+-- what is read in a format is sound
+circuit_in : (held : Held) (name bytes : List ℕ) (read : Spec) (answer : Result Spec BlifFault) → read_lines held.library (entries_of bytes) ≡ answer
+    → blif_read name answer ≡ Ok read → IsSoundSpec read
+circuit_in held name bytes read (Ok one) reads is =
+    let same : one ≡ read = cc in subst IsSoundSpec same (sound_spec held.library bytes one reads)
+circuit_in held name bytes read (Err fault) reads is = cc
 
-machine_leaves : (held : Held) (name bytes : List ℕ) (read : Option Spec) (answer : Result Machine KissFault) → machine_lines_read (entries_of bytes) ≡ answer
-    → Leaves (λ h. IsRefined (last_read (ReadKiss name) h read) h) (read_as (with_machine held) (λ fault. refusal.Kiss name fault) answer)
-machine_leaves held name bytes read (Ok machine) reads = machine_held held machine (sound_machine bytes machine reads)
-machine_leaves held name bytes read (Err fault) reads = tt
+machine_in : (name bytes : List ℕ) (read : Spec) (answer : Result Machine KissFault) → machine_lines_read (entries_of bytes) ≡ answer
+    → kiss_read name answer ≡ Ok read → IsSoundSpec read
+machine_in name bytes read (Ok machine) reads is =
+    let same : asked.Machine machine ≡ read = cc in subst IsSoundSpec same (sound_machine bytes machine reads)
+machine_in name bytes read (Err fault) reads is = cc
+
+sound_in : (format : Format) (held : Held) (name bytes : List ℕ) (read : Spec) → spec_in format held name bytes ≡ Ok read → IsSoundSpec read
+sound_in Blif held name bytes read is = circuit_in held name bytes read (read_lines held.library (entries_of bytes)) refl is
+sound_in Kiss held name bytes read is = machine_in name bytes read (machine_lines_read (entries_of bytes)) refl is
+
+spec_leaves : (held : Held) (answer : Result Spec Refusal) → ((read : Spec) → answer ≡ Ok read → IsSoundSpec read)
+    → Leaves (λ h. IsRefined (held_spec h.network h.machine) h) (spec_held held answer)
+spec_leaves held (Ok (asked.Circuit circuit)) sound = circuit_held held circuit (sound (asked.Circuit circuit) refl)
+spec_leaves held (Ok (asked.Machine machine)) sound = machine_held held machine (sound (asked.Machine machine) refl)
+spec_leaves held (Err why) sound = tt
 
 library_leaves : (held : Held) (name : List ℕ) (read : Option Spec) (answer : Result Library LibFault) → IsRefined read held
-    → Leaves (λ h. IsRefined read h) (read_as (with_library held) (λ fault. refusal.Lib name fault) answer)
+    → Leaves (λ h. IsRefined read h) (library_held held name answer)
 library_leaves held name read (Ok library) refined = record { network = refined.network; previous = refined.previous; machine = refined.machine }
 library_leaves held name read (Err fault) refined = tt
 
 -- what refines a circuit refines what that refines
-refines_on : (read : Spec) (old new : Circuit) → RefinesRead read old → Refines old new → RefinesRead read new
+refines_on : (read : Spec) (old new : Circuit) → RefinesAs (of_spec read) (of_circuit old) → Refines old new → RefinesAs (of_spec read) (of_circuit new)
 refines_on read old new before after = behaves-through (of_spec read) (of_circuit old) (of_circuit new) before after
 
 -- what a decomposition makes of a sound circuit is sound and refines it
@@ -204,61 +226,60 @@ decomposed_leads : (spec : Option Spec) (rule : Rule) (old new : Circuit) → Is
 decomposed_leads spec rule old new made before circuit same =
     let (read, is, sound, refines) = before old refl in
     let equal : new ≡ circuit = cc in
-    (read, is, subst IsSound equal (reached_extended rule old new sound made.reached).change.sound, subst (RefinesRead read) equal (refines_on read old new refines (decomposed_refines rule old new sound made)))
+    (read, is, subst IsSound equal (reached_extended rule old new sound made.reached).change.sound, subst (λ (c : Circuit). RefinesAs (of_spec read) (of_circuit c)) equal (refines_on read old new refines (decomposed_refines rule old new sound made)))
 
 -- so does extraction
 extracted_leads : (spec : Option Spec) (rule : Extraction) (old new : Circuit) → IsExtracted rule old new → RefinesSpec spec (Some old) → RefinesSpec spec (Some new)
 extracted_leads spec rule old new made before circuit same =
     let (read, is, sound, refines) = before old refl in
     let equal : new ≡ circuit = cc in
-    (read, is, subst IsSound equal (extraction_extended rule old new sound made.reached).change.sound, subst (RefinesRead read) equal (refines_on read old new refines (extracted_refines rule old new sound made)))
+    (read, is, subst IsSound equal (extraction_extended rule old new sound made.reached).change.sound, subst (λ (c : Circuit). RefinesAs (of_spec read) (of_circuit c)) equal (refines_on read old new refines (extracted_refines rule old new sound made)))
 
 -- and resubstitution
 resubbed_leads : (spec : Option Spec) (old new : Circuit) → IsResubbed old new → RefinesSpec spec (Some old) → RefinesSpec spec (Some new)
 resubbed_leads spec old new made before circuit same =
     let (read, is, sound, refines) = before old refl in
     let equal : new ≡ circuit = cc in
-    (read, is, subst IsSound equal (resub_extended old new sound made.reached).change.sound, subst (RefinesRead read) equal (refines_on read old new refines (resubbed_refines old new sound made)))
+    (read, is, subst IsSound equal (resub_extended old new sound made.reached).change.sound, subst (λ (c : Circuit). RefinesAs (of_spec read) (of_circuit c)) equal (refines_on read old new refines (resubbed_refines old new sound made)))
 
 -- a change leads on: what it makes of a sound circuit is sound and refines it
 changed_refines : (spec : Option Spec) (change : Change) (old new : Circuit) → Changes change old (Ok new) → RefinesSpec spec (Some old) → RefinesSpec spec (Some new)
-changed_refines spec Sweep old new chain before circuit same =
+changed_refines spec changing.Sweep old new chain before circuit same =
     let (read, is, sound, refines) = before old refl in
     let kept = chain_kept old new sound chain in
     let equal : new ≡ circuit = cc in
-    (read, is, subst IsSound equal kept.sound, subst (RefinesRead read) equal (refines_on read old new refines kept.refines))
-changed_refines spec (Eliminate threshold rows) old new chain before circuit same =
+    (read, is, subst IsSound equal kept.sound, subst (λ (c : Circuit). RefinesAs (of_spec read) (of_circuit c)) equal (refines_on read old new refines kept.refines))
+changed_refines spec (changing.Eliminate threshold rows) old new chain before circuit same =
     let (read, is, sound, refines) = before old refl in
     let equal : new ≡ circuit = cc in
-    (read, is, subst IsSound equal (chain_keeps threshold rows old new sound chain).change.sound, subst (RefinesRead read) equal (refines_on read old new refines (chain_refines threshold rows old new sound chain)))
-changed_refines spec Collapse old new (none, made) before circuit same =
+    (read, is, subst IsSound equal (chain_keeps threshold rows old new sound chain).change.sound, subst (λ (c : Circuit). RefinesAs (of_spec read) (of_circuit c)) equal (refines_on read old new refines (chain_refines threshold rows old new sound chain)))
+changed_refines spec changing.Collapse old new (none, made) before circuit same =
     let (read, is, sound, refines) = before old refl in
     let equal : collapsed old ≡ circuit = sym made ∙ same_Some new circuit same in
-    (read, is, subst IsSound equal (collapse_reduced old sound).change.sound, subst (RefinesRead read) equal (refines_on read old (collapsed old) refines (collapse_refines old sound)))
-changed_refines spec Simplify old new (none, made) before circuit same =
+    (read, is, subst IsSound equal (collapse_reduced old sound).change.sound, subst (λ (c : Circuit). RefinesAs (of_spec read) (of_circuit c)) equal (refines_on read old (collapsed old) refines (collapse_refines old sound)))
+changed_refines spec changing.Simplify old new (none, made) before circuit same =
     let (read, is, sound, refines) = before old refl in
     let equal : simplified old ≡ circuit = sym made ∙ same_Some new circuit same in
-    (read, is, subst IsSound equal (simplified_reduced old sound).change.sound, subst (RefinesRead read) equal (refines_on read old (simplified old) refines (simplified_refines old sound)))
-changed_refines spec Fx old new made before circuit same = extracted_leads spec extract.Fx old new made before circuit same
-changed_refines spec Gkx old new made before circuit same = extracted_leads spec extract.Gkx old new made before circuit same
-changed_refines spec Gcx old new made before circuit same = extracted_leads spec extract.Gcx old new made before circuit same
-changed_refines spec Resub old new made before circuit same = resubbed_leads spec old new made before circuit same
-changed_refines spec Decomp old new made before circuit same = decomposed_leads spec Shared old new made before circuit same
-changed_refines spec (TechDecomp products sums) old new made before circuit same = decomposed_leads spec (Gates products sums) old new made before circuit same
+    (read, is, subst IsSound equal (simplified_reduced old sound).change.sound, subst (λ (c : Circuit). RefinesAs (of_spec read) (of_circuit c)) equal (refines_on read old (simplified old) refines (simplified_refines old sound)))
+changed_refines spec changing.Fx old new made before circuit same = extracted_leads spec extract.Fx old new made before circuit same
+changed_refines spec changing.Gkx old new made before circuit same = extracted_leads spec extract.Gkx old new made before circuit same
+changed_refines spec changing.Gcx old new made before circuit same = extracted_leads spec extract.Gcx old new made before circuit same
+changed_refines spec changing.Resub old new made before circuit same = resubbed_leads spec old new made before circuit same
+changed_refines spec changing.Decomp old new made before circuit same = decomposed_leads spec Shared old new made before circuit same
+changed_refines spec (changing.TechDecomp products sums) old new made before circuit same = decomposed_leads spec (Gates products sums) old new made before circuit same
 
-change_leads : (spec : Option Spec) (held : Held) (change : Change) (network : Option Circuit) (plan : Plan) → held.network ≡ network → IsRefined spec held
-    → ChangePlans held change network plan → Leads (λ h. IsRefined spec h) plan
-change_leads spec held change None plan there refined is = subst (Leads (λ h. IsRefined spec h)) (sym is) (quiet_leads (λ h. IsRefined spec h) (Refuses refusal.NoNetwork) tt)
-change_leads spec held change (Some old) plan there refined (Ok new, changes, is) =
-    subst (Leads (λ h. IsRefined spec h)) (sym is) (quiet_leads (λ h. IsRefined spec h) (changed_by held (Ok new)) (record {
+changed_ok : (spec : Option Spec) (held : Held) (change : Change) (network : Option Circuit) (reply : Result Reply Refusal) → held.network ≡ network → IsRefined spec held
+    → ChangedBy held change network reply → OnOkReply (λ h. IsRefined spec h) reply
+changed_ok spec held change None reply there refined is = subst (OnOkReply (λ h. IsRefined spec h)) (sym is) tt
+changed_ok spec held change (Some old) reply there refined (Ok new, changes, is) =
+    subst (OnOkReply (λ h. IsRefined spec h)) (sym is) (record {
       network = changed_refines spec change old new changes (subst (RefinesSpec spec) there refined.network);
       previous = refined.network;
       machine = refined.machine;
-    }))
-change_leads spec held change (Some old) plan there refined (Err why, changes, is) =
-    subst (Leads (λ h. IsRefined spec h)) (sym is) (quiet_leads (λ h. IsRefined spec h) (Refuses why) tt)
+    })
+changed_ok spec held change (Some old) reply there refined (Err why, changes, is) = subst (OnOkReply (λ h. IsRefined spec h)) (sym is) tt
 
-undo_leads : (spec : Option Spec) (held : Held) (previous : Option Circuit) → IsRefined spec held → Leads (λ h. IsRefined spec h) (undo_plan held previous)
+undo_leads : (spec : Option Spec) (held : Held) (previous : Option Circuit) → IsRefined spec held → Leads (λ h. IsRefined spec h) (Quiet (undo_outcome held previous))
 undo_leads spec held None refined = quiet_leads (λ h. IsRefined spec h) (Refuses refusal.NothingToUndo) tt
 undo_leads spec held (Some circuit) refined = quiet_leads (λ h. IsRefined spec h) (Does (with_exchanged held) Go) (record { network = refined.previous; previous = refined.network; machine = refined.machine })
 
@@ -267,38 +288,38 @@ source_leads : (is : Held → Type 0) (shallow : Bool) (held : Held) (name : Lis
 source_leads is true held name holds = loads_leads is name (λ bytes. Does held (Script (commands_in bytes))) (λ bytes. holds)
 source_leads is false held name holds = quiet_leads is (Refuses refusal.Nested) tt
 
-prints_leads : (spec : Option Spec) (held : Held) (tells : Result (List ℕ) Refusal → Type 0) (plan : Plan) → IsRefined spec held → Prints held tells plan
-    → Leads (λ h. IsRefined spec h) plan
-prints_leads spec held tells plan refined (what, told, is) = subst (Leads (λ h. IsRefined spec h)) (sym is) (sends_leads (λ h. IsRefined spec h) held None what refined)
+told_ok : (is : Held → Type 0) (held : Held) (tells : Result (List ℕ) Refusal → Type 0) (reply : Result Reply Refusal) → is held → StaysTold held tells reply → OnOkReply is reply
+told_ok is held tells reply holds (what, told, same) = subst (OnOkReply is) (sym same) (stays_ok is held what holds)
 
-plan_leads : (depth : ℕ) (spec : Option Spec) (held : Held) (op : Op) (plan : Plan) → IsRefined spec held → Plans depth held op plan
-    → Leads (λ h. IsRefined (last_read op h spec) h) plan
-plan_leads depth spec held (Echo words) plan refined is = subst (Leads (λ h. IsRefined spec h)) (sym is) (sends_leads (λ h. IsRefined spec h) held None (Ok (echo_line words)) refined)
-plan_leads depth spec held Quit plan refined is = subst (Leads (λ h. IsRefined spec h)) (sym is) (quiet_leads (λ h. IsRefined spec h) (Does held onward.Quit) refined)
-plan_leads depth spec held (ReadBlif name) plan refined is =
-    subst (Leads (λ h. IsRefined (last_read (ReadBlif name) h spec) h)) (sym is)
-    (loads_leads (λ h. IsRefined (last_read (ReadBlif name) h spec) h) name (spec_read held name) (λ bytes. spec_leaves held name bytes spec (read_lines held.library (entries_of bytes)) refl))
-plan_leads depth spec held (ReadKiss name) plan refined is =
-    subst (Leads (λ h. IsRefined (last_read (ReadKiss name) h spec) h)) (sym is)
-    (loads_leads (λ h. IsRefined (last_read (ReadKiss name) h spec) h) name (machine_read held name) (λ bytes. machine_leaves held name bytes spec (machine_lines_read (entries_of bytes)) refl))
-plan_leads depth spec held (ReadLibrary name) plan refined is =
-    subst (Leads (λ h. IsRefined spec h)) (sym is) (loads_leads (λ h. IsRefined spec h) name (library_read held name) (λ bytes. library_leaves held name spec (library_of bytes) refined))
-plan_leads depth spec held (WriteBlif file) plan refined is = subst (Leads (λ h. IsRefined spec h)) (sym is) (sends_leads (λ h. IsRefined spec h) held file (told_of text_told held.network) refined)
-plan_leads depth spec held (WriteKiss file) plan refined is = subst (Leads (λ h. IsRefined spec h)) (sym is) (sends_leads (λ h. IsRefined spec h) held file (machine_told held.machine) refined)
-plan_leads depth spec held PrintStats plan refined is = subst (Leads (λ h. IsRefined spec h)) (sym is) (sends_leads (λ h. IsRefined spec h) held None (told_of stats_told held.network) refined)
-plan_leads depth spec held (Print name) plan refined is = subst (Leads (λ h. IsRefined spec h)) (sym is) (sends_leads (λ h. IsRefined spec h) held None (told_of (tables_told name) held.network) refined)
-plan_leads depth spec held PrintLatch plan refined is = subst (Leads (λ h. IsRefined spec h)) (sym is) (sends_leads (λ h. IsRefined spec h) held None (told_of latches_told held.network) refined)
-plan_leads depth spec held (PrintFactor name) plan refined is = prints_leads spec held _ plan refined is
-plan_leads depth spec held (PrintKernel name) plan refined is = prints_leads spec held _ plan refined is
-plan_leads depth spec held (ChangeOp change) plan refined is = change_leads spec held change held.network plan refl refined is
-plan_leads depth spec held Undo plan refined is = subst (Leads (λ h. IsRefined spec h)) (sym is) (undo_leads spec held held.previous refined)
-plan_leads depth spec held (Source name) plan refined is =
+replied_leads : (is : Held → Type 0) (may : Result Reply Refusal → Type 0) (plan : Plan) → ((reply : Result Reply Refusal) → may reply → OnOkReply is reply)
+    → Replies may plan → Leads is plan
+replied_leads is may plan each (reply, one, same) = subst (Leads is) (sym same) (sends_leads is None reply (each reply one))
+
+form_leads : (depth : ℕ) (spec : Option Spec) (held : Held) (form : Form) (plan : Plan) → IsRefined spec held → FormPlans depth held form plan
+    → Leads (λ h. IsRefined (read_by form h spec) h) plan
+form_leads depth spec held (Tells tells) plan refined is =
+    replied_leads (λ h. IsRefined spec h) (StaysTold held (tells held)) plan (λ reply. told_ok (λ h. IsRefined spec h) held (tells held) reply refined) is
+form_leads depth spec held (Writes part file) plan refined is =
+    subst (Leads (λ h. IsRefined spec h)) (sym is) (sends_leads (λ h. IsRefined spec h) file (reply_with held (written_text (part_of part held)))
+    (stays_ok (λ h. IsRefined spec h) held (written_text (part_of part held)) refined))
+form_leads depth spec held (Reads format name) plan refined is =
+    subst (Leads (λ h. IsRefined (held_spec h.network h.machine) h)) (sym is)
+    (loads_leads (λ h. IsRefined (held_spec h.network h.machine) h) name (λ bytes. spec_held held (spec_in format held name bytes))
+    (λ bytes. spec_leaves held (spec_in format held name bytes) (sound_in format held name bytes)))
+form_leads depth spec held (ReadsLibrary name) plan refined is =
+    subst (Leads (λ h. IsRefined spec h)) (sym is) (loads_leads (λ h. IsRefined spec h) name (λ bytes. library_held held name (library_of bytes))
+    (λ bytes. library_leaves held name spec (library_of bytes) refined))
+form_leads depth spec held (ChangesNetwork change) plan refined is =
+    replied_leads (λ h. IsRefined spec h) (ChangedBy held change held.network) plan (λ reply. changed_ok spec held change held.network reply refl refined) is
+form_leads depth spec held TakesBack plan refined is = subst (Leads (λ h. IsRefined spec h)) (sym is) (undo_leads spec held held.previous refined)
+form_leads depth spec held (Sources name) plan refined is =
     subst (Leads (λ h. IsRefined spec h)) (sym is) (source_leads (λ h. IsRefined spec h) (nat_lt depth MAX_DEPTH) held name refined)
-plan_leads depth spec held (Bad fault) plan refined is = subst (Leads (λ h. IsRefined spec h)) (sym is) (quiet_leads (λ h. IsRefined spec h) (Refuses (refusal.Script fault)) tt)
+form_leads depth spec held Ends plan refined is = subst (Leads (λ h. IsRefined spec h)) (sym is) (quiet_leads (λ h. IsRefined spec h) (Does held onward.Quit) refined)
+form_leads depth spec held (IsWrong fault) plan refined is = subst (Leads (λ h. IsRefined spec h)) (sym is) (quiet_leads (λ h. IsRefined spec h) (Refuses (refusal.Script fault)) tt)
 
 pub refined_step : (depth : ℕ) (held : Held) (op : Op) (asked : Asked) (held' : Held) (next : Next) (spec : Option Spec)
     → Steps (Plans depth held op) asked (Done held' next) → IsRefined spec held → IsRefined (last_read op held' spec) held'
-refined_step depth held op asked held' next spec (by_plan plan planned goes) refined = plan_leads depth spec held op plan refined planned asked held' next goes
+refined_step depth held op asked held' next spec (by_plan plan planned goes) refined = form_leads depth spec held (form_of op) plan refined planned asked held' next goes
 refined_step depth held op asked held' next spec (no_memory none cut) refined = cc
 
 pub refined_nothing : (spec : Option Spec) → IsRefined spec nothing_held
@@ -333,119 +354,92 @@ goes_put (Saves to sent outcome) call ending goes = absurd goes
 goes_put (Puts reply outcome) call ending goes = goes.0
 goes_put (Takes used) call ending goes = absurd goes
 
--- what is put is not saved, and the other way round
-puts_save_nothing : (held : Held) (told : Result (List ℕ) Refusal) (name bytes : List ℕ) → IsSave name bytes (sends held None told) → ⊥
-puts_save_nothing held (Ok []) name bytes saves = saves
-puts_save_nothing held (Ok (byte ∷ rest)) name bytes saves = saves
-puts_save_nothing held (Err why) name bytes saves = saves
+-- a reply that is put is not saved
+replies_save_nothing : (text : List ℕ) (outcome : Outcome) (name bytes : List ℕ) → IsSave name bytes (replies text outcome) → ⊥
+replies_save_nothing [] outcome name bytes saves = saves
+replies_save_nothing (byte ∷ rest) outcome name bytes saves = saves
 
-prints_save_nothing : (held : Held) (tells : Result (List ℕ) Refusal → Type 0) (plan : Plan) (name bytes : List ℕ) → Prints held tells plan → IsSave name bytes plan → ⊥
-prints_save_nothing held tells plan name bytes (what, told, is) saves = puts_save_nothing held what name bytes (subst (IsSave name bytes) is saves)
+puts_save_nothing : (reply : Result Reply Refusal) (name bytes : List ℕ) → IsSave name bytes (sends None reply) → ⊥
+puts_save_nothing (Ok reply) name bytes saves = replies_save_nothing reply.text (Does reply.held Go) name bytes saves
+puts_save_nothing (Err why) name bytes saves = saves
 
-undo_saves_nothing : (held : Held) (previous : Option Circuit) (name bytes : List ℕ) → IsSave name bytes (undo_plan held previous) → ⊥
-undo_saves_nothing held None name bytes saves = saves
-undo_saves_nothing held (Some circuit) name bytes saves = saves
+replied_saves_nothing : (may : Result Reply Refusal → Type 0) (plan : Plan) (name bytes : List ℕ) → Replies may plan → IsSave name bytes plan → ⊥
+replied_saves_nothing may plan name bytes (reply, one, is) saves = puts_save_nothing reply name bytes (subst (IsSave name bytes) is saves)
 
 source_saves_nothing : (shallow : Bool) (held : Held) (from name bytes : List ℕ)
     → IsSave name bytes (if shallow then Loads from (λ text. Does held (Script (commands_in text))) else Quiet (Refuses refusal.Nested)) → ⊥
 source_saves_nothing true held from name bytes saves = saves
 source_saves_nothing false held from name bytes saves = saves
 
-change_saves_nothing : (held : Held) (change : Change) (network : Option Circuit) (plan : Plan) (name bytes : List ℕ) → ChangePlans held change network plan → IsSave name bytes plan → ⊥
-change_saves_nothing held change None plan name bytes is saves = subst (IsSave name bytes) is saves
-change_saves_nothing held change (Some old) plan name bytes (answer, changes, is) saves = subst (IsSave name bytes) is saves
+-- what a command writes is the text of what is held
+abbrev IsHeldText : Held → Option (List ℕ) → Form → List ℕ → Type 0
+IsHeldText held to form bytes = (written : Spec) × WritesTo to form written × IsTextOf held written bytes
 
-write_saves : (held : Held) (file : Option (List ℕ)) (network : Option Circuit) (name bytes : List ℕ) → IsSave name bytes (sends held file (told_of text_told network))
-    → (circuit : Circuit) × (file ≡ Some name) × (network ≡ Some circuit) × (bytes ≡ text_of circuit)
-write_saves held None network name bytes saves = absurd (puts_save_nothing held (told_of text_told network) name bytes saves)
-write_saves held (Some to) None name bytes saves = absurd saves
-write_saves held (Some to) (Some circuit) name bytes saves = (circuit, ap (λ n. Some n) (sym saves.0), refl, saves.1)
+network_saves : (held : Held) (file : Option (List ℕ)) (network : Option Circuit) (name bytes : List ℕ) → held.network ≡ network
+    → IsSave name bytes (sends file (reply_with held (written_text (network_of network)))) → IsHeldText held (Some name) (Writes TheNetwork file) bytes
+network_saves held None network name bytes there saves = absurd (puts_save_nothing (reply_with held (written_text (network_of network))) name bytes saves)
+network_saves held (Some to) None name bytes there saves = absurd saves
+network_saves held (Some to) (Some circuit) name bytes there saves = (asked.Circuit circuit, ap (λ n. Some n) (sym saves.0), (there, saves.1))
 
-machine_saves : (held : Held) (file : Option (List ℕ)) (there : Option Machine) (name bytes : List ℕ) → IsSave name bytes (sends held file (machine_told there))
-    → (machine : Machine) × (file ≡ Some name) × (there ≡ Some machine) × (bytes ≡ machine_text_of machine)
-machine_saves held None there name bytes saves = absurd (puts_save_nothing held (machine_told there) name bytes saves)
-machine_saves held (Some to) None name bytes saves = absurd saves
-machine_saves held (Some to) (Some machine) name bytes saves = (machine, ap (λ n. Some n) (sym saves.0), refl, saves.1)
+machine_saves : (held : Held) (file : Option (List ℕ)) (machine : Option Machine) (name bytes : List ℕ) → held.machine ≡ machine
+    → IsSave name bytes (sends file (reply_with held (written_text (machine_of machine)))) → IsHeldText held (Some name) (Writes TheMachine file) bytes
+machine_saves held None machine name bytes there saves = absurd (puts_save_nothing (reply_with held (written_text (machine_of machine))) name bytes saves)
+machine_saves held (Some to) None name bytes there saves = absurd saves
+machine_saves held (Some to) (Some machine) name bytes there saves = (asked.Machine machine, ap (λ n. Some n) (sym saves.0), (there, saves.1))
 
--- what a command writes to a file is the text of what is held
-abbrev IsHeldText : Held → Option (List ℕ) → Op → List ℕ → Type 0
-IsHeldText held to op bytes = (written : Written) × WritesTo to op written × Holds held written × HasText written bytes
-
-circuit_written : (held : Held) (to file : Option (List ℕ)) (bytes : List ℕ) → (circuit : Circuit) × (file ≡ to) × (held.network ≡ Some circuit) × (bytes ≡ text_of circuit)
-    → IsHeldText held to (WriteBlif file) bytes
-circuit_written held to file bytes (circuit, same, there, text) = (CircuitWritten circuit, same, there, text)
-
-machine_written : (held : Held) (to file : Option (List ℕ)) (bytes : List ℕ) → (machine : Machine) × (file ≡ to) × (held.machine ≡ Some machine) × (bytes ≡ machine_text_of machine)
-    → IsHeldText held to (WriteKiss file) bytes
-machine_written held to file bytes (machine, same, there, text) = (MachineWritten machine, same, there, text)
-
-plan_saves : (depth : ℕ) (held : Held) (op : Op) (plan : Plan) (name bytes : List ℕ) → Plans depth held op plan → IsSave name bytes plan
-    → IsHeldText held (Some name) op bytes
-plan_saves depth held (Echo words) plan name bytes is saves = absurd (puts_save_nothing held (Ok (echo_line words)) name bytes (subst (IsSave name bytes) is saves))
-plan_saves depth held Quit plan name bytes is saves = absurd (subst (IsSave name bytes) is saves)
-plan_saves depth held (ReadBlif from) plan name bytes is saves = absurd (subst (IsSave name bytes) is saves)
-plan_saves depth held (ReadKiss from) plan name bytes is saves = absurd (subst (IsSave name bytes) is saves)
-plan_saves depth held (ReadLibrary from) plan name bytes is saves = absurd (subst (IsSave name bytes) is saves)
-plan_saves depth held (WriteBlif file) plan name bytes is saves =
-    circuit_written held (Some name) file bytes (write_saves held file held.network name bytes (subst (IsSave name bytes) is saves))
-plan_saves depth held (WriteKiss file) plan name bytes is saves =
-    machine_written held (Some name) file bytes (machine_saves held file held.machine name bytes (subst (IsSave name bytes) is saves))
-plan_saves depth held PrintStats plan name bytes is saves = absurd (puts_save_nothing held (told_of stats_told held.network) name bytes (subst (IsSave name bytes) is saves))
-plan_saves depth held (Print signal) plan name bytes is saves = absurd (puts_save_nothing held (told_of (tables_told signal) held.network) name bytes (subst (IsSave name bytes) is saves))
-plan_saves depth held PrintLatch plan name bytes is saves = absurd (puts_save_nothing held (told_of latches_told held.network) name bytes (subst (IsSave name bytes) is saves))
-plan_saves depth held (PrintFactor signal) plan name bytes is saves = absurd (prints_save_nothing held _ plan name bytes is saves)
-plan_saves depth held (PrintKernel signal) plan name bytes is saves = absurd (prints_save_nothing held _ plan name bytes is saves)
-plan_saves depth held (ChangeOp change) plan name bytes is saves = absurd (change_saves_nothing held change held.network plan name bytes is saves)
-plan_saves depth held Undo plan name bytes is saves = absurd (undo_saves_nothing held held.previous name bytes (subst (IsSave name bytes) is saves))
-plan_saves depth held (Source from) plan name bytes is saves =
+form_saves : (depth : ℕ) (held : Held) (form : Form) (plan : Plan) (name bytes : List ℕ) → FormPlans depth held form plan → IsSave name bytes plan
+    → IsHeldText held (Some name) form bytes
+form_saves depth held (Tells tells) plan name bytes is saves = absurd (replied_saves_nothing (StaysTold held (tells held)) plan name bytes is saves)
+form_saves depth held (Writes TheNetwork file) plan name bytes is saves = network_saves held file held.network name bytes refl (subst (IsSave name bytes) is saves)
+form_saves depth held (Writes TheMachine file) plan name bytes is saves = machine_saves held file held.machine name bytes refl (subst (IsSave name bytes) is saves)
+form_saves depth held (Reads format from) plan name bytes is saves = absurd (subst (IsSave name bytes) is saves)
+form_saves depth held (ReadsLibrary from) plan name bytes is saves = absurd (subst (IsSave name bytes) is saves)
+form_saves depth held (ChangesNetwork change) plan name bytes is saves = absurd (replied_saves_nothing (ChangedBy held change held.network) plan name bytes is saves)
+form_saves depth held TakesBack plan name bytes is saves = absurd (subst (IsSave name bytes) is saves)
+form_saves depth held (Sources from) plan name bytes is saves =
     absurd (source_saves_nothing (nat_lt depth MAX_DEPTH) held from name bytes (subst (IsSave name bytes) is saves))
-plan_saves depth held (Bad fault) plan name bytes is saves = absurd (subst (IsSave name bytes) is saves)
+form_saves depth held Ends plan name bytes is saves = absurd (subst (IsSave name bytes) is saves)
+form_saves depth held (IsWrong fault) plan name bytes is saves = absurd (subst (IsSave name bytes) is saves)
 
 pub saved_step : (depth : ℕ) (held : Held) (op : Op) (name bytes : List ℕ) (answer : Result (Unit {0}) SaveFault) (ending : Ending)
     → Steps (Plans depth held op) (OnStore (Save name bytes answer)) ending
-    → (written : Written) × WritesTo (Some name) op written × Holds held written × HasText written bytes
+    → (written : Spec) × WritesTo (Some name) (form_of op) written × IsTextOf held written bytes
 saved_step depth held op name bytes answer ending (by_plan plan planned goes) =
-    plan_saves depth held op plan name bytes planned (goes_save plan name bytes answer ending goes)
+    form_saves depth held (form_of op) plan name bytes planned (goes_save plan name bytes answer ending goes)
 saved_step depth held op name bytes answer ending (no_memory none cut) = cc
 
-put_whole : (held : Held) (piece text : List ℕ) → IsPut piece (sends held None (Ok text)) → piece ≡ text
-put_whole held piece [] p = absurd p
-put_whole held piece (byte ∷ bytes) p = p
+replies_put : (piece text : List ℕ) (outcome : Outcome) → IsPut piece (replies text outcome) → piece ≡ text
+replies_put piece [] outcome p = absurd p
+replies_put piece (byte ∷ bytes) outcome p = p
 
-write_puts : (held : Held) (file : Option (List ℕ)) (network : Option Circuit) (piece : List ℕ) → IsPut piece (sends held file (told_of text_told network))
-    → (circuit : Circuit) × (file ≡ None) × (network ≡ Some circuit) × (piece ≡ text_of circuit)
-write_puts held None None piece puts = absurd puts
-write_puts held (Some name) None piece puts = absurd puts
-write_puts held (Some name) (Some circuit) piece puts = absurd puts
-write_puts held None (Some circuit) piece puts = (circuit, refl, refl, put_whole held piece (text_of circuit) puts)
+network_puts : (held : Held) (file : Option (List ℕ)) (network : Option Circuit) (piece : List ℕ) → held.network ≡ network
+    → IsPut piece (sends file (reply_with held (written_text (network_of network)))) → IsHeldText held None (Writes TheNetwork file) piece
+network_puts held None None piece there puts = absurd puts
+network_puts held (Some name) None piece there puts = absurd puts
+network_puts held (Some name) (Some circuit) piece there puts = absurd puts
+network_puts held None (Some circuit) piece there puts = (asked.Circuit circuit, refl, (there, replies_put piece (text_of circuit) (Does held Go) puts))
 
-machine_puts : (held : Held) (file : Option (List ℕ)) (there : Option Machine) (piece : List ℕ) → IsPut piece (sends held file (machine_told there))
-    → (machine : Machine) × (file ≡ None) × (there ≡ Some machine) × (piece ≡ machine_text_of machine)
-machine_puts held None None piece puts = absurd puts
-machine_puts held (Some name) None piece puts = absurd puts
-machine_puts held (Some name) (Some machine) piece puts = absurd puts
-machine_puts held None (Some machine) piece puts = (machine, refl, refl, put_whole held piece (machine_text_of machine) puts)
+machine_puts : (held : Held) (file : Option (List ℕ)) (machine : Option Machine) (piece : List ℕ) → held.machine ≡ machine
+    → IsPut piece (sends file (reply_with held (written_text (machine_of machine)))) → IsHeldText held None (Writes TheMachine file) piece
+machine_puts held None None piece there puts = absurd puts
+machine_puts held (Some name) None piece there puts = absurd puts
+machine_puts held (Some name) (Some machine) piece there puts = absurd puts
+machine_puts held None (Some machine) piece there puts = (asked.Machine machine, refl, (there, replies_put piece (machine_text_of machine) (Does held Go) puts))
 
-plan_puts : (depth : ℕ) (held : Held) (op : Op) (plan : Plan) (piece : List ℕ) → IsWriting op → Plans depth held op plan → IsPut piece plan → IsHeldText held None op piece
-plan_puts depth held (WriteBlif file) plan piece writing is puts = circuit_written held None file piece (write_puts held file held.network piece (subst (IsPut piece) is puts))
-plan_puts depth held (WriteKiss file) plan piece writing is puts = machine_written held None file piece (machine_puts held file held.machine piece (subst (IsPut piece) is puts))
-plan_puts depth held (Echo words) plan piece writing is puts = absurd writing
-plan_puts depth held Quit plan piece writing is puts = absurd writing
-plan_puts depth held (ReadBlif name) plan piece writing is puts = absurd writing
-plan_puts depth held (ReadKiss name) plan piece writing is puts = absurd writing
-plan_puts depth held (ReadLibrary name) plan piece writing is puts = absurd writing
-plan_puts depth held PrintStats plan piece writing is puts = absurd writing
-plan_puts depth held (Print name) plan piece writing is puts = absurd writing
-plan_puts depth held PrintLatch plan piece writing is puts = absurd writing
-plan_puts depth held (PrintFactor name) plan piece writing is puts = absurd writing
-plan_puts depth held (PrintKernel name) plan piece writing is puts = absurd writing
-plan_puts depth held (ChangeOp change) plan piece writing is puts = absurd writing
-plan_puts depth held Undo plan piece writing is puts = absurd writing
-plan_puts depth held (Source name) plan piece writing is puts = absurd writing
-plan_puts depth held (Bad fault) plan piece writing is puts = absurd writing
+form_puts : (depth : ℕ) (held : Held) (form : Form) (plan : Plan) (piece : List ℕ) → IsWriting form → FormPlans depth held form plan → IsPut piece plan → IsHeldText held None form piece
+form_puts depth held (Writes TheNetwork file) plan piece writing is puts = network_puts held file held.network piece refl (subst (IsPut piece) is puts)
+form_puts depth held (Writes TheMachine file) plan piece writing is puts = machine_puts held file held.machine piece refl (subst (IsPut piece) is puts)
+form_puts depth held (Tells tells) plan piece writing is puts = absurd writing
+form_puts depth held (Reads format name) plan piece writing is puts = absurd writing
+form_puts depth held (ReadsLibrary name) plan piece writing is puts = absurd writing
+form_puts depth held (ChangesNetwork change) plan piece writing is puts = absurd writing
+form_puts depth held TakesBack plan piece writing is puts = absurd writing
+form_puts depth held (Sources name) plan piece writing is puts = absurd writing
+form_puts depth held Ends plan piece writing is puts = absurd writing
+form_puts depth held (IsWrong fault) plan piece writing is puts = absurd writing
 
-pub put_step : (depth : ℕ) (held : Held) (op : Op) (call : PutCall) (ending : Ending) → IsWriting op
+pub put_step : (depth : ℕ) (held : Held) (op : Op) (call : PutCall) (ending : Ending) → IsWriting (form_of op)
     → Steps (Plans depth held op) (OnOut call) ending
-    → (written : Written) × WritesTo None op written × Holds held written × HasText written call.piece
-put_step depth held op call ending writing (by_plan plan planned goes) = plan_puts depth held op plan call.piece writing planned (goes_put plan call ending goes)
+    → (written : Spec) × WritesTo None (form_of op) written × IsTextOf held written call.piece
+put_step depth held op call ending writing (by_plan plan planned goes) = form_puts depth held (form_of op) plan call.piece writing planned (goes_put plan call ending goes)
 put_step depth held op call ending writing (no_memory none cut) = cc

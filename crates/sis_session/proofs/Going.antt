@@ -7,12 +7,13 @@ use Rattle.sis_outside.specs.declared.store.LoadFault.{LoadFault}
 use Rattle.sis_outside.specs.declared.store.LoadFault.TheVariants as load
 use Rattle.sis_outside.specs.declared.store.SaveFault.TheVariants as save
 use Rattle.sis_outside.specs.declared.sink.PutFault.TheVariants as put
-use Rattle.sis_session.specs.Commands.{Prints, sends, stays}
-use Rattle.sis_session.specs.Methods.{HasLoaded, HasSaved, HasPut, HasToldPut, IsTold, IsToldBy}
-use Rattle.sis_session.specs.Plan.{MAX_BYTES, Outcome, Does, Refuses, Plan, Quiet, Loads, Saves, Puts, Asked, Nothing, OnStore, OnOut, Ending, Done, Refused, Cut, Comes, ComesLoaded, Steps, by_plan, no_memory, Did, AskedNone, NestsBelow, faulted, ended}
+use Rattle.sis_session.specs.Commands.{Replies, StaysTold, reply_with}
+use Rattle.sis_session.specs.Methods.{AskedNone, HasLoaded, HasSaved, HasPut, HasToldPut, IsTold, IsToldBy}
+use Rattle.sis_session.specs.Plan.{MAX_BYTES, Outcome, Does, Refuses, Plan, Quiet, Loads, Saves, Puts, Asked, Nothing, OnStore, OnOut, Ending, Done, Refused, Cut, Comes, ComesLoaded, Steps, by_plan, no_memory, Did, NestsBelow, Reply, faulted, ended, sends}
 use Rattle.sis_session.specs.State.{Held}
 use Rattle.sis_session.specs.declared.refusal.Failed.TheVariants as failed
 use Rattle.sis_session.specs.declared.refusal.Next.{Next}
+use Rattle.sis_session.specs.declared.refusal.Next.TheVariants.{Go}
 use Rattle.sis_session.specs.declared.refusal.Refusal.{Refusal}
 use Rattle.sis_session.specs.declared.refusal.Refusal.TheVariants as refusal
 use Rattle.sis_session.specs.declared.refusal.StepFault.{StepFault}
@@ -107,17 +108,17 @@ unloaded_did goes name used old new fault.Memory h =
 
 -- what is told was put
 put_sent : {O : Type 0} (puts : O → PutCall → O → Type 0) (held : Held) (text : List ℕ) (old new : O) (answer : Result Next StepFault)
-    → HasPut puts text old answer new → Did (λ plan. plan ≡ sends held None (Ok text)) AskedNone (Follows puts old new) (ended answer held)
+    → HasPut puts text old answer new → Did (λ plan. plan ≡ sends None (reply_with held (Ok text))) AskedNone (Follows puts old new) (ended answer held)
 put_sent puts held [] old new answer h = record {
   asked = Nothing;
-  steps = by_plan (Quiet (stays held)) refl (inl (ap (λ a. ended a held) h.0));
+  steps = by_plan (Quiet (Does held Go)) refl (inl (ap (λ a. ended a held) h.0));
   store_went = refl;
   out_went = h.1;
   input_kept = refl;
 }
 put_sent puts held (byte ∷ bytes) old new (Ok next) h = record {
   asked = OnOut (record { piece = byte ∷ bytes; answer = Ok tt });
-  steps = by_plan (Puts (byte ∷ bytes) (stays held)) refl (refl, inl (ap (λ n. Done held n) h.0));
+  steps = by_plan (Puts (byte ∷ bytes) (Does held Go)) refl (refl, inl (ap (λ n. Done held n) h.0));
   store_went = refl;
   out_went = (new, h.1, refl);
   input_kept = refl;
@@ -126,14 +127,14 @@ put_sent puts held (byte ∷ bytes) old new (Err (fault.Refused why)) h = absurd
 put_sent puts held (byte ∷ bytes) old new (Err fault.StoreFault) h = absurd h
 put_sent puts held (byte ∷ bytes) old new (Err fault.SinkFault) h = record {
   asked = OnOut (record { piece = byte ∷ bytes; answer = Err put.Failed });
-  steps = by_plan (Puts (byte ∷ bytes) (stays held)) refl (refl, refl);
+  steps = by_plan (Puts (byte ∷ bytes) (Does held Go)) refl (refl, refl);
   store_went = refl;
   out_went = (new, h, refl);
   input_kept = refl;
 }
 put_sent puts held (byte ∷ bytes) old new (Err fault.Memory) h = record {
   asked = OnOut (record { piece = byte ∷ bytes; answer = Err put.Memory });
-  steps = by_plan (Puts (byte ∷ bytes) (stays held)) refl (refl, refl);
+  steps = by_plan (Puts (byte ∷ bytes) (Does held Go)) refl (refl, refl);
   store_went = refl;
   out_went = (new, h, refl);
   input_kept = refl;
@@ -141,10 +142,10 @@ put_sent puts held (byte ∷ bytes) old new (Err fault.Memory) h = record {
 
 -- what is told was saved
 save_sent : {S : Type 0} (goes : S → StoreCall → S → Type 0) (held : Held) (name text : List ℕ) (old new : S) (answer : Result Next StepFault)
-    → HasSaved goes name text old answer new → Did (λ plan. plan ≡ sends held (Some name) (Ok text)) (Follows goes old new) AskedNone (ended answer held)
+    → HasSaved goes name text old answer new → Did (λ plan. plan ≡ sends (Some name) (reply_with held (Ok text))) (Follows goes old new) AskedNone (ended answer held)
 save_sent goes held name text old new (Ok next) h = record {
   asked = OnStore (Save name text (Ok tt));
-  steps = by_plan (Saves name text (stays held)) refl (refl, refl, inl (ap (λ n. Done held n) h.0));
+  steps = by_plan (Saves name text (Does held Go)) refl (refl, refl, inl (ap (λ n. Done held n) h.0));
   store_went = (new, h.1, refl);
   out_went = refl;
   input_kept = refl;
@@ -152,7 +153,7 @@ save_sent goes held name text old new (Ok next) h = record {
 save_sent goes held name text old new (Err (fault.Refused why)) h = absurd h
 save_sent goes held name text old new (Err fault.StoreFault) h = record {
   asked = OnStore (Save name text (Err save.Failed));
-  steps = by_plan (Saves name text (stays held)) refl (refl, refl, refl);
+  steps = by_plan (Saves name text (Does held Go)) refl (refl, refl, refl);
   store_went = (new, h, refl);
   out_went = refl;
   input_kept = refl;
@@ -160,7 +161,7 @@ save_sent goes held name text old new (Err fault.StoreFault) h = record {
 save_sent goes held name text old new (Err fault.SinkFault) h = absurd h
 save_sent goes held name text old new (Err fault.Memory) h = record {
   asked = OnStore (Save name text (Err save.Memory));
-  steps = by_plan (Saves name text (stays held)) refl (refl, refl, refl);
+  steps = by_plan (Saves name text (Does held Go)) refl (refl, refl, refl);
   store_went = (new, h, refl);
   out_went = refl;
   input_kept = refl;
@@ -180,27 +181,27 @@ save_nests goes depth name text old new (Err why) h = tt
 
 -- the same of a text of which it is said that it is what is told
 pub text_put : {O : Type 0} (puts : O → PutCall → O → Type 0) (held : Held) (what : Result (List ℕ) Refusal) (text : List ℕ) (old new : O) (answer : Result Next StepFault)
-    → what ≡ Ok text → HasPut puts text old answer new → Did (λ plan. plan ≡ sends held None what) AskedNone (Follows puts old new) (ended answer held)
+    → what ≡ Ok text → HasPut puts text old answer new → Did (λ plan. plan ≡ sends None (reply_with held what)) AskedNone (Follows puts old new) (ended answer held)
 text_put puts held what text old new answer is h =
-    subst (λ w. Did (λ plan. plan ≡ sends held None w) AskedNone (Follows puts old new) (ended answer held)) (sym is) (put_sent puts held text old new answer h)
+    subst (λ w. Did (λ plan. plan ≡ sends None (reply_with held w)) AskedNone (Follows puts old new) (ended answer held)) (sym is) (put_sent puts held text old new answer h)
 
 pub text_saved : {S : Type 0} (goes : S → StoreCall → S → Type 0) (held : Held) (what : Result (List ℕ) Refusal) (name text : List ℕ) (old new : S) (answer : Result Next StepFault)
-    → what ≡ Ok text → HasSaved goes name text old answer new → Did (λ plan. plan ≡ sends held (Some name) what) (Follows goes old new) AskedNone (ended answer held)
+    → what ≡ Ok text → HasSaved goes name text old answer new → Did (λ plan. plan ≡ sends (Some name) (reply_with held what)) (Follows goes old new) AskedNone (ended answer held)
 text_saved goes held what name text old new answer is h =
-    subst (λ w. Did (λ plan. plan ≡ sends held (Some name) w) (Follows goes old new) AskedNone (ended answer held)) (sym is) (save_sent goes held name text old new answer h)
+    subst (λ w. Did (λ plan. plan ≡ sends (Some name) (reply_with held w)) (Follows goes old new) AskedNone (ended answer held)) (sym is) (save_sent goes held name text old new answer h)
 
 -- nothing was sent, since nothing is told
-refused_sent : (held : Held) (file : Option (List ℕ)) (what : Result (List ℕ) Refusal) (why : Refusal) → what ≡ Err why → sends held file what ≡ Quiet (Refuses why)
-refused_sent held None what why is = ap (sends held None) is
-refused_sent held (Some name) what why is = ap (sends held (Some name)) is
+refused_sent : (held : Held) (file : Option (List ℕ)) (what : Result (List ℕ) Refusal) (why : Refusal) → what ≡ Err why → sends file (reply_with held what) ≡ Quiet (Refuses why)
+refused_sent held None what why is = ap (λ w. sends None (reply_with held w)) is
+refused_sent held (Some name) what why is = ap (λ w. sends (Some name) (reply_with held w)) is
 
 pub untold_did : (held : Held) (file : Option (List ℕ)) (what : Result (List ℕ) Refusal) (why : StepFault) → IsTold what (Err why)
-    → Did (λ plan. plan ≡ sends held file what) AskedNone AskedNone (faulted why)
+    → Did (λ plan. plan ≡ sends file (reply_with held what)) AskedNone AskedNone (faulted why)
 untold_did held file what (fault.Refused why) h =
-    quiet_did (λ plan. plan ≡ sends held file what) (Refuses why) (Refused why) (sym (refused_sent held file what why h)) (inl refl)
+    quiet_did (λ plan. plan ≡ sends file (reply_with held what)) (Refuses why) (Refused why) (sym (refused_sent held file what why h)) (inl refl)
 untold_did held file what fault.StoreFault h = absurd h
 untold_did held file what fault.SinkFault h = absurd h
-untold_did held file what fault.Memory h = wanting_did (λ plan. plan ≡ sends held file what)
+untold_did held file what fault.Memory h = wanting_did (λ plan. plan ≡ sends file (reply_with held what))
 
 -- a step by one of some plans is a step by one of more
 steps_as : (plans more : Plan → Type 0) (asked : Asked) (ending : Ending) → ((plan : Plan) → plans plan → more plan) → Steps plans asked ending → Steps more asked ending
@@ -214,22 +215,22 @@ did_as plans more store out ending more_so h =
 
 -- a text was put, and it is one that may be told
 told_put : {O : Type 0} (puts : O → PutCall → O → Type 0) (held : Held) (tells : Result (List ℕ) Refusal → Type 0) (text : List ℕ) (old new : O) (answer : Result Next StepFault)
-    → tells (Ok text) → HasPut puts text old answer new → Did (Prints held tells) AskedNone (Follows puts old new) (ended answer held)
+    → tells (Ok text) → HasPut puts text old answer new → Did (Replies (StaysTold held tells)) AskedNone (Follows puts old new) (ended answer held)
 told_put puts held tells text old new answer may h =
-    did_as (λ plan. plan ≡ sends held None (Ok text)) (Prints held tells) AskedNone (Follows puts old new) (ended answer held) (λ plan is. (Ok text, may, is)) (put_sent puts held text old new answer h)
+    did_as (λ plan. plan ≡ sends None (reply_with held (Ok text))) (Replies (StaysTold held tells)) AskedNone (Follows puts old new) (ended answer held) (λ plan is. (reply_with held (Ok text), (Ok text, may, refl), is)) (put_sent puts held text old new answer h)
 
 -- nothing was put, since a refusal is told, or for want of memory
-untold_by : (held : Held) (tells : Result (List ℕ) Refusal → Type 0) (why : StepFault) → IsToldBy tells (Err why) → Did (Prints held tells) AskedNone AskedNone (faulted why)
-untold_by held tells (fault.Refused why) h = quiet_did (Prints held tells) (Refuses why) (Refused why) (Err why, h, refl) (inl refl)
+untold_by : (held : Held) (tells : Result (List ℕ) Refusal → Type 0) (why : StepFault) → IsToldBy tells (Err why) → Did (Replies (StaysTold held tells)) AskedNone AskedNone (faulted why)
+untold_by held tells (fault.Refused why) h = quiet_did (Replies (StaysTold held tells)) (Refuses why) (Refused why) (Err why, (Err why, h, refl), refl) (inl refl)
 untold_by held tells fault.StoreFault h = absurd h
 untold_by held tells fault.SinkFault h = absurd h
-untold_by held tells fault.Memory h = wanting_did (Prints held tells)
+untold_by held tells fault.Memory h = wanting_did (Replies (StaysTold held tells))
 
 -- what may be told was put, or handed on
 pub told_did : {O : Type 0} (puts : O → PutCall → O → Type 0) (held : Held) (tells : Result (List ℕ) Refusal → Type 0) (told : Result (Vec ℕ) StepFault) (old new : O)
-    (answer : Result Next StepFault) → IsToldBy tells told → HasToldPut puts told old answer new → Did (Prints held tells) AskedNone (Follows puts old new) (ended answer held)
+    (answer : Result Next StepFault) → IsToldBy tells told → HasToldPut puts told old answer new → Did (Replies (StaysTold held tells)) AskedNone (Follows puts old new) (ended answer held)
 told_did puts held tells (Ok text) old new answer may h = told_put puts held tells text.items old new answer may h
 told_did {O} puts held tells (Err why) old new answer may (is, same) =
-    subst (λ (a : Result Next StepFault). Did (Prints held tells) AskedNone (Follows puts old new) (ended a held)) (sym is)
-    (subst (λ (o : O). Did (Prints held tells) AskedNone (Follows puts old o) (faulted why)) (sym same)
-    (store_alone puts (Prints held tells) AskedNone old (faulted why) (untold_by held tells why may)))
+    subst (λ (a : Result Next StepFault). Did (Replies (StaysTold held tells)) AskedNone (Follows puts old new) (ended a held)) (sym is)
+    (subst (λ (o : O). Did (Replies (StaysTold held tells)) AskedNone (Follows puts old o) (faulted why)) (sym same)
+    (store_alone puts (Replies (StaysTold held tells)) AskedNone old (faulted why) (untold_by held tells why may)))

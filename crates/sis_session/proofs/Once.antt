@@ -30,12 +30,13 @@ use Rattle.net_decomp.specs.declared.rule.Rule.{Rule}
 use Rattle.net_decomp.specs.declared.rule.Rule.TheVariants.{Shared, Gates}
 use Rattle.net_decomp.proofs.Ends.{decomposed_one, decomposed_not_full}
 use Rattle.sis_script.specs.declared.command.Change.{Change}
-use Rattle.sis_script.specs.declared.command.Change.TheVariants.{Sweep, Eliminate, Collapse, Simplify, Fx, Gkx, Gcx, Resub, Decomp, TechDecomp}
+use Rattle.sis_script.specs.declared.command.Change.TheVariants as changing
 use Rattle.sis_script.specs.declared.command.Op.{Op}
-use Rattle.sis_script.specs.declared.command.Op.TheVariants.{Echo, Quit, ReadBlif, ReadKiss, ReadLibrary, WriteBlif, WriteKiss, PrintStats, Print, PrintLatch, PrintFactor, PrintKernel, Change as ChangeOp, Undo, Source, Bad}
-use Rattle.sis_session.specs.Commands.{ChangePlans, IsCollapseRefusal, IsSimplifyRefusal, Decomposes, Extracts, IsExtractionRefusal, FactorsTold, FactorTold, KernelsOf, KernelsTold, KernelTold, Plans, Prints, ToldBy, changed_by, sends}
+use Rattle.sis_script.specs.declared.command.Op.TheVariants as command
+use Rattle.sis_session.specs.Commands.{ChangedBy, ChangesNetwork, Ends, Form, FormPlans, IsCollapseRefusal, IsSimplifyRefusal, IsWrong, Just, Decomposes, Extracts, IsExtractionRefusal, FactorsTold, FactorTold, KernelsOf, KernelsTold, KernelTold, Plans, Reads, ReadsLibrary, Replies, Sources, StaysTold, TakesBack, Tells, ToldBy, Writes, form_of, latches_told, reply_changed, reply_with, stats_told, tables_told}
+use Rattle.sis_session.specs.Replies.{echo_line}
 use Rattle.sis_session.specs.Keeping.{ChangesOnce}
-use Rattle.sis_session.specs.Plan.{Asked, Nothing, OnStore, OnOut, OnInput, Comes, ComesLoaded, ComesSaved, ComesPut, ComesTaken, ComesPiece, Cut, Done, Ending, Goes, Loads, Outcome, Does, Refuses, Plan, Quiet, Puts, Refused, Saves, Takes, Steps, by_plan, no_memory}
+use Rattle.sis_session.specs.Plan.{Asked, Nothing, OnStore, OnOut, OnInput, Comes, ComesLoaded, ComesSaved, ComesPut, ComesTaken, ComesPiece, Cut, Done, Ending, Goes, Loads, Outcome, Does, Refuses, Plan, Quiet, Puts, Refused, Reply, Saves, Takes, Steps, by_plan, no_memory, sends}
 use Rattle.sis_session.specs.State.{Held}
 use Rattle.sis_session.specs.declared.refusal.Failed.TheVariants as failed
 use Rattle.sis_session.specs.declared.refusal.Refusal.{Refusal}
@@ -118,13 +119,13 @@ goes_once (Takes used) (OnOut call) one other h k = absurd h
 goes_once (Takes used) (OnInput calls) one other h k = taken_once used [] calls one other h k
 
 -- a sweep makes one thing of each network
-sweeps_once : ChangesOnce Sweep
+sweeps_once : ChangesOnce changing.Sweep
 sweeps_once old (Ok one) (Ok other) h k = ap (λ (c : Circuit). Ok c) (chain_same sweep_step old one other h k)
 sweeps_once old (Ok one) (Err why) h k = absurd k
 sweeps_once old (Err why) other h k = absurd h
 
 -- so does an elimination
-eliminations_once : (threshold : ℤ) (rows : ℕ) → ChangesOnce (Eliminate threshold rows)
+eliminations_once : (threshold : ℤ) (rows : ℕ) → ChangesOnce (changing.Eliminate threshold rows)
 eliminations_once threshold rows old (Ok one) (Ok other) h k = ap (λ (c : Circuit). Ok c) (chain_same (eliminate_step threshold rows) old one other h k)
 eliminations_once threshold rows old (Ok one) (Err why) h k = absurd k
 eliminations_once threshold rows old (Err why) other h k = absurd h
@@ -139,7 +140,7 @@ refused_or_not : (found : Option (List ℕ × TableFault)) (why : Refusal) → f
 refused_or_not found why none refused = subst (λ f. IsCollapseRefusal f why) none refused
 
 -- and a collapse
-collapses_once : ChangesOnce Collapse
+collapses_once : ChangesOnce changing.Collapse
 collapses_once old (Ok one) (Ok other) h k = ap (λ (c : Circuit). Ok c) (h.1 ∙ sym k.1)
 collapses_once old (Ok one) (Err why) h k = absurd (refused_or_not (collapse_refusal old) why h.0 k)
 collapses_once old (Err why) (Ok other) h k = absurd (refused_or_not (collapse_refusal old) why k.0 h)
@@ -153,7 +154,7 @@ long_list_or_not : (found : Option (List ℕ)) (why : Refusal) → found ≡ Non
 long_list_or_not found why none refused = subst (λ f. IsSimplifyRefusal f why) none refused
 
 -- and a simplification
-simplifies_once : ChangesOnce Simplify
+simplifies_once : ChangesOnce changing.Simplify
 simplifies_once old (Ok one) (Ok other) h k = ap (λ (c : Circuit). Ok c) (h.1 ∙ sym k.1)
 simplifies_once old (Ok one) (Err why) h k = absurd (long_list_or_not (simplify_refusal old) why h.0 k)
 simplifies_once old (Err why) (Ok other) h k = absurd (long_list_or_not (simplify_refusal old) why k.0 h)
@@ -185,30 +186,30 @@ extracts_once rule old (Err why) (Ok other) h k = absurd (not_extracted rule old
 extracts_once rule old (Err why) (Err other) h k = ap (λ (r : Refusal). Err r) (extraction_refusals_once rule old why other h k)
 
 -- and resubstitution
-resubs_once : ChangesOnce Resub
+resubs_once : ChangesOnce changing.Resub
 resubs_once old (Ok one) (Ok other) h k = ap (λ (c : Circuit). Ok c) (resubbed_one old one other h k)
 resubs_once old (Ok one) (Err why) h k = absurd k
 resubs_once old (Err why) other h k = absurd h
 
 -- each change makes one thing of each network
 pub changes_once : (change : Change) → ChangesOnce change
-changes_once Sweep = sweeps_once
-changes_once (Eliminate threshold rows) = eliminations_once threshold rows
-changes_once Collapse = collapses_once
-changes_once Simplify = simplifies_once
-changes_once Fx = extracts_once extract.Fx
-changes_once Gkx = extracts_once extract.Gkx
-changes_once Gcx = extracts_once extract.Gcx
-changes_once Resub = resubs_once
-changes_once Decomp = decomposes_once Shared
-changes_once (TechDecomp products sums) = decomposes_once (Gates products sums)
+changes_once changing.Sweep = sweeps_once
+changes_once (changing.Eliminate threshold rows) = eliminations_once threshold rows
+changes_once changing.Collapse = collapses_once
+changes_once changing.Simplify = simplifies_once
+changes_once changing.Fx = extracts_once extract.Fx
+changes_once changing.Gkx = extracts_once extract.Gkx
+changes_once changing.Gcx = extracts_once extract.Gcx
+changes_once changing.Resub = resubs_once
+changes_once changing.Decomp = decomposes_once Shared
+changes_once (changing.TechDecomp products sums) = decomposes_once (Gates products sums)
 
--- a change has one plan
-change_once : (held : Held) (change : Change) (network : Option Circuit) (plan plan' : Plan)
-    → ChangePlans held change network plan → ChangePlans held change network plan' → plan ≡ plan'
-change_once held change None plan plan' h k = h ∙ sym k
-change_once held change (Some old) plan plan' (answer, changes, is) (answer', changes', is') =
-    is ∙ ap (λ (a : Result Circuit Refusal). Quiet (changed_by held a)) (changes_once change old answer answer' changes changes') ∙ sym is'
+-- a change comes to one reply
+change_once : (held : Held) (change : Change) (network : Option Circuit) (one other : Result Reply Refusal)
+    → ChangedBy held change network one → ChangedBy held change network other → one ≡ other
+change_once held change None one other h k = h ∙ sym k
+change_once held change (Some old) one other (answer, changes, is) (answer', changes', is') =
+    is ∙ ap (reply_changed held) (changes_once change old answer answer' changes changes') ∙ sym is'
 
 -- what is told by a relation is one thing
 IsOne : (Result (List ℕ) Refusal → Type 0) → Type 0
@@ -219,9 +220,17 @@ unfolding IsOne
 told_once tells None one what other h k = h ∙ sym k
 told_once tells (Some circuit) one what other h k = one circuit what other h k
 
-prints_once : (held : Held) (tells : Result (List ℕ) Refusal → Type 0) (plan plan' : Plan) → IsOne tells → Prints held tells plan → Prints held tells plan' → plan ≡ plan'
+just_once : {A : Type 0} (told : A → Result (List ℕ) Refusal) (of : A) → IsOne (Just told of)
 unfolding IsOne
-prints_once held tells plan plan' one (what, told, is) (other, told', is') = is ∙ ap (sends held None) (one what other told told') ∙ sym is'
+just_once told of what other h k = sym h ∙ k
+
+replied_once : (may : Result Reply Refusal → Type 0) (plan plan' : Plan) → ((one other : Result Reply Refusal) → may one → may other → one ≡ other)
+    → Replies may plan → Replies may plan' → plan ≡ plan'
+replied_once may plan plan' once (one, h, is) (other, k, is') = is ∙ ap (sends None) (once one other h k) ∙ sym is'
+
+stays_once : (held : Held) (tells : Result (List ℕ) Refusal → Type 0) → IsOne tells → (one other : Result Reply Refusal) → StaysTold held tells one → StaysTold held tells other → one ≡ other
+unfolding IsOne
+stays_once held tells one first second (what, told, is) (other, told', is') = is ∙ ap (reply_with held) (one what other told told') ∙ sym is'
 
 factor_once : (name : List ℕ) (driven : Option Table) → IsOne (FactorTold name driven)
 unfolding IsOne
@@ -245,26 +254,36 @@ unfolding IsOne
 kernel_once name None what other h k = h ∙ sym k
 kernel_once name (Some table) what other h k = kernels_once name table what other h k
 
--- each command has one plan
+-- a form that tells, tells one thing
+TellsOnce : Form → Type 0
+TellsOnce (Tells tells) = (held : Held) → IsOne (tells held)
+TellsOnce other = Unit {0}
+
+tells_once : (op : Op) → TellsOnce (form_of op)
+unfolding TellsOnce
+tells_once (command.Echo words) = λ held. just_once (λ line. Ok line) (echo_line words)
+tells_once command.PrintStats = λ held. told_once (Just stats_told) held.network (just_once stats_told)
+tells_once (command.Print name) = λ held. told_once (Just (tables_told name)) held.network (just_once (tables_told name))
+tells_once command.PrintLatch = λ held. told_once (Just latches_told) held.network (just_once latches_told)
+tells_once (command.PrintFactor name) = λ held. told_once (FactorsTold name) held.network (factors_once name)
+tells_once (command.PrintKernel name) = λ held. told_once (KernelsTold name) held.network (λ circuit. kernel_once name (driver circuit.tables name))
+tells_once other = tt
+
+-- each form has one plan, and so has each command
+form_once : (depth : ℕ) (held : Held) (form : Form) (plan plan' : Plan) → TellsOnce form → FormPlans depth held form plan → FormPlans depth held form plan' → plan ≡ plan'
+unfolding TellsOnce
+form_once depth held (Tells tells) plan plan' one h k = replied_once (StaysTold held (tells held)) plan plan' (stays_once held (tells held) (one held)) h k
+form_once depth held (Writes part file) plan plan' one h k = h ∙ sym k
+form_once depth held (Reads format name) plan plan' one h k = h ∙ sym k
+form_once depth held (ReadsLibrary name) plan plan' one h k = h ∙ sym k
+form_once depth held (ChangesNetwork change) plan plan' one h k = replied_once (ChangedBy held change held.network) plan plan' (change_once held change held.network) h k
+form_once depth held TakesBack plan plan' one h k = h ∙ sym k
+form_once depth held (Sources name) plan plan' one h k = h ∙ sym k
+form_once depth held Ends plan plan' one h k = h ∙ sym k
+form_once depth held (IsWrong fault) plan plan' one h k = h ∙ sym k
+
 pub plans_once : (depth : ℕ) (held : Held) (op : Op) (plan plan' : Plan) → Plans depth held op plan → Plans depth held op plan' → plan ≡ plan'
-plans_once depth held (Echo words) plan plan' h k = h ∙ sym k
-plans_once depth held Quit plan plan' h k = h ∙ sym k
-plans_once depth held (ReadBlif name) plan plan' h k = h ∙ sym k
-plans_once depth held (ReadKiss name) plan plan' h k = h ∙ sym k
-plans_once depth held (ReadLibrary name) plan plan' h k = h ∙ sym k
-plans_once depth held (WriteBlif file) plan plan' h k = h ∙ sym k
-plans_once depth held (WriteKiss file) plan plan' h k = h ∙ sym k
-plans_once depth held PrintStats plan plan' h k = h ∙ sym k
-plans_once depth held (Print name) plan plan' h k = h ∙ sym k
-plans_once depth held PrintLatch plan plan' h k = h ∙ sym k
-plans_once depth held (PrintFactor name) plan plan' h k =
-    prints_once held (ToldBy (FactorsTold name) held.network) plan plan' (told_once (FactorsTold name) held.network (factors_once name)) h k
-plans_once depth held (PrintKernel name) plan plan' h k =
-    prints_once held (ToldBy (KernelsTold name) held.network) plan plan' (told_once (KernelsTold name) held.network (λ circuit. kernel_once name (driver circuit.tables name))) h k
-plans_once depth held (ChangeOp change) plan plan' h k = change_once held change held.network plan plan' h k
-plans_once depth held Undo plan plan' h k = h ∙ sym k
-plans_once depth held (Source name) plan plan' h k = h ∙ sym k
-plans_once depth held (Bad fault) plan plan' h k = h ∙ sym k
+plans_once depth held op plan plan' h k = form_once depth held (form_of op) plan plan' (tells_once op) h k
 
 pub one_ending : (depth : ℕ) (held : Held) (op : Op) (asked : Asked) (one other : Ending)
     → Steps (Plans depth held op) asked one → Steps (Plans depth held op) asked other

@@ -3,15 +3,15 @@ use Rattle.std.proofs.Common.{◌≡◌, ℕ, ◌<◌, ◌≤◌, List, refl, sy
 use Rattle.std.proofs.lemmas.Bool.Decides.{nat_tests}
 use Rattle.std.specs.Prelude.{Bool, Option, Some, None, Result, Ok, Err, nat_lt, if◌then◌else◌}
 use Rattle.std.specs.Global.{Vec}
-use Rattle.sis_text.specs.Entries.{entries_of}
 use Rattle.sis_outside.specs.Calls.{StoreCall, Follows}
 use Rattle.circuit_model.specs.declared.circuit.Circuit.{Circuit}
-use Rattle.blif_read.specs.Reader.{read_lines}
+use Rattle.circuit_model.specs.declared.machine.Spec.{Spec}
+use Rattle.genlib_format.specs.declared.fault.LibFault.{LibFault}
 use Rattle.sis_script.specs.declared.command.Change.{Change}
-use Rattle.sis_session.specs.Commands.{ChangePlans, spec_read, commands_in, read_as, source_plan, undo_plan}
-use Rattle.sis_session.specs.Methods.{HasLoaded, HasRead, IsChanged, Undoes}
-use Rattle.sis_session.specs.Plan.{MAX_DEPTH, Outcome, Does, Refuses, Quiet, Loads, Ending, Done, Refused, Cut, Comes, Did, AskedNone, faulted}
-use Rattle.sis_session.specs.State.{Held, with_spec, with_changed, with_exchanged}
+use Rattle.sis_session.specs.Commands.{Blif, ChangedBy, Replies, blif_read, commands_in, library_held, reply_changed, source_plan, spec_held, spec_in, undo_outcome}
+use Rattle.sis_session.specs.Methods.{AskedNone, HasLoaded, HasRead, IsChanged, Undoes}
+use Rattle.sis_session.specs.Plan.{MAX_DEPTH, Outcome, Does, Refuses, Quiet, Loads, Ending, Done, Refused, Cut, Comes, Did, faulted}
+use Rattle.sis_session.specs.State.{Held, Library, with_spec, with_library, with_changed, with_exchanged}
 use Rattle.sis_session.specs.declared.refusal.Failed.TheVariants as failed
 use Rattle.sis_session.specs.declared.refusal.Next.TheVariants.{Go, Script}
 use Rattle.sis_session.specs.declared.refusal.Refusal.{Refusal}
@@ -50,19 +50,19 @@ unsourced_did goes depth held name old new why shallow h =
     subst (λ p. Did (λ plan. plan ≡ p) (Follows goes old new) AskedNone (faulted why)) (script_plan depth held name shallow)
     (unloaded_did goes name (λ b. Does held (Script (commands_in b))) old new why h)
 
--- what comes of a file that is read: what it says is held, or its fault is the refusal
-pub read_comes : {A F : Type 0} (held_with : A → Held) (refusal_of : F → Refusal) (read : Result A F) (one : A) (new : Held) → read ≡ Ok one → new ≡ held_with one
-    → Comes (read_as held_with refusal_of read) (Done new Go)
-read_comes held_with refusal_of read one new reads is =
-    subst (λ r. Comes (read_as held_with refusal_of r) (Done new Go)) (sym reads) (inl (ap (λ h. Done h Go) is))
+-- what was read is held
+pub spec_comes : (held held' : Held) (answer : Result Spec Refusal) (read : Spec) → answer ≡ Ok read → held' ≡ with_spec held read
+    → Comes (spec_held held answer) (Done held' Go)
+spec_comes held held' answer read reads is =
+    subst (λ r. Comes (spec_held held r) (Done held' Go)) (sym reads) (inl (ap (λ h. Done h Go) is))
 
-pub misread_comes : {A F : Type 0} (held_with : A → Held) (refusal_of : F → Refusal) (read : Result A F) (fault : F) (why : Refusal) → read ≡ Err fault → why ≡ refusal_of fault
-    → Comes (read_as held_with refusal_of read) (Refused why)
-misread_comes held_with refusal_of read fault why reads is =
-    subst (λ r. Comes (read_as held_with refusal_of r) (Refused why)) (sym reads) (inl (ap (λ w. Refused w) is))
+pub library_comes : (held held' : Held) (name : List ℕ) (answer : Result Library LibFault) (library : Library) → answer ≡ Ok library → held' ≡ with_library held library
+    → Comes (library_held held name answer) (Done held' Go)
+library_comes held held' name answer library reads is =
+    subst (λ r. Comes (library_held held name r) (Done held' Go)) (sym reads) (inl (ap (λ h. Done h Go) is))
 
-pub spec_comes : (held held' : Held) (name bytes : List ℕ) → HasRead bytes held (Ok tt) held' → Comes (spec_read held name bytes) (Done held' Go)
-spec_comes held held' name bytes (read, reads, is) = read_comes (with_spec held) (λ fault. refusal.Blif name fault) (read_lines held.library (entries_of bytes)) read held' reads is
+pub read_comes : (held held' : Held) (name bytes : List ℕ) → HasRead bytes held (Ok tt) held' → Comes (spec_held held (spec_in Blif held name bytes)) (Done held' Go)
+read_comes held held' name bytes (read, reads, is) = spec_comes held held' (spec_in Blif held name bytes) read (ap (blif_read name) reads) is
 
 -- a file was loaded, where its name and its bytes are lent as text and slice
 pub used_did : {S : Type 0} (goes : S → StoreCall → S → Type 0) (used : List ℕ → Outcome) (name text shown : List ℕ) (old new : S) (bytes : Vec ℕ) (ending : Ending)
@@ -77,37 +77,37 @@ unused_did goes used name text old new why same h = unloaded_did goes name used 
 
 -- a change of the network
 pub changed_did : (held held' : Held) (change : Change) (network : Option Circuit) (old new : Circuit) → network ≡ Some old → IsChanged change old (Ok new)
-    → held' ≡ with_changed held new → Did (ChangePlans held change network) AskedNone AskedNone (Done held' Go)
+    → held' ≡ with_changed held new → Did (Replies (ChangedBy held change network)) AskedNone AskedNone (Done held' Go)
 changed_did held held' change network old new there h is =
-    subst (λ n. Did (ChangePlans held change n) AskedNone AskedNone (Done held' Go)) (sym there)
-    (quiet_did (ChangePlans held change (Some old)) (Does (with_changed held new) Go) (Done held' Go) (Ok new, h, refl) (inl (ap (λ x. Done x Go) is)))
+    subst (λ n. Did (Replies (ChangedBy held change n)) AskedNone AskedNone (Done held' Go)) (sym there)
+    (quiet_did (Replies (ChangedBy held change (Some old))) (Does (with_changed held new) Go) (Done held' Go) (reply_changed held (Ok new), (Ok new, h, refl), refl) (inl (ap (λ x. Done x Go) is)))
 
 pub unchanged_did : (held : Held) (change : Change) (network : Option Circuit) (old : Circuit) (why : StepFault) → network ≡ Some old → IsChanged change old (Err why)
-    → Did (ChangePlans held change network) AskedNone AskedNone (faulted why)
+    → Did (Replies (ChangedBy held change network)) AskedNone AskedNone (faulted why)
 unchanged_did held change network old why there h =
-    subst (λ n. Did (ChangePlans held change n) AskedNone AskedNone (faulted why)) (sym there) (by why h)
+    subst (λ n. Did (Replies (ChangedBy held change n)) AskedNone AskedNone (faulted why)) (sym there) (by why h)
   where
-    by : (w : StepFault) → IsChanged change old (Err w) → Did (ChangePlans held change (Some old)) AskedNone AskedNone (faulted w)
-    by (fault.Refused reason) k = quiet_did (ChangePlans held change (Some old)) (Refuses reason) (Refused reason) (Err reason, k, refl) (inl refl)
+    by : (w : StepFault) → IsChanged change old (Err w) → Did (Replies (ChangedBy held change (Some old))) AskedNone AskedNone (faulted w)
+    by (fault.Refused reason) k = quiet_did (Replies (ChangedBy held change (Some old))) (Refuses reason) (Refused reason) (Err reason, (Err reason, k, refl), refl) (inl refl)
     by fault.StoreFault k = absurd k
     by fault.SinkFault k = absurd k
-    by fault.Memory k = wanting_did (ChangePlans held change (Some old))
+    by fault.Memory k = wanting_did (Replies (ChangedBy held change (Some old)))
 
 pub no_network_did : (held : Held) (change : Change) (network : Option Circuit) → network ≡ None
-    → Did (ChangePlans held change network) AskedNone AskedNone (Refused refusal.NoNetwork)
+    → Did (Replies (ChangedBy held change network)) AskedNone AskedNone (Refused refusal.NoNetwork)
 no_network_did held change network none =
-    subst (λ n. Did (ChangePlans held change n) AskedNone AskedNone (Refused refusal.NoNetwork)) (sym none)
-    (quiet_did (ChangePlans held change None) (Refuses refusal.NoNetwork) (Refused refusal.NoNetwork) refl (inl refl))
+    subst (λ n. Did (Replies (ChangedBy held change n)) AskedNone AskedNone (Refused refusal.NoNetwork)) (sym none)
+    (quiet_did (Replies (ChangedBy held change None)) (Refuses refusal.NoNetwork) (Refused refusal.NoNetwork) (Err refusal.NoNetwork, refl, refl) (inl refl))
 
 -- `undo`
 pub undone_did : (held held' : Held) (previous : Option Circuit) (undone : Bool) → Undoes previous held undone held' → undone ≡ true
-    → Did (λ plan. plan ≡ undo_plan held previous) AskedNone AskedNone (Done held' Go)
+    → Did (λ plan. plan ≡ Quiet (undo_outcome held previous)) AskedNone AskedNone (Done held' Go)
 undone_did held held' None undone h is = let clash : true ≡ false = sym is ∙ h.0 in cc
 undone_did held held' (Some circuit) undone h is =
-    quiet_did (λ plan. plan ≡ undo_plan held (Some circuit)) (Does (with_exchanged held) Go) (Done held' Go) refl (inl (ap (λ x. Done x Go) h.1))
+    quiet_did (λ plan. plan ≡ Quiet (undo_outcome held (Some circuit))) (Does (with_exchanged held) Go) (Done held' Go) refl (inl (ap (λ x. Done x Go) h.1))
 
 pub nothing_undone_did : (held held' : Held) (previous : Option Circuit) (undone : Bool) → Undoes previous held undone held' → undone ≡ false
-    → Did (λ plan. plan ≡ undo_plan held previous) AskedNone AskedNone (Refused refusal.NothingToUndo)
+    → Did (λ plan. plan ≡ Quiet (undo_outcome held previous)) AskedNone AskedNone (Refused refusal.NothingToUndo)
 nothing_undone_did held held' None undone h is =
-    quiet_did (λ plan. plan ≡ undo_plan held None) (Refuses refusal.NothingToUndo) (Refused refusal.NothingToUndo) refl (inl refl)
+    quiet_did (λ plan. plan ≡ Quiet (undo_outcome held None)) (Refuses refusal.NothingToUndo) (Refused refusal.NothingToUndo) refl (inl refl)
 nothing_undone_did held held' (Some circuit) undone h is = let clash : true ≡ false = sym h.0 ∙ is in cc

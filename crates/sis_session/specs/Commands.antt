@@ -1,8 +1,8 @@
--- The commands one by one: the plan of each. A new command is a new case.
--- Source: the SIS manual (UCB/ERL M92/41), the commands; the order of refusals is the project's own: a command's words, then
--- how deep scripts are nested, then the parts that it needs, then names, then the file that it loads, then what is read of it,
--- then the command's own limits.
-use Rattle.std.specs.Prelude.{◌≡◌, ◌⊎◌, ℕ, Option, Some, None, Result, Ok, Err, List, nat_lt, flat_map, map, if◌then◌else◌}
+-- The commands one by one: the form of each, and the plans of a form. A new command is a new case.
+-- Source: the SIS manual (UCB/ERL M92/41), the commands; the order of refusals is the project's own: a
+-- command's words, then how deep scripts are nested, then the parts that it needs, then names, then the
+-- file that it loads, then what is read of it, then the command's own limits.
+use Rattle.std.specs.Prelude.{◌≡◌, ◌⊎◌, ℕ, Option, Some, None, Result, Ok, Err, List, [], nat_lt, flat_map, map, if◌then◌else◌}
 use Rattle.sis_base.specs.Written.{lines_text}
 use Rattle.sis_text.specs.Entries.{entries_of, script_entries_of}
 use Rattle.circuit_model.specs.Text.{text_of, table_lines, latch_line}
@@ -12,9 +12,13 @@ use Rattle.circuit_model.specs.declared.circuit.Table.{Table}
 use Rattle.circuit_model.specs.MachineText.{text_of as machine_text_of}
 use Rattle.circuit_model.specs.declared.machine.Machine.{Machine}
 use Rattle.circuit_model.specs.declared.machine.Spec.{Spec}
+use Rattle.circuit_model.specs.declared.machine.Spec.TheVariants as spec
 use Rattle.blif_read.specs.Reader.{read_lines}
 use Rattle.kiss_format.specs.Reader.{read_lines as machine_lines_read}
 use Rattle.genlib_format.specs.Reader.{library_of}
+use Rattle.genlib_format.specs.declared.fault.LibFault.{LibFault}
+use Rattle.kiss_format.specs.declared.fault.KissFault.{KissFault}
+use Rattle.blif_lines.specs.declared.fault.BlifFault.{BlifFault}
 use Rattle.circuit_laws.specs.Chains.{Chain}
 use Rattle.sis_session.specs.Told.{IsFactorLine, AreFactorLines, AreKernelLines, HasManyKernels}
 use Rattle.net_wires.specs.Rules.{sweep_step}
@@ -33,12 +37,13 @@ use Rattle.net_elim.specs.Collapsing.{collapsed, collapse_refusal}
 use Rattle.sis_script.specs.Script.{command_of}
 use Rattle.sis_script.specs.declared.command.Command.{Command}
 use Rattle.sis_script.specs.declared.command.Change.{Change}
-use Rattle.sis_script.specs.declared.command.Change.TheVariants.{Sweep, Eliminate, Collapse, Simplify, Fx, Gkx, Gcx, Resub, Decomp, TechDecomp}
+use Rattle.sis_script.specs.declared.command.Change.TheVariants as changing
 use Rattle.sis_script.specs.declared.command.Op.{Op}
-use Rattle.sis_script.specs.declared.command.Op.TheVariants.{Echo, Quit, ReadBlif, ReadKiss, ReadLibrary, WriteBlif, WriteKiss, PrintStats, Print, PrintLatch, PrintFactor, PrintKernel, Change as ChangeOp, Undo, Source, Bad}
-use Rattle.sis_session.specs.Plan.{MAX_DEPTH, Outcome, Does, Refuses, Plan, Quiet, Loads, Saves, replies}
+use Rattle.sis_script.specs.declared.command.Op.TheVariants as command
+use Rattle.sis_script.specs.declared.command.ScriptFault.{ScriptFault}
+use Rattle.sis_session.specs.Plan.{MAX_DEPTH, Outcome, Does, Refuses, Plan, Quiet, Loads, Reply, sends}
 use Rattle.sis_session.specs.Replies.{stats_line, echo_line}
-use Rattle.sis_session.specs.State.{Held, with_spec, with_machine, held_spec, with_library, with_changed, with_exchanged}
+use Rattle.sis_session.specs.State.{Held, Library, with_spec, held_spec, with_library, with_changed, with_exchanged}
 use Rattle.sis_session.specs.declared.refusal.Next.TheVariants as next
 use Rattle.sis_session.specs.declared.refusal.Refusal.{Refusal}
 use Rattle.sis_session.specs.declared.refusal.Refusal.TheVariants as refusal
@@ -47,44 +52,71 @@ use Rattle.sis_session.specs.declared.refusal.Refusal.TheVariants as refusal
 abbrev pub commands_in : List ℕ → List Command
 commands_in text = map command_of (script_entries_of text)
 
--- a command that is done and leaves what is held
-abbrev pub stays : Held → Outcome
-stays held = Does held next.Go
+-- the formats in which a circuit or a machine is read
+pub data Format : Type 0 where
+  Blif : Format
+  Kiss : Format
 
--- what comes of reading a file: what it says is held, or its fault is the refusal
-abbrev pub read_as : {A F : Type 0} → (A → Held) → (F → Refusal) → Result A F → Outcome
-read_as held_with refusal_of (Ok one) = Does (held_with one) next.Go
-read_as held_with refusal_of (Err fault) = Refuses (refusal_of fault)
+-- what is read in a format, or the fault that its reader finds
+abbrev pub blif_read : List ℕ → Result Spec BlifFault → Result Spec Refusal
+blif_read name (Ok read) = Ok read
+blif_read name (Err fault) = Err (refusal.Blif name fault)
 
--- what comes of the bytes of a file that is read as a circuit or a machine, by the library that is held; as a machine; as a library
-abbrev pub spec_read : Held → List ℕ → List ℕ → Outcome
-spec_read held name bytes = read_as (with_spec held) (λ fault. refusal.Blif name fault) (read_lines held.library (entries_of bytes))
+abbrev pub kiss_read : List ℕ → Result Machine KissFault → Result Spec Refusal
+kiss_read name (Ok machine) = Ok (spec.Machine machine)
+kiss_read name (Err fault) = Err (refusal.Kiss name fault)
 
-abbrev pub machine_read : Held → List ℕ → List ℕ → Outcome
-machine_read held name bytes = read_as (with_machine held) (λ fault. refusal.Kiss name fault) (machine_lines_read (entries_of bytes))
+-- what the bytes of a file are read as: a circuit or a machine, by the library that is held; a machine
+abbrev pub spec_in : Format → Held → List ℕ → List ℕ → Result Spec Refusal
+spec_in Blif held name bytes = blif_read name (read_lines held.library (entries_of bytes))
+spec_in Kiss held name bytes = kiss_read name (machine_lines_read (entries_of bytes))
 
-abbrev pub library_read : Held → List ℕ → List ℕ → Outcome
-library_read held name bytes = read_as (with_library held) (λ fault. refusal.Lib name fault) (library_of bytes)
+-- what was read is held, or its fault is the refusal
+abbrev pub spec_held : Held → Result Spec Refusal → Outcome
+spec_held held (Ok read) = Does (with_spec held read) next.Go
+spec_held held (Err why) = Refuses why
 
--- what is told of the network, or the refusal where there is none
-abbrev pub told_of : (Circuit → Result (List ℕ) Refusal) → Option Circuit → Result (List ℕ) Refusal
-told_of told None = Err refusal.NoNetwork
-told_of told (Some circuit) = told circuit
+-- a library that was read is held, or its fault is the refusal
+abbrev pub library_held : Held → List ℕ → Result Library LibFault → Outcome
+library_held held name (Ok library) = Does (with_library held library) next.Go
+library_held held name (Err fault) = Refuses (refusal.Lib name fault)
 
--- what is told goes to the file that is named, or is put; or the refusal comes
-abbrev pub sends : Held → Option (List ℕ) → Result (List ℕ) Refusal → Plan
-sends held None (Ok text) = replies text (stays held)
-sends held (Some name) (Ok text) = Saves name text (stays held)
-sends held file (Err why) = Quiet (Refuses why)
+-- what a command writes: the network or the machine
+pub data Part : Type 0 where
+  TheNetwork : Part
+  TheMachine : Part
 
--- `write_blif`: the network's text
-abbrev pub text_told : Circuit → Result (List ℕ) Refusal
-text_told circuit = Ok (text_of circuit)
+-- the network, or the refusal where there is none; and the machine
+abbrev pub network_of : Option Circuit → Result Spec Refusal
+network_of None = Err refusal.NoNetwork
+network_of (Some circuit) = Ok (spec.Circuit circuit)
 
--- `write_kiss`: the machine's text, or the refusal where there is none
-abbrev pub machine_told : Option Machine → Result (List ℕ) Refusal
-machine_told None = Err refusal.NoMachine
-machine_told (Some machine) = Ok (machine_text_of machine)
+abbrev pub machine_of : Option Machine → Result Spec Refusal
+machine_of None = Err refusal.NoMachine
+machine_of (Some machine) = Ok (spec.Machine machine)
+
+abbrev pub part_of : Part → Held → Result Spec Refusal
+part_of TheNetwork held = network_of held.network
+part_of TheMachine held = machine_of held.machine
+
+-- the text of a circuit, and of a machine
+abbrev pub text_of_spec : Spec → List ℕ
+text_of_spec (spec.Circuit circuit) = text_of circuit
+text_of_spec (spec.Machine machine) = machine_text_of machine
+
+abbrev pub written_text : Result Spec Refusal → Result (List ℕ) Refusal
+written_text (Ok written) = Ok (text_of_spec written)
+written_text (Err why) = Err why
+
+-- a text is given, and what is held stays; or the refusal comes
+abbrev pub reply_with : Held → Result (List ℕ) Refusal → Result Reply Refusal
+reply_with held (Ok text) = Ok (record { text = text; held = held })
+reply_with held (Err why) = Err why
+
+-- what may be told of the network where a relation says it, or the refusal where there is none
+abbrev pub ToldBy : (Circuit → Result (List ℕ) Refusal → Type 0) → Option Circuit → Result (List ℕ) Refusal → Type 0
+ToldBy tells None what = what ≡ Err refusal.NoNetwork
+ToldBy tells (Some circuit) what = tells circuit what
 
 -- `print` of a name: its table as it is written, or a refusal where there is none
 abbrev pub named_told : List ℕ → Option Table → Result (List ℕ) Refusal
@@ -104,14 +136,9 @@ latches_told circuit = Ok (lines_text (map (latch_line circuit.timing) circuit.l
 abbrev pub stats_told : Circuit → Result (List ℕ) Refusal
 stats_told circuit = Ok (stats_line circuit)
 
--- what may be told of the network where a relation says it, or the refusal where there is none
-abbrev pub ToldBy : (Circuit → Result (List ℕ) Refusal → Type 0) → Option Circuit → Result (List ℕ) Refusal → Type 0
-ToldBy tells None what = what ≡ Err refusal.NoNetwork
-ToldBy tells (Some circuit) what = tells circuit what
-
--- one thing that may be told is put, or is the refusal
-abbrev pub Prints : Held → (Result (List ℕ) Refusal → Type 0) → Plan → Type 0
-Prints held tells plan = (what : Result (List ℕ) Refusal) × tells what × (plan ≡ sends held None what)
+-- just this is told
+abbrev pub Just : {A : Type 0} → (A → Result (List ℕ) Refusal) → A → Result (List ℕ) Refusal → Type 0
+Just told of what = told of ≡ what
 
 -- `print_factor` of a name: the line of its table's factored form, or a refusal where there is none
 abbrev pub FactorTold : List ℕ → Option Table → Result (List ℕ) Refusal → Type 0
@@ -153,81 +180,130 @@ abbrev pub Decomposes : Rule → Circuit → Result Circuit Refusal → Type 0
 Decomposes rule old (Ok new) = IsDecomposed rule old new
 Decomposes rule old (Err why) = IsFull rule old × (why ≡ refusal.NodeLimit)
 
--- why a network is not extracted by a rule: its steps come to a first table with too many kernels, or to a network that has no room for
--- the next table
+-- why a network is not extracted by a rule: its steps come to a first table with too many kernels, or
+-- to a network that has no room for the next table
 abbrev pub IsExtractionRefusal : Extraction → Circuit → Refusal → Type 0
 IsExtractionRefusal rule old why =
-    ((name : List ℕ) × IsUnlistable rule old name × (why ≡ refusal.KernelLimit name)) ⊎ (IsExtractionFull rule old × (why ≡ refusal.NodeLimit))
+    ((name : List ℕ) × IsUnlistable rule old name × (why ≡ refusal.KernelLimit name))
+    ⊎ (IsExtractionFull rule old × (why ≡ refusal.NodeLimit))
 
 -- a network is extracted by a rule, or refused
 abbrev pub Extracts : Extraction → Circuit → Result Circuit Refusal → Type 0
 Extracts rule old (Ok new) = IsExtracted rule old new
 Extracts rule old (Err why) = IsExtractionRefusal rule old why
 
--- What a command that changes the network makes of it: a new network, or a refusal. `sweep`, `eliminate`: steps are taken until none
--- applies. `collapse`: all tables are taken into their readers, or the first that cannot take one in is told. `simplify`: each table
--- becomes minimal in its turn, or the first whose list is too long is told. `fx`, `gkx`, `gcx`: candidates become tables as long as one
--- saves literals, or the first table with too many kernels is told, or there is no room. `resub`: tables are divided by others as long as
--- that saves literals. `decomp`, `tech_decomp`: tables are parted until all are done, or there is no room.
+-- What a command that changes the network makes of it: a new network, or a refusal. `sweep`, `eliminate`:
+-- steps are taken until none applies. `collapse`: all tables are taken into their readers, or the first
+-- that cannot take one in is told. `simplify`: each table becomes minimal in its turn, or the first whose
+-- list is too long is told. `fx`, `gkx`, `gcx`: candidates become tables as long as one saves literals, or
+-- the first table with too many kernels is told, or there is no room. `resub`: tables are divided by others
+-- as long as that saves literals. `decomp`, `tech_decomp`: tables are parted until all are done, or there
+-- is no room.
 abbrev pub Changes : Change → Circuit → Result Circuit Refusal → Type 0
-Changes Sweep old (Ok new) = Chain sweep_step old new
-Changes Sweep old (Err why) = ⊥
-Changes (Eliminate threshold rows) old (Ok new) = Chain (eliminate_step threshold rows) old new
-Changes (Eliminate threshold rows) old (Err why) = ⊥
-Changes Collapse old (Ok new) = (collapse_refusal old ≡ None) × (new ≡ collapsed old)
-Changes Collapse old (Err why) = IsCollapseRefusal (collapse_refusal old) why
-Changes Simplify old (Ok new) = (simplify_refusal old ≡ None) × (new ≡ simplified old)
-Changes Simplify old (Err why) = IsSimplifyRefusal (simplify_refusal old) why
-Changes Fx old what = Extracts extract.Fx old what
-Changes Gkx old what = Extracts extract.Gkx old what
-Changes Gcx old what = Extracts extract.Gcx old what
-Changes Resub old (Ok new) = IsResubbed old new
-Changes Resub old (Err why) = ⊥
-Changes Decomp old what = Decomposes Shared old what
-Changes (TechDecomp products sums) old what = Decomposes (Gates products sums) old what
+Changes changing.Sweep old (Ok new) = Chain sweep_step old new
+Changes changing.Sweep old (Err why) = ⊥
+Changes (changing.Eliminate threshold rows) old (Ok new) = Chain (eliminate_step threshold rows) old new
+Changes (changing.Eliminate threshold rows) old (Err why) = ⊥
+Changes changing.Collapse old (Ok new) = (collapse_refusal old ≡ None) × (new ≡ collapsed old)
+Changes changing.Collapse old (Err why) = IsCollapseRefusal (collapse_refusal old) why
+Changes changing.Simplify old (Ok new) = (simplify_refusal old ≡ None) × (new ≡ simplified old)
+Changes changing.Simplify old (Err why) = IsSimplifyRefusal (simplify_refusal old) why
+Changes changing.Fx old what = Extracts extract.Fx old what
+Changes changing.Gkx old what = Extracts extract.Gkx old what
+Changes changing.Gcx old what = Extracts extract.Gcx old what
+Changes changing.Resub old (Ok new) = IsResubbed old new
+Changes changing.Resub old (Err why) = ⊥
+Changes changing.Decomp old what = Decomposes Shared old what
+Changes (changing.TechDecomp products sums) old what = Decomposes (Gates products sums) old what
 
--- what comes of a change: the new network is held, and the old one is the previous one; or the refusal
-abbrev pub changed_by : Held → Result Circuit Refusal → Outcome
-changed_by held (Ok new) = Does (with_changed held new) next.Go
-changed_by held (Err why) = Refuses why
+-- what comes of a change: the new network is held, and the old one is the previous one; nothing is put
+abbrev pub reply_changed : Held → Result Circuit Refusal → Result Reply Refusal
+reply_changed held (Ok new) = Ok (record { text = []; held = with_changed held new })
+reply_changed held (Err why) = Err why
 
--- the plans of a command that changes the network
-abbrev pub ChangePlans : Held → Change → Option Circuit → Plan → Type 0
-ChangePlans held change None plan = plan ≡ Quiet (Refuses refusal.NoNetwork)
-ChangePlans held change (Some old) plan =
-    (answer : Result Circuit Refusal) × Changes change old answer × (plan ≡ Quiet (changed_by held answer))
+-- what a command that changes the network may come to
+abbrev pub ChangedBy : Held → Change → Option Circuit → Result Reply Refusal → Type 0
+ChangedBy held change None reply = reply ≡ Err refusal.NoNetwork
+ChangedBy held change (Some old) reply =
+    (answer : Result Circuit Refusal) × Changes change old answer × (reply ≡ reply_changed held answer)
 
 -- `undo`: the network and the previous one change places
-abbrev pub undo_plan : Held → Option Circuit → Plan
-undo_plan held None = Quiet (Refuses refusal.NothingToUndo)
-undo_plan held (Some circuit) = Quiet (Does (with_exchanged held) next.Go)
+abbrev pub undo_outcome : Held → Option Circuit → Outcome
+undo_outcome held None = Refuses refusal.NothingToUndo
+undo_outcome held (Some circuit) = Does (with_exchanged held) next.Go
 
 -- `source`: the file's commands come next, unless scripts are nested too deep
 abbrev pub source_plan : ℕ → Held → List ℕ → Plan
 source_plan depth held name =
-    if nat_lt depth MAX_DEPTH then Loads name (λ bytes. Does held (next.Script (commands_in bytes))) else Quiet (Refuses refusal.Nested)
+    if nat_lt depth MAX_DEPTH
+    then Loads name (λ bytes. Does held (next.Script (commands_in bytes)))
+    else Quiet (Refuses refusal.Nested)
 
--- the plans of a command, with so many sourced scripts round it, where this is held
+-- What a command does, by its form: it tells something of what is held; it writes a part of it to a file
+-- or to the output; it reads a file as a circuit or a machine, or as a library; it changes the network; it
+-- takes a change back; it has a script done next; it ends the script; or its words are wrong.
+pub data Form : Type 1 where
+  Tells : (tells : Held → Result (List ℕ) Refusal → Type 0) → Form
+  Writes : (part : Part) (file : Option (List ℕ)) → Form
+  Reads : (format : Format) (file : List ℕ) → Form
+  ReadsLibrary : (file : List ℕ) → Form
+  ChangesNetwork : (change : Change) → Form
+  TakesBack : Form
+  Sources : (file : List ℕ) → Form
+  Ends : Form
+  IsWrong : (fault : ScriptFault) → Form
+
+-- the form of each command
+abbrev pub form_of : Op → Form
+form_of (command.Echo words) = Tells (λ held. Just (λ line. Ok line) (echo_line words))
+form_of command.Quit = Ends
+form_of (command.ReadBlif name) = Reads Blif name
+form_of (command.ReadKiss name) = Reads Kiss name
+form_of (command.ReadLibrary name) = ReadsLibrary name
+form_of (command.WriteBlif file) = Writes TheNetwork file
+form_of (command.WriteKiss file) = Writes TheMachine file
+form_of command.PrintStats = Tells (λ held. ToldBy (Just stats_told) held.network)
+form_of (command.Print name) = Tells (λ held. ToldBy (Just (tables_told name)) held.network)
+form_of command.PrintLatch = Tells (λ held. ToldBy (Just latches_told) held.network)
+form_of (command.PrintFactor name) = Tells (λ held. ToldBy (FactorsTold name) held.network)
+form_of (command.PrintKernel name) = Tells (λ held. ToldBy (KernelsTold name) held.network)
+form_of (command.Change change) = ChangesNetwork change
+form_of command.Undo = TakesBack
+form_of (command.Source name) = Sources name
+form_of (command.Bad fault) = IsWrong fault
+
+-- one thing that may come is put, and then this is held; or it is the refusal
+abbrev pub Replies : (Result Reply Refusal → Type 0) → Plan → Type 0
+Replies may plan = (reply : Result Reply Refusal) × may reply × (plan ≡ sends None reply)
+
+-- what is told, with what is held, which stays
+abbrev pub StaysTold : Held → (Result (List ℕ) Refusal → Type 0) → Result Reply Refusal → Type 0
+StaysTold held tells reply =
+    (what : Result (List ℕ) Refusal) × tells what × (reply ≡ reply_with held what)
+
+-- the plans of a form, with so many sourced scripts round the command, where this is held
+abbrev pub FormPlans : ℕ → Held → Form → Plan → Type 0
+FormPlans depth held (Tells tells) plan = Replies (StaysTold held (tells held)) plan
+FormPlans depth held (Writes part file) plan =
+    plan ≡ sends file (reply_with held (written_text (part_of part held)))
+FormPlans depth held (Reads format name) plan =
+    plan ≡ Loads name (λ bytes. spec_held held (spec_in format held name bytes))
+FormPlans depth held (ReadsLibrary name) plan =
+    plan ≡ Loads name (λ bytes. library_held held name (library_of bytes))
+FormPlans depth held (ChangesNetwork change) plan = Replies (ChangedBy held change held.network) plan
+FormPlans depth held TakesBack plan = plan ≡ Quiet (undo_outcome held held.previous)
+FormPlans depth held (Sources name) plan = plan ≡ source_plan depth held name
+FormPlans depth held Ends plan = plan ≡ Quiet (Does held next.Quit)
+FormPlans depth held (IsWrong fault) plan = plan ≡ Quiet (Refuses (refusal.Script fault))
+
+-- the plans of a command
 abbrev pub Plans : ℕ → Held → Op → Plan → Type 0
-Plans depth held (Echo words) plan = plan ≡ sends held None (Ok (echo_line words))
-Plans depth held Quit plan = plan ≡ Quiet (Does held next.Quit)
-Plans depth held (ReadBlif name) plan = plan ≡ Loads name (spec_read held name)
-Plans depth held (ReadKiss name) plan = plan ≡ Loads name (machine_read held name)
-Plans depth held (ReadLibrary name) plan = plan ≡ Loads name (library_read held name)
-Plans depth held (WriteBlif file) plan = plan ≡ sends held file (told_of text_told held.network)
-Plans depth held (WriteKiss file) plan = plan ≡ sends held file (machine_told held.machine)
-Plans depth held PrintStats plan = plan ≡ sends held None (told_of stats_told held.network)
-Plans depth held (Print name) plan = plan ≡ sends held None (told_of (tables_told name) held.network)
-Plans depth held PrintLatch plan = plan ≡ sends held None (told_of latches_told held.network)
-Plans depth held (PrintFactor name) plan = Prints held (ToldBy (FactorsTold name) held.network) plan
-Plans depth held (PrintKernel name) plan = Prints held (ToldBy (KernelsTold name) held.network) plan
-Plans depth held (ChangeOp change) plan = ChangePlans held change held.network plan
-Plans depth held Undo plan = plan ≡ undo_plan held held.previous
-Plans depth held (Source name) plan = plan ≡ source_plan depth held name
-Plans depth held (Bad fault) plan = plan ≡ Quiet (Refuses (refusal.Script fault))
+Plans depth held op plan = FormPlans depth held (form_of op) plan
 
 -- what was read last, behind a command that is done and after which this is held
+abbrev pub read_by : Form → Held → Option Spec → Option Spec
+read_by (Reads format name) held read = held_spec held.network held.machine
+read_by other held read = read
+
 abbrev pub last_read : Op → Held → Option Spec → Option Spec
-last_read (ReadBlif name) held read = held_spec held.network held.machine
-last_read (ReadKiss name) held read = held_spec held.network held.machine
-last_read op held read = read
+last_read op held read = read_by (form_of op) held read

@@ -1,4 +1,5 @@
--- What the calls below a step promise: each by cases on its answer.
+-- What the calls below a step promise, each by cases on its answer. No public clause stands on these
+-- definitions but that of `load` and of the session's `read` and `undo`.
 -- Source: the project's own rule: an answer names what failed, and only a command that is done changes what is held.
 use Rattle.std.specs.Prelude.{◌≡◌, ℕ, Bool, true, false, List, [], ◌∷◌, Option, Some, None, Result, Ok, Err}
 use Rattle.std.specs.Global.{Vec}
@@ -23,6 +24,10 @@ use Rattle.sis_session.specs.declared.refusal.Refusal.{Refusal}
 use Rattle.sis_session.specs.declared.refusal.Refusal.TheVariants as refusal
 use Rattle.sis_session.specs.declared.refusal.StepFault.{StepFault}
 use Rattle.sis_session.specs.declared.refusal.StepFault.TheVariants as fault
+
+-- nothing was asked of an object
+abbrev pub AskedNone : {C : Type 0} → List C → Type 0
+AskedNone calls = calls ≡ []
 
 -- a file was loaded by one call: its bytes, or why there are none; memory may be wanting behind any answer but a failure
 abbrev pub HasLoaded : {S : Type 0} → (S → StoreCall → S → Type 0) → List ℕ → S → Result (Vec ℕ) StepFault → S → Type 0

@@ -2,7 +2,7 @@
 -- the answer of a step says of it.
 -- Source: the project's own rule for the outside: a command makes at most one call and puts its reply whole; a refusal, a
 -- fault and want of memory leave what is held as it was.
-use Rattle.std.specs.Prelude.{◌≡◌, ◌⊎◌, ◌≤◌, ◌<◌, ◌+◌, ℕ, List, [], ◌∷◌, ◌++◌, length, Result, Ok, Err}
+use Rattle.std.specs.Prelude.{◌≡◌, ◌⊎◌, ◌≤◌, ◌<◌, ◌+◌, ℕ, Option, Some, None, List, [], ◌∷◌, ◌++◌, length, Result, Ok, Err}
 use Rattle.sis_outside.specs.Calls.{StoreCall, Load, Save, TakeCall, PutCall}
 use Rattle.sis_outside.specs.declared.store.LoadFault.{LoadFault}
 use Rattle.sis_outside.specs.declared.store.LoadFault.TheVariants as load
@@ -16,7 +16,7 @@ use Rattle.sis_session.specs.State.{Held}
 use Rattle.sis_session.specs.declared.refusal.Failed.{Failed}
 use Rattle.sis_session.specs.declared.refusal.Failed.TheVariants as failed
 use Rattle.sis_session.specs.declared.refusal.Next.{Next}
-use Rattle.sis_session.specs.declared.refusal.Next.TheVariants.{Script}
+use Rattle.sis_session.specs.declared.refusal.Next.TheVariants.{Go, Script}
 use Rattle.sis_session.specs.declared.refusal.Refusal.{Refusal}
 use Rattle.sis_session.specs.declared.refusal.Refusal.TheVariants as refusal
 use Rattle.sis_session.specs.declared.refusal.StepFault.{StepFault}
@@ -48,6 +48,17 @@ pub data Plan : Type 0 where
 abbrev pub replies : List ℕ → Outcome → Plan
 replies [] outcome = Quiet outcome
 replies (byte ∷ bytes) outcome = Puts (byte ∷ bytes) outcome
+
+-- a text that a command gives, and what is held once it was put or saved
+pub record Reply : Type 0 where
+  pub text : List ℕ
+  pub held : Held
+
+-- a text goes to the file that is named, or is put, and then this is held; or the refusal comes
+abbrev pub sends : Option (List ℕ) → Result Reply Refusal → Plan
+sends None (Ok reply) = replies reply.text (Does reply.held Go)
+sends (Some name) (Ok reply) = Saves name reply.text (Does reply.held Go)
+sends file (Err why) = Quiet (Refuses why)
 
 -- what was asked of the outside, with the answers
 pub data Asked : Type 0 where
@@ -106,13 +117,16 @@ ComesPiece used text (Ok (byte ∷ piece)) calls more ending = more (text ++ byt
 ComesPiece used text (Err take.Failed) calls more ending = (calls ≡ []) × (ending ≡ Cut failed.Input)
 ComesPiece used text (Err take.Memory) calls more ending = (calls ≡ []) × (ending ≡ Cut failed.Memory)
 
--- what comes of the takes of the whole input, behind the bytes that were taken so far: each asks for all that may still be
--- used and one byte more; an empty piece is the end, a byte too many a script that is too long
+-- what comes of the takes of the whole input, behind the bytes that were taken so far: as long as these may be
+-- used, each asks for all that may still be used and one byte more; an empty piece is the end, a byte too many
+-- a script that is too long
 abbrev pub ComesTaken : (List ℕ → Outcome) → List ℕ → List TakeCall → Ending → Type 0
 ComesTaken used text [] ending =
-    ((MAX_BYTES < length text) × Comes (Refuses refusal.LongScript) ending) ⊎ ((length text ≤ MAX_BYTES) × (ending ≡ Cut failed.Memory))
+    ((MAX_BYTES < length text) × Comes (Refuses refusal.LongScript) ending)
+    ⊎ ((length text ≤ MAX_BYTES) × (ending ≡ Cut failed.Memory))
 ComesTaken used text (call ∷ calls) ending =
-    (call.max + length text ≡ MAX_BYTES + 1) × ComesPiece used text call.answer calls (λ longer. ComesTaken used longer calls ending) ending
+    ((length text ≤ MAX_BYTES) × (call.max + length text ≡ MAX_BYTES + 1))
+    × ComesPiece used text call.answer calls (λ longer. ComesTaken used longer calls ending) ending
 
 -- a command goes by its plan: what it asked, and how it ended; it asks for just what the plan says
 abbrev pub Goes : Plan → Asked → Ending → Type 0
@@ -136,10 +150,6 @@ pub record Did (plans : Plan → Type 0) (store : List StoreCall → Type 0) (ou
   pub store_went : store (on_store asked)
   pub out_went : out (on_out asked)
   pub input_kept : on_input asked ≡ []
-
--- nothing was asked of an object
-abbrev pub AskedNone : {C : Type 0} → List C → Type 0
-AskedNone calls = calls ≡ []
 
 -- how a step ended that was not done
 abbrev pub faulted : StepFault → Ending

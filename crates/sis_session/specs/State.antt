@@ -64,9 +64,3 @@ with_changed held new = record held { network = Some new; previous = held.networ
 abbrev pub with_exchanged : Held → Held
 with_exchanged held =
     record held { network = held.previous; previous = held.network; netlist = held.previous_netlist; previous_netlist = held.netlist }
-
--- what is written: a circuit, a machine or a netlist
-pub data Written : Type 0 where
-  CircuitWritten : (circuit : Circuit) → Written
-  MachineWritten : (machine : Machine) → Written
-  NetlistWritten : (netlist : Netlist) → Written

@@ -1,7 +1,8 @@
 //! What the commands tell that print tables as algebra: factored forms and kernels.
 //!
-//! The texts are made by `factors` and `kernels`; here stands which tables are told, in the order of the network, and what is refused. The forms of
-//! a table are a choice, so each call promises a relation from the network to what is told or refused, and not one text.
+//! The texts are made by `factors` and `kernels`; here stands which tables are told, in the order
+//! of the network, and what is refused. The forms of a table are a choice, so each call promises a
+//! relation from the network to what is told or refused, and not one text.
 
 ghost use Rattle.std.specs.Prelude.{◌≡◌};
 ghost use Rattle.circuit_model.specs.Values.{driver};

@@ -19,7 +19,8 @@ use std::alloc::{AllocError, Global};
 #[tactic(auto, unfolding(net_core::specs::Tables::covered))]
 fn form_of(alloc: Global, written: &Written) -> Result<Vec<u8>, AllocError>
     requires { HasCharacters (length written.now.inputs) written.now.rows }
-    ensures { IfOk result (λ text. (form : Form) × IsFactored (cubes_of written.now) form × (text.items ≡ form_text written.now.inputs form)) }
+    ensures { IfOk result (λ text. (form : Form) × IsFactored (cubes_of written.now) form
+        × (text.items ≡ form_text written.now.inputs form)) }
 {
     let table = Table::<PlainRow>::from_written(alloc, written)?;
     let factored = factor(alloc, &table.cover)?;
@@ -29,7 +30,9 @@ fn form_of(alloc: Global, written: &Written) -> Result<Vec<u8>, AllocError>
 
 // A text as the line of a table's form.
 fn line_of(alloc: Global, written: &Written, form: &[u8]) -> Result<Vec<u8>, AllocError>
-    ensures { IfOk result (λ line. line.items ≡ literal_text written.now.phase written.now.output ++ (codes " = " ++ (form.now ++ codes "\n"))) }
+    ensures { IfOk result (λ line. line.items
+        ≡ literal_text written.now.phase written.now.output ++ (codes " = " ++ (form.now
+        ++ codes "\n"))) }
 {
     let mut line = Vec::new(alloc);
     if !written.phase {
@@ -42,7 +45,8 @@ fn line_of(alloc: Global, written: &Written, form: &[u8]) -> Result<Vec<u8>, All
     Ok(line)
 }
 
-/// The line of a table's factored form, each of whose rows has a character for each input; an error only for want of memory.
+/// The line of a table's factored form, each of whose rows has a character for each input; an error
+/// only for want of memory.
 #[tactic(auto, unfolding(crate::specs::Told::form_line))]
 pub fn factor_line(alloc: Global, written: &Written) -> Result<Vec<u8>, AllocError>
     requires { HasCharacters (length written.now.inputs) written.now.rows }
@@ -56,7 +60,8 @@ pub fn factor_line(alloc: Global, written: &Written) -> Result<Vec<u8>, AllocErr
 // Puts the line of one more table behind those of some.
 fn put_line(alloc: Global, text: &mut Vec<u8>, table: &Written) -> Result<(), AllocError>
     requires { IsShaped table.now }
-    ensures { OnOk result ((before : List TheTable) → AreFactorLines before text.old.items → AreFactorLines (before ++ table.now ∷ []) text.new.items) }
+    ensures { OnOk result ((before : List TheTable) → AreFactorLines before text.old.items
+        → AreFactorLines (before ++ table.now ∷ []) text.new.items) }
 {
     let line = factor_line(alloc, table)?;
     text.extend_from_slice(line.as_slice())?;

@@ -23,7 +23,8 @@ fn lines_of(
     covers: &[Cover<PlainRow>],
 ) -> Result<Vec<u8>, AllocError>
     requires { (kernel : Shape) → Has kernel covers.now → kernel.width ≡ length names.now }
-    ensures { IfOk result (λ text. text.items ≡ flat_map (kernel_line names.now) (rows_in covers.now)) }
+    ensures { IfOk result (λ text. text.items ≡ flat_map (kernel_line names.now)
+        (rows_in covers.now)) }
 {
     let mut text = Vec::new(alloc);
     for cover in covers {
@@ -38,8 +39,10 @@ fn lines_of(
 #[tactic(auto, unfolding(net_core::specs::Tables::covered))]
 fn kernels_of(alloc: Global, written: &Written) -> Result<Vec<Cover<PlainRow>>, KernelFault>
     requires { HasCharacters (length written.now.inputs) written.now.rows }
-    ensures kernels { IfOk result (λ found. AreKernels (length written.now.inputs) (cubes_of written.now) (rows_in found.items)) }
-    ensures widths { IfOk result (λ found. (kernel : Shape) → Has kernel found.items → kernel.width ≡ length written.now.inputs) }
+    ensures kernels { IfOk result (λ found. AreKernels (length written.now.inputs)
+        (cubes_of written.now) (rows_in found.items)) }
+    ensures widths { IfOk result (λ found. (kernel : Shape) → Has kernel found.items
+        → kernel.width ≡ length written.now.inputs) }
     ensures refused { HasManyKernels written.now → IfOk result (λ found. ⊥) }
     ensures over { IsErrOf result KernelFault.KernelLimit → HasManyKernels written.now }
 {
@@ -49,8 +52,8 @@ fn kernels_of(alloc: Global, written: &Written) -> Result<Vec<Cover<PlainRow>>, 
     }
 }
 
-/// The lines of a table's kernels, each of whose rows has a character for each input. More than 10,000 kernels are refused
-/// by `KernelLimit`; else an error only for want of memory.
+/// The lines of a table's kernels, each of whose rows has a character for each input. More than
+/// 10,000 kernels are refused by `KernelLimit`; else an error only for want of memory.
 pub fn kernel_lines(alloc: Global, written: &Written) -> Result<Vec<u8>, KernelFault>
     requires { HasCharacters (length written.now.inputs) written.now.rows }
     ensures lines { IfOk result (λ text. AreKernelLines written.now text.items) }

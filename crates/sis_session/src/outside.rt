@@ -1,13 +1,14 @@
 //! The calls that a step makes on the outside.
 //!
-//! Each is parted from what is done with its answer, so that its contract says which call was made and how it ended, over every object of
-//! its kind. What a command tells is handed in as it was made, or as the reason why it was not: then nothing is asked of the outside.
+//! Each is parted from what is done with its answer, so that its contract says which call was made
+//! and how it ended, over every object of its kind. What a command tells is handed in as it was
+//! made, or as the reason why it was not: then nothing is asked of the outside.
 
-ghost use Rattle.std.specs.Prelude.{◌≡◌, ◌≤◌, IfOk, List, ℕ, None, Result, length};
+ghost use Rattle.std.specs.Prelude.{◌≡◌, ◌≤◌, IfOk, List, ℕ, Result, length};
 ghost use Rattle.sis_outside.specs.Calls.{Follows};
-ghost use Rattle.sis_session.specs.Commands.{sends, source_plan};
-ghost use Rattle.sis_session.specs.Methods.{HasLoaded, HasPut, HasSaved, HasToldPut, IsTold};
-ghost use Rattle.sis_session.specs.Plan.{AskedNone, Did, MAX_BYTES, NestsBelow, ended};
+ghost use Rattle.sis_session.specs.Commands.{reply_with, source_plan};
+ghost use Rattle.sis_session.specs.Methods.{AskedNone, HasLoaded, HasPut, HasSaved, HasToldPut, IsTold};
+ghost use Rattle.sis_session.specs.Plan.{Did, MAX_BYTES, NestsBelow, ended, sends};
 ghost use Rattle.sis_session.specs.State.{Held};
 ghost use Rattle.sis_session.specs.declared.refusal.Refusal.{Refusal as TheRefusal};
 
@@ -63,7 +64,6 @@ fn put<O: Sink>(out: &mut O, reply: &[u8]) -> Result<Next, StepFault>
 
 /// Puts what a command tells, or hands on why it tells nothing.
 pub fn put_told<O: Sink>(told: Result<Vec<u8>, StepFault>, out: &mut O) -> Result<Next, StepFault>
-    ensures did { (held : Held) (what : Result (List ℕ) TheRefusal) → IsTold what told → Did (λ plan. plan ≡ sends held None what) AskedNone (Follows O.calls out.old out.new) (ended result held) }
     ensures put { HasToldPut O.calls told out.old result out.new }
     ensures nests { (depth : ℕ) → IfOk result (NestsBelow depth) }
 {
@@ -73,14 +73,18 @@ pub fn put_told<O: Sink>(told: Result<Vec<u8>, StepFault>, out: &mut O) -> Resul
     }
 }
 
-/// Sends what a command tells to a file, or to the output where none is named; or hands on why it tells nothing.
+/// Sends what a command tells to a file, or to the output where none is named; or hands on why it
+/// tells nothing.
 pub fn send_told<S: Store, O: Sink>(
     told: Result<Vec<u8>, StepFault>,
     file: &Option<Word>,
     store: &mut S,
     out: &mut O,
 ) -> Result<Next, StepFault>
-    ensures did { (held : Held) (what : Result (List ℕ) TheRefusal) → IsTold what told → Did (λ plan. plan ≡ sends held file.now what) (Follows S.calls store.old store.new) (Follows O.calls out.old out.new) (ended result held) }
+    ensures did { (held : Held) (what : Result (List ℕ) TheRefusal) → IsTold what told
+        → Did (λ plan. plan ≡ sends file.now (reply_with held what))
+        (Follows S.calls store.old store.new) (Follows O.calls out.old out.new)
+        (ended result held) }
     ensures nests { (depth : ℕ) → IfOk result (NestsBelow depth) }
 {
     let text = match told {
@@ -93,14 +97,16 @@ pub fn send_told<S: Store, O: Sink>(
     }
 }
 
-/// Loads a file as a script of commands that come next; refused where too many scripts stand round it.
+/// Loads a file as a script of commands that come next; refused where too many scripts stand round
+/// it.
 pub fn source<S: Store>(
     alloc: Global,
     name: &Word,
     depth: u32,
     store: &mut S,
 ) -> Result<Next, StepFault>
-    ensures did { (held : Held) → Did (λ plan. plan ≡ source_plan depth held name.now) (Follows S.calls store.old store.new) AskedNone (ended result held) }
+    ensures did { (held : Held) → Did (λ plan. plan ≡ source_plan depth held name.now)
+        (Follows S.calls store.old store.new) AskedNone (ended result held) }
     ensures nests { IfOk result (NestsBelow depth) }
 {
     if depth >= MAX_DEPTH {

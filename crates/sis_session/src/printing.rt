@@ -1,15 +1,16 @@
 //! What the commands tell that print or write.
 //!
-//! A text is made whole before the outside is asked for anything, so that a command that fails leaves nothing half printed, and a
-//! command that prints is one function here and one arm of the step.
+//! A text is made whole before the outside is asked for anything, so that a command that fails
+//! leaves nothing half printed, and a command that prints is one function here and one arm of the
+//! step.
 
 ghost use Rattle.std.specs.Prelude.{◌≡◌, Ok, flat_map, IfSome};
 ghost use Rattle.sis_base.specs.Written.{lines_text};
 ghost use Rattle.circuit_model.specs.Text.{table_lines};
 ghost use Rattle.circuit_model.specs.Values.{driver};
 ghost use Rattle.net_core.specs.Reads.{HasBounds};
-ghost use Rattle.sis_session.specs.Commands.{latches_told, machine_told as machine_told_of, named_told, stats_told, tables_told, text_told, told_of};
-ghost use Rattle.sis_session.specs.Methods.{IsTold};
+ghost use Rattle.sis_session.specs.Commands.{Just, ToldBy, latches_told, machine_of, named_told, network_of, stats_told, tables_told, written_text};
+ghost use Rattle.sis_session.specs.Methods.{IsTold, IsToldBy};
 ghost use Rattle.sis_session.specs.Replies.{echo_line, stats_of};
 
 use crate::refusal::{Refusal, StepFault};
@@ -45,7 +46,7 @@ pub fn stats_of(network: &Network<PlainRow>) -> Stats
 /// What `print_stats` puts.
 pub fn print_stats(alloc: Global, network: &Option<Network<PlainRow>>) -> Result<Vec<u8>, StepFault>
     requires { IfSome network.now HasBounds }
-    ensures { IsTold (told_of stats_told network.now) result }
+    ensures { IsToldBy (ToldBy (Just stats_told) network.now) result }
 {
     match network {
         Some(network) => Ok(stats_text(alloc, network.name().as_slice(), stats_of(network))?),
@@ -84,7 +85,7 @@ pub fn print(
     network: &Option<Network<PlainRow>>,
     name: &Option<RawWord>,
 ) -> Result<Vec<u8>, StepFault>
-    ensures { IsTold (told_of (tables_told name.now) network.now) result }
+    ensures { IsToldBy (ToldBy (Just (tables_told name.now)) network.now) result }
 {
     let Some(network) = network else {
         return Err(StepFault::Refused(Refusal::NoNetwork));
@@ -97,7 +98,7 @@ pub fn print(
 
 /// What `print_latch` puts.
 pub fn print_latch(alloc: Global, network: &Option<Network<PlainRow>>) -> Result<Vec<u8>, StepFault>
-    ensures { IsTold (told_of latches_told network.now) result }
+    ensures { IsToldBy (ToldBy (Just latches_told) network.now) result }
 {
     let Some(network) = network else {
         return Err(StepFault::Refused(Refusal::NoNetwork));
@@ -111,7 +112,7 @@ pub fn network_text(
     alloc: Global,
     network: &Option<Network<PlainRow>>,
 ) -> Result<Vec<u8>, StepFault>
-    ensures { IsTold (told_of text_told network.now) result }
+    ensures { IsTold (written_text (network_of network.now)) result }
 {
     let Some(network) = network else {
         return Err(StepFault::Refused(Refusal::NoNetwork));
@@ -123,7 +124,7 @@ pub fn network_text(
 
 /// What `write_kiss` sends.
 pub fn machine_told(alloc: Global, machine: &Option<Machine>) -> Result<Vec<u8>, StepFault>
-    ensures { IsTold (machine_told_of machine.now) result }
+    ensures { IsTold (written_text (machine_of machine.now)) result }
 {
     let Some(machine) = machine else {
         return Err(StepFault::Refused(Refusal::NoMachine));

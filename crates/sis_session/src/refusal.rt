@@ -1,7 +1,8 @@
 //! How a step ends: what comes next, or why it was not done.
 //!
-//! A refusal has its cause in what is held, in the words or in what was told of a file; its line is told, and a run may go on behind it. A failure
-//! of an object, or want of memory, cuts a run short. They are kept apart by type, since different things are promised of them.
+//! A refusal has its cause in what is held, in the words or in what was told of a file; its line is
+//! told, and a run may go on behind it. A failure of an object, or want of memory, cuts a run
+//! short. They are kept apart by type, since different things are promised of them.
 
 use blif_lines::BlifFault;
 use genlib_format::LibFault;

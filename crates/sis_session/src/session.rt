@@ -1,17 +1,20 @@
 //! The session: what is held between two commands, and one step of the command machine.
 //!
-//! Only `Ok` changes what is held. What a command makes is made first and told to the outside next; it is moved in last,
-//! when nothing can fail any more. A relation of each trait of the outside says what one call with its answer may do to the object.
-//! `Steps` says by cases on a command's plan what it asked and how it ended; `step` adds that each object went by just those calls (`Did`).
-//! The methods below it promise a computing form, by cases on the plan and the ending, so that no witness has to be found in them.
+//! Only `Ok` changes what is held. What a command makes is made first and told to the outside next;
+//! it is moved in last, when nothing can fail any more. A relation of each trait of the outside
+//! says what one call with its answer may do to the object. `Steps` says by cases on a command's
+//! plan what it asked and how it ended; `step` adds that each object went by just those calls
+//! (`Did`). The methods below it promise a computing form, by cases on the plan and the ending, so
+//! that no witness has to be found in them.
 
 ghost use Rattle.std.specs.Prelude.{◌≡◌, ◌<◌, IfOk, IfSome, OnOk, OnErr, option_map};
 ghost use Rattle.sis_outside.specs.Calls.{Follows};
-ghost use Rattle.sis_session.specs.Commands.{ChangePlans, Plans, spec_read, library_read, machine_read, undo_plan};
-ghost use Rattle.sis_session.specs.Methods.{HasRead, Undoes};
-ghost use Rattle.sis_session.specs.Plan.{AskedNone, Comes, Did, Loads, NestsBelow, ended};
+ghost use Rattle.sis_session.specs.Commands.{Blif, ChangedBy, Kiss, Plans, Replies, library_held, spec_held, spec_in, undo_outcome};
+ghost use Rattle.sis_session.specs.Methods.{AskedNone, HasRead, Undoes};
+ghost use Rattle.sis_session.specs.Plan.{Comes, Did, Loads, NestsBelow, Quiet, ended};
 ghost use Rattle.sis_session.specs.Replies.{stats_of};
 ghost use Rattle.sis_session.specs.State.{nothing_held, with_read, with_machine};
+ghost use Rattle.genlib_format.specs.Reader.{library_of};
 ghost use Rattle.circuit_model.specs.Counts.{IsWithinLimits};
 ghost use Rattle.circuit_model.specs.Soundness.{IsSound};
 
@@ -41,8 +44,8 @@ pub const MAX_BYTES: usize = 67_108_864;
 /// The most scripts that may stand round one another.
 pub const MAX_DEPTH: u32 = 16;
 
-/// What is held between two commands: the network, and the one before its last change, which both keep the bounds in which
-/// literals are counted; the machine and the library, which is sound.
+/// What is held between two commands: the network, and the one before its last change, which both
+/// keep the bounds in which literals are counted; the machine and the library, which is sound.
 #[derive(Drop)]
 pub struct Session {
     network: Option<Network<PlainRow>>,
@@ -61,7 +64,8 @@ impl Model for Session {
 
     ghost view = { λ s. parts_held s.network s.previous s.machine s.library };
 
-    ghost invariant = { λ s. IfSome s.network HasBounds × (IfSome s.previous HasBounds × IsSoundLibrary s.library) };
+    ghost invariant = { λ s. IfSome s.network HasBounds × (IfSome s.previous HasBounds
+        × IsSoundLibrary s.library) };
 }
 
 impl Session {
@@ -100,7 +104,8 @@ impl Session {
         self.machine = Some(machine);
     }
 
-    /// Reads bytes as the network or the machine, by the library that is held; after an error the session is as before.
+    /// Reads bytes as the network or the machine, by the library that is held; after an error the
+    /// session is as before.
     pub fn read(&mut self, alloc: Global, bytes: &[u8]) -> Result<(), ReadFault>
         ensures { HasRead bytes.now self.old result self.new }
     {
@@ -121,7 +126,8 @@ impl Session {
         }
     }
 
-    /// Takes the last change back, where there was one: the network and the previous one change places; takes no memory.
+    /// Takes the last change back, where there was one: the network and the previous one change
+    /// places; takes no memory.
     pub fn undo(&mut self) -> bool
         ensures { Undoes self.old.previous self.old result self.new }
     {
@@ -134,7 +140,8 @@ impl Session {
 
     /// Reads the bytes of a file as the network or the machine.
     fn take_spec(&mut self, alloc: Global, name: &Word, bytes: &[u8]) -> Result<Next, StepFault>
-        ensures came { Comes (spec_read self.old name.now bytes.now) (ended result self.new) }
+        ensures came { Comes (spec_held self.old (spec_in Blif self.old name.now bytes.now))
+            (ended result self.new) }
         ensures err { OnErr result (self.new ≡ self.old) }
     {
         match self.read(alloc, bytes) {
@@ -149,7 +156,8 @@ impl Session {
 
     /// Reads the bytes of a file as the machine.
     fn take_machine(&mut self, alloc: Global, name: &Word, bytes: &[u8]) -> Result<Next, StepFault>
-        ensures came { Comes (machine_read self.old name.now bytes.now) (ended result self.new) }
+        ensures came { Comes (spec_held self.old (spec_in Kiss self.old name.now bytes.now))
+            (ended result self.new) }
         ensures err { OnErr result (self.new ≡ self.old) }
     {
         match kiss_format::read(alloc, bytes) {
@@ -167,7 +175,8 @@ impl Session {
 
     /// Reads the bytes of a file as the library.
     fn take_library(&mut self, alloc: Global, name: &Word, bytes: &[u8]) -> Result<Next, StepFault>
-        ensures came { Comes (library_read self.old name.now bytes.now) (ended result self.new) }
+        ensures came { Comes (library_held self.old name.now (library_of bytes.now))
+            (ended result self.new) }
         ensures err { OnErr result (self.new ≡ self.old) }
     {
         match genlib_format::read(alloc, bytes) {
@@ -190,7 +199,9 @@ impl Session {
         name: &Word,
         store: &mut S,
     ) -> Result<Next, StepFault>
-        ensures did { Did (λ plan. plan ≡ Loads name.now (spec_read self.old name.now)) (Follows S.calls store.old store.new) AskedNone (ended result self.new) }
+        ensures did { Did (λ plan. plan ≡ Loads name.now (λ bytes. spec_held self.old
+            (spec_in Blif self.old name.now bytes)))
+            (Follows S.calls store.old store.new) AskedNone (ended result self.new) }
         ensures err { OnErr result (self.new ≡ self.old) }
     {
         let bytes = load(alloc, name.text(), store)?;
@@ -204,7 +215,9 @@ impl Session {
         name: &Word,
         store: &mut S,
     ) -> Result<Next, StepFault>
-        ensures did { Did (λ plan. plan ≡ Loads name.now (machine_read self.old name.now)) (Follows S.calls store.old store.new) AskedNone (ended result self.new) }
+        ensures did { Did (λ plan. plan ≡ Loads name.now (λ bytes. spec_held self.old
+            (spec_in Kiss self.old name.now bytes)))
+            (Follows S.calls store.old store.new) AskedNone (ended result self.new) }
         ensures err { OnErr result (self.new ≡ self.old) }
     {
         let bytes = load(alloc, name.text(), store)?;
@@ -218,7 +231,9 @@ impl Session {
         name: &Word,
         store: &mut S,
     ) -> Result<Next, StepFault>
-        ensures did { Did (λ plan. plan ≡ Loads name.now (library_read self.old name.now)) (Follows S.calls store.old store.new) AskedNone (ended result self.new) }
+        ensures did { Did (λ plan. plan ≡ Loads name.now (λ bytes. library_held self.old name.now
+            (library_of bytes))) (Follows S.calls store.old store.new) AskedNone
+            (ended result self.new) }
         ensures err { OnErr result (self.new ≡ self.old) }
     {
         let bytes = load(alloc, name.text(), store)?;
@@ -227,7 +242,9 @@ impl Session {
 
     /// Changes the network, and keeps the one before as the previous one.
     fn change(&mut self, alloc: Global, change: Change) -> Result<Next, StepFault>
-        ensures did { Did (ChangePlans self.old change self.old.network) AskedNone AskedNone (ended result self.new) }
+        ensures did { Did (Replies
+            (ChangedBy self.old change self.old.network)) AskedNone AskedNone
+            (ended result self.new) }
         ensures err { OnErr result (self.new ≡ self.old) }
     {
         let Some(network) = &self.network else {
@@ -240,7 +257,8 @@ impl Session {
 
     /// Takes the last change back, or is refused where there is none.
     fn undo_or_refuse(&mut self) -> Result<Next, StepFault>
-        ensures did { Did (λ plan. plan ≡ undo_plan self.old self.old.previous) AskedNone AskedNone (ended result self.new) }
+        ensures did { Did (λ plan. plan ≡ Quiet
+            (undo_outcome self.old self.old.previous)) AskedNone AskedNone (ended result self.new) }
         ensures err { OnErr result (self.new ≡ self.old) }
     {
         if self.undo() {
@@ -250,8 +268,8 @@ impl Session {
         }
     }
 
-    /// One step of the command machine; `depth` is the number of sourced scripts round the command. After an error the
-    /// session is as before.
+    /// One step of the command machine; `depth` is the number of sourced scripts round the command.
+    /// After an error the session is as before.
     pub fn step<S: Store, O: Sink>(
         &mut self,
         alloc: Global,
@@ -260,7 +278,9 @@ impl Session {
         store: &mut S,
         out: &mut O,
     ) -> Result<Next, StepFault>
-        ensures did { Did (Plans depth self.old command.now.op) (Follows S.calls store.old store.new) (Follows O.calls out.old out.new) (ended result self.new) }
+        ensures did { Did (Plans depth self.old command.now.op)
+            (Follows S.calls store.old store.new) (Follows O.calls out.old out.new)
+            (ended result self.new) }
         ensures err { OnErr result (self.new ≡ self.old) }
         ensures nests { IfOk result (NestsBelow depth) }
     {

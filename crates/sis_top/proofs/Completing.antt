@@ -1,7 +1,6 @@
 -- A run whose turns are served refuses nothing.
 use Rattle.std.proofs.Common.{◌≡◌, ℕ, ◌+◌, ◌≤◌, List, [], ◌∷◌, ◌++◌, refl, sym, ap, subst, ◌∙◌, inl, inr, length, nat_le, length-append, arith}
-use Rattle.std.specs.Prelude.{◌⊎◌, Bool, true, false, Option, Result, Ok, Err, if◌then◌else◌}
-use Rattle.std.specs.List.{AllByRecursion}
+use Rattle.std.specs.Prelude.{◌⊎◌, Bool, true, false, Option, Some, Result, Ok, Err, if◌then◌else◌}
 use Rattle.sis_outside.specs.Calls.{Load, Save, TakeCall, PutCall}
 use Rattle.sis_outside.specs.declared.store.LoadFault.{LoadFault}
 use Rattle.sis_outside.specs.declared.store.LoadFault.TheVariants as load
@@ -21,10 +20,11 @@ use Rattle.sis_session.specs.declared.refusal.Failed.TheVariants as failed
 use Rattle.sis_session.specs.declared.refusal.Next.{Next}
 use Rattle.sis_session.specs.declared.refusal.Refusal.{Refusal}
 use Rattle.sis_session.specs.declared.refusal.Refusal.TheVariants.{LongScript}
-use Rattle.sis_top.specs.Machine.{Begin, Run, Work, Due, Machine, Turn, WorkPlans, Runs, after, after_ending, begin_plan, begins}
-use Rattle.sis_top.specs.Laws.{GivesFile, HasScript, IsServedTurn, IsServedWork, IsUnanswered, bytes_in, taken}
+use Rattle.sis_top.specs.Machine.{AtEach, Begin, Run, Work, Due, Machine, Turn, WorkPlans, Runs, after, after_ending, begin_plan, begins, next_work}
+use Rattle.sis_top.specs.Served.{GivesFile, HasScript, IsServedFirst, IsServedTurn, IsServedWork, IsUnanswered, bytes_in, taken}
 use Rattle.sis_top.proofs.Going.{Went, went, quiet, loads, saves, puts, takes}
-use Rattle.sis_top.proofs.Faithful.{quiet_outcome, turn_steps, used_of}
+use Rattle.sis_top.proofs.Faithful.{quiet_outcome, used_of}
+use Rattle.sis_top.proofs.Took.{took}
 
 -- the law of the session that is used here
 abbrev pub Served : Type 0
@@ -130,10 +130,14 @@ after_kept goes_on machine due (Done held next) told not = refl
 after_kept goes_on machine due (Refused why) told not = absurd (not why refl)
 after_kept goes_on machine due (Cut what) told not = refl
 
-pub run_kept : Served → (goes_on : Bool) (from to : Machine) (turns : List Turn) → Runs goes_on from turns to → from.refused ≡ false → AllByRecursion IsServedTurn turns → to.refused ≡ false
+served_work : (held : Held) (first : Option Work) (work : Work) (asked : Asked) → first ≡ Some work → IsServedFirst held first asked → IsServedWork held work asked
+served_work held first work asked e has = subst (λ (f : Option Work). IsServedFirst held f asked) e has
+
+pub run_kept : Served → (goes_on : Bool) (from to : Machine) (turns : List Turn) → Runs goes_on from turns to → from.refused ≡ false → AtEach goes_on IsServedTurn from turns → to.refused ≡ false
 run_kept served goes_on from to [] runs start all = ap (λ (m : Machine). m.refused) runs ∙ start
 run_kept served goes_on from to (turn ∷ turns) runs start all =
-    let parts = turn_steps from from.todo turn runs.0 in
-    let has : IsServedWork from.held turn.due.work turn.asked = subst (λ (h : Held). IsServedWork h turn.due.work turn.asked) parts.0 all.0 in
+    let t = took goes_on from turn runs.0 in
+    let has = served_work from.held (next_work from.todo) t.due.work turn.asked t.first all.0 in
     run_kept served goes_on (after goes_on from turn) to turns runs.1
-    (after_kept goes_on from turn.due turn.ending turn.told (λ why k. work_kept served from.held turn.due.work turn.asked turn.ending why parts.2 has k) ∙ start) all.1
+    (ap (λ (m : Machine). m.refused) t.next
+    ∙ after_kept goes_on from t.due turn.ending turn.told (λ why k. work_kept served from.held t.due.work turn.asked turn.ending why t.steps has k) ∙ start) all.1

@@ -18,7 +18,7 @@ use Rattle.sis_top.specs.Machine.{Due, Machine, Turn, WorkPlans, IsTurn, IsTurnO
 use Rattle.sis_top.specs.Call.{puts_of}
 use Rattle.sis_top.specs.declared.status.Stop.{Stop}
 use Rattle.sis_top.proofs.Going.{Went, went, quiet, loads, saves, puts, takes}
-use Rattle.sis_top.proofs.Faithful.{turn_steps}
+use Rattle.sis_top.proofs.Took.{Took, took}
 
 -- a work was not cut short
 abbrev pub IsUncut : Ending → Type 0
@@ -100,11 +100,11 @@ told_unfailed goes_on machine due line (Cut what) told is h = ap (λ (t : Option
 told_unfailed goes_on machine due line (Refused why) None is h = refl
 told_unfailed goes_on machine due line (Refused why) (Some call) is h = refusal_unfailed goes_on machine due.line call.answer h
 
-turn_unfailed : (goes_on : Bool) (machine : Machine) (turn : Turn) → IsTurn machine turn → (after goes_on machine turn).cut ≡ None → IsUnfailed turn
-turn_unfailed goes_on machine turn is h =
-    let parts = turn_steps machine machine.todo turn is in
-    let asked = steps_unfailed (WorkPlans machine.held turn.due.work) turn.asked turn.ending (ending_uncut goes_on machine turn.due turn.ending turn.told h) parts.2 in
-    record { store = asked.0; input = asked.1; out = asked.2; err = told_unfailed goes_on machine turn.due turn.due.line turn.ending turn.told parts.3 h }
+turn_unfailed : (goes_on : Bool) (machine : Machine) (turn : Turn) → Took goes_on machine turn → (after goes_on machine turn).cut ≡ None → IsUnfailed turn
+turn_unfailed goes_on machine turn t h =
+    let e : (after_ending goes_on machine t.due turn.ending turn.told).cut ≡ None = ap (λ (m : Machine). m.cut) (sym t.next) ∙ h in
+    let asked = steps_unfailed (WorkPlans machine.held t.due.work) turn.asked turn.ending (ending_uncut goes_on machine t.due turn.ending turn.told e) t.steps in
+    record { store = asked.0; input = asked.1; out = asked.2; err = told_unfailed goes_on machine t.due t.due.line turn.ending turn.told t.told e }
 
 -- behind a turn the machine goes on, or it was cut short and nothing is due
 abbrev pub IsStopped : Machine → Type 0
@@ -121,6 +121,11 @@ after_cut goes_on machine due (Done held next) told h = inl h
 after_cut goes_on machine due (Refused why) told h = refusal_cut goes_on machine due.line (told_cut told) h
 after_cut goes_on machine due (Cut what) told h = inr (record { line = due.line; what = what }, refl, refl)
 
+pub turn_cut : (goes_on : Bool) (machine : Machine) (turn : Turn) → Took goes_on machine turn → machine.cut ≡ None
+    → ((after goes_on machine turn).cut ≡ None) ⊎ IsStopped (after goes_on machine turn)
+turn_cut goes_on machine turn t h =
+    subst (λ (m : Machine). (m.cut ≡ None) ⊎ IsStopped m) (sym t.next) (after_cut goes_on machine t.due turn.ending turn.told h)
+
 pub stopped_runs : (goes_on : Bool) (from to : Machine) (turns : List Turn) → IsStopped from → Runs goes_on from turns to → to ≡ from
 stopped_runs goes_on from to [] stopped runs = runs
 stopped_runs goes_on from to (turn ∷ turns) (stop, cut, none) runs = absurd (subst (λ (todo : List Due). IsTurnOf from todo turn) none runs.0)
@@ -131,12 +136,13 @@ some_none stop e = cc
 pub run_unfailed : (goes_on : Bool) (from to : Machine) (turns : List Turn) → Runs goes_on from turns to → from.cut ≡ None → to.cut ≡ None → AllByRecursion IsUnfailed turns
 run_unfailed goes_on from to [] runs start end = tt
 run_unfailed goes_on from to (turn ∷ turns) runs start end =
-    step (λ e. run_unfailed goes_on (after goes_on from turn) to turns runs.1 e end) (after_cut goes_on from turn.due turn.ending turn.told start)
+    let t = took goes_on from turn runs.0 in
+    step t (λ e. run_unfailed goes_on (after goes_on from turn) to turns runs.1 e end) (turn_cut goes_on from turn t start)
   where
-    step : ((after goes_on from turn).cut ≡ None → AllByRecursion IsUnfailed turns) → ((after goes_on from turn).cut ≡ None) ⊎ IsStopped (after goes_on from turn)
+    step : Took goes_on from turn → ((after goes_on from turn).cut ≡ None → AllByRecursion IsUnfailed turns) → ((after goes_on from turn).cut ≡ None) ⊎ IsStopped (after goes_on from turn)
         → IsUnfailed turn × AllByRecursion IsUnfailed turns
-    step more (inl e) = (turn_unfailed goes_on from turn runs.0 e, more e)
-    step more (inr stopped) = absurd (some_none stopped.0 (sym stopped.1 ∙ ap (λ (m : Machine). m.cut) (sym (stopped_runs goes_on (after goes_on from turn) to turns stopped runs.1)) ∙ end))
+    step t more (inl e) = (turn_unfailed goes_on from turn t e, more e)
+    step t more (inr stopped) = absurd (some_none stopped.0 (sym stopped.1 ∙ ap (λ (m : Machine). m.cut) (sym (stopped_runs goes_on (after goes_on from turn) to turns stopped runs.1)) ∙ end))
 
 pub any_both : {C : Type 0} (is : C → Bool) (first second : List C) → any_of is (first ++ second) ≡ (any_of is first || any_of is second)
 any_both is [] second = refl

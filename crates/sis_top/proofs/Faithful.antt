@@ -1,8 +1,7 @@
 -- What a run writes refines what was read last.
-use Rattle.std.proofs.Common.{◌≡◌, ℕ, List, [], ◌∷◌, ◌++◌, sym, ap, subst, length, nat_le}
+use Rattle.std.proofs.Common.{◌≡◌, ◌∙◌, ℕ, List, [], ◌∷◌, ◌++◌, sym, ap, subst, length, nat_le}
 use Rattle.std.specs.Prelude.{Bool, true, false, Option, Some, None, Result, Ok, Err, if◌then◌else◌}
 use Rattle.std.proofs.Common.{inl, inr}
-use Rattle.std.specs.List.{AllByRecursion}
 use Rattle.sis_outside.specs.Calls.{Save, TakeCall, PutCall}
 use Rattle.sis_outside.specs.declared.store.LoadFault.{LoadFault}
 use Rattle.sis_outside.specs.declared.store.LoadFault.TheVariants as load
@@ -11,17 +10,19 @@ use Rattle.sis_outside.specs.declared.source.TakeFault.{TakeFault}
 use Rattle.sis_outside.specs.declared.source.TakeFault.TheVariants as take
 use Rattle.sis_top.specs.Asked.{TheScript, InFile, AsText, OnInput}
 use Rattle.sis_script.specs.declared.command.Op.{Op}
-use Rattle.sis_session.specs.Commands.{Plans, last_read}
-use Rattle.sis_session.specs.Keeping.{HasText, Holds, IsRefined, IsWriting, WritesTo}
+use Rattle.sis_session.specs.Commands.{Plans, form_of, last_read}
+use Rattle.sis_session.specs.Keeping.{IsRefined, IsTextOf, IsWriting, WritesTo}
 use Rattle.sis_session.specs.Plan.{MAX_BYTES, Outcome, Refuses, Plan, Quiet, Loads, Takes, Asked, OnStore, OnOut, OnInput, Ending, Done, Refused, Cut, Comes, ComesLoaded, ComesPiece, ComesTaken, Goes, Steps, by_plan, no_memory}
 use Rattle.circuit_model.specs.declared.machine.Spec.{Spec}
-use Rattle.sis_session.specs.State.{Held, Written, CircuitWritten, MachineWritten, NetlistWritten}
+use Rattle.circuit_model.specs.declared.machine.Spec.TheVariants as spec
+use Rattle.sis_session.specs.State.{Held}
 use Rattle.sis_session.specs.declared.refusal.Failed.{Failed}
 use Rattle.sis_session.specs.declared.refusal.Next.{Next}
 use Rattle.sis_session.specs.declared.refusal.Refusal.TheVariants.{LongScript}
-use Rattle.sis_top.specs.Machine.{Begin, Run, Work, Due, Machine, Turn, WorkPlans, IsTurn, IsTurnOf, IsTold, Runs, after, after_refusal, after_ending, begin_plan, begins, spec_after, told_cut}
+use Rattle.sis_top.specs.Machine.{AtEach, Begin, Run, Work, Due, Machine, Turn, WorkPlans, Runs, after, after_refusal, after_ending, begin_plan, begins, next_work, spec_after, told_cut}
 use Rattle.sis_top.specs.Call.{AreFaithful, IsFaithful}
 use Rattle.sis_top.proofs.Going.{Went, went, quiet, loads, saves, puts, takes}
+use Rattle.sis_top.proofs.Took.{Took, took}
 
 -- the laws of the session that are used here
 abbrev pub Kept : Type 0
@@ -31,11 +32,11 @@ Kept = (depth : ℕ) (held : Held) (op : Op) (asked : Asked) (held' : Held) (nex
 abbrev pub Saved : Type 0
 Saved = (depth : ℕ) (held : Held) (op : Op) (name bytes : List ℕ) (answer : Result (Unit {0}) SaveFault) (ending : Ending)
     → Steps (Plans depth held op) (OnStore (Save name bytes answer)) ending
-    → (written : Written) × WritesTo (Some name) op written × Holds held written × HasText written bytes
+    → (written : Spec) × WritesTo (Some name) (form_of op) written × IsTextOf held written bytes
 
 abbrev pub Put : Type 0
-Put = (depth : ℕ) (held : Held) (op : Op) (call : PutCall) (ending : Ending) → IsWriting op → Steps (Plans depth held op) (OnOut call) ending
-    → (written : Written) × WritesTo None op written × Holds held written × HasText written call.piece
+Put = (depth : ℕ) (held : Held) (op : Op) (call : PutCall) (ending : Ending) → IsWriting (form_of op) → Steps (Plans depth held op) (OnOut call) ending
+    → (written : Spec) × WritesTo None (form_of op) written × IsTextOf held written call.piece
 
 -- what is held where a script was begun
 held_of : Held → Ending → Held
@@ -137,60 +138,55 @@ ending_refined kept goes_on machine due asked (Done held next) told steps refine
 ending_refined kept goes_on machine due asked (Refused why) told steps refined = told_refined goes_on machine due.line (told_cut told) refined
 ending_refined kept goes_on machine due asked (Cut what) told steps refined = refined
 
-text_faithful : (turn : Turn) (bytes : List ℕ) (written : Written) → IsRefined turn.spec turn.held → Holds turn.held written → HasText written bytes → AreFaithful turn bytes
-text_faithful turn bytes (CircuitWritten circuit) refined network text =
-    let found = refined.network circuit network in (CircuitWritten circuit, network, text, found.0, found.1, found.3)
-text_faithful turn bytes (MachineWritten machine) refined there text =
-    let found = refined.machine machine there in (MachineWritten machine, there, text, found.0, found.1, found.3)
-text_faithful turn bytes (NetlistWritten netlist) refined there text = absurd text
+text_faithful : (machine : Machine) (bytes : List ℕ) (written : Spec) → IsRefined machine.spec machine.held → IsTextOf machine.held written bytes → AreFaithful machine bytes
+text_faithful machine bytes (spec.Circuit circuit) refined (there, text) =
+    let found = refined.network circuit there in (spec.Circuit circuit, (there, text), found.0, found.1, found.3)
+text_faithful machine bytes (spec.Machine one) refined (there, text) =
+    let found = refined.machine one there in (spec.Machine one, (there, text), found.0, found.1, found.3)
 
-turn_saved : Saved → (turn : Turn) (work : Work) (asked : Asked) (name bytes : List ℕ) (answer : Result (Unit {0}) SaveFault)
-    → Steps (WorkPlans turn.held work) asked turn.ending → IsRefined turn.spec turn.held → asked ≡ OnStore (Save name bytes answer) → AreFaithful turn bytes
-turn_saved saved turn (Begin script) asked name bytes answer (by_plan plan p g) refined e =
-    absurd (begun_unsaved turn.held script asked turn.ending name bytes answer (went (begin_plan turn.held script) asked turn.ending (subst (λ (x : Plan). Goes x asked turn.ending) p g)) e)
-turn_saved saved turn (Begin script) asked name bytes answer (no_memory a d) refined e = cc
-turn_saved saved turn (Run depth op) asked name bytes answer steps refined e =
-    let wrote = saved depth turn.held op name bytes answer turn.ending (subst (λ (a : Asked). Steps (Plans depth turn.held op) a turn.ending) e steps) in
-    text_faithful turn bytes wrote.0 refined wrote.2 wrote.3
+turn_saved : Saved → (machine : Machine) (work : Work) (asked : Asked) (ending : Ending) (name bytes : List ℕ) (answer : Result (Unit {0}) SaveFault)
+    → Steps (WorkPlans machine.held work) asked ending → IsRefined machine.spec machine.held → asked ≡ OnStore (Save name bytes answer) → AreFaithful machine bytes
+turn_saved saved machine (Begin script) asked ending name bytes answer (by_plan plan p g) refined e =
+    absurd (begun_unsaved machine.held script asked ending name bytes answer (went (begin_plan machine.held script) asked ending (subst (λ (x : Plan). Goes x asked ending) p g)) e)
+turn_saved saved machine (Begin script) asked ending name bytes answer (no_memory a d) refined e = cc
+turn_saved saved machine (Run depth op) asked ending name bytes answer steps refined e =
+    let wrote = saved depth machine.held op name bytes answer ending (subst (λ (a : Asked). Steps (Plans depth machine.held op) a ending) e steps) in
+    text_faithful machine bytes wrote.0 refined wrote.2
 
-turn_put : Put → (turn : Turn) (work : Work) (asked : Asked) (depth : ℕ) (op : Op) (call : PutCall)
-    → Steps (WorkPlans turn.held work) asked turn.ending → IsRefined turn.spec turn.held → work ≡ Run depth op → IsWriting op → asked ≡ OnOut call → AreFaithful turn call.piece
-turn_put put turn work asked depth op call steps refined w writing e =
-    let wrote = put depth turn.held op call turn.ending writing
-    (subst (λ (a : Asked). Steps (Plans depth turn.held op) a turn.ending) e (subst (λ (x : Work). Steps (WorkPlans turn.held x) asked turn.ending) w steps)) in
-    text_faithful turn call.piece wrote.0 refined wrote.2 wrote.3
+turn_put : Put → (machine : Machine) (work : Work) (asked : Asked) (ending : Ending) (depth : ℕ) (op : Op) (call : PutCall)
+    → Steps (WorkPlans machine.held work) asked ending → IsRefined machine.spec machine.held → work ≡ Run depth op → IsWriting (form_of op) → asked ≡ OnOut call
+    → AreFaithful machine call.piece
+turn_put put machine work asked ending depth op call steps refined w writing e =
+    let wrote = put depth machine.held op call ending writing
+    (subst (λ (a : Asked). Steps (Plans depth machine.held op) a ending) e (subst (λ (x : Work). Steps (WorkPlans machine.held x) asked ending) w steps)) in
+    text_faithful machine call.piece wrote.0 refined wrote.2
 
--- a turn of a machine, by its parts: its work went by one of its plans, and it is told
-pub turn_steps : (machine : Machine) (todo : List Due) (turn : Turn) → IsTurnOf machine todo turn
-    → (turn.held ≡ machine.held) × (turn.spec ≡ machine.spec) × Steps (WorkPlans machine.held turn.due.work) turn.asked turn.ending × IsTold turn.due.line turn.ending turn.told
-turn_steps machine [] turn h = absurd h
-turn_steps machine (due ∷ rest) turn h = (
-  h.0,
-  h.1,
-  subst (λ (d : Due). Steps (WorkPlans machine.held d.work) turn.asked turn.ending) (sym h.2) h.3,
-  subst (λ (d : Due). IsTold d.line turn.ending turn.told) (sym h.2) h.4,
-)
+same_work : (one other : Work) → Some one ≡ Some other → one ≡ other
+same_work one other e = cc
 
-turn_faithful : Saved → Put → (machine : Machine) (turn : Turn) → IsTurn machine turn → IsRefined machine.spec machine.held → IsFaithful turn
-turn_faithful saved put machine turn is refined =
-    let parts = turn_steps machine machine.todo turn is in
-    let held : IsRefined turn.spec turn.held = subst (λ (h : Held). IsRefined turn.spec h) (sym parts.0) (subst (λ (s : Option Spec). IsRefined s machine.held) (sym parts.1) refined) in
-    let steps : Steps (WorkPlans turn.held turn.due.work) turn.asked turn.ending = subst (λ (h : Held). Steps (WorkPlans h turn.due.work) turn.asked turn.ending) (sym parts.0) parts.2 in record {
-      saved = λ name bytes answer e. turn_saved saved turn turn.due.work turn.asked name bytes answer steps held e;
-      put = λ depth op call w writing e. turn_put put turn turn.due.work turn.asked depth op call steps held w writing e;
-    }
+turn_faithful : Saved → Put → (goes_on : Bool) (machine : Machine) (turn : Turn) → Took goes_on machine turn → IsRefined machine.spec machine.held → IsFaithful machine turn
+turn_faithful saved put goes_on machine turn t refined = record {
+  saved = λ name bytes answer e. turn_saved saved machine t.due.work turn.asked turn.ending name bytes answer t.steps refined e;
+  put = λ depth op call w writing e.
+      turn_put put machine t.due.work turn.asked turn.ending depth op call t.steps refined (same_work t.due.work (Run depth op) (sym t.first ∙ w)) writing e;
+}
+
+-- what is held behind a turn is refined
+turn_refined : Kept → (goes_on : Bool) (machine : Machine) (turn : Turn) → Took goes_on machine turn → IsRefined machine.spec machine.held
+    → IsRefined (after goes_on machine turn).spec (after goes_on machine turn).held
+turn_refined kept goes_on machine turn t refined =
+    subst (λ (m : Machine). IsRefined m.spec m.held) (sym t.next) (ending_refined kept goes_on machine t.due turn.asked turn.ending turn.told t.steps refined)
 
 pub turns_faithful : Kept → Saved → Put → (goes_on : Bool) (from to : Machine) (turns : List Turn) → Runs goes_on from turns to → IsRefined from.spec from.held
-    → AllByRecursion IsFaithful turns
+    → AtEach goes_on IsFaithful from turns
 turns_faithful kept saved put goes_on from to [] runs refined = tt
 turns_faithful kept saved put goes_on from to (turn ∷ turns) runs refined =
-    let parts = turn_steps from from.todo turn runs.0 in (
-      turn_faithful saved put from turn runs.0 refined,
-      turns_faithful kept saved put goes_on (after goes_on from turn) to turns runs.1 (ending_refined kept goes_on from turn.due turn.asked turn.ending turn.told parts.2 refined),
+    let t = took goes_on from turn runs.0 in (
+      turn_faithful saved put goes_on from turn t refined,
+      turns_faithful kept saved put goes_on (after goes_on from turn) to turns runs.1 (turn_refined kept goes_on from turn t refined),
     )
 
 pub run_refined : Kept → (goes_on : Bool) (from to : Machine) (turns : List Turn) → Runs goes_on from turns to → IsRefined from.spec from.held → IsRefined to.spec to.held
 run_refined kept goes_on from to [] runs refined = subst (λ (m : Machine). IsRefined m.spec m.held) (sym runs) refined
 run_refined kept goes_on from to (turn ∷ turns) runs refined =
-    let parts = turn_steps from from.todo turn runs.0 in
-    run_refined kept goes_on (after goes_on from turn) to turns runs.1 (ending_refined kept goes_on from turn.due turn.asked turn.ending turn.told parts.2 refined)
+    run_refined kept goes_on (after goes_on from turn) to turns runs.1 (turn_refined kept goes_on from turn (took goes_on from turn runs.0) refined)

@@ -11,7 +11,8 @@ use Rattle.sis_outside.specs.declared.source.TakeFault.{TakeFault}
 use Rattle.sis_outside.specs.declared.source.TakeFault.TheVariants as take
 use Rattle.sis_outside.specs.declared.sink.PutFault.{PutFault}
 use Rattle.sis_outside.specs.declared.sink.PutFault.TheVariants as put
-use Rattle.sis_session.specs.Plan.{MAX_BYTES, Outcome, Does, Refuses, Plan, Quiet, Loads, Saves, Puts, Takes, Asked, Nothing, OnStore, OnOut, OnInput, Ending, Done, Cut, Comes, ComesLoaded, ComesSaved, ComesPut, ComesPiece, ComesTaken, Goes, Steps, by_plan, no_memory, Did, AskedNone, on_store, on_input}
+use Rattle.sis_session.specs.Methods.{AskedNone}
+use Rattle.sis_session.specs.Plan.{MAX_BYTES, Outcome, Does, Refuses, Plan, Quiet, Loads, Saves, Puts, Takes, Asked, Nothing, OnStore, OnOut, OnInput, Ending, Done, Cut, Comes, ComesLoaded, ComesSaved, ComesPut, ComesPiece, ComesTaken, Goes, Steps, by_plan, no_memory, Did, on_store, on_input}
 use Rattle.sis_session.specs.State.{Held}
 use Rattle.sis_session.specs.declared.refusal.Failed.TheVariants as failed
 use Rattle.sis_session.specs.declared.refusal.Next.{Next}

@@ -18,8 +18,8 @@ use Rattle.sis_top.specs.Machine.{Due, Machine, Turn, WorkPlans, IsTold, Runs, a
 use Rattle.sis_top.specs.Call.{puts_of}
 use Rattle.sis_top.specs.declared.status.Stop.{Stop}
 use Rattle.sis_top.proofs.Going.{Went, went, quiet, loads, saves, puts, takes}
-use Rattle.sis_top.proofs.Faithful.{turn_steps}
-use Rattle.sis_top.proofs.Counting.{IsStopped, after_cut, any_both, stopped_runs}
+use Rattle.sis_top.proofs.Took.{Took, took}
+use Rattle.sis_top.proofs.Counting.{IsStopped, any_both, stopped_runs, turn_cut}
 
 -- some call of the object that is named failed, among these of a turn
 abbrev pub Failing : Failed → Asked → Option PutCall → Type 0
@@ -167,12 +167,12 @@ run_failed goes_on from to [] stop runs start end = absurd (none_some stop (sym 
     none_some : (stop : Stop) → None ≡ Some stop → ⊥
     none_some stop e = cc
 run_failed goes_on from to (turn ∷ turns) stop runs start end =
-    step (λ e. run_failed goes_on (after goes_on from turn) to turns stop runs.1 e end) (after_cut goes_on from turn.due turn.ending turn.told start)
+    let t = took goes_on from turn runs.0 in
+    step t (λ e. run_failed goes_on (after goes_on from turn) to turns stop runs.1 e end) (turn_cut goes_on from turn t start)
   where
-    step : ((after goes_on from turn).cut ≡ None → SomeFailed stop.what turns) → ((after goes_on from turn).cut ≡ None) ⊎ IsStopped (after goes_on from turn) → SomeFailed stop.what (turn ∷ turns)
-    step more (inl e) = later_failed stop.what turn turns (more e)
-    step more (inr stopped) =
-        let parts = turn_steps from from.todo turn runs.0 in
+    step : Took goes_on from turn → ((after goes_on from turn).cut ≡ None → SomeFailed stop.what turns) → ((after goes_on from turn).cut ≡ None) ⊎ IsStopped (after goes_on from turn) → SomeFailed stop.what (turn ∷ turns)
+    step t more (inl e) = later_failed stop.what turn turns (more e)
+    step t more (inr stopped) =
         first_failed stop.what turn turns
-        (ending_failing (WorkPlans from.held turn.due.work) goes_on from turn.due turn.asked turn.ending turn.told stop start parts.2 parts.3
-        (ap (λ (m : Machine). m.cut) (sym (stopped_runs goes_on (after goes_on from turn) to turns stopped runs.1)) ∙ end))
+        (ending_failing (WorkPlans from.held t.due.work) goes_on from t.due turn.asked turn.ending turn.told stop start t.steps t.told
+        (ap (λ (m : Machine). m.cut) (sym t.next) ∙ ap (λ (m : Machine). m.cut) (sym (stopped_runs goes_on (after goes_on from turn) to turns stopped runs.1)) ∙ end))

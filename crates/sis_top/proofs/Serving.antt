@@ -1,20 +1,20 @@
 -- A call whose turns are served is done, unless something fails or memory is wanting.
 use Rattle.std.proofs.Common.{◌≡◌, ℕ, List, [], ◌∷◌, ◌++◌, refl, sym, ap, subst, ◌∙◌, inl, inr}
 use Rattle.std.specs.Prelude.{◌⊎◌, Bool, false, Option, Some, None, Result, Ok, Err, flat_map}
-use Rattle.std.specs.List.{AllByRecursion}
 use Rattle.std.proofs.lemmas.List.{append_assoc}
 use Rattle.std.proofs.lemmas.Grind.{flat_map-append}
 use Rattle.sis_outside.specs.Calls.{StoreCall, TakeCall, PutCall, FilesGo, LeftGoes, Follows}
 use Rattle.sis_outside.specs.Files.{Files}
 use Rattle.sis_outside.specs.declared.sink.PutFault.{PutFault}
 use Rattle.sis_outside.specs.declared.sink.PutFault.TheVariants as put
-use Rattle.sis_top.specs.Asked.{TheOptions, TheScript}
+use Rattle.sis_top.specs.Asked.{TheOptions, TheScript, OnInput}
 use Rattle.sis_session.specs.Plan.{on_store, on_input}
 use Rattle.sis_session.specs.declared.refusal.Failed.{Failed}
 use Rattle.sis_session.specs.declared.refusal.Failed.TheVariants as failed
-use Rattle.sis_top.specs.Machine.{Machine, Turn, Runs, after, begun}
-use Rattle.sis_top.specs.Call.{Ends, IsCall, IsRun, input_calls, status_cut, status_of, store_calls, unless_memory}
-use Rattle.sis_top.specs.Laws.{AreServed, Completes, IsServedTurn}
+use Rattle.sis_top.specs.Machine.{AtEach, Machine, Turn, Runs, after, begun}
+use Rattle.sis_top.specs.Call.{Ends, IsCall, IsDoneBut, IsRun, input_calls, status_cut, status_of, store_calls, unless_memory}
+use Rattle.sis_top.specs.Laws.{AreServed, AsksInput, Completes}
+use Rattle.sis_top.specs.Served.{IsServedTurn}
 use Rattle.sis_top.specs.declared.status.Status.{Status}
 use Rattle.sis_top.specs.declared.status.Status.TheVariants.{Done, Fault, Memory}
 use Rattle.sis_top.specs.declared.status.Stop.{Stop}
@@ -35,13 +35,14 @@ front_calls goes of old new front turn turns h =
 
 all_served : (goes_on : Bool) (script : TheScript) (files : Files) (left : List ℕ) → AreServed goes_on script files left → (front : List Turn) (at end : Machine) (turns : List Turn)
     → Runs goes_on (begun script) front at → Runs goes_on at turns end → (later : Files) → Follows FilesGo files later (store_calls (front ++ turns))
-    → (rest : List ℕ) → Follows LeftGoes left rest (input_calls (front ++ turns)) → AllByRecursion IsServedTurn turns
-all_served goes_on script files left served front at end [] ran runs later stored rest took = tt
-all_served goes_on script files left served front at end (turn ∷ turns) ran runs later stored rest took = (
-  served front at turn ran runs.0 (front_calls FilesGo (λ t. on_store t.asked) files later front turn turns stored) (front_calls LeftGoes (λ t. on_input t.asked) left rest front turn turns took),
+    → (script ≡ OnInput → (rest : List ℕ) × Follows LeftGoes left rest (input_calls (front ++ turns))) → AtEach goes_on IsServedTurn at turns
+all_served goes_on script files left served front at end [] ran runs later stored took = tt
+all_served goes_on script files left served front at end (turn ∷ turns) ran runs later stored took = (
+  served front at turn ran runs.0 (front_calls FilesGo (λ t. on_store t.asked) files later front turn turns stored)
+      (λ e. let went = took e in front_calls LeftGoes (λ t. on_input t.asked) left went.0 front turn turns went.1),
   all_served goes_on script files left served (front ++ turn ∷ []) (after goes_on at turn) end turns (runs_more goes_on (begun script) at front turn ran runs.0) runs.1
       later (subst (λ (all : List Turn). Follows FilesGo files later (store_calls all)) (sym (append_assoc front (turn ∷ []) turns)) stored)
-      rest (subst (λ (all : List Turn). Follows LeftGoes left rest (input_calls all)) (sym (append_assoc front (turn ∷ []) turns)) took),
+      (λ e. let went = took e in (went.0, subst (λ (all : List Turn). Follows LeftGoes left went.0 (input_calls all)) (sym (append_assoc front (turn ∷ []) turns)) went.1)),
 )
 
 cut_status : (what : Failed) (answer : Result (Unit {0}) PutFault) → (unless_memory (status_cut what) answer ≡ Fault) ⊎ (unless_memory (status_cut what) answer ≡ Memory)
@@ -57,7 +58,7 @@ cut_status failed.Out (Err put.Failed) = inl refl
 cut_status failed.Err (Err put.Failed) = inl refl
 cut_status failed.Memory (Err put.Failed) = inr refl
 
-ends_served : (cut : Option Stop) (refused : Bool) (last : Option PutCall) (status : Status) → refused ≡ false → Ends cut refused last status → (status ≡ Done) ⊎ ((status ≡ Fault) ⊎ (status ≡ Memory))
+ends_served : (cut : Option Stop) (refused : Bool) (last : Option PutCall) (status : Status) → refused ≡ false → Ends cut refused last status → IsDoneBut status
 ends_served None refused last status e ends = inl (ends.1 ∙ ap status_of e)
 ends_served (Some stop) refused None status e ends = inr (inr ends)
 ends_served (Some stop) refused (Some call) status e ends = by (cut_status stop.what call.answer)
@@ -66,19 +67,26 @@ ends_served (Some stop) refused (Some call) status e ends = by (cut_status stop.
     by (inl d) = inr (inl (ends.1 ∙ d))
     by (inr d) = inr (inr (ends.1 ∙ d))
 
-run_completes : Served → (goes_on : Bool) (script : TheScript) (store : List StoreCall → Type 0) (input : List TakeCall → Type 0) (out err : List PutCall → Type 0) (status : Status) (files : Files) (left : List ℕ)
-    → ((calls : List StoreCall) → store calls → (later : Files) × Follows FilesGo files later calls) → ((calls : List TakeCall) → input calls → (rest : List ℕ) × Follows LeftGoes left rest calls)
-    → IsRun goes_on script store input out err status → AreServed goes_on script files left → (status ≡ Done) ⊎ ((status ≡ Fault) ⊎ (status ≡ Memory))
-run_completes law goes_on script store input out err status files left stored took run served =
-    let files_went = stored (store_calls run.turns) run.store_went in
-    let left_went = took (input_calls run.turns) run.input_went in
-    let all = all_served goes_on script files left served [] (begun script) run.end run.turns refl run.runs files_went.0 files_went.1 left_went.0 left_went.1 in
-    ends_served run.end.cut run.end.refused run.last status (run_kept law goes_on (begun script) run.end run.turns run.runs refl all) run.ends
+-- a run whose turns are served is done
+pub run_served : Served → (goes_on : Bool) (script : TheScript) (turns : List Turn) (end : Machine) (last : Option PutCall) (status : Status) → Runs goes_on (begun script) turns end
+    → Ends end.cut end.refused last status → AtEach goes_on IsServedTurn (begun script) turns → IsDoneBut status
+run_served law goes_on script turns end last status runs ends all =
+    ends_served end.cut end.refused last status (run_kept law goes_on (begun script) end turns runs refl all) ends
 
-pub call_completes : Served → (asked : Option TheOptions) (store : List StoreCall → Type 0) (input : List TakeCall → Type 0) (out err : List PutCall → Type 0) (status : Status) (files : Files) (left : List ℕ)
-    → ((calls : List StoreCall) → store calls → (later : Files) × Follows FilesGo files later calls) → ((calls : List TakeCall) → input calls → (rest : List ℕ) × Follows LeftGoes left rest calls)
+run_completes : (goes_on : Bool) (script : TheScript) (store : List StoreCall → Type 0) (input : List TakeCall → Type 0) (out err : List PutCall → Type 0) (status : Status) (files : Files) (left : List ℕ)
+    → ((calls : List StoreCall) → store calls → (later : Files) × Follows FilesGo files later calls)
+    → (script ≡ OnInput → (calls : List TakeCall) → input calls → (rest : List ℕ) × Follows LeftGoes left rest calls)
+    → IsRun goes_on script store input out err status → AreServed goes_on script files left → IsDoneBut status
+run_completes goes_on script store input out err status files left stored took run served =
+    let files_went = stored (store_calls run.turns) run.store_went in
+    run.served (all_served goes_on script files left served [] (begun script) run.end run.turns refl run.runs files_went.0 files_went.1
+    (λ e. took e (input_calls run.turns) run.input_went))
+
+pub call_completes : (asked : Option TheOptions) (store : List StoreCall → Type 0) (input : List TakeCall → Type 0) (out err : List PutCall → Type 0) (status : Status) (files : Files) (left : List ℕ)
+    → ((calls : List StoreCall) → store calls → (later : Files) × Follows FilesGo files later calls)
+    → (AsksInput asked → (calls : List TakeCall) → input calls → (rest : List ℕ) × Follows LeftGoes left rest calls)
     → IsCall asked store input out err status → Completes asked files left status
 unfolding IsCall
-call_completes law None store input out err status files left stored took call = tt
-call_completes law (Some options) store input out err status files left stored took call = λ served.
-    run_completes law options.keep options.script store input out err status files left stored took call served
+call_completes None store input out err status files left stored took call = tt
+call_completes (Some options) store input out err status files left stored took call = λ served.
+    run_completes options.keep options.script store input out err status files left stored took call served

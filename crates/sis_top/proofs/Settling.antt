@@ -11,7 +11,7 @@ use Rattle.sis_session.specs.declared.refusal.Failed.{Failed}
 use Rattle.sis_session.specs.declared.refusal.Failed.TheVariants as failed
 use Rattle.sis_session.specs.declared.refusal.Next.{Next}
 use Rattle.sis_session.specs.declared.refusal.Refusal.{Refusal}
-use Rattle.sis_top.specs.Machine.{Run, Due, deeper, Machine, Turn, WorkPlans, IsTurn, IsTurnOf, IsTold, after_refusal, rest_of, todo_after, told_cut}
+use Rattle.sis_top.specs.Machine.{Run, Due, deeper, Machine, Turn, WorkPlans, IsTurn, IsTurnOf, IsTold, after_first, after_refusal, rest_of, todo_after, told_cut}
 use Rattle.sis_top.specs.Code.{HasEnded, HasTold, HasSettled, HasTurned, IsAnswer, ended_as, IsAt, IsCutAt, IsDone}
 use Rattle.sis_top.specs.declared.halt.Halt.{Halt}
 use Rattle.sis_top.proofs.Going.{steps_wanting}
@@ -88,8 +88,8 @@ settled_untold goes_on machine due why what line err told e = record {
 }
 
 -- the turn of a work that was settled
-abbrev pub turn_by : Machine → Due → Asked → Ending → Option PutCall → Turn
-turn_by machine due asked ending told = record { held = machine.held; spec = machine.spec; due = due; asked = asked; ending = ending; told = told }
+abbrev pub turn_by : Asked → Ending → Option PutCall → Turn
+turn_by asked ending told = record { asked = asked; ending = ending; told = told }
 
 pub settled_steps : (plans : Plan → Type 0) (asked : Asked) (ended ending : Ending) → Steps plans asked ended
     → (ending ≡ ended) ⊎ (IsDone ended × (ending ≡ Cut failed.Memory)) → Steps plans asked ending
@@ -100,23 +100,23 @@ settled_steps plans asked (Cut what) ending steps (inr (done, e)) = absurd done
 
 pub is_turn : (machine : Machine) (due : Due) (todo : List Due) (asked : Asked) (ended ending : Ending) (told : Option PutCall) → machine.todo ≡ due ∷ todo
     → Steps (WorkPlans machine.held due.work) asked ended → (ending ≡ ended) ⊎ (IsDone ended × (ending ≡ Cut failed.Memory)) → IsTold due.line ending told
-    → IsTurn machine (turn_by machine due asked ending told)
+    → IsTurn machine (turn_by asked ending told)
 is_turn machine due todo asked ended ending told e steps comes is =
-    subst (λ (all : List Due). IsTurnOf machine all (turn_by machine due asked ending told)) (sym e)
-    (refl, refl, refl, settled_steps (WorkPlans machine.held due.work) asked ended ending steps comes, is)
+    subst (λ (all : List Due). IsTurnOf machine all (turn_by asked ending told)) (sym e)
+    (settled_steps (WorkPlans machine.held due.work) asked ended ending steps comes, is)
 
 pub turned_by : (goes_on : Bool) (machine : Machine) (due : Due) (todo : List Due) (asked : Asked) (ended : Ending)
     (store : List StoreCall → Type 0) (out err : List PutCall → Type 0) (stands : Machine → Type 0) → machine.todo ≡ due ∷ todo
     → Steps (WorkPlans machine.held due.work) asked ended → store (on_store asked) → out (on_out asked) → on_input asked ≡ []
     → HasSettled goes_on machine due ended err stands → HasTurned goes_on machine store out err stands
 turned_by goes_on machine due todo asked ended store out err stands e steps stored put kept settled = record {
-  turn = turn_by machine due asked settled.ending settled.told;
+  turn = turn_by asked settled.ending settled.told;
   is_turn = is_turn machine due todo asked ended settled.ending settled.told e steps settled.comes settled.is_told;
   store_went = stored;
   input_kept = kept;
   out_went = put;
   err_went = settled.err_went;
-  lands = settled.lands;
+  lands = subst stands (sym (ap (λ (all : List Due). after_first goes_on machine all (turn_by asked settled.ending settled.told)) e)) settled.lands;
 }
 
 -- the same by an answer

@@ -1,62 +1,177 @@
--- Two runs that are answered the same are one.
-use Rattle.std.proofs.Common.{◌≡◌, ℕ, List, [], ◌∷◌, refl, sym, ap, subst, ◌∙◌, inl, inr}
-use Rattle.std.specs.Prelude.{◌⊎◌, Bool, Option}
+-- Two runs whose equal requests are answered the same are one.
+use Rattle.std.proofs.Common.{◌≡◌, ℕ, ◌+◌, List, [], ◌∷◌, ◌++◌, refl, sym, ap, subst, ◌∙◌, inl, inr, arith}
+use Rattle.std.specs.Prelude.{◌⊎◌, Bool, Option, Some, None, Result, Ok, Err}
 use Rattle.std.specs.List.{AllByRecursion}
-use Rattle.sis_outside.specs.Calls.{PutCall}
+use Rattle.sis_outside.specs.Calls.{Load, Save, TakeCall, PutCall}
+use Rattle.sis_outside.specs.declared.store.LoadFault.{LoadFault}
+use Rattle.sis_outside.specs.declared.store.SaveFault.{SaveFault}
+use Rattle.sis_outside.specs.declared.source.TakeFault.{TakeFault}
+use Rattle.sis_outside.specs.declared.source.TakeFault.TheVariants as take
 use Rattle.sis_script.specs.declared.command.Op.{Op}
 use Rattle.sis_session.specs.Commands.{Plans}
-use Rattle.sis_session.specs.Plan.{Plan, Asked, Ending, Cut, Goes, Steps, by_plan, no_memory}
-use Rattle.circuit_model.specs.declared.machine.Spec.{Spec}
+use Rattle.sis_session.specs.Plan.{MAX_BYTES, Outcome, Plan, Quiet, Loads, Saves, Puts, Takes, Asked, Nothing, OnStore, OnOut, OnInput as FromInput, Ending, Done, Refused, Cut, ComesPiece, ComesTaken, Goes, Steps, by_plan, no_memory}
 use Rattle.sis_session.specs.State.{Held}
 use Rattle.sis_session.specs.declared.refusal.Failed.TheVariants as failed
+use Rattle.sis_session.specs.declared.refusal.Refusal.{Refusal}
 use Rattle.sis_session.proofs.Once.{goes_once}
-use Rattle.sis_top.specs.Machine.{Begin, Run, Work, Due, Machine, Turn, WorkPlans, IsTurn, IsTurnOf, Runs, after}
-use Rattle.sis_top.specs.Laws.{AreAlike, HasMemory}
-use Rattle.sis_top.proofs.Faithful.{turn_steps}
+use Rattle.sis_top.specs.Machine.{Begin, Run, Work, Due, Machine, Turn, WorkPlans, IsTold, IsTurn, IsTurnOf, Runs, after}
+use Rattle.sis_top.specs.Laws.{AnswersAlike, AreAlike, HasMemory, LinesAlike, TakesAlike}
 
 -- the law of the session that is used here
 abbrev pub Once : Type 0
-Once = (depth : ℕ) (held : Held) (op : Op) (asked : Asked) (one other : Ending) → Steps (Plans depth held op) asked one → Steps (Plans depth held op) asked other
-    → (one ≡ other) ⊎ ((one ≡ Cut failed.Memory) ⊎ (other ≡ Cut failed.Memory))
+Once = (depth : ℕ) (held : Held) (op : Op) (plan other : Plan) → Plans depth held op plan → Plans depth held op other → plan ≡ other
 
-work_once : Once → (held : Held) (work : Work) (asked : Asked) (one other : Ending) → Steps (WorkPlans held work) asked one → Steps (WorkPlans held work) asked other
-    → (one ≡ other) ⊎ ((one ≡ Cut failed.Memory) ⊎ (other ≡ Cut failed.Memory))
-work_once law held (Run depth op) asked one other h k = law depth held op asked one other h k
-work_once law held (Begin script) asked one other (by_plan plan p g) (by_plan plan' p' g') =
-    goes_once plan asked one other g (subst (λ (x : Plan). Goes x asked other) (p' ∙ sym p) g')
-work_once law held (Begin script) asked one other (no_memory a e) k = inr (inl e)
-work_once law held (Begin script) asked one other (by_plan plan p g) (no_memory a e) = inr (inr e)
+work_once : Once → (held : Held) (work : Work) (plan other : Plan) → WorkPlans held work plan → WorkPlans held work other → plan ≡ other
+work_once law held (Run depth op) plan other h k = law depth held op plan other h k
+work_once law held (Begin script) plan other h k = h ∙ sym k
 
-same_ending : (one other : Ending) → (one ≡ Cut failed.Memory → ⊥) → (other ≡ Cut failed.Memory → ⊥) → (one ≡ other) ⊎ ((one ≡ Cut failed.Memory) ⊎ (other ≡ Cut failed.Memory)) → one ≡ other
+-- memory was not wanting
+Whole : Ending → Type 0
+Whole ending = ending ≡ Cut failed.Memory → ⊥
+
+-- takes of the whole input that are answered the same are the same
+same_call : (one other : TakeCall) → one.max ≡ other.max → one.answer ≡ other.answer → one ≡ other
+same_call one other max given =
+    ap (λ (m : ℕ). record { max = m; answer = one.answer }) max ∙ ap (λ (a : Result (List ℕ) TakeFault). record { max = other.max; answer = a }) given
+
+same_takes : (used : List ℕ → Outcome) (text : List ℕ) (ones others : List TakeCall) (one other : Ending) → Whole one → Whole other
+    → ComesTaken used text ones one → ComesTaken used text others other → TakesAlike ones others → ones ≡ others
+unfolding Whole
+same_takes used text [] [] one other w v h k alike = refl
+same_takes used text [] (call ∷ calls) one other w v (inl h) k alike = absurd (omega (arith, h.0, k.0.0))
+same_takes used text [] (call ∷ calls) one other w v (inr h) k alike = absurd (w h.1)
+same_takes used text (call ∷ calls) [] one other w v h (inl k) alike = absurd (omega (arith, k.0, h.0.0))
+same_takes used text (call ∷ calls) [] one other w v h (inr k) alike = absurd (v k.1)
+same_takes used text (call ∷ calls) (same ∷ others) one other w v h k alike =
+    let max : call.max ≡ same.max = omega (arith, h.0.1, k.0.1) in
+    let given = alike.0 max in
+    ap (λ (c : TakeCall). c ∷ calls) (same_call call same max given)
+    ∙ ap (λ (rest : List TakeCall). same ∷ rest)
+    (pieces same.answer (λ longer a b. same_takes used longer calls others one other w v a b alike.1)
+    (subst (λ (a : Result (List ℕ) TakeFault). ComesPiece used text a calls (λ longer. ComesTaken used longer calls one) one) given h.1) k.1)
+  where
+    pieces : (answer : Result (List ℕ) TakeFault) → ((longer : List ℕ) → ComesTaken used longer calls one → ComesTaken used longer others other → calls ≡ others)
+        → ComesPiece used text answer calls (λ longer. ComesTaken used longer calls one) one → ComesPiece used text answer others (λ longer. ComesTaken used longer others other) other
+        → calls ≡ others
+    pieces (Ok []) more a b = a.0 ∙ sym b.0
+    pieces (Ok (byte ∷ bytes)) more a b = more (text ++ byte ∷ bytes) a b
+    pieces (Err take.Failed) more a b = a.0 ∙ sym b.0
+    pieces (Err take.Memory) more a b = a.0 ∙ sym b.0
+
+-- what is asked by a plan of each kind
+quiet_asked : (outcome : Outcome) (asked : Asked) (ending : Ending) → Goes (Quiet outcome) asked ending → asked ≡ Nothing
+quiet_asked outcome Nothing ending h = refl
+quiet_asked outcome (OnStore call) ending h = absurd h
+quiet_asked outcome (OnOut call) ending h = absurd h
+quiet_asked outcome (FromInput calls) ending h = absurd h
+
+loads_asked : (name : List ℕ) (used : List ℕ → Outcome) (asked : Asked) (ending : Ending) → Goes (Loads name used) asked ending
+    → (given : Result (List ℕ) LoadFault) × (asked ≡ OnStore (Load name MAX_BYTES given))
+loads_asked name used Nothing ending h = absurd h
+loads_asked name used (OnStore (Load file max given)) ending h =
+    (given, ap (λ (n : List ℕ). OnStore (Load n max given)) h.0 ∙ ap (λ (m : ℕ). OnStore (Load name m given)) h.1)
+loads_asked name used (OnStore (Save file sent given)) ending h = absurd h
+loads_asked name used (OnOut call) ending h = absurd h
+loads_asked name used (FromInput calls) ending h = absurd h
+
+saves_asked : (name bytes : List ℕ) (outcome : Outcome) (asked : Asked) (ending : Ending) → Goes (Saves name bytes outcome) asked ending
+    → (given : Result (Unit {0}) SaveFault) × (asked ≡ OnStore (Save name bytes given))
+saves_asked name bytes outcome Nothing ending h = absurd h
+saves_asked name bytes outcome (OnStore (Load file max given)) ending h = absurd h
+saves_asked name bytes outcome (OnStore (Save file sent given)) ending h =
+    (given, ap (λ (n : List ℕ). OnStore (Save n sent given)) h.0 ∙ ap (λ (b : List ℕ). OnStore (Save name b given)) h.1)
+saves_asked name bytes outcome (OnOut call) ending h = absurd h
+saves_asked name bytes outcome (FromInput calls) ending h = absurd h
+
+puts_asked : (reply : List ℕ) (outcome : Outcome) (asked : Asked) (ending : Ending) → Goes (Puts reply outcome) asked ending
+    → (call : PutCall) × (asked ≡ OnOut call) × (call.piece ≡ reply)
+puts_asked reply outcome Nothing ending h = absurd h
+puts_asked reply outcome (OnStore (Load file max given)) ending h = absurd h
+puts_asked reply outcome (OnStore (Save file sent given)) ending h = absurd h
+puts_asked reply outcome (OnOut call) ending h = (call, refl, h.0)
+puts_asked reply outcome (FromInput calls) ending h = absurd h
+
+takes_asked : (used : List ℕ → Outcome) (asked : Asked) (ending : Ending) → Goes (Takes used) asked ending
+    → (calls : List TakeCall) × (asked ≡ FromInput calls) × ComesTaken used [] calls ending
+takes_asked used Nothing ending h = absurd h
+takes_asked used (OnStore (Load file max given)) ending h = absurd h
+takes_asked used (OnStore (Save file sent given)) ending h = absurd h
+takes_asked used (OnOut call) ending h = absurd h
+takes_asked used (FromInput calls) ending h = (calls, refl, h)
+
+same_put : (one other : PutCall) → one.piece ≡ other.piece → one.answer ≡ other.answer → one ≡ other
+same_put one other piece given =
+    ap (λ (p : List ℕ). record { piece = p; answer = one.answer }) piece ∙ ap (λ (a : _). record { piece = other.piece; answer = a }) given
+
+alike_as : (one other first second : Asked) → one ≡ first → other ≡ second → AnswersAlike one other → AnswersAlike first second
+alike_as one other first second e d alike = subst (λ (a : Asked). AnswersAlike a second) e (subst (λ (b : Asked). AnswersAlike one b) d alike)
+
+-- by one plan the same is asked
+same_asked : (plan : Plan) (one other : Asked) (ending ended : Ending) → Whole ending → Whole ended → Goes plan one ending → Goes plan other ended → AnswersAlike one other → one ≡ other
+same_asked (Quiet outcome) one other ending ended w v h k alike = quiet_asked outcome one ending h ∙ sym (quiet_asked outcome other ended k)
+same_asked (Loads name used) one other ending ended w v h k alike =
+    let (given, e) = loads_asked name used one ending h in
+    let (given', d) = loads_asked name used other ended k in
+    let same = alike_as one other _ _ e d alike refl refl in
+    e ∙ ap (λ (g : Result (List ℕ) LoadFault). OnStore (Load name MAX_BYTES g)) same ∙ sym d
+same_asked (Saves name bytes outcome) one other ending ended w v h k alike =
+    let (given, e) = saves_asked name bytes outcome one ending h in
+    let (given', d) = saves_asked name bytes outcome other ended k in
+    let same = alike_as one other _ _ e d alike refl refl in
+    e ∙ ap (λ (g : Result (Unit {0}) SaveFault). OnStore (Save name bytes g)) same ∙ sym d
+same_asked (Puts reply outcome) one other ending ended w v h k alike =
+    let (call, e, p) = puts_asked reply outcome one ending h in
+    let (call', d, q) = puts_asked reply outcome other ended k in
+    let piece : call.piece ≡ call'.piece = p ∙ sym q in
+    e ∙ ap OnOut (same_put call call' piece (alike_as one other (OnOut call) (OnOut call') e d alike piece)) ∙ sym d
+same_asked (Takes used) one other ending ended w v h k alike =
+    let (calls, e, t) = takes_asked used one ending h in
+    let (calls', d, u) = takes_asked used other ended k in
+    e ∙ ap FromInput (same_takes used [] calls calls' ending ended w v t u (alike_as one other (FromInput calls) (FromInput calls') e d alike)) ∙ sym d
+
+same_ending : (one other : Ending) → Whole one → Whole other → (one ≡ other) ⊎ ((one ≡ Cut failed.Memory) ⊎ (other ≡ Cut failed.Memory)) → one ≡ other
+unfolding Whole
 same_ending one other not nor (inl e) = e
 same_ending one other not nor (inr (inl e)) = absurd (not e)
 same_ending one other not nor (inr (inr e)) = absurd (nor e)
 
-turn_due : (machine : Machine) (todo : List Due) (one other : Turn) → IsTurnOf machine todo one → IsTurnOf machine todo other → one.due ≡ other.due
-turn_due machine [] one other h k = absurd h
-turn_due machine (due ∷ rest) one other h k = h.2 ∙ sym k.2
+-- a step is one where equal requests are answered the same
+same_steps : Once → (held : Held) (work : Work) (one other : Asked) (ending ended : Ending) → Whole ending → Whole ended
+    → Steps (WorkPlans held work) one ending → Steps (WorkPlans held work) other ended → AnswersAlike one other → (one ≡ other) × (ending ≡ ended)
+unfolding Whole
+same_steps law held work one other ending ended w v (by_plan plan p g) (by_plan plan' p' g') alike =
+    let goes : Goes plan other ended = subst (λ (x : Plan). Goes x other ended) (sym (work_once law held work plan plan' p p')) g' in
+    let asked = same_asked plan one other ending ended w v g goes alike in
+    (asked, same_ending ending ended w v (goes_once plan other ending ended (subst (λ (a : Asked). Goes plan a ending) asked g) goes))
+same_steps law held work one other ending ended w v (no_memory a e) k alike = absurd (w e)
+same_steps law held work one other ending ended w v (by_plan plan p g) (no_memory a e) alike = absurd (v e)
 
-one_turn : (one other : Turn) → one.held ≡ other.held → one.spec ≡ other.spec → one.due ≡ other.due → one.asked ≡ other.asked → one.ending ≡ other.ending → one.told ≡ other.told → one ≡ other
-one_turn one other held spec due asked ending told =
-    ap (λ (x : Held). record { held = x; spec = one.spec; due = one.due; asked = one.asked; ending = one.ending; told = one.told }) held
-    ∙ ap (λ (x : Option Spec). record { held = other.held; spec = x; due = one.due; asked = one.asked; ending = one.ending; told = one.told }) spec
-    ∙ ap (λ (x : Due). record { held = other.held; spec = other.spec; due = x; asked = one.asked; ending = one.ending; told = one.told }) due
-    ∙ ap (λ (x : Asked). record { held = other.held; spec = other.spec; due = other.due; asked = x; ending = one.ending; told = one.told }) asked
-    ∙ ap (λ (x : Ending). record { held = other.held; spec = other.spec; due = other.due; asked = other.asked; ending = x; told = one.told }) ending
-    ∙ ap (λ (x : Option PutCall). record { held = other.held; spec = other.spec; due = other.due; asked = other.asked; ending = other.ending; told = x }) told
+-- so is the line of a refusal
+same_line : (line : ℕ) (ending : Ending) (one other : Option PutCall) → IsTold line ending one → IsTold line ending other
+    → ((why : Refusal) → ending ≡ Refused why → one ≡ None → ⊥) → ((why : Refusal) → ending ≡ Refused why → other ≡ None → ⊥) → LinesAlike one other → one ≡ other
+same_line line (Done held next) one other h k w v alike = h ∙ sym k
+same_line line (Cut what) one other h k w v alike = h ∙ sym k
+same_line line (Refused why) None other h k w v alike = absurd (w why refl refl)
+same_line line (Refused why) (Some call) None h k w v alike = absurd (v why refl refl)
+same_line line (Refused why) (Some call) (Some same) h k w v alike = let piece : call.piece ≡ same.piece = h ∙ sym k in ap (λ (c : PutCall). Some c) (same_put call same piece (alike piece))
 
-same_turn : Once → (machine : Machine) (one other : Turn) → IsTurn machine one → IsTurn machine other → HasMemory one → HasMemory other → one.asked ≡ other.asked → one.told ≡ other.told → one ≡ other
-same_turn law machine one other h k certain sure asked told =
-    let first = turn_steps machine machine.todo one h in
-    let second = turn_steps machine machine.todo other k in
-    let due = turn_due machine machine.todo one other h k in
-    let steps : Steps (WorkPlans machine.held one.due.work) one.asked other.ending =
-    subst (λ (a : Asked). Steps (WorkPlans machine.held one.due.work) a other.ending) (sym asked)
-    (subst (λ (d : Due). Steps (WorkPlans machine.held d.work) other.asked other.ending) (sym due) second.2) in
-    one_turn one other (first.0 ∙ sym second.0) (first.1 ∙ sym second.1) due asked
-    (same_ending one.ending other.ending certain sure (work_once law machine.held one.due.work one.asked one.ending other.ending first.2 steps)) told
+one_turn : (one other : Turn) → one.asked ≡ other.asked → one.ending ≡ other.ending → one.told ≡ other.told → one ≡ other
+one_turn one other asked ending told =
+    ap (λ (x : Asked). record { asked = x; ending = one.ending; told = one.told }) asked
+    ∙ ap (λ (x : Ending). record { asked = other.asked; ending = x; told = one.told }) ending
+    ∙ ap (λ (x : Option PutCall). record { asked = other.asked; ending = other.ending; told = x }) told
 
-ended_run : (machine end : Machine) (turn : Turn) → end ≡ machine → end.todo ≡ [] → IsTurn machine turn → ⊥
+pub same_turn : Once → (machine : Machine) (todo : List Due) (one other : Turn) → IsTurnOf machine todo one → IsTurnOf machine todo other → HasMemory one → HasMemory other
+    → AnswersAlike one.asked other.asked → LinesAlike one.told other.told → one ≡ other
+unfolding Whole
+same_turn law machine [] one other h k certain sure asked told = absurd h
+same_turn law machine (due ∷ rest) one other h k certain sure asked told =
+    let same = same_steps law machine.held due.work one.asked other.asked one.ending other.ending certain.whole sure.whole h.0 k.0 asked in
+    one_turn one other same.0 same.1
+    (same_line due.line one.ending one.told other.told h.1 (subst (λ (e : Ending). IsTold due.line e other.told) (sym same.1) k.1)
+    certain.told (λ why e. sure.told why (sym same.1 ∙ e)) told)
+
+pub ended_run : (machine end : Machine) (turn : Turn) → end ≡ machine → end.todo ≡ [] → IsTurn machine turn → ⊥
 ended_run machine end turn e none is = subst (λ (todo : List Due). IsTurnOf machine todo turn) (ap (λ (m : Machine). m.todo) (sym e) ∙ none) is
 
 pub one_run : Once → (goes_on : Bool) (from end last : Machine) (one other : List Turn) → Runs goes_on from one end → Runs goes_on from other last → end.todo ≡ [] → last.todo ≡ []
@@ -65,7 +180,7 @@ one_run law goes_on from end last [] [] h k none nothing certain sure alike = re
 one_run law goes_on from end last [] (turn ∷ other) h k none nothing certain sure alike = absurd (ended_run from end turn h none k.0)
 one_run law goes_on from end last (turn ∷ one) [] h k none nothing certain sure alike = absurd (ended_run from last turn k nothing h.0)
 one_run law goes_on from end last (turn ∷ one) (same ∷ other) h k none nothing certain sure alike =
-    let turns = same_turn law from turn same h.0 k.0 certain.0 sure.0 alike.0 alike.1 in
+    let turns = same_turn law from from.todo turn same h.0 k.0 certain.0 sure.0 alike.0 alike.1 in
     ap (λ (t : Turn). t ∷ one) turns
     ∙ ap (λ (rest : List Turn). same ∷ rest) (one_run law goes_on (after goes_on from same) end last one other
     (subst (λ (t : Turn). Runs goes_on (after goes_on from t) one end) turns h.1) k.1 none nothing certain.1 sure.1 alike.2)

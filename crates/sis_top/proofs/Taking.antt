@@ -13,12 +13,16 @@ use Rattle.sis_top.specs.declared.input.Unread.{Unread}
 use Rattle.sis_top.specs.declared.input.Unread.TheVariants as unread
 use Rattle.sis_top.proofs.Turning.{follows_joined}
 
+-- a take asks for all that may still be used of a script, and one byte more
+abbrev pub AsksAll : List ℕ → ℕ → Type 0
+AsksAll text max = (length text ≤ MAX_BYTES) × (max + length text ≡ MAX_BYTES + 1)
+
 pub taking_none : {I : Type 0} (takes : I → TakeCall → I → Type 0) (input : I) → IsTaking (Follows takes input input) []
 taking_none takes input = record { calls = []; went = refl; goes_on = λ used more ending h. h }
 
 -- one take more, with its answer
 taken_more : {I : Type 0} (takes : I → TakeCall → I → Type 0) (old mid new : I) (text : List ℕ) (call : TakeCall) (result : Result (Vec ℕ) Unread)
-    → IsTaking (Follows takes old mid) text → takes mid call new → call.max + length text ≡ MAX_BYTES + 1
+    → IsTaking (Follows takes old mid) text → takes mid call new → AsksAll text call.max
     → ((used : List ℕ → Outcome) (ending : Ending) → EndsTaken used result ending → ComesPiece used text call.answer [] (λ longer. ComesTaken used longer [] ending) ending)
     → HasTaken (Follows takes old new) result
 taken_more takes old mid new text call result taking took all comes = record {
@@ -28,27 +32,27 @@ taken_more takes old mid new text call result taking took all comes = record {
 }
 
 pub taken_end : {I : Type 0} (takes : I → TakeCall → I → Type 0) (old mid new : I) (text : Vec ℕ) (max : ℕ) (piece : List ℕ)
-    → IsTaking (Follows takes old mid) text.items → takes mid (record { max = max; answer = Ok piece }) new → max + length text.items ≡ MAX_BYTES + 1 → length piece ≡ 0
+    → IsTaking (Follows takes old mid) text.items → takes mid (record { max = max; answer = Ok piece }) new → AsksAll text.items max → length piece ≡ 0
     → HasTaken (Follows takes old new) (Ok text)
 taken_end takes old mid new text max [] taking took all none =
     taken_more takes old mid new text.items (record { max = max; answer = Ok [] }) (Ok text) taking took all (λ used ending h. (refl, h))
 taken_end takes old mid new text max (byte ∷ piece) taking took all none = absurd (omega (arith, none))
 
 pub taken_failed : {I : Type 0} (takes : I → TakeCall → I → Type 0) (old mid new : I) (text : List ℕ) (max : ℕ)
-    → IsTaking (Follows takes old mid) text → takes mid (record { max = max; answer = Err take.Failed }) new → max + length text ≡ MAX_BYTES + 1
+    → IsTaking (Follows takes old mid) text → takes mid (record { max = max; answer = Err take.Failed }) new → AsksAll text max
     → HasTaken (Follows takes old new) (Err unread.Failed)
 taken_failed takes old mid new text max taking took all =
     taken_more takes old mid new text (record { max = max; answer = Err take.Failed }) (Err unread.Failed) taking took all (λ used ending h. (refl, h))
 
 pub taken_wanting : {I : Type 0} (takes : I → TakeCall → I → Type 0) (old mid new : I) (text : List ℕ) (max : ℕ)
-    → IsTaking (Follows takes old mid) text → takes mid (record { max = max; answer = Err take.Memory }) new → max + length text ≡ MAX_BYTES + 1
+    → IsTaking (Follows takes old mid) text → takes mid (record { max = max; answer = Err take.Memory }) new → AsksAll text max
     → HasTaken (Follows takes old new) (Err unread.Memory)
 taken_wanting takes old mid new text max taking took all =
     taken_more takes old mid new text (record { max = max; answer = Err take.Memory }) (Err unread.Memory) taking took all (λ used ending h. (refl, h))
 
 -- a piece came that is not empty
 pub taking_more : {I : Type 0} (takes : I → TakeCall → I → Type 0) (old mid new : I) (text piece : List ℕ) (max : ℕ)
-    → IsTaking (Follows takes old mid) text → takes mid (record { max = max; answer = Ok piece }) new → max + length text ≡ MAX_BYTES + 1 → 0 < length piece
+    → IsTaking (Follows takes old mid) text → takes mid (record { max = max; answer = Ok piece }) new → AsksAll text max → 0 < length piece
     → IsTaking (Follows takes old new) (text ++ piece)
 taking_more takes old mid new text [] max taking took all some = absurd (omega (arith, some))
 taking_more takes old mid new text (byte ∷ piece) max taking took all some = record {

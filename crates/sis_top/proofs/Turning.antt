@@ -6,7 +6,8 @@ use Rattle.std.proofs.lemmas.Grind.{flat_map-append}
 use Rattle.sis_outside.specs.Calls.{StoreCall, TakeCall, PutCall, Follows}
 use Rattle.sis_top.specs.Asked.{TheScript}
 use Rattle.sis_session.specs.State.{nothing_held}
-use Rattle.sis_session.specs.Plan.{AskedNone, Ending, on_store, on_input, on_out}
+use Rattle.sis_session.specs.Methods.{AskedNone}
+use Rattle.sis_session.specs.Plan.{Ending, on_store, on_input, on_out}
 use Rattle.sis_top.specs.Machine.{Begin, Machine, Turn, IsTurn, Runs, after, begin_plan, begun}
 use Rattle.sis_top.specs.Call.{err_calls, out_calls, puts_of, store_calls}
 use Rattle.sis_top.specs.Code.{HasBegun, HasRun, HasSettled, HasTurned}
@@ -73,7 +74,7 @@ pub run_begun : {S O E : Type 0} (goes_on : Bool) (script : TheScript) (stores :
     → ((machine : Machine) → stood machine → HasRun goes_on machine (Follows stores s1 s2) AskedNone (Follows outs o0 o2) (Follows errs e1 e2) stands)
     → HasRun goes_on (begun script) (Follows stores s0 s2) input (Follows outs o0 o2) (Follows errs e0 e2) stands
 run_begun goes_on script stores outs errs s0 s1 s2 o0 o2 e0 e1 e2 input ended stood stands first settled rest =
-    let turn : Turn = turn_by (begun script) (record { line = 0; work = Begin script }) first.asked settled.ending settled.told in
+    let turn : Turn = turn_by first.asked settled.ending settled.told in
     let run = rest (after goes_on (begun script) turn) settled.lands in record {
       turns = turn ∷ run.turns;
       to = run.to;

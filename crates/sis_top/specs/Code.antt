@@ -1,4 +1,5 @@
--- What the calls below the top call promise, in the terms of the command machine.
+-- What the private calls below the top call promise, in the terms of the command machine. No public clause
+-- stands on these definitions.
 -- Source: the project's own rule for the outside.
 use Rattle.std.specs.Prelude.{◌≡◌, ◌⊎◌, ℕ, ◌+◌, ◌*◌, ◌-◌, ◌≤◌, zero, suc, Bool, ◌||◌, Option, Some, None, List, [], ◌∷◌, ◌++◌, length, Result, Ok, Err}
 use Rattle.std.specs.Global.{Vec}

@@ -1,19 +1,21 @@
--- What follows for whole calls: no call failed where a call ended with its run; a run whose turns are served refuses nothing;
--- and two runs that are answered the same are one.
+-- What follows for whole calls: no call failed where a call ended with its run; over files that are told, a run
+-- whose turns are served is done; and two runs whose equal requests are answered the same are one.
 -- Source: the project's own promise.
-use Rattle.std.specs.Prelude.{◌≡◌, ◌⊎◌, ℕ, ◌≤◌, Bool, Option, Some, None, List, [], ◌∷◌, ◌++◌, length, flat_map, Result, Ok, Err}
-use Rattle.sis_outside.specs.Calls.{Load, Save, TakeCall, FilesGo, LeftGoes, Follows}
-use Rattle.sis_outside.specs.Files.{Files}
-use Rattle.sis_outside.specs.declared.store.LoadFault.{LoadFault}
-use Rattle.sis_outside.specs.declared.store.LoadFault.TheVariants as load
-use Rattle.sis_outside.specs.declared.source.TakeFault.{TakeFault}
-use Rattle.sis_top.specs.Asked.{TheOptions, TheScript, InFile, AsText, OnInput}
-use Rattle.sis_session.specs.Keeping.{IsServed}
-use Rattle.sis_session.specs.Plan.{MAX_BYTES, Asked, OnStore, OnOut, OnInput as FromInput, Cut}
-use Rattle.sis_session.specs.State.{Held}
+use Rattle.std.specs.Prelude.{◌≡◌, ◌≤◌, ℕ, Bool, Option, Some, None, List, [], ◌∷◌, ◌++◌, length, Result, Ok, codes}
+use Rattle.std.specs.List.{AllByRecursion}
+use Rattle.sis_outside.specs.Calls.{StoreCall, Load, Save, TakeCall, PutCall, FilesGo, LeftGoes, Follows, IsStoreWithin}
+use Rattle.sis_outside.specs.Files.{Files, file_at}
+use Rattle.sis_text.specs.Entries.{entries_of}
+use Rattle.circuit_model.specs.declared.circuit.Circuit.{Circuit}
+use Rattle.circuit_model.specs.declared.machine.Spec.TheVariants as spec
+use Rattle.blif_read.specs.Reader.{read_lines}
+use Rattle.sis_top.specs.Asked.{TheOptions, TheScript, AsText, OnInput}
+use Rattle.sis_session.specs.Plan.{MAX_BYTES, Asked, OnStore, OnOut, OnInput as FromInput, Cut, Refused as Ended}
 use Rattle.sis_session.specs.declared.refusal.Failed.TheVariants.{Memory as NoMemory}
-use Rattle.sis_top.specs.Machine.{Begin, Run, Work, Machine, Turn, IsTurn, Runs, begun}
-use Rattle.sis_top.specs.Call.{input_calls, store_calls}
+use Rattle.sis_session.specs.declared.refusal.Refusal.{Refusal}
+use Rattle.sis_top.specs.Machine.{Machine, Turn, IsTurn, Runs, begun}
+use Rattle.sis_top.specs.Call.{IsDoneBut, input_calls, store_calls}
+use Rattle.sis_top.specs.Served.{IsServedTurn}
 use Rattle.sis_top.specs.declared.status.Status.{Status}
 use Rattle.sis_top.specs.declared.status.Status.TheVariants.{Done, Refused, Usage, Fault, Memory}
 
@@ -25,62 +27,81 @@ HasEnding Usage = ⊥
 HasEnding Fault = ⊥
 HasEnding Memory = ⊥
 
--- a load gives a file, unless it fails or memory is wanting
-abbrev pub GivesFile : Result (List ℕ) LoadFault → Type 0
-GivesFile (Ok bytes) = Unit {0}
-GivesFile (Err load.Missing) = ⊥
-GivesFile (Err (load.TooLong reached)) = ⊥
-GivesFile (Err load.Failed) = Unit {0}
-GivesFile (Err load.Memory) = Unit {0}
+-- the script is to be taken off the input
+abbrev pub AsksInput : Option TheOptions → Type 0
+AsksInput None = ⊥
+AsksInput (Some options) = options.script ≡ OnInput
 
--- the bytes that some takes gave
-abbrev pub bytes_in : Result (List ℕ) TakeFault → List ℕ
-bytes_in (Ok piece) = piece
-bytes_in (Err fault) = []
-
-abbrev pub taken : List TakeCall → List ℕ
-taken calls = flat_map (λ call. bytes_in call.answer) calls
-
--- the script is there, and no longer than is run
-abbrev pub HasScript : TheScript → Asked → Type 0
-HasScript (InFile name) (OnStore (Load file max answer)) = GivesFile answer
-HasScript (AsText text) asked = length text ≤ MAX_BYTES
-HasScript OnInput (FromInput calls) = length (taken calls) ≤ MAX_BYTES
-HasScript script asked = Unit {0}
-
--- a call was not answered: it failed, or memory was wanting
-abbrev pub IsUnanswered : Asked → Type 0
-IsUnanswered (OnStore (Load name max (Err load.Failed))) = Unit {0}
-IsUnanswered (OnStore (Load name max (Err load.Memory))) = Unit {0}
-IsUnanswered (OnStore (Save name bytes (Err fault))) = Unit {0}
-IsUnanswered (OnOut call) = (fault : _) × (call.answer ≡ Err fault)
-IsUnanswered asked = ⊥
-
--- a turn's work has what it needs so that it is not refused, unless a call was not answered
-abbrev pub IsServedWork : Held → Work → Asked → Type 0
-IsServedWork held (Begin script) asked = HasScript script asked
-IsServedWork held (Run depth op) asked = IsServed depth held op asked ⊎ IsUnanswered asked
-
-abbrev pub IsServedTurn : Turn → Type 0
-IsServedTurn turn = IsServedWork turn.held turn.due.work turn.asked
-
--- over these files and this input, each turn that the machine may come to is served
+-- over these files, and over this input where the script is taken off it, each turn that the machine may come
+-- to is served
 abbrev pub AreServed : Bool → TheScript → Files → List ℕ → Type 0
 AreServed goes_on script files left =
-    (turns : List Turn) (machine : Machine) (turn : Turn) → Runs goes_on (begun script) turns machine → IsTurn machine turn
+    (turns : List Turn) (machine : Machine) (turn : Turn)
+    → Runs goes_on (begun script) turns machine → IsTurn machine turn
     → ((after : Files) × Follows FilesGo files after (store_calls (turns ++ turn ∷ [])))
-    → ((after : List ℕ) × Follows LeftGoes left after (input_calls (turns ++ turn ∷ []))) → IsServedTurn turn
+    → (script ≡ OnInput → (after : List ℕ) × Follows LeftGoes left after (input_calls (turns ++ turn ∷ [])))
+    → IsServedTurn machine turn
 
 -- where that is so, all is done, unless something fails or memory is wanting
 abbrev pub Completes : Option TheOptions → Files → List ℕ → Status → Type 0
 Completes None files left status = Unit {0}
-Completes (Some options) files left status = AreServed options.keep options.script files left → (status ≡ Done) ⊎ ((status ≡ Fault) ⊎ (status ≡ Memory))
+Completes (Some options) files left status =
+    AreServed options.keep options.script files left → IsDoneBut status
 
--- memory was not wanting in a turn
-abbrev pub HasMemory : Turn → Type 0
-HasMemory turn = turn.ending ≡ Cut NoMemory → ⊥
+-- a script that reads a circuit, tells of it and writes it
+abbrev pub copying : List ℕ
+copying = codes "read_blif a; print_stats; write_blif b"
 
--- two runs asked the same of the outside and were answered the same, as far as both go
+-- over files in which a good circuit stands, such a script is served
+abbrev pub CopiesAreServed : Type 0
+CopiesAreServed =
+    (goes_on : Bool) (files : Files) (left bytes : List ℕ) (circuit : Circuit)
+    → file_at files (codes "a") ≡ Some bytes → length bytes ≤ MAX_BYTES
+    → read_lines None (entries_of bytes) ≡ Ok (spec.Circuit circuit)
+    → AreServed goes_on (AsText copying) files left
+
+-- memory was not wanting in a turn, nor for the line of its refusal
+pub record HasMemory (turn : Turn) : Type 0 where
+  pub whole : turn.ending ≡ Cut NoMemory → ⊥
+  pub told : (why : Refusal) → turn.ending ≡ Ended why → turn.told ≡ None → ⊥
+
+-- takes of the same bounds were answered the same, one after the other
+abbrev pub TakesAlike : List TakeCall → List TakeCall → Type 0
+TakesAlike (one ∷ ones) (other ∷ others) = (one.max ≡ other.max → one.answer ≡ other.answer) × TakesAlike ones others
+TakesAlike ones others = Unit {0}
+
+-- the same request of the outside was answered the same
+abbrev pub CallsAlike : StoreCall → StoreCall → Type 0
+CallsAlike (Load name max answer) (Load name' max' answer') = name ≡ name' → max ≡ max' → answer ≡ answer'
+CallsAlike (Save name bytes answer) (Save name' bytes' answer') = name ≡ name' → bytes ≡ bytes' → answer ≡ answer'
+CallsAlike one other = Unit {0}
+
+abbrev pub PutsAlike : PutCall → PutCall → Type 0
+PutsAlike one other = one.piece ≡ other.piece → one.answer ≡ other.answer
+
+abbrev pub AnswersAlike : Asked → Asked → Type 0
+AnswersAlike (OnStore one) (OnStore other) = CallsAlike one other
+AnswersAlike (OnOut one) (OnOut other) = PutsAlike one other
+AnswersAlike (FromInput ones) (FromInput others) = TakesAlike ones others
+AnswersAlike one other = Unit {0}
+
+abbrev pub LinesAlike : Option PutCall → Option PutCall → Type 0
+LinesAlike (Some one) (Some other) = PutsAlike one other
+LinesAlike one other = Unit {0}
+
+-- in two runs, as far as both go, equal requests got equal answers
 abbrev pub AreAlike : List Turn → List Turn → Type 0
-AreAlike (one ∷ ones) (other ∷ others) = (one.asked ≡ other.asked) × (one.told ≡ other.told) × AreAlike ones others
+AreAlike (one ∷ ones) (other ∷ others) =
+    AnswersAlike one.asked other.asked × LinesAlike one.told other.told × AreAlike ones others
 AreAlike ones others = Unit {0}
+
+-- some turns are a whole run of a script over files that are told: nothing is due behind it, nothing cut it
+-- short, the files went by its calls, and each load kept within what was asked for
+pub record IsRunOver (goes_on : Bool) (script : TheScript) (files : Files) (turns : List Turn) : Type 0 where
+  pub end : Machine
+  pub runs : Runs goes_on (begun script) turns end
+  pub whole : end.todo ≡ []
+  pub uncut : end.cut ≡ None
+  pub later : Files
+  pub went : Follows FilesGo files later (store_calls turns)
+  pub within : AllByRecursion IsStoreWithin (store_calls turns)

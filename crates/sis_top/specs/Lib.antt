@@ -5,4 +5,5 @@ pub mod Code
 pub mod Shell
 pub mod Asked
 pub mod Refusing
+pub mod Served
 pub mod Usual

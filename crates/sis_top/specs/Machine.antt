@@ -1,6 +1,7 @@
 -- The command machine: what stands between two turns, one turn, and a run as a list of turns.
--- Source: the SIS manual (UCB/ERL M92/41): the commands of a script are done one after the other, and `source` has those of
--- a file done before the rest. That a refusal ends a run that is not to go on behind it is the project's own rule.
+-- Source: the SIS manual (UCB/ERL M92/41): the commands of a script are done one after the other, and
+-- `source` has those of a file done before the rest. That a refusal ends a run that is not to go on behind
+-- it is the project's own rule.
 use Rattle.std.specs.Prelude.{◌≡◌, ℕ, ◌+◌, Bool, true, false, Option, Some, None, List, [], ◌∷◌, ◌++◌, map, length, nat_le, Result, Ok, Err, if◌then◌else◌}
 use Rattle.sis_outside.specs.Calls.{PutCall}
 use Rattle.sis_outside.specs.declared.sink.PutFault.{PutFault}
@@ -20,8 +21,8 @@ use Rattle.sis_session.specs.declared.refusal.Next.TheVariants as next
 use Rattle.sis_session.specs.declared.refusal.Refusal.TheVariants.{LongScript}
 use Rattle.sis_top.specs.declared.status.Stop.{Stop}
 
--- what is to be done: the script is begun for which the words of the command line ask, or a command is run, with so many
--- sourced scripts round it
+-- what is to be done: the script is begun for which the words of the command line ask, or a command is run,
+-- with so many sourced scripts round it
 pub data Work : Type 0 where
   Begin : (script : TheScript) → Work
   Run : (depth : ℕ) (op : Op) → Work
@@ -31,8 +32,8 @@ pub record Due : Type 0 where
   pub line : ℕ
   pub work : Work
 
--- what stands between two turns: what is held, what was read last, whether a work was refused, what cut the run short,
--- and what is due, the next in front
+-- what stands between two turns: what is held, what was read last, whether a work was refused, what cut the
+-- run short, and what is due, the next in front
 pub record Machine : Type 0 where
   pub held : Held
   pub spec : Option Spec
@@ -42,17 +43,24 @@ pub record Machine : Type 0 where
 
 -- the machine at the start of a call: nothing is held, and the script is to be begun
 abbrev pub begun : TheScript → Machine
-begun script = record { held = nothing_held; spec = None; refused = false; cut = None; todo = record { line = 0; work = Begin script } ∷ [] }
+begun script = record {
+  held = nothing_held;
+  spec = None;
+  refused = false;
+  cut = None;
+  todo = record { line = 0; work = Begin script } ∷ [];
+}
 
 -- a script is begun: its commands come next
 abbrev pub begins : Held → List ℕ → Outcome
 begins held text = Does held (next.Script (commands_in text))
 
--- the plan by which a script is begun: a file is loaded, a text is taken as it stands unless it is longer than is run, and
--- the input is taken to its end
+-- the plan by which a script is begun: a file is loaded, a text is taken as it stands unless it is longer
+-- than is run, and the input is taken to its end
 abbrev pub begin_plan : Held → TheScript → Plan
 begin_plan held (InFile name) = Loads name (begins held)
-begin_plan held (AsText text) = Quiet (if nat_le (length text) MAX_BYTES then begins held text else Refuses LongScript)
+begin_plan held (AsText text) =
+    Quiet (if nat_le (length text) MAX_BYTES then begins held text else Refuses LongScript)
 begin_plan held OnInput = Takes (begins held)
 
 -- the plans of a work
@@ -60,12 +68,9 @@ abbrev pub WorkPlans : Held → Work → Plan → Type 0
 WorkPlans held (Begin script) plan = plan ≡ begin_plan held script
 WorkPlans held (Run depth op) plan = Plans depth held op plan
 
--- A turn: what was held and what was read last before it, the work that was due, what it asked of the outside with the
--- answers, how it ended, and the put of the line of its refusal.
+-- A turn: what the work that is due asked of the outside, with the answers, how it ended, and the put of the
+-- line of its refusal.
 pub record Turn : Type 0 where
-  pub held : Held
-  pub spec : Option Spec
-  pub due : Due
   pub asked : Asked
   pub ending : Ending
   pub told : Option PutCall
@@ -81,8 +86,7 @@ IsTold line (Cut what) told = told ≡ None
 abbrev pub IsTurnOf : Machine → List Due → Turn → Type 0
 IsTurnOf machine [] turn = ⊥
 IsTurnOf machine (due ∷ rest) turn =
-    (turn.held ≡ machine.held) × (turn.spec ≡ machine.spec) × (turn.due ≡ due)
-    × Steps (WorkPlans machine.held due.work) turn.asked turn.ending × IsTold due.line turn.ending turn.told
+    Steps (WorkPlans machine.held due.work) turn.asked turn.ending × IsTold due.line turn.ending turn.told
 
 -- a turn of a machine
 abbrev pub IsTurn : Machine → Turn → Type 0
@@ -95,9 +99,11 @@ deeper (Run depth op) = depth + 1
 
 -- the works of a script's commands, at a depth
 abbrev pub dues : ℕ → List Command → List Due
-dues depth commands = map (λ command. record { line = command.line; work = Run depth command.op }) commands
+dues depth commands =
+    map (λ command. record { line = command.line; work = Run depth command.op }) commands
 
--- what is due behind a work that is done, before the rest: a script's commands, at a depth; nothing at all behind `quit`
+-- what is due behind a work that is done, before the rest: a script's commands, at a depth; nothing at all
+-- behind `quit`
 abbrev pub todo_after : ℕ → Next → List Due → List Due
 todo_after depth next.Go rest = rest
 todo_after depth next.Quit rest = []
@@ -130,21 +136,42 @@ cut_at machine line what = record machine { cut = Some (record { line = line; wh
 
 -- the machine behind a refusal that was told, or for which the line could not be put
 abbrev pub after_refusal : Bool → Machine → ℕ → Option Failed → Machine
-after_refusal goes_on machine line None = record machine { refused = true; todo = if goes_on then rest_of machine.todo else [] }
+after_refusal goes_on machine line None =
+    record machine { refused = true; todo = if goes_on then rest_of machine.todo else [] }
 after_refusal goes_on machine line (Some what) = cut_at machine line what
 
 -- the machine behind a work that ended so
 abbrev pub after_ending : Bool → Machine → Due → Ending → Option PutCall → Machine
 after_ending goes_on machine due (Done held next) told =
-    record machine { held = held; spec = spec_after due.work held machine.spec; todo = todo_after (deeper due.work) next (rest_of machine.todo) }
+    record machine {
+      held = held;
+      spec = spec_after due.work held machine.spec;
+      todo = todo_after (deeper due.work) next (rest_of machine.todo);
+    }
 after_ending goes_on machine due (Refused why) told = after_refusal goes_on machine due.line (told_cut told)
 after_ending goes_on machine due (Cut what) told = cut_at machine due.line what
 
+-- the machine behind a turn of the first of these works
+abbrev pub after_first : Bool → Machine → List Due → Turn → Machine
+after_first goes_on machine [] turn = machine
+after_first goes_on machine (due ∷ rest) turn = after_ending goes_on machine due turn.ending turn.told
+
 -- the machine behind a turn
 abbrev pub after : Bool → Machine → Turn → Machine
-after goes_on machine turn = after_ending goes_on machine turn.due turn.ending turn.told
+after goes_on machine turn = after_first goes_on machine machine.todo turn
 
 -- some turns, one after the other, lead from one machine to another
 abbrev pub Runs : Bool → Machine → List Turn → Machine → Type 0
 Runs goes_on from [] to = to ≡ from
 Runs goes_on from (turn ∷ turns) to = IsTurn from turn × Runs goes_on (after goes_on from turn) turns to
+
+-- something holds of each turn of a run, at the machine before it
+abbrev pub AtEach : Bool → (Machine → Turn → Type 0) → Machine → List Turn → Type 0
+AtEach goes_on holds machine [] = Unit {0}
+AtEach goes_on holds machine (turn ∷ turns) =
+    holds machine turn × AtEach goes_on holds (after goes_on machine turn) turns
+
+-- the work that is due next, if there is one
+abbrev pub next_work : List Due → Option Work
+next_work [] = None
+next_work (due ∷ rest) = Some due.work

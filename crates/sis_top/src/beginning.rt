@@ -1,11 +1,13 @@
 //! The script that the words ask for, begun: its commands come next.
 //!
-//! It stands in a word, in a file or on the input; all three come to one text, of no more bytes than are run, that one call cuts into commands.
+//! It stands in a word, in a file or on the input; all three come to one text, of no more bytes
+//! than are run, that one call cuts into commands.
 
 ghost use Rattle.std.specs.Prelude.{◌≤◌, IfOk, length, nat_le, if◌then◌else◌};
 ghost use Rattle.sis_outside.specs.Calls.{Follows};
 ghost use Rattle.sis_top.specs.Asked.{InFile, OnInput, script_in};
-ghost use Rattle.sis_session.specs.Plan.{AskedNone, Comes, Refuses, MAX_BYTES as longest};
+ghost use Rattle.sis_session.specs.Methods.{AskedNone};
+ghost use Rattle.sis_session.specs.Plan.{Comes, Refuses, MAX_BYTES as longest};
 ghost use Rattle.sis_session.specs.State.{nothing_held};
 ghost use Rattle.sis_session.specs.declared.refusal.Refusal.TheVariants.{LongScript};
 ghost use Rattle.sis_top.specs.Code.{Fits, HasBegun, ended_as};
@@ -33,7 +35,8 @@ fn begin_by(alloc: Global, text: &[u8]) -> Result<Next, Halt>
 
 /// The commands of the script in a file.
 fn begin_file<S: Store>(alloc: Global, name: &str, store: &mut S) -> Result<Next, Halt>
-    ensures begun { HasBegun (begin_plan nothing_held (InFile name.now)) (Follows S.calls store.old store.new) AskedNone (ended_as result nothing_held) }
+    ensures begun { HasBegun (begin_plan nothing_held (InFile name.now))
+        (Follows S.calls store.old store.new) AskedNone (ended_as result nothing_held) }
     ensures fits { IfOk result (Fits 0) }
 {
     match load(alloc, name, store) {
@@ -44,7 +47,9 @@ fn begin_file<S: Store>(alloc: Global, name: &str, store: &mut S) -> Result<Next
 
 /// The commands of the script that is a word.
 fn begin_text(alloc: Global, text: &str) -> Result<Next, Halt>
-    ensures comes { Comes (if nat_le (length text.now) longest then begins nothing_held text.now else Refuses LongScript) (ended_as result nothing_held) }
+    ensures comes { Comes (if nat_le
+        (length text.now) longest then begins nothing_held text.now else Refuses LongScript)
+        (ended_as result nothing_held) }
     ensures fits { IfOk result (Fits 0) }
 {
     if text.len() <= MAX_BYTES {
@@ -56,7 +61,8 @@ fn begin_text(alloc: Global, text: &str) -> Result<Next, Halt>
 
 /// The commands of the script on the input.
 fn begin_input<I: Source>(alloc: Global, input: &mut I) -> Result<Next, Halt>
-    ensures begun { HasBegun (begin_plan nothing_held OnInput) AskedNone (Follows I.calls input.old input.new) (ended_as result nothing_held) }
+    ensures begun { HasBegun (begin_plan nothing_held OnInput) AskedNone
+        (Follows I.calls input.old input.new) (ended_as result nothing_held) }
     ensures fits { IfOk result (Fits 0) }
 {
     match take_script(alloc, input) {
@@ -74,7 +80,9 @@ pub fn begin<S: Store, I: Source>(
     store: &mut S,
     input: &mut I,
 ) -> Result<Next, Halt>
-    ensures begun { HasBegun (begin_plan nothing_held (script_in script.entry)) (Follows S.calls store.old store.new) (Follows I.calls input.old input.new) (ended_as result nothing_held) }
+    ensures begun { HasBegun (begin_plan nothing_held (script_in script.entry))
+        (Follows S.calls store.old store.new) (Follows I.calls input.old input.new)
+        (ended_as result nothing_held) }
     ensures fits { IfOk result (Fits 0) }
 {
     match script {

@@ -1,7 +1,7 @@
 //! Why a work was not done.
 //!
-//! A step's own fault tells more than a run asks: here a refusal stands beside all that cuts a run short, also what no step can meet, such as
-//! an input that fails.
+//! A step's own fault tells more than a run asks: here a refusal stands beside all that cuts a run
+//! short, also what no step can meet, such as an input that fails.
 
 ghost use Rattle.std.specs.Prelude.{◌≡◌};
 ghost use Rattle.sis_session.specs.Plan.{faulted};

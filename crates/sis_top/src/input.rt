@@ -1,7 +1,8 @@
 //! The script on the input.
 //!
-//! An answer to a take may have fewer bytes than were asked for, so it is asked until none comes. No more than one byte past the longest script
-//! is taken: by that byte it is known that the script is too long, and an input without an end is refused.
+//! An answer to a take may have fewer bytes than were asked for, so it is asked until none comes.
+//! No more than one byte past the longest script is taken: by that byte it is known that the script
+//! is too long, and an input without an end is refused.
 
 ghost use Rattle.std.specs.Prelude.{◌≤◌, IfOk, length};
 ghost use Rattle.sis_outside.specs.Calls.{Follows};

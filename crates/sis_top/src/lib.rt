@@ -3,19 +3,19 @@
 //!
 //! The commands are those of SIS (UCB/ERL M92/41) that stand so far. `run_sis` promises that a call
 //! is some turns of the command machine (`specs/Machine`), that each object of the outside went by
-//! just the calls of these turns, whether it tells its contents or not, and that all that is written
-//! refines what was read last (`specs/Call`). It follows what is counted under each status, and that
-//! all is done where files and input are told and every turn is served (`specs/Laws`).
+//! just the calls of these turns, whether it tells its contents or not, and that all that is
+//! written refines what was read last (`specs/Call`). It follows what is counted under each status,
+//! and that all is done where files and input are told and every turn is served (`specs/Laws`).
 //!
 //! The words are `-k`, and the script by `-f FILE`, `-c TEXT` or neither. They are parted by the
 //! crate `clap`, and what it makes of them is its own stated function (`specs/Shell`). `read_words`
 //! promises the options that this function gives (`specs/Asked`), and Usage exactly where clap
-//! refuses the words or both `-f` and `-c` stand. `word_laws`: words that write options down ask for
-//! just those, and which other words are refused (`specs/Usual`).
+//! refuses the words or both `-f` and `-c` stand. `word_laws`: words that write options down ask
+//! for just those, and which other words are refused (`specs/Usual`).
 //!
-//! Rooms: `shell`, `options` and `reading` (the words), `beginning` and `input` (the script that they
-//! ask for), `halt` (why a work was not done), `running` (all turns of a run), `status`, `top` (the
-//! words, the run and the last line), `laws`.
+//! Rooms: `shell`, `options` and `reading` (the words), `beginning` and `input` (the script that
+//! they ask for), `halt` (why a work was not done), `running` (all turns of a run), `status`, `top`
+//! (the words, the run and the last line), `laws`.
 #![tactic(auto)]
 
 mod beginning;
@@ -30,10 +30,13 @@ mod status;
 mod top;
 mod word_laws;
 
-pub use laws::{runs_are_one, runs_keep_refinement, served_runs_refuse_nothing};
+pub use laws::{
+    copies_are_served, runs_are_one, runs_keep_refinement, served_runs_refuse_nothing,
+    told_runs_are_one,
+};
 pub use options::{Options, ScriptFrom, WordsFault};
 pub use reading::read_words;
 pub use sis_text::Word;
 pub use status::Status;
-pub use top::run_sis;
+pub use top::{run_recorded, run_sis};
 pub use word_laws::{options_are_asked_for, other_words_are_refused};

@@ -23,7 +23,8 @@ fn is_set(value: Option<&str>) -> bool
 
 /// Where the script is, by the values of `-f` and `-c`; nowhere with both.
 fn script_by<'a>(file: Option<&'a str>, text: Option<&'a str>) -> Option<ScriptFrom<'a>>
-    ensures { option_map script_in result ≡ script_by (option_map (λ name. name.now) file.entry) (option_map (λ word. word.now) text.entry) }
+    ensures { option_map script_in result ≡ script_by (option_map (λ name. name.now) file.entry)
+        (option_map (λ word. word.now) text.entry) }
 {
     match (file, text) {
         (None, None) => Some(ScriptFrom::Input),
@@ -35,15 +36,17 @@ fn script_by<'a>(file: Option<&'a str>, text: Option<&'a str>) -> Option<ScriptF
 
 /// The options, by what clap found.
 fn options_by<'a>(matches: &ArgMatches<'a>) -> Option<Options<'a>>
-    ensures { option_map options_in result ≡ options_by (first_value (found_of matches.now) (codes "keep")) (first_value (found_of matches.now) (codes "file")) (first_value (found_of matches.now) (codes "text")) }
+    ensures { option_map options_in result ≡ options_by (first_value (found_of matches.now)
+        (codes "keep")) (first_value (found_of matches.now) (codes "file")) (first_value
+        (found_of matches.now) (codes "text")) }
 {
     let keep = is_set(matches.get_str("keep"));
     let script = script_by(matches.get_str("file"), matches.get_str("text"))?;
     Some(Options { keep, script })
 }
 
-/// Reads the words behind the program's name. Usage exactly where clap does not take them or both `-f` and `-c`
-/// stand; besides, memory may be wanting.
+/// Reads the words behind the program's name. Usage exactly where clap does not take them or both
+/// `-f` and `-c` stand; besides, memory may be wanting.
 pub fn read_words<'a>(alloc: Global, words: &'a [Word]) -> Result<Options<'a>, WordsFault>
     ensures answers { Answers (options_of words.entry.now) result }
     ensures taken { IfOk result (λ _. AreTaken words.entry.now) }

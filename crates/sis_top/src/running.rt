@@ -1,16 +1,18 @@
-//! The run: the works that are due, one after the other, each a step of the session; a refusal puts its line on the
-//! error output.
+//! The run: the works that are due, one after the other, each a step of the session; a refusal puts
+//! its line on the error output.
 //!
-//! `take_turn` makes a turn of one step; the loop's invariant is that some turns led from the begin to a machine at which this is held and
-//! due. The measure is the sum of a weight of the works: a script has fewer commands than the weight grows for each level of nesting. What
-//! holds of all runs (faithful turns, what is kept, served runs, one run) are lemmas over the definitions alone, and stand on the session's laws
-//! over one step: so a new command leaves the run as it is.
+//! `take_turn` makes a turn of one step; the loop's invariant is that some turns led from the begin
+//! to a machine at which this is held and due. The measure is the sum of a weight of the works: a
+//! script has fewer commands than the weight grows for each level of nesting. What holds of all
+//! runs (faithful turns, what is kept, served runs, one run) are lemmas over the definitions alone,
+//! and stand on the session's laws over one step: so a new command leaves the run as it is.
 
 ghost use Rattle.std.specs.Prelude.{◌≡◌, ◌≤◌, ◌<◌, ◌+◌, ◌-◌, ◌++◌, ◌∷◌, ◌||◌, [], Bool, OnErr, OnOk, IfErr, IfOk, reverse, if◌then◌else◌};
 ghost use Rattle.sis_outside.specs.Calls.{Follows};
 ghost use Rattle.sis_top.specs.Asked.{options_in};
 ghost use Rattle.sis_session.specs.Commands.{Plans};
-ghost use Rattle.sis_session.specs.Plan.{AskedNone, Did};
+ghost use Rattle.sis_session.specs.Methods.{AskedNone};
+ghost use Rattle.sis_session.specs.Plan.{Did};
 ghost use Rattle.sis_session.specs.State.{Held};
 ghost use Rattle.sis_session.specs.declared.refusal.Failed.TheVariants as failed;
 ghost use Rattle.sis_top.specs.Code.{Fits, HasEnded, HasRun, HasSettled, HasTold, HasTurned, IsAt, Lands, LandsAt, added_weight, ended_as, heft, weight};
@@ -61,7 +63,8 @@ fn tell<E: Sink>(alloc: Global, line: usize, why: &Refusal, err: &mut E) -> Resu
 /// Puts a script's commands on top of what is due, the first uppermost.
 fn push_commands(depth: u32, commands: Commands, todo: &mut Vec<Due>) -> Result<(), Failed>
     requires { depth ≤ 16 }
-    ensures ok { OnOk result (reverse todo.new.items ≡ dues depth commands ++ reverse todo.old.items) }
+    ensures ok { OnOk result (reverse todo.new.items ≡ dues depth commands
+        ++ reverse todo.old.items) }
     ensures err { IfErr result (λ what. what ≡ failed.Memory) }
 {
     let mut rest = commands.into_vec();
@@ -73,10 +76,12 @@ fn push_commands(depth: u32, commands: Commands, todo: &mut Vec<Due>) -> Result<
     Ok(())
 }
 
-/// Makes due what comes behind a work that is done: the rest, nothing at all, or a script's commands and the rest.
+/// Makes due what comes behind a work that is done: the rest, nothing at all, or a script's
+/// commands and the rest.
 fn follow(depth: u32, next: Next, todo: &mut Vec<Due>) -> Result<(), Failed>
     requires { Fits depth next }
-    ensures ok { OnOk result (reverse todo.new.items ≡ todo_after depth next (reverse todo.old.items)) }
+    ensures ok { OnOk result (reverse todo.new.items ≡ todo_after depth next
+        (reverse todo.old.items)) }
     ensures err { IfErr result (λ what. what ≡ failed.Memory) }
 {
     match next {
@@ -98,8 +103,8 @@ fn keep_due(goes_on: bool, todo: &mut Vec<Due>)
     }
 }
 
-/// Settles a work by how it ended: a script's commands become due, nothing more is due behind `quit`, and a refusal is
-/// told. Whether it was refused, or what cuts the run short.
+/// Settles a work by how it ended: a script's commands become due, nothing more is due behind
+/// `quit`, and a refusal is told. Whether it was refused, or what cuts the run short.
 fn settle<E: Sink>(
     alloc: Global,
     goes_on: bool,
@@ -110,10 +115,14 @@ fn settle<E: Sink>(
     err: &mut E,
 ) -> Result<bool, Failed>
     requires { IfOk answer (Fits depth) }
-    ensures settled { (machine : Machine) (due : TheDue) (held : Held) (before : Bool) → due.line ≡ line → deeper due.work ≡ depth
-        → IsAt machine.held (due ∷ reverse todo.old.items) before machine → OnErr answer (machine.held ≡ held)
-        → HasSettled goes_on machine due (ended_as answer held) (Follows E.calls err.old err.new) (Lands held (reverse todo.new.items) before line result) }
-    ensures weight { IfOk result (λ refused. weight (reverse todo.new.items) ≤ added_weight depth answer + weight (reverse todo.old.items)) }
+    ensures settled { (machine : Machine) (due : TheDue) (held : Held) (before : Bool)
+        → due.line ≡ line → deeper due.work ≡ depth
+        → IsAt machine.held (due ∷ reverse todo.old.items) before machine
+        → OnErr answer (machine.held ≡ held)
+        → HasSettled goes_on machine due (ended_as answer held) (Follows E.calls err.old err.new)
+        (Lands held (reverse todo.new.items) before line result) }
+    ensures weight { IfOk result (λ refused. weight
+        (reverse todo.new.items) ≤ added_weight depth answer + weight (reverse todo.old.items)) }
 {
     match answer {
         Ok(next) => match follow(depth, next, todo) {
@@ -141,7 +150,9 @@ fn run_command<S: Store, O: Sink>(
     out: &mut O,
 ) -> Result<Next, Halt>
     requires { depth ≤ 16 }
-    ensures did { Did (Plans depth session.old command.now.op) (Follows S.calls store.old store.new) (Follows O.calls out.old out.new) (ended_as result session.new) }
+    ensures did { Did (Plans depth session.old command.now.op)
+        (Follows S.calls store.old store.new) (Follows O.calls out.old out.new)
+        (ended_as result session.new) }
     ensures err { OnErr result (session.old ≡ session.new) }
     ensures fits { IfOk result (Fits (depth + 1)) }
     ensures lighter { added_weight (depth + 1) result < heft (16 - depth) }
@@ -163,9 +174,13 @@ fn take_turn<S: Store, O: Sink, E: Sink>(
     out: &mut O,
     err: &mut E,
 ) -> Result<bool, Stop>
-    ensures turned { (machine : Machine) (before : Bool) → IsAt session.old (due ∷ reverse todo.old.items) before machine
-        → HasTurned goes_on machine (Follows S.calls store.old store.new) (Follows O.calls out.old out.new) (Follows E.calls err.old err.new) (LandsAt session.new (reverse todo.new.items) before result) }
-    ensures lighter { IfOk result (λ refused. weight (reverse todo.new.items) < weight (due ∷ reverse todo.old.items)) }
+    ensures turned { (machine : Machine) (before : Bool)
+        → IsAt session.old (due ∷ reverse todo.old.items) before machine
+        → HasTurned goes_on machine (Follows S.calls store.old store.new)
+        (Follows O.calls out.old out.new) (Follows E.calls err.old err.new)
+        (LandsAt session.new (reverse todo.new.items) before result) }
+    ensures lighter { IfOk result (λ refused. weight (reverse todo.new.items) < weight
+        (due ∷ reverse todo.old.items)) }
 {
     let Due { command, depth } = due;
     let answer = run_command(alloc, session, &command, depth, store, out);
@@ -185,8 +200,8 @@ fn was_refused(now: bool, before: bool) -> bool
     now || before
 }
 
-/// Runs what is due, to its end; `refused` tells whether a work was refused before. Whether one was refused in the end, or
-/// what cut the run short.
+/// Runs what is due, to its end; `refused` tells whether a work was refused before. Whether one was
+/// refused in the end, or what cut the run short.
 fn run_due<S: Store, O: Sink, E: Sink>(
     alloc: Global,
     goes_on: bool,
@@ -198,7 +213,8 @@ fn run_due<S: Store, O: Sink, E: Sink>(
     err: &mut E,
 ) -> Result<bool, Stop>
     ensures { (machine : Machine) → IsAt session.old (reverse todo.old.items) before machine
-        → HasRun goes_on machine (Follows S.calls store.old store.new) AskedNone (Follows O.calls out.old out.new) (Follows E.calls err.old err.new) (HasEnded result) }
+        → HasRun goes_on machine (Follows S.calls store.old store.new) AskedNone
+        (Follows O.calls out.old out.new) (Follows E.calls err.old err.new) (HasEnded result) }
 {
     let mut refused = before;
     'turns: while let Some(due) = todo.pop() {
@@ -219,7 +235,9 @@ pub fn run<S: Store, I: Source, O: Sink, E: Sink>(
     out: &mut O,
     err: &mut E,
 ) -> Result<bool, Stop>
-    ensures { HasRun (options_in options.entry).keep (begun (options_in options.entry).script) (Follows S.calls store.old store.new) (Follows I.calls input.old input.new) (Follows O.calls out.old out.new) (Follows E.calls err.old err.new) (HasEnded result) }
+    ensures { HasRun (options_in options.entry).keep (begun (options_in options.entry).script)
+        (Follows S.calls store.old store.new) (Follows I.calls input.old input.new)
+        (Follows O.calls out.old out.new) (Follows E.calls err.old err.new) (HasEnded result) }
 {
     let mut session = Session::new();
     let mut todo = Vec::new(alloc);

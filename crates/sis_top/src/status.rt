@@ -1,6 +1,7 @@
 //! How a call of the program ended, and the number that a shell sees.
 //!
-//! Behind a refusal a run may have gone on, where it was asked to; behind a failure or want of memory no later command was done.
+//! Behind a refusal a run may have gone on, where it was asked to; behind a failure or want of
+//! memory no later command was done.
 
 ghost use Rattle.std.specs.Prelude.{◌≡◌};
 ghost use Rattle.sis_top.specs.Call.{code_of};
@@ -37,7 +38,8 @@ impl Status {
     }
 }
 
-/// What cut a run short, and the line of the work at which it did; 0 where the script was not begun.
+/// What cut a run short, and the line of the work at which it did; 0 where the script was not
+/// begun.
 #[derive(Clone, Copy, Debug, PartialEq, Eq)]
 pub struct Stop {
     pub line: usize,

@@ -1,21 +1,28 @@
-//! The top call: the words of the command line, the run of the script that they ask for, and the last line.
+//! The top call: the words of the command line, the run of the script that they ask for, and the
+//! last line.
 //!
-//! It is laid in three calls: one that makes the turns and promises how each object went (`run_words`), one that adds what each tells and
-//! counts, which follows from the calls by the law of each trait (`stores_went`, `sources_went`, `sinks_went`), and one that states all of it.
+//! It is laid in three calls: one that makes the turns and promises how each object went
+//! (`run_words`), one that adds what each tells and counts, which follows from the calls by the law
+//! of each trait (`stores_went`, `sources_went`, `sinks_went`), and one that states all of it.
+//! `run_recorded` says of objects that record their calls what their lists are.
 
-ghost use Rattle.std.specs.Prelude.{◌≡◌, ◌⊎◌, IsTrue, None};
+ghost use Rattle.std.specs.Prelude.{◌≡◌, IsTrue, None};
 ghost use Rattle.sis_outside.specs.Calls.{Follows, SinkWent, SourceWent, StoreWent};
 ghost use Rattle.sis_outside.specs.Counts.{Rose};
+ghost use Rattle.sis_outside.specs.Recording.{IsRecorded, calls_in, put_call, store_call, take_call};
 ghost use Rattle.sis_top.specs.Asked.{options_in, options_of};
-ghost use Rattle.sis_top.specs.Call.{IsCall, IsRun, failure_line, failure_text, status_cut, status_of, usage_line};
+ghost use Rattle.sis_top.specs.Call.{CountOf, IsCall, IsRun, NamesFault, NamesRefusal, failure_line, failure_text, status_cut, status_of, usage_line};
 ghost use Rattle.sis_top.specs.Code.{HasEndLine};
-ghost use Rattle.sis_top.specs.Laws.{Completes, HasEnding};
+ghost use Rattle.sis_top.specs.Laws.{AsksInput, Completes, HasEnding};
 ghost use Rattle.sis_top.specs.declared.status.Status.TheVariants as status;
 
 use crate::running::run;
 use crate::status::{Status, Stop};
 use crate::{Options, WordsFault, read_words};
-use sis_outside::{PutFault, Sink, Source, Store, sinks_went, sources_went, stores_went};
+use sis_outside::{
+    PutEntry, PutFault, Recording, Sink, Source, Store, StoreEntry, TakeEntry, recordings_grow,
+    sinks_went, sources_went, stores_went,
+};
 use sis_session::{
     Failed, error_text, served_commands_are_done, steps_keep_refinement, what_is_held_is_written,
 };
@@ -68,7 +75,8 @@ fn put_end<E: Sink>(line: &[u8], ends: Status, err: &mut E) -> Status
 
 /// Puts the last line of a run that was cut short, and answers the status.
 fn tell_stop<E: Sink>(alloc: Global, stop: Stop, err: &mut E) -> Status
-    ensures { HasEndLine (failure_line stop) (status_cut stop.what) (Follows E.calls err.old err.new) result }
+    ensures { HasEndLine (failure_line stop) (status_cut stop.what)
+        (Follows E.calls err.old err.new) result }
 {
     let Ok(line) = error_text(alloc, stop.line, failure_text(stop.what)) else {
         return Status::Memory;
@@ -96,10 +104,13 @@ fn run_options<S: Store, I: Source, O: Sink, E: Sink>(
     out: &mut O,
     err: &mut E,
 ) -> Status
-    ensures { IsRun (options_in options.entry).keep (options_in options.entry).script (Follows S.calls store.old store.new) (Follows I.calls input.old input.new) (Follows O.calls out.old out.new) (Follows E.calls err.old err.new) result }
+    ensures { IsRun (options_in options.entry).keep (options_in options.entry).script
+        (Follows S.calls store.old store.new) (Follows I.calls input.old input.new)
+        (Follows O.calls out.old out.new) (Follows E.calls err.old err.new) result }
 {
     steps_keep_refinement();
     what_is_held_is_written();
+    served_commands_are_done();
     match run(alloc, options, store, input, out, err) {
         Ok(refused) => status_of(refused),
         Err(stop) => tell_stop(alloc, stop, err),
@@ -115,7 +126,9 @@ fn run_words<S: Store, I: Source, O: Sink, E: Sink>(
     out: &mut O,
     err: &mut E,
 ) -> Status
-    ensures { IsCall (options_of words.now) (Follows S.calls store.old store.new) (Follows I.calls input.old input.new) (Follows O.calls out.old out.new) (Follows E.calls err.old err.new) result }
+    ensures { IsCall (options_of words.now) (Follows S.calls store.old store.new)
+        (Follows I.calls input.old input.new) (Follows O.calls out.old out.new)
+        (Follows E.calls err.old err.new) result }
 {
     match read_words(alloc, words) {
         Ok(options) => run_options(alloc, options, store, input, out, err),
@@ -140,10 +153,21 @@ fn run_counted<S: Store, I: Source, O: Sink, E: Sink>(
     out: &mut O,
     err: &mut E,
 ) -> Status
-    ensures call { IsCall (options_of words.now) (Follows S.calls store.old store.new) (Follows I.calls input.old input.new) (Follows O.calls out.old out.new) (Follows E.calls err.old err.new) result }
+    ensures call { IsCall (options_of words.now) (Follows S.calls store.old store.new)
+        (Follows I.calls input.old input.new) (Follows O.calls out.old out.new)
+        (Follows E.calls err.old err.new) result }
     ensures told { IsCall (options_of words.now)
-        (StoreWent S.tells S.files S.faults S.misses store.old store.new) (SourceWent I.tells I.left I.faults input.old input.new)
-        (SinkWent O.tells O.written O.faults out.old out.new) (SinkWent E.tells E.written E.faults err.old err.new) result }
+        (StoreWent S.tells S.files S.faults S.misses store.old store.new)
+        (SourceWent I.tells I.left I.faults input.old input.new)
+        (SinkWent O.tells O.written O.faults out.old out.new)
+        (SinkWent E.tells E.written E.faults err.old err.new) result }
+    ensures fault { result ≡ status.Fault → NamesFault
+        (CountOf (Rose (S.faults store.old) (S.faults store.new)) (Rose (I.faults input.old)
+        (I.faults input.new))
+        (Rose (O.faults out.old) (O.faults out.new)) (Rose (E.faults err.old) (E.faults err.new)))
+        (Follows E.calls err.old err.new) }
+    ensures refused { result ≡ status.Refused → NamesRefusal (Rose (S.misses store.old)
+        (S.misses store.new)) (Follows E.calls err.old err.new) }
 {
     stores_went::<S>();
     sources_went::<I>();
@@ -152,13 +176,13 @@ fn run_counted<S: Store, I: Source, O: Sink, E: Sink>(
     run_words(alloc, words, store, input, out, err)
 }
 
-/// Does all that the program does: reads the words of the command line, runs the script that they ask for over the
-/// files, and puts replies on the output and refusals on the error output. The script is a file, a word, or what stands
-/// on the input.
+/// Does all that the program does: reads the words of the command line, runs the script that they
+/// ask for over the files, and puts replies on the output and refusals on the error output. The
+/// script is a file, a word, or what stands on the input.
 ///
-/// The call is some turns of the command machine, and each object of the outside went by just the calls of these turns,
-/// whether it tells its contents or not; what is told, counted and missed follows for each object by itself. Want of
-/// memory may be answered at any time.
+/// The call is some turns of the command machine, and each object of the outside went by just the
+/// calls of these turns, whether it tells its contents or not; what is told, counted and missed
+/// follows for each object by itself. Want of memory may be answered at any time.
 pub fn run_sis<S: Store, I: Source, O: Sink, E: Sink>(
     alloc: Global,
     words: &[Word],
@@ -167,26 +191,62 @@ pub fn run_sis<S: Store, I: Source, O: Sink, E: Sink>(
     out: &mut O,
     err: &mut E,
 ) -> Status
-    // The call is a run of the command machine, over every outside: each object went by just the calls of its turns, and
-    // each text that it writes is that of what is held, and that refines what was read last.
-    ensures call { IsCall (options_of words.now) (Follows S.calls store.old store.new) (Follows I.calls input.old input.new) (Follows O.calls out.old out.new) (Follows E.calls err.old err.new) result }
+    // The call is a run of the command machine, over every outside: each object went by just the
+    // calls of its turns, and each text that it writes is that of what is held, and that refines
+    // what was read last.
+    ensures call { IsCall (options_of words.now) (Follows S.calls store.old store.new)
+        (Follows I.calls input.old input.new) (Follows O.calls out.old out.new)
+        (Follows E.calls err.old err.new) result }
 
-    // It follows for what each object tells and counts: files and bytes that are told went by these calls, and each count
-    // rose just where one of them was counted.
+    // It follows for what each object tells and counts: files and bytes that are told went by these
+    // calls, and each count rose just where one of them was counted.
     ensures told { IsCall (options_of words.now)
-        (StoreWent S.tells S.files S.faults S.misses store.old store.new) (SourceWent I.tells I.left I.faults input.old input.new)
-        (SinkWent O.tells O.written O.faults out.old out.new) (SinkWent E.tells E.written E.faults err.old err.new) result }
+        (StoreWent S.tells S.files S.faults S.misses store.old store.new)
+        (SourceWent I.tells I.left I.faults input.old input.new)
+        (SinkWent O.tells O.written O.faults out.old out.new)
+        (SinkWent E.tells E.written E.faults err.old err.new) result }
 
-    // It follows by the status: where the run came to its end, nothing failed; a fault is counted; and usage is told
-    // where the words are not taken.
-    ensures unfailed { HasEnding result → (S.faults store.new ≡ S.faults store.old) × (I.faults input.new ≡ I.faults input.old) × (O.faults out.new ≡ O.faults out.old) × (E.faults err.new ≡ E.faults err.old) }
-    ensures fault { result ≡ status.Fault → Rose (S.faults store.old) (S.faults store.new) ⊎ (Rose (I.faults input.old) (I.faults input.new) ⊎ (Rose (O.faults out.old) (O.faults out.new) ⊎ Rose (E.faults err.old) (E.faults err.new))) }
+    // It follows by the status: where the run came to its end, nothing failed; a fault names the
+    // object that failed, whose count rose; a refusal names the work that was refused, and a script
+    // that is missing was counted; and usage is told where the words are not taken.
+    ensures unfailed { HasEnding result → (S.faults store.new ≡ S.faults store.old)
+        × (I.faults input.new ≡ I.faults input.old)
+        × (O.faults out.new ≡ O.faults out.old) × (E.faults err.new ≡ E.faults err.old) }
+    ensures fault { result ≡ status.Fault → NamesFault
+        (CountOf (Rose (S.faults store.old) (S.faults store.new)) (Rose (I.faults input.old)
+        (I.faults input.new))
+        (Rose (O.faults out.old) (O.faults out.new)) (Rose (E.faults err.old) (E.faults err.new)))
+        (Follows E.calls err.old err.new) }
+    ensures refused { result ≡ status.Refused → NamesRefusal (Rose (S.misses store.old)
+        (S.misses store.new)) (Follows E.calls err.old err.new) }
     ensures usage { result ≡ status.Usage → options_of words.now ≡ None }
 
-    // Where files and input are told, and each turn that a run may come to is served, all is done, unless something
-    // fails or memory is wanting.
-    ensures complete { IsTrue (S.tells store.old) → IsTrue (I.tells input.old) → Completes (options_of words.now) (S.files store.old) (I.left input.old) result }
+    // Where the files are told, and the input too if the script stands on it, and each turn that a
+    // run may come to is served, all is done, unless something fails or memory is wanting.
+    ensures complete { IsTrue (S.tells store.old) → (AsksInput (options_of words.now)
+        → IsTrue (I.tells input.old))
+        → Completes (options_of words.now) (S.files store.old) (I.left input.old) result }
 {
-    served_commands_are_done();
     run_counted(alloc, words, store, input, out, err)
+}
+
+/// The same over objects that record their calls: where memory was not wanting for a record, it
+/// grew by just the calls of the run's turns on its object.
+pub fn run_recorded<S: Store, I: Source, O: Sink, E: Sink>(
+    alloc: Global,
+    words: &[Word],
+    store: &mut Recording<S, StoreEntry>,
+    input: &mut Recording<I, TakeEntry>,
+    out: &mut Recording<O, PutEntry>,
+    err: &mut Recording<E, PutEntry>,
+) -> Status
+    ensures { IsCall (options_of words.now)
+        (IsRecorded (calls_in store_call store.old.log) (calls_in store_call store.new.log))
+        (IsRecorded (calls_in take_call input.old.log) (calls_in take_call input.new.log))
+        (IsRecorded (calls_in put_call out.old.log) (calls_in put_call out.new.log))
+        (IsRecorded (calls_in put_call err.old.log) (calls_in put_call err.new.log)) result }
+{
+    recordings_grow::<S, I, O>();
+    recordings_grow::<S, I, E>();
+    run_sis(alloc, words, store, input, out, err)
 }

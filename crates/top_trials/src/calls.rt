@@ -4,8 +4,9 @@ use crate::outside::Outside;
 use crate::parts::{Part, parts, put_bytes, string_of};
 use crate::shown::{put_file, put_text};
 use crate::wanting::{TrialStore, is_among};
+use sis_outside::{MemSink, MemSource, MemStore, Recording};
 use sis_text::Word;
-use sis_top::{Status, run_sis};
+use sis_top::{Status, run_recorded, run_sis};
 use std::alloc::{AllocError, Global};
 use trial_cases::{Case, CaseFault, put_line, unescaped};
 
@@ -187,5 +188,25 @@ fn put_unless_it_stays(
 fn put_change(out: &mut Vec<u8>, name: &str) -> Result<(), CaseFault> {
     out.extend_from_slice(b"changed: ")?;
     put_line(out, name.as_bytes())?;
+    Ok(())
+}
+
+/// Runs a script that sources a file, over objects that record their calls, and puts their lists.
+pub fn put_recorded(alloc: Global, out: &mut Vec<u8>) -> Result<(), CaseFault> {
+    let mut files = MemStore::new(alloc);
+    files.put_file("s", b"echo hi".as_slice())?;
+    let script = MemSource::new(alloc, b"source s".as_slice())?;
+    let mut store = Recording::new(alloc, files);
+    let mut input = Recording::new(alloc, script);
+    let mut output = Recording::new(alloc, MemSink::new(alloc));
+    let mut errors = Recording::new(alloc, MemSink::new(alloc));
+    let status = run_recorded(alloc, &[], &mut store, &mut input, &mut output, &mut errors);
+    let first = format!(in alloc;
+        "{status:?}\nstore: {:?}\ninput: {:?}",
+        store.log, input.log
+    )?;
+    let second = format!(in alloc; "out: {:?}\nerr: {:?}", output.log, errors.log)?;
+    put_line(out, first.as_bytes())?;
+    put_line(out, second.as_bytes())?;
     Ok(())
 }

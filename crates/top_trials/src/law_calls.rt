@@ -4,7 +4,10 @@ use sis_session::{
     changes_have_one_outcome, commands_end_once, commands_have_one_plan, served_commands_are_done,
     steps_keep_refinement, what_is_held_is_written,
 };
-use sis_top::{runs_are_one, runs_keep_refinement, served_runs_refuse_nothing};
+use sis_top::{
+    copies_are_served, runs_are_one, runs_keep_refinement, served_runs_refuse_nothing,
+    told_runs_are_one,
+};
 use trial_cases::{CaseFault, put_line};
 
 /// That the laws are called; an error only for want of memory.
@@ -18,6 +21,8 @@ pub fn answer(out: &mut Vec<u8>) -> Result<(), CaseFault> {
     runs_keep_refinement();
     served_runs_refuse_nothing();
     runs_are_one();
+    told_runs_are_one();
+    copies_are_served();
     put_line(out, b"called")?;
     Ok(())
 }

@@ -9,8 +9,8 @@
 //!
 //! Told are the status and its number, the lines put on the output behind `out: ` and on the error output behind `err: `,
 //! those of each file that the call saved behind its name, and the name of any other file that did not stay as it was. A
-//! `\` stands where a text ends without a line end. A case `session` is calls on a session by itself, a case `laws` calls
-//! the laws. What is in `stdin` and `stdout` is worked out by hand from the definitions.
+//! `\` stands where a text ends without a line end. A case `recorded` is a call over objects that record their calls, and
+//! tells their lists. A case `session` is calls on a session by itself, a case `laws` calls the laws. What is in `stdin` and `stdout` is worked out by hand from the definitions.
 #![tactic(auto)]
 
 mod calls;
@@ -36,6 +36,7 @@ fn answer(
 ) -> Result<(), CaseFault> {
     match case.word(0) {
         "call" => calls::answer(alloc, out, case, shared),
+        "recorded" => calls::put_recorded(alloc, out),
         "session" => sessions::answer(alloc, out, case, shared),
         "laws" => law_calls::answer(out),
         _ => Err(CaseFault::Bad),

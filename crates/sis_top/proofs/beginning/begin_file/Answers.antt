@@ -1,6 +1,7 @@
 use Rattle.std.proofs.Common.{◌≡◌, ℕ, List, sym, subst}
 use Rattle.sis_outside.specs.Calls.{Follows}
-use Rattle.sis_session.specs.Plan.{AskedNone, Comes, Did, Ending, Loads}
+use Rattle.sis_session.specs.Methods.{AskedNone}
+use Rattle.sis_session.specs.Plan.{Comes, Did, Ending, Loads}
 use Rattle.sis_session.specs.State.{nothing_held}
 use Rattle.sis_session.proofs.Going.{loaded_did, unloaded_did}
 use Rattle.sis_top.specs.Machine.{begins}

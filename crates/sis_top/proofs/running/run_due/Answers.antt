@@ -1,6 +1,6 @@
 use Rattle.std.proofs.Common.{◌||◌, Bool, [], Ok, Err, refl, sym, subst, reverse, arith}
 use Rattle.sis_outside.specs.Calls.{Follows}
-use Rattle.sis_session.specs.Plan.{AskedNone}
+use Rattle.sis_session.specs.Methods.{AskedNone}
 use Rattle.sis_top.specs.Code.{HasEnded, HasRun, IsAt}
 use Rattle.sis_top.proofs.Settling.{popped, ended_at}
 use Rattle.sis_top.proofs.Turning.{run_more, run_ended}

@@ -1,6 +1,6 @@
 use Rattle.std.specs.Prelude.{reverse}
 use Rattle.sis_outside.specs.Calls.{Follows}
-use Rattle.sis_session.specs.Plan.{AskedNone}
+use Rattle.sis_session.specs.Methods.{AskedNone}
 use Rattle.sis_top.specs.Machine.{Machine}
 use Rattle.sis_top.specs.Code.{HasRun, IsAt, weight}
 use Rattle.sis_top.proofs.running.run_due.Given as goal

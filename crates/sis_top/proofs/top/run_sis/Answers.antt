@@ -1,6 +1,6 @@
 use Rattle.sis_outside.specs.Calls.{SinkWent, SourceWent, StoreWent}
 use Rattle.sis_top.specs.Asked.{options_of}
-use Rattle.sis_top.proofs.Faults.{call_fault, call_usage, each_fault, rose_by}
+use Rattle.sis_top.proofs.Faults.{call_usage}
 use Rattle.sis_top.proofs.Serving.{call_completes}
 use Rattle.sis_top.proofs.Statuses.{call_plain, same_count}
 use Rattle.sis_top.proofs.top.run_sis.Goals as goal
@@ -9,20 +9,11 @@ pub returns-clause-unfailed : goal.returns-clause-unfailed
 returns-clause-unfailed g c = λ ended.
     let none = call_plain (options_of c.args.words.now) (StoreWent g.S.Store.tells g.S.Store.files g.S.Store.faults g.S.Store.misses c.args.store.now c.run_counted.new.store) (SourceWent g.I.Source.tells g.I.Source.left g.I.Source.faults c.args.input.now c.run_counted.new.input)
     (SinkWent g.O.Sink.tells g.O.Sink.written g.O.Sink.faults c.args.out.now c.run_counted.new.out) (SinkWent g.E.Sink.tells g.E.Sink.written g.E.Sink.faults c.args.err.now c.run_counted.new.err) c.run_counted.result c.run_counted.ensures.told ended in (
-      same_count _ _ _ none.store_none none.store_went.failed,
-      same_count _ _ _ none.input_none none.input_went.failed,
-      same_count _ _ _ none.out_none none.out_went.failed,
-      same_count _ _ _ none.err_none none.err_went.failed,
+      same_count _ _ _ none.store_none none.store_went.0.counted,
+      same_count _ _ _ none.input_none none.input_went.0.counted,
+      same_count _ _ _ none.out_none none.out_went.counted,
+      same_count _ _ _ none.err_none none.err_went.counted,
     )
-
-pub returns-clause-fault : goal.returns-clause-fault
-returns-clause-fault g c = λ fault.
-    each_fault (StoreWent g.S.Store.tells g.S.Store.files g.S.Store.faults g.S.Store.misses c.args.store.now c.run_counted.new.store) (SourceWent g.I.Source.tells g.I.Source.left g.I.Source.faults c.args.input.now c.run_counted.new.input)
-    (SinkWent g.O.Sink.tells g.O.Sink.written g.O.Sink.faults c.args.out.now c.run_counted.new.out) (SinkWent g.E.Sink.tells g.E.Sink.written g.E.Sink.faults c.args.err.now c.run_counted.new.err)
-    (λ calls went some. rose_by _ _ _ some went.failed) (λ calls went some. rose_by _ _ _ some went.failed)
-    (λ calls went some. rose_by _ _ _ some went.failed) (λ calls went some. rose_by _ _ _ some went.failed)
-    (call_fault (options_of c.args.words.now) (StoreWent g.S.Store.tells g.S.Store.files g.S.Store.faults g.S.Store.misses c.args.store.now c.run_counted.new.store) (SourceWent g.I.Source.tells g.I.Source.left g.I.Source.faults c.args.input.now c.run_counted.new.input)
-    (SinkWent g.O.Sink.tells g.O.Sink.written g.O.Sink.faults c.args.out.now c.run_counted.new.out) (SinkWent g.E.Sink.tells g.E.Sink.written g.E.Sink.faults c.args.err.now c.run_counted.new.err) c.run_counted.result c.run_counted.ensures.told fault)
 
 pub returns-clause-usage : goal.returns-clause-usage
 returns-clause-usage g c = λ usage. call_usage (options_of c.args.words.now) (StoreWent g.S.Store.tells g.S.Store.files g.S.Store.faults g.S.Store.misses c.args.store.now c.run_counted.new.store) (SourceWent g.I.Source.tells g.I.Source.left g.I.Source.faults c.args.input.now c.run_counted.new.input)
@@ -30,7 +21,7 @@ returns-clause-usage g c = λ usage. call_usage (options_of c.args.words.now) (S
 
 pub returns-clause-complete : goal.returns-clause-complete
 returns-clause-complete g c = λ told left.
-    call_completes c.served_commands_are_done.ensures (options_of c.args.words.now) (StoreWent g.S.Store.tells g.S.Store.files g.S.Store.faults g.S.Store.misses c.args.store.now c.run_counted.new.store) (SourceWent g.I.Source.tells g.I.Source.left g.I.Source.faults c.args.input.now c.run_counted.new.input)
+    call_completes (options_of c.args.words.now) (StoreWent g.S.Store.tells g.S.Store.files g.S.Store.faults g.S.Store.misses c.args.store.now c.run_counted.new.store) (SourceWent g.I.Source.tells g.I.Source.left g.I.Source.faults c.args.input.now c.run_counted.new.input)
     (SinkWent g.O.Sink.tells g.O.Sink.written g.O.Sink.faults c.args.out.now c.run_counted.new.out) (SinkWent g.E.Sink.tells g.E.Sink.written g.E.Sink.faults c.args.err.now c.run_counted.new.err) c.run_counted.result
-    (g.S.Store.files c.args.store.now) (g.I.Source.left c.args.input.now) (λ calls went. (g.S.Store.files c.run_counted.new.store, went.contents told))
-    (λ calls went. (g.I.Source.left c.run_counted.new.input, went.contents left)) c.run_counted.ensures.told
+    (g.S.Store.files c.args.store.now) (g.I.Source.left c.args.input.now) (λ calls went. (g.S.Store.files c.run_counted.new.store, went.0.contents told))
+    (λ asks calls went. (g.I.Source.left c.run_counted.new.input, went.0.contents (left asks))) c.run_counted.ensures.told

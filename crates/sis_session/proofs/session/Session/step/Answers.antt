@@ -1,5 +1,5 @@
 use Rattle.std.proofs.Common.{refl, inl}
-use Rattle.sis_script.specs.declared.command.Op.TheVariants.{Quit, Bad}
+use Rattle.sis_script.specs.declared.command.Op.TheVariants as command
 use Rattle.sis_session.specs.Commands.{Plans}
 use Rattle.sis_session.specs.Plan.{Does, Refuses, Done, Refused}
 use Rattle.sis_session.specs.declared.refusal.Next.TheVariants as next
@@ -9,13 +9,13 @@ use Rattle.sis_session.proofs.session.Session.step.Goals as goal
 
 pub returns-in-Echo-clause-did : goal.returns-in-Echo-clause-did
 returns-in-Echo-clause-did g c =
-    rw c.in-Echo.is (out_alone g.S.Store.calls _ _ c.args.store.now _ (c.put_told.ensures.did c.args.self.now _ c.echo.ensures))
+    rw c.in-Echo.is (out_alone g.S.Store.calls _ _ c.args.store.now _ (told_did g.O.Sink.calls c.args.self.now _ _ _ _ _ c.echo.ensures c.put_told.ensures.put))
 
 pub returns-in-Quit-clause-did : goal.returns-in-Quit-clause-did
 returns-in-Quit-clause-did g c =
     rw c.in-Quit.is
-    (both_alone g.S.Store.calls g.O.Sink.calls (Plans c.args.depth c.args.self.now Quit) c.args.store.now c.args.out.now _
-    (quiet_did (Plans c.args.depth c.args.self.now Quit) (Does c.args.self.now next.Quit) (Done c.args.self.now next.Quit) refl (inl refl)))
+    (both_alone g.S.Store.calls g.O.Sink.calls (Plans c.args.depth c.args.self.now command.Quit) c.args.store.now c.args.out.now _
+    (quiet_did (Plans c.args.depth c.args.self.now command.Quit) (Does c.args.self.now next.Quit) (Done c.args.self.now next.Quit) refl (inl refl)))
 
 pub returns-in-ReadBlif-clause-did : goal.returns-in-ReadBlif-clause-did
 returns-in-ReadBlif-clause-did g c =
@@ -39,15 +39,15 @@ returns-in-WriteKiss-clause-did g c =
 
 pub returns-in-PrintStats-clause-did : goal.returns-in-PrintStats-clause-did
 returns-in-PrintStats-clause-did g c =
-    rw (c.in-PrintStats.is, ← c.self-in-PrintStats.view_is) (out_alone g.S.Store.calls _ _ c.args.store.now _ (c.put_told-in-PrintStats.ensures.did _ _ c.print_stats.ensures))
+    rw (c.in-PrintStats.is, ← c.self-in-PrintStats.view_is) (out_alone g.S.Store.calls _ _ c.args.store.now _ (told_did g.O.Sink.calls _ _ _ _ _ _ c.print_stats.ensures c.put_told-in-PrintStats.ensures.put))
 
 pub returns-in-Print-clause-did : goal.returns-in-Print-clause-did
 returns-in-Print-clause-did g c =
-    rw (c.in-Print.is, ← c.self-in-Print.view_is) (out_alone g.S.Store.calls _ _ c.args.store.now _ (c.put_told-in-Print.ensures.did _ _ c.print.ensures))
+    rw (c.in-Print.is, ← c.self-in-Print.view_is) (out_alone g.S.Store.calls _ _ c.args.store.now _ (told_did g.O.Sink.calls _ _ _ _ _ _ c.print.ensures c.put_told-in-Print.ensures.put))
 
 pub returns-in-PrintLatch-clause-did : goal.returns-in-PrintLatch-clause-did
 returns-in-PrintLatch-clause-did g c =
-    rw (c.in-PrintLatch.is, ← c.self-in-PrintLatch.view_is) (out_alone g.S.Store.calls _ _ c.args.store.now _ (c.put_told-in-PrintLatch.ensures.did _ _ c.print_latch.ensures))
+    rw (c.in-PrintLatch.is, ← c.self-in-PrintLatch.view_is) (out_alone g.S.Store.calls _ _ c.args.store.now _ (told_did g.O.Sink.calls _ _ _ _ _ _ c.print_latch.ensures c.put_told-in-PrintLatch.ensures.put))
 
 pub returns-in-PrintFactor-clause-did : goal.returns-in-PrintFactor-clause-did
 returns-in-PrintFactor-clause-did g c =
@@ -72,8 +72,8 @@ returns-in-Source-clause-did g c =
 pub returns-in-Bad-clause-did : goal.returns-in-Bad-clause-did
 returns-in-Bad-clause-did g c =
     rw c.in-Bad.is
-    (both_alone g.S.Store.calls g.O.Sink.calls (Plans c.args.depth c.args.self.now (Bad c.in-Bad.fault)) c.args.store.now c.args.out.now _
-    (quiet_did (Plans c.args.depth c.args.self.now (Bad c.in-Bad.fault)) (Refuses (refusal.Script c.in-Bad.fault)) (Refused (refusal.Script c.in-Bad.fault)) refl (inl refl)))
+    (both_alone g.S.Store.calls g.O.Sink.calls (Plans c.args.depth c.args.self.now (command.Bad c.in-Bad.fault)) c.args.store.now c.args.out.now _
+    (quiet_did (Plans c.args.depth c.args.self.now (command.Bad c.in-Bad.fault)) (Refuses (refusal.Script c.in-Bad.fault)) (Refused (refusal.Script c.in-Bad.fault)) refl (inl refl)))
 
 pub returns-in-Echo-clause-nests : goal.returns-in-Echo-clause-nests
 returns-in-Echo-clause-nests g c = c.put_told.ensures.nests c.args.depth
