@@ -11,10 +11,11 @@ use Rattle.alg_div.proofs.Cubes.{times_none, get_or-times, length-times, get_or-
 use Rattle.alg_div.proofs.Terms.{width-has, width-from}
 use Rattle.alg_kernel.specs.Kernels.{row_cmp, rows_cmp, Ascends, IsKernel, AreKernels, MoreKernels}
 use Rattle.cube_cover.specs.Literals.{has_literal, literal_product}
-use Rattle.alg_kernel.specs.Search.{holds, over, IsFound, limit, AreFound, MoreFound, AreSame}
+use Rattle.alg_kernel.specs.Search.{holds, over, IsFound, AreFound, MoreFound, AreSame}
 use Rattle.alg_kernel.proofs.Orders.{row_total, rows_total, same-ascending, fewer-ascending}
 use Rattle.alg_kernel.proofs.Parts.{and_left, and_right, has_literal-is, holds-at, holds-from, Has-over, over-has, over-width}
 use Rattle.alg_kernel.proofs.Found.{none-found}
+use Rattle.sis_base.specs.declared.limits.TheConstants.{MAX_KERNELS}
 
 some_none : (b : Bool) (x : Option Bool) → x ≡ Some b → x ≡ None → ⊥
 some_none b x h k = cc
@@ -122,7 +123,7 @@ all-kernels w f g ks same wide order a = record {
   order = a.order;
 }
 
-pub more-kernels : (w : ℕ) (f g : List (List (Option Bool))) → AreSame f g → HasWidth w g → Ascends row_cmp g → MoreFound w g → MoreKernels limit w f
+pub more-kernels : (w : ℕ) (f g : List (List (Option Bool))) → AreSame f g → HasWidth w g → Ascends row_cmp g → MoreFound w g → MoreKernels MAX_KERNELS w f
 more-kernels w f g same wide order (ks, more, rises, from) = (ks, more, rises, λ k m. kernel-from w f g k same wide order (from k m))
 
 -- where there are more, no list of so many has them all

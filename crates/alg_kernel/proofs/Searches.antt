@@ -7,13 +7,14 @@ use Rattle.alg_div.specs.Cubes.{Has}
 use Rattle.alg_div.proofs.Lists.{Has-left, Has-right, Has-append}
 use Rattle.alg_kernel.specs.Kernels.{rows_cmp, Ascends}
 use Rattle.cube_cover.specs.Literals.{has_literal}
-use Rattle.alg_kernel.specs.Search.{holding_rows, over, common_cube, IsFound, kernel_at, IsExplored, IsSearch, IsStep, limit, IsMore, TooMany, AreFound, MoreFound, IsBetween, IsExploredTo}
+use Rattle.alg_kernel.specs.Search.{holding_rows, over, common_cube, IsFound, kernel_at, IsExplored, IsSearch, IsStep, IsMore, TooMany, AreFound, MoreFound, IsBetween, IsExploredTo}
 use Rattle.alg_kernel.proofs.Orders.{rows_total, insert-ascends, Has-taken, Has-dropped, Has-parts}
 use Rattle.alg_kernel.proofs.Parts.{over-width}
 use Rattle.alg_kernel.proofs.Found.{all-found, kernel-step, start-found}
+use Rattle.sis_base.specs.declared.limits.TheConstants.{MAX_KERNELS}
 
 module _ (P : List (List (Option Bool)) → Type 0) where
-  pub more-none : (s t : List (List (List (Option Bool)))) → Ascends rows_cmp s → length s ≤ limit → IsMore P s t s t
+  pub more-none : (s t : List (List (List (Option Bool)))) → Ascends rows_cmp s → length s ≤ MAX_KERNELS → IsMore P s t s t
   more-none s t order room = record {
     kept = λ k m. m;
     only = λ k m. inl m;
@@ -74,7 +75,7 @@ insert-has xs i y z m = elim (Has-append z (take i xs) (y ∷ drop i xs) m) as (
 insert-length : {X : Type 0} (xs : List X) (i : ℕ) (y : X) → i ≤ length xs → length (take i xs ++ y ∷ drop i xs) ≡ length xs + 1
 insert-length xs i y h = simp (length-append, length-take, length-drop) (omega arith)
 
-pub entered-new : (s t : List (List (List (Option Bool)))) (k : List (List (Option Bool))) (i : ℕ) → Ascends rows_cmp s → IsBetween s i k → length s < limit → IsMore (λ z. z ≡ k) s t (take i s ++ k ∷ drop i s) (t ++ k ∷ [])
+pub entered-new : (s t : List (List (List (Option Bool)))) (k : List (List (Option Bool))) (i : ℕ) → Ascends rows_cmp s → IsBetween s i k → length s < MAX_KERNELS → IsMore (λ z. z ≡ k) s t (take i s ++ k ∷ drop i s) (t ++ k ∷ [])
 entered-new s t k i order (le, below, above) room = record {
   kept = insert-old s i k;
   only = insert-has s i k;
@@ -93,7 +94,7 @@ entered-new s t k i order (le, below, above) room = record {
 pub entered-has : (s : List (List (List (Option Bool)))) (k : List (List (Option Bool))) (i : ℕ) → Has k (take i s ++ k ∷ drop i s)
 entered-has s k i = insert-new s i k
 
-pub entered-many : (s : List (List (List (Option Bool)))) (k : List (List (Option Bool))) (i : ℕ) → Ascends rows_cmp s → IsBetween s i k → limit ≤ length s → TooMany (λ z. z ≡ k) s
+pub entered-many : (s : List (List (List (Option Bool)))) (k : List (List (Option Bool))) (i : ℕ) → Ascends rows_cmp s → IsBetween s i k → MAX_KERNELS ≤ length s → TooMany (λ z. z ≡ k) s
 entered-many s k i order (le, below, above) full = (take i s ++ k ∷ drop i s, omega (arith, insert-length s i k le), insert-ascends rows_cmp rows_total s i k order le below above, insert-has s i k)
 
 -- a search whose open kernel leads to more

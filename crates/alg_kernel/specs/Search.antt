@@ -9,6 +9,7 @@ use Rattle.cube_cover.specs.Literals.{has_literal}
 use Rattle.alg_div.specs.Cubes.{Has}
 use Rattle.alg_div.specs.Steps.{strip, literals_in}
 use Rattle.alg_kernel.specs.Kernels.{NoCommon, Ascends, rows_cmp}
+use Rattle.sis_base.specs.declared.limits.TheConstants.{MAX_KERNELS}
 
 -- lists of rows as lists of literals
 abbrev pub kernels_in : {Y Z : Type 0} → List (Vec (Vec (Option Bool) Y) Z) → List (List (List (Option Bool)))
@@ -94,16 +95,12 @@ pub record IsSearch (width : ℕ) (f : List (List (Option Bool))) (seen open_ : 
 abbrev pub IsStep : List (List (Option Bool)) → List (List (Option Bool)) → Type 0
 IsStep h k = (i : ℕ) × (bit : Bool) × (2 ≤ length (holding_rows i bit h)) × (k ≡ kernel_at i bit h)
 
--- the most kernels that are listed
-abbrev pub limit : ℕ
-limit = 10000
-
 -- the seen and the open lists after some of what P says were entered, each that was new in both
 pub record IsMore (P : List (List (Option Bool)) → Type 0) (seen open_ after open_after : List (List (List (Option Bool)))) : Type 0 where
   pub kept : (k : List (List (Option Bool))) → Has k seen → Has k after
   pub only : (k : List (List (Option Bool))) → Has k after → Has k seen ⊎ P k
   pub order : Ascends rows_cmp after
-  pub room : length after ≤ limit
+  pub room : length after ≤ MAX_KERNELS
   pub open_kept : (k : List (List (Option Bool))) → Has k open_ → Has k open_after
   pub open_only : (k : List (List (Option Bool))) → Has k open_after → Has k open_ ⊎ Has k after
   pub listed : (k : List (List (Option Bool))) → Has k after → Has k seen ⊎ Has k open_after
@@ -113,7 +110,7 @@ pub record IsMore (P : List (List (Option Bool)) → Type 0) (seen open_ after o
 -- more than are listed, each seen or as P says
 abbrev pub TooMany : (List (List (Option Bool)) → Type 0) → List (List (List (Option Bool))) → Type 0
 TooMany P seen =
-    (ks : List (List (List (Option Bool)))) × (limit < length ks) × Ascends rows_cmp ks × ((k : List (List (Option Bool))) → Has k ks → Has k seen ⊎ P k)
+    (ks : List (List (List (Option Bool)))) × (MAX_KERNELS < length ks) × Ascends rows_cmp ks × ((k : List (List (Option Bool))) → Has k ks → Has k seen ⊎ P k)
 
 -- all kernels of a sum whose rows rise and no other, each once, in rising order
 pub record AreFound (width : ℕ) (f : List (List (Option Bool))) (ks : List (List (List (Option Bool)))) : Type 0 where
@@ -121,10 +118,10 @@ pub record AreFound (width : ℕ) (f : List (List (Option Bool))) (ks : List (Li
   pub every : (k : List (List (Option Bool))) → IsFound width f k → Has k ks
   pub order : Ascends rows_cmp ks
 
--- more than the limit are found
+-- more than the MAX_KERNELS are found
 abbrev pub MoreFound : ℕ → List (List (Option Bool)) → Type 0
 MoreFound width f =
-    (ks : List (List (List (Option Bool)))) × (limit < length ks) × Ascends rows_cmp ks × ((k : List (List (Option Bool))) → Has k ks → IsFound width f k)
+    (ks : List (List (List (Option Bool)))) × (MAX_KERNELS < length ks) × Ascends rows_cmp ks × ((k : List (List (Option Bool))) → Has k ks → IsFound width f k)
 
 -- the kernels of the literals below a place are seen
 abbrev pub IsExploredTo : ℕ → List (List (List (Option Bool))) → List (List (Option Bool)) → Type 0

@@ -3,7 +3,8 @@
 //! "Synthesis and Optimization of Digital Circuits", chapter 8.
 //!
 //! Promised: `kernels` gives each kernel once and nothing else, in rising order, its rows in rising order, where
-//! there are at most 10,000; just where there are more it is refused by `KernelLimit`. Else it fails only for want of
+//! there are at most `MAX_KERNELS`; just where there are more it is refused by `KernelLimit`. Else
+//! it fails only for want of
 //! memory.
 
 #![tactic(auto)]
@@ -13,4 +14,4 @@ mod rows;
 mod search;
 
 pub use list::kernels;
-pub use search::{KernelFault, LIMIT};
+pub use search::KernelFault;

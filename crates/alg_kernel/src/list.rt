@@ -13,6 +13,7 @@ use crate::rows::sort_rows;
 use crate::search::{KernelFault, search};
 use alg_div::{all_literals_of, cover_of};
 use cube_cover::{Cover, Row};
+use sis_base::limits::MAX_KERNELS;
 use std::alloc::{AllocError, Global};
 
 // Covers of a width with the given rows.
@@ -35,13 +36,13 @@ fn covers_of<R: Row>(
 /// The kernels of f, whatever order and however often its rows stand: each quotient of f by a cube that has two
 /// cubes or more and no common literal, once. The rows of each are in rising order, places compared from the first
 /// on, a dash before a negative literal and that before a positive one; so are the kernels, row by row. More than
-/// 10,000 kernels are refused by `KernelLimit`; else an error only for want of memory.
+/// `MAX_KERNELS` kernels are refused by `KernelLimit`; else an error only for want of memory.
 pub fn kernels<R: Row>(alloc: Global, f: &Cover<R>) -> Result<Vec<Cover<R>>, KernelFault>
     ensures kernels { IfOk result (λ made. AreKernels f.now.width f.now.rows (rows_in made.items)) }
     ensures widths { IfOk result (λ made. (kernel : Shape) → Has kernel made.items → kernel.width ≡ f.now.width) }
-    ensures room { IfOk result (λ made. length made.items ≤ 10000) }
-    ensures refused { MoreKernels 10000 f.now.width f.now.rows → IfOk result (λ made. ⊥) }
-    ensures over { IsErrOf result KernelFault.KernelLimit → MoreKernels 10000 f.now.width f.now.rows }
+    ensures room { IfOk result (λ made. length made.items ≤ MAX_KERNELS) }
+    ensures refused { MoreKernels MAX_KERNELS f.now.width f.now.rows → IfOk result (λ made. ⊥) }
+    ensures over { IsErrOf result KernelFault.KernelLimit → MoreKernels MAX_KERNELS f.now.width f.now.rows }
 {
     let width = f.width();
     let rows = sort_rows(all_literals_of(alloc, f.rows())?);

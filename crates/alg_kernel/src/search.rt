@@ -7,15 +7,13 @@ ghost use Rattle.sis_base.specs.Rows.{HasWidth};
 ghost use Rattle.alg_div.specs.Cubes.{Has};
 ghost use Rattle.alg_div.specs.Steps.{literals_in};
 ghost use Rattle.alg_kernel.specs.Kernels.{row_cmp, rows_cmp, Ascends};
-ghost use Rattle.alg_kernel.specs.Search.{kernels_in, holding_rows, kernel_at, limit, IsKernelAt, IsBetween, IsStep, IsExplored, IsMore, TooMany, AreFound, MoreFound};
+ghost use Rattle.alg_kernel.specs.Search.{kernels_in, holding_rows, kernel_at, IsKernelAt, IsBetween, IsStep, IsExplored, IsMore, TooMany, AreFound, MoreFound};
 
 use crate::rows::{copies_of, count_at, make_cube_free, rows_at};
+use sis_base::limits::MAX_KERNELS;
 use std::alloc::{AllocError, Global};
 
-/// The most kernels that are listed.
-pub const LIMIT: usize = 10_000;
-
-/// Why there are no kernels: there are more than 10,000, or memory is wanting.
+/// Why there are no kernels: there are more than `MAX_KERNELS`, or memory is wanting.
 #[derive(Debug, Drop)]
 pub enum KernelFault {
     KernelLimit,
@@ -83,7 +81,7 @@ fn enter_new(
     ensures has { OnOk result (Has (literals_in kernel.items) (kernels_in seen.new.items)) }
     ensures over { IsErrOf result KernelFault.KernelLimit → TooMany (λ other. other ≡ literals_in kernel.items) (kernels_in seen.old.items) }
 {
-    if seen.len() >= LIMIT {
+    if seen.len() >= MAX_KERNELS {
         return Err(KernelFault::KernelLimit);
     }
     add(alloc, kernel, place, seen, todo)?;
@@ -109,7 +107,7 @@ fn enter(
     todo: &mut Vec<Vec<Vec<Option<bool>>>>,
 ) -> Result<(), KernelFault>
     requires order { Ascends rows_cmp (kernels_in seen.old.items) }
-    requires room { length (kernels_in seen.old.items) ≤ limit }
+    requires room { length (kernels_in seen.old.items) ≤ MAX_KERNELS }
     ensures more { OnOk result (IsMore (λ other. other ≡ literals_in kernel.items) (kernels_in seen.old.items) (kernels_in todo.old.items) (kernels_in seen.new.items) (kernels_in todo.new.items)) }
     ensures has { OnOk result (Has (literals_in kernel.items) (kernels_in seen.new.items)) }
     ensures over { IsErrOf result KernelFault.KernelLimit → TooMany (λ other. other ≡ literals_in kernel.items) (kernels_in seen.old.items) }
@@ -133,7 +131,7 @@ fn step(
     requires width { HasWidth width (literals_in kernel.now) }
     requires place { place < width }
     requires order { Ascends rows_cmp (kernels_in seen.old.items) }
-    requires room { length (kernels_in seen.old.items) ≤ limit }
+    requires room { length (kernels_in seen.old.items) ≤ MAX_KERNELS }
     ensures more { OnOk result (IsMore (IsStep (literals_in kernel.now)) (kernels_in seen.old.items) (kernels_in todo.old.items) (kernels_in seen.new.items) (kernels_in todo.new.items)) }
     ensures has { OnOk result (2 ≤ length (holding_rows place bit (literals_in kernel.now)) → Has (kernel_at place bit (literals_in kernel.now)) (kernels_in seen.new.items)) }
     ensures over { IsErrOf result KernelFault.KernelLimit → TooMany (IsStep (literals_in kernel.now)) (kernels_in seen.old.items) }
@@ -154,7 +152,7 @@ fn explore(
 ) -> Result<(), KernelFault>
     requires width { HasWidth width (literals_in kernel.now) }
     requires order { Ascends rows_cmp (kernels_in seen.old.items) }
-    requires room { length (kernels_in seen.old.items) ≤ limit }
+    requires room { length (kernels_in seen.old.items) ≤ MAX_KERNELS }
     ensures more { OnOk result (IsMore (IsStep (literals_in kernel.now)) (kernels_in seen.old.items) (kernels_in todo.old.items) (kernels_in seen.new.items) (kernels_in todo.new.items)) }
     ensures explored { OnOk result (IsExplored (kernels_in seen.new.items) (literals_in kernel.now)) }
     ensures over { IsErrOf result KernelFault.KernelLimit → TooMany (IsStep (literals_in kernel.now)) (kernels_in seen.old.items) }
@@ -175,7 +173,7 @@ pub fn search(
     requires width { HasWidth width (literals_in rows.now) }
     requires two { 2 ≤ length rows.now }
     ensures found { IfOk result (λ seen. AreFound width (literals_in rows.now) (kernels_in seen.items)) }
-    ensures room { IfOk result (λ seen. length (kernels_in seen.items) ≤ limit) }
+    ensures room { IfOk result (λ seen. length (kernels_in seen.items) ≤ MAX_KERNELS) }
     ensures over { IsErrOf result KernelFault.KernelLimit → MoreFound width (literals_in rows.now) }
 {
     let mut seen = Vec::new(alloc);

@@ -20,6 +20,7 @@ use Rattle.alg_tables.specs.declared.taking.TakeFault.TheVariants.{CubeLimit, To
 use Rattle.alg_tables.specs.Taking.{shape_of, entries, lacking, joined, composed_at, taken_in, is_list_long, is_cube_long, refusal_at, take_refusal}
 use Rattle.alg_tables.proofs.Places.{IsFound, found, entries_are, length-joined}
 use Rattle.alg_tables.proofs.Taken.{has_at}
+use Rattle.sis_base.specs.declared.limits.TheConstants.{MAX_INPUTS}
 
 -- one name more in the set
 not_before : (names : List (List ℕ)) (i : ℕ) → all_different names ≡ true → i < length names → has (take i names) (get_or names i []) ≡ false
@@ -149,18 +150,18 @@ unfolding named
 made_wide made place width inner outer output is long = ap (λ (table : Table). length table.inputs) (sym is) ∙ sym long
 
 pub refused_wide : {R : Type 0} (list_limit row_limit place width : ℕ) (made : TheTable R) (inner outer : Table) (output : List ℕ) → is_cube_long list_limit row_limit place inner outer ≡ false
-    → named output made ≡ composed_at place inner outer → width ≡ length made.inputs → 1000 < width → refusal_at list_limit row_limit place inner outer ≡ Some (TooWide width)
+    → named output made ≡ composed_at place inner outer → width ≡ length made.inputs → MAX_INPUTS < width → refusal_at list_limit row_limit place inner outer ≡ Some (TooWide width)
 refused_wide list_limit row_limit place width made inner outer output short is long wide =
-    ap (λ (b : Bool). if b then Some CubeLimit else (if ltb 1000 (length (composed_at place inner outer).inputs) then Some (TooWide (length (composed_at place inner outer).inputs)) else None)) short
-    ∙ ap (λ (n : ℕ). if ltb 1000 n then Some (TooWide n) else None) (made_wide made place width inner outer output is long)
-    ∙ ap (λ (b : Bool). if b then Some (TooWide width) else None) (lt-ltb 1000 width wide)
+    ap (λ (b : Bool). if b then Some CubeLimit else (if ltb MAX_INPUTS (length (composed_at place inner outer).inputs) then Some (TooWide (length (composed_at place inner outer).inputs)) else None)) short
+    ∙ ap (λ (n : ℕ). if ltb MAX_INPUTS n then Some (TooWide n) else None) (made_wide made place width inner outer output is long)
+    ∙ ap (λ (b : Bool). if b then Some (TooWide width) else None) (lt-ltb MAX_INPUTS width wide)
 
 pub refused_none : {R : Type 0} (list_limit row_limit place width : ℕ) (made : TheTable R) (inner outer : Table) (output : List ℕ) → is_cube_long list_limit row_limit place inner outer ≡ false
-    → named output made ≡ composed_at place inner outer → width ≡ length made.inputs → width ≤ 1000 → refusal_at list_limit row_limit place inner outer ≡ None
+    → named output made ≡ composed_at place inner outer → width ≡ length made.inputs → width ≤ MAX_INPUTS → refusal_at list_limit row_limit place inner outer ≡ None
 refused_none list_limit row_limit place width made inner outer output short is long narrow =
-    ap (λ (b : Bool). if b then Some CubeLimit else (if ltb 1000 (length (composed_at place inner outer).inputs) then Some (TooWide (length (composed_at place inner outer).inputs)) else None)) short
-    ∙ ap (λ (n : ℕ). if ltb 1000 n then Some (TooWide n) else None) (made_wide made place width inner outer output is long)
-    ∙ ap (λ (b : Bool). if b then Some (TooWide width) else None) (le-ltb 1000 width narrow)
+    ap (λ (b : Bool). if b then Some CubeLimit else (if ltb MAX_INPUTS (length (composed_at place inner outer).inputs) then Some (TooWide (length (composed_at place inner outer).inputs)) else None)) short
+    ∙ ap (λ (n : ℕ). if ltb MAX_INPUTS n then Some (TooWide n) else None) (made_wide made place width inner outer output is long)
+    ∙ ap (λ (b : Bool). if b then Some (TooWide width) else None) (le-ltb MAX_INPUTS width narrow)
 
 -- where the table reads the signal, and where it does not
 pub place_read : (names : List (List ℕ)) (name : List ℕ) (place : ℕ) → position (bytes_eq name) names ≡ Some place → (place < length names) × (get_or names place [] ≡ name)

@@ -1,6 +1,7 @@
 -- A table divided by a cover of literals by name, whose signal then stands for it.
--- Source: Brayton, Rudell, Sangiovanni-Vincentelli and Wang, "MIS: A Multiple-Level Logic Optimization System" (1987): weak division and
--- resubstitution; De Micheli, "Synthesis and Optimization of Digital Circuits", chapter 8 (algebraic division, extraction).
+-- Source: Brayton, Rudell, Sangiovanni-Vincentelli and Wang, "MIS: A Multiple-Level Logic
+-- Optimization System" (1987): weak division and resubstitution; De Micheli, "Synthesis and
+-- Optimization of Digital Circuits", chapter 8 (algebraic division, extraction).
 use Rattle.std.specs.Prelude.{ℕ, Bool, true, false, not, ◌&&◌, ◌||◌, if◌then◌else◌, Option, Some, None, List, [], ◌∷◌, ◌++◌, map, filter, length}
 use Rattle.std.specs.List.{list_all, list_any}
 use Rattle.std.specs.Ordering.{nat_cmp}
@@ -19,23 +20,31 @@ unfoldable pub firsts : List (List (Option Bool)) → List (List (Option Bool))
 firsts [] = []
 firsts (row ∷ rows) = row ∷ filter (λ other. not (row_eq row other)) (firsts rows)
 
--- whether a row of f is the product of a cube, which is the row without the divisor's variables, and the divisor's first cube, and
--- the products of that cube and the divisor's other cubes are rows of f as well
-abbrev pub is_made : ℕ → List (List (Option Bool)) → List (Option Bool) → List (List (Option Bool)) → List (Option Bool) → Bool
+-- whether a row of f is the product of a cube, which is the row without the divisor's variables,
+-- and the divisor's first cube, and the products of that cube and the divisor's other cubes are
+-- rows of f as well
+abbrev pub is_made : ℕ → List (List (Option Bool)) → List (Option Bool) → List (List (Option Bool))
+    → List (Option Bool) → Bool
 is_made width f first d row =
     let cube = strip (support width d) row in
     row_eq (times cube first) row && list_all (λ other. list_any (row_eq (times cube other)) f) d
 
--- the quotient of rows f by rows d, in the order in which f has the products with the first row of d; alg_div says what a quotient is
-unfoldable pub quotient : ℕ → List (List (Option Bool)) → List (List (Option Bool)) → List (List (Option Bool))
+-- the quotient of rows f by rows d, in the order in which f has the products with the first row of
+-- d; alg_div says what a quotient is
+unfoldable pub quotient : ℕ → List (List (Option Bool)) → List (List (Option Bool))
+    → List (List (Option Bool))
 quotient width f [] = []
-quotient width f (first ∷ d) = map (strip (support width (first ∷ d))) (filter (is_made width f first (first ∷ d)) (firsts f))
+quotient width f (first ∷ d) = map (strip (support width (first ∷ d)))
+    (filter (is_made width f first (first ∷ d)) (firsts f))
 
--- a table whose quotient's cubes stand with the literal of a signal, its last input, and then the rows that are left
-unfoldable pub rejoined : List ℕ → Bool → Table → List (List (Option Bool)) → List (List (Option Bool)) → Table
+-- a table whose quotient's cubes stand with the literal of a signal, its last input, and then the
+-- rows that are left
+unfoldable pub rejoined : List ℕ → Bool → Table → List (List (Option Bool))
+    → List (List (Option Bool)) → Table
 rejoined name bit table d q = record table {
   inputs = table.inputs ++ name ∷ [];
-  rows = map characters_of (map (λ row. row ++ Some bit ∷ []) q ++ map (λ row. row ++ None ∷ []) (others (map places_of table.rows) (products q d)));
+  rows = map characters_of (map (λ row. row ++ Some bit ∷ []) q
+      ++ map (λ row. row ++ None ∷ []) (others (map places_of table.rows) (products q d)));
 }
 
 -- whether a quotient has no cube
@@ -43,19 +52,30 @@ abbrev pub has_no_cube : List (List (Option Bool)) → Bool
 has_no_cube [] = true
 has_no_cube (row ∷ rows) = false
 
--- a table divided by a cover, for which the literal of a signal then stands: the tidy rejoined table; the table itself where it does not
--- read all that the cover reads, or the quotient has no cube
+-- the quotient of a table's rows by a cover, which is over the table's inputs
+abbrev pub quotient_by : NamedCover → Table → List (List (Option Bool))
+quotient_by cover table =
+    quotient (length table.inputs) (map places_of table.rows) (map (row_over table.inputs) cover)
+
+-- whether a cover does not divide a table: the table does not read all that the cover reads, or the
+-- quotient has no cube
+abbrev pub is_undivided : NamedCover → Table → Bool
+is_undivided cover table = not (is_over table.inputs cover) || has_no_cube (quotient_by cover table)
+
+-- a table divided by a cover, for which the literal of a signal then stands: the tidy rejoined
+-- table; the table itself where the cover does not divide it
 unfoldable pub divided : List ℕ → Bool → NamedCover → Table → Table
 divided name bit cover table =
-    let d = map (row_over table.inputs) cover in
-    let q = quotient (length table.inputs) (map places_of table.rows) d in
-    if not (is_over table.inputs cover) || has_no_cube q then table else tidied (rejoined name bit table d q)
+    if is_undivided cover table then table
+    else tidied (rejoined name bit table (map (row_over table.inputs) cover)
+    (quotient_by cover table))
 
 -- the names of a cover, byte for byte in order, each once
 abbrev pub sorted_names : NamedCover → List (List ℕ)
 sorted_names cover = sorted (slice_cmp nat_cmp) (names_in cover)
 
--- the table of a cover, which drives a signal: its inputs are the cover's names in order, its rows the cubes in the cover's order
+-- the table of a cover, which drives a signal: its inputs are the cover's names in order, its rows
+-- the cubes in the cover's order
 unfoldable pub cover_table : List ℕ → NamedCover → Table
 cover_table name cover = record {
   inputs = sorted_names cover;

@@ -13,6 +13,7 @@ use Rattle.net_core.specs.Tables.{places_of, characters_of}
 use Rattle.circuit_tables.specs.Tidy.{tidied}
 use Rattle.alg_tables.specs.declared.taking.TakeFault.{TakeFault}
 use Rattle.alg_tables.specs.declared.taking.TakeFault.TheVariants.{CubeLimit, TooWide}
+use Rattle.sis_base.specs.declared.limits.TheConstants.{MAX_INPUTS}
 
 -- the cover of a table: its rows over its inputs
 abbrev pub shape_of : Table → Shape
@@ -57,11 +58,11 @@ is_cube_long list_limit row_limit place inner outer =
     is_list_long list_limit place inner outer || ltb row_limit (length (composed_at place inner outer).rows)
 
 -- why a table is not taken into another one whose input stands at a place: a list, or what comes out, has more rows than its limit;
--- or, where none has, what comes out has more than 1,000 inputs
+-- or, where none has, what comes out has more than `MAX_INPUTS` inputs
 abbrev pub refusal_at : ℕ → ℕ → ℕ → Table → Table → Option TakeFault
 refusal_at list_limit row_limit place inner outer =
     if is_cube_long list_limit row_limit place inner outer then Some CubeLimit
-    else (if ltb 1000 (length (composed_at place inner outer).inputs) then Some (TooWide (length (composed_at place inner outer).inputs)) else None)
+    else (if ltb MAX_INPUTS (length (composed_at place inner outer).inputs) then Some (TooWide (length (composed_at place inner outer).inputs)) else None)
 
 -- why a table is not taken into another one; one that does not read it refuses nothing
 unfoldable pub take_refusal : ℕ → ℕ → Table → Table → Option TakeFault

@@ -1,6 +1,6 @@
 //! A table divided by a cover of literals by name, and the table of such a cover.
 
-ghost use Rattle.std.specs.Prelude.{◌≡◌, ℕ, suc, Bool, true, Option, Some, None, List, [], ◌∷◌, ◌++◌, length, map, IfOk, IfSome, OnOk};
+ghost use Rattle.std.specs.Prelude.{◌≡◌, ℕ, suc, Bool, true, Option, Some, None, is_none, List, [], ◌∷◌, ◌++◌, length, map, IfOk, IfSome, OnOk};
 ghost use Rattle.std.specs.List.{list_all};
 ghost use Rattle.std.specs.Ordering.{nat_cmp};
 ghost use Rattle.std.specs.Cmp.Lexicographic.{slice_cmp};
@@ -9,7 +9,7 @@ ghost use Rattle.alg_div.specs.Steps.{literals_in};
 ghost use Rattle.cover_names.specs.Cubes.{row_over as row_from, is_over, names_in};
 ghost use Rattle.cover_names.specs.declared.literal.Literal.{Literal as TheLiteral};
 ghost use Rattle.net_core.specs.Tables.{named, IsOverInputs};
-ghost use Rattle.alg_tables.specs.Dividing.{divided, sorted_names, cover_table as table_of};
+ghost use Rattle.alg_tables.specs.Dividing.{is_undivided, divided, sorted_names, cover_table as table_of};
 
 use alg_div::{cover_of, divide, literals_of};
 use circuit_model::{Name, Names};
@@ -73,7 +73,8 @@ fn push_ended<R: Row>(
     rows: &[R],
     place: Option<bool>,
 ) -> Result<(), AllocError>
-    ensures { OnOk result (literals_in made.new.items ≡ literals_in made.old.items ++ map (λ row. row ++ place ∷ []) (map R.literals rows.now)) }
+    ensures { OnOk result (literals_in made.new.items ≡ literals_in made.old.items
+        ++ map (λ row. row ++ place ∷ []) (map R.literals rows.now)) }
 {
     for row in rows {
         let mut literals = literals_of(alloc, row)?;
@@ -83,7 +84,8 @@ fn push_ended<R: Row>(
     Ok(())
 }
 
-// The quotient's rows with a literal at a new last place, and behind them the remainder's rows with none there.
+// The quotient's rows with a literal at a new last place, and behind them the remainder's rows with
+// none there.
 fn ended_cover<R: Row>(
     alloc: Global,
     width: usize,
@@ -93,7 +95,11 @@ fn ended_cover<R: Row>(
 ) -> Result<Cover<R>, AllocError>
     requires quotient { width ≡ suc quotient.now.width }
     requires remainder { width ≡ suc remainder.now.width }
-    ensures { IfOk result (λ made. made ≡ record { width = width; rows = map (λ row. row ++ Some bit ∷ []) quotient.now.rows ++ map (λ row. row ++ None ∷ []) remainder.now.rows }) }
+    ensures { IfOk result (λ made. made ≡ record {
+      width = width;
+      rows = map (λ row. row ++ Some bit ∷ []) quotient.now.rows
+          ++ map (λ row. row ++ None ∷ []) remainder.now.rows;
+    }) }
 {
     let mut rows = Vec::new(alloc);
     push_ended(alloc, &mut rows, quotient.rows(), Some(bit))?;
@@ -102,7 +108,8 @@ fn ended_cover<R: Row>(
     Ok(cover)
 }
 
-// A table with the rows of a quotient and a remainder, and a signal as its last input; nothing is tidied yet.
+// A table with the rows of a quotient and a remainder, and a signal as its last input; nothing is
+// tidied yet.
 fn rejoined_table<R: Row>(
     alloc: Global,
     table: &Table<R>,
@@ -114,7 +121,9 @@ fn rejoined_table<R: Row>(
     requires quotient { quotient.now.width ≡ length table.now.inputs }
     requires remainder { remainder.now.width ≡ length table.now.inputs }
     ensures inputs { IfOk result (λ made. made.inputs ≡ table.now.inputs ++ name.now ∷ []) }
-    ensures rows { IfOk result (λ made. made.cover.rows ≡ map (λ row. row ++ Some bit ∷ []) quotient.now.rows ++ map (λ row. row ++ None ∷ []) remainder.now.rows) }
+    ensures rows { IfOk result (λ made. made.cover.rows
+        ≡ map (λ row. row ++ Some bit ∷ []) quotient.now.rows
+        ++ map (λ row. row ++ None ∷ []) remainder.now.rows) }
     ensures phase { IfOk result (λ made. made.phase ≡ table.now.phase) }
     ensures over { IfOk result IsOverInputs }
 {
@@ -128,9 +137,11 @@ fn rejoined_table<R: Row>(
     })
 }
 
-/// What a table becomes where it is divided by a cover, for which the literal of `name` then stands, the positive one where `bit`
-/// is true: the quotient's cubes with that literal and the rows that are left, tidy. `None` where the table stays as it is: it does
-/// not read all that the cover reads, or the quotient has no cube. An error only for want of memory.
+/// What a table becomes where it is divided by a cover, for which the literal of `name` then
+/// stands, the positive one where `bit` is true: the quotient's cubes with that literal and the
+/// rows that are left, tidy. `None` exactly where the cover does not divide it, and it stays as it
+/// is: it does not read all that the cover reads, or the quotient has no cube. An error only for
+/// want of memory.
 pub fn divided_table<R: Row>(
     alloc: Global,
     table: &Table<R>,
@@ -139,9 +150,13 @@ pub fn divided_table<R: Row>(
     cover: &[Cube],
 ) -> Result<Option<Table<R>>, AllocError>
     requires { IsOverInputs table.now }
-    ensures some { IfOk result (λ found. IfSome found (λ made. (output : List ℕ) → named output made ≡ divided name.now bit cover.now (named output table.now))) }
+    ensures some { IfOk result (λ found. IfSome found (λ made. (output : List ℕ)
+        → named output made ≡ divided name.now bit cover.now (named output table.now))) }
     ensures over { IfOk result (λ found. IfSome found IsOverInputs) }
-    ensures none { IfOk result (λ found. found ≡ None → (output : List ℕ) → divided name.now bit cover.now (named output table.now) ≡ named output table.now) }
+    ensures none { IfOk result (λ found. found ≡ None → (output : List ℕ)
+        → divided name.now bit cover.now (named output table.now) ≡ named output table.now) }
+    ensures exact { IfOk result (λ found. (output : List ℕ)
+        → is_none found ≡ is_undivided cover.now (named output table.now)) }
 {
     if !is_cover_over(table.inputs.as_slice(), cover) {
         return Ok(None);
@@ -160,7 +175,8 @@ pub fn divided_table<R: Row>(
 
 // Puts copies of the names of a cube's literals behind the last.
 fn push_cube_names(alloc: Global, names: &mut Vec<Name>, cube: &[Literal]) -> Result<(), AllocError>
-    ensures { OnOk result (names.new.items ≡ names.old.items ++ map (λ (literal : TheLiteral). literal.name) cube.now) }
+    ensures { OnOk result (names.new.items ≡ names.old.items
+        ++ map (λ (literal : TheLiteral). literal.name) cube.now) }
 {
     for literal in cube {
         names.push(literal.name.copy(alloc)?)?;
@@ -196,10 +212,11 @@ fn names_of(alloc: Global, cover: &[Cube]) -> Result<Names, AllocError>
     Ok(Sequence::from_vec(names))
 }
 
-/// The table of a cover: its inputs are the cover's names in order, each once, its rows the cubes in the cover's order. An error
-/// only for want of memory.
+/// The table of a cover: its inputs are the cover's names in order, each once, its rows the cubes
+/// in the cover's order. An error only for want of memory.
 pub fn cover_table<R: Row>(alloc: Global, cover: &[Cube]) -> Result<Table<R>, AllocError>
-    ensures table { IfOk result (λ made. (name : List ℕ) → named name made ≡ table_of name cover.now) }
+    ensures table { IfOk result (λ made. (name : List ℕ)
+        → named name made ≡ table_of name cover.now) }
     ensures over { IfOk result IsOverInputs }
 {
     let inputs = names_of(alloc, cover)?;

@@ -13,10 +13,8 @@ use circuit_model::Name;
 use cover_ops::{ListFault, compose};
 use cube_cover::{Cover, Row};
 use net_core::{Table, tidy};
+use sis_base::limits::MAX_INPUTS;
 use std::alloc::{AllocError, Global};
-
-/// How many inputs a table may have in which another one was taken.
-const INPUT_LIMIT: usize = 1_000;
 
 /// Why a table is not taken into another one.
 #[derive(Clone, Copy, Debug, PartialEq, Eq, Drop)]
@@ -151,7 +149,7 @@ fn taken_at<R: Row>(
 {
     let made = composed(alloc, place, inner, outer, list_limit, row_limit)?;
     let width = made.inputs.len();
-    if width > INPUT_LIMIT {
+    if width > MAX_INPUTS {
         return Err(TakeFault::TooWide(width));
     }
     let tidy_table = tidy(alloc, &made)?;

@@ -6,6 +6,7 @@ use Rattle.std.specs.Option.{option_map, option_map_or}
 use Rattle.circuit_model.specs.Names.{has}
 use Rattle.line_words.specs.LineWords.{texts, long_name}
 use Rattle.blif_gates.specs.GateLines.{pin_in, signal_in, is_pair, pins_of, signals_of, signal_for}
+use Rattle.sis_base.specs.declared.limits.TheConstants.{MAX_NAME}
 
 pub all_pairs : (words : List (Bor (List ℕ))) → list_all (λ (word : Bor (List ℕ)). is_pair word.now) words ≡ list_all is_pair (texts words)
 all_pairs [] = refl
@@ -28,11 +29,11 @@ signal_found (word ∷ words) pin =
     by false left right e = e
 
 -- the length of the first long signal
-pub long_found : (words : List (Bor (List ℕ))) → option_map (λ (word : Bor (List ℕ)). length (signal_in word.now)) (find (λ (word : Bor (List ℕ)). nat_lt 1023 (length (signal_in word.now))) words) ≡ long_name (signals_of (texts words))
+pub long_found : (words : List (Bor (List ℕ))) → option_map (λ (word : Bor (List ℕ)). length (signal_in word.now)) (find (λ (word : Bor (List ℕ)). nat_lt MAX_NAME (length (signal_in word.now))) words) ≡ long_name (signals_of (texts words))
 unfolding long_name
 long_found [] = refl
 long_found (word ∷ words) =
-    by (nat_lt 1023 (length (signal_in word.now))) (find (λ (w : Bor (List ℕ)). nat_lt 1023 (length (signal_in w.now))) words) (find (λ (w : List ℕ). nat_lt 1023 (length w)) (signals_of (texts words))) (long_found words)
+    by (nat_lt MAX_NAME (length (signal_in word.now))) (find (λ (w : Bor (List ℕ)). nat_lt MAX_NAME (length (signal_in w.now))) words) (find (λ (w : List ℕ). nat_lt MAX_NAME (length w)) (signals_of (texts words))) (long_found words)
   where
     by : (b : Bool) (left : Option (Bor (List ℕ))) (right : Option (List ℕ)) → option_map (λ (w : Bor (List ℕ)). length (signal_in w.now)) left ≡ option_map (λ (w : List ℕ). length w) right
         → option_map (λ (w : Bor (List ℕ)). length (signal_in w.now)) (cond b (Some word) left) ≡ option_map (λ (w : List ℕ). length w) (cond b (Some (signal_in word.now)) right)

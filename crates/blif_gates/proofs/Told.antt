@@ -27,6 +27,7 @@ use Rattle.blif_gates.specs.declared.reading.GateFault.{GateFault}
 use Rattle.blif_gates.specs.declared.reading.GateFault.TheVariants.{BadPins}
 use Rattle.blif_gates.specs.GateLines.{pin_in, signal_in, is_pair, pins_of, signals_of, is_pairing, signal_for, character_for, gate_rows, gate_table, read_found, read_gate}
 use Rattle.blif_gates.proofs.Characters.{literals_back}
+use Rattle.sis_base.specs.declared.limits.TheConstants.{MAX_PINS}
 
 -- a table is that of a gate of the cell's name, with which the words pair
 pub record IsTold (library : List Gate) (cell : List ℕ) (words : List (List ℕ)) (table : Table) : Type 0 where
@@ -87,9 +88,9 @@ shaped gate words =
     = characters_wide (length gate.pins) _ (HasWidth-shannon (length gate.pins) (function_of (formula_of gate.expr))) in
     (subst (λ (n : ℕ). AllByRecursion (λ (row : List Tri). length row ≡ n) (map (map character_for) (shannon (length gate.pins) (function_of (formula_of gate.expr))))) (sym (length-map gate.pins (signal_for words))) wide, λ e. refl)
 
-pub few : (gate : Gate) (words : List (List ℕ)) → IsSoundGate gate → length (gate_table gate words).inputs ≤ 15
+pub few : (gate : Gate) (words : List (List ℕ)) → IsSoundGate gate → length (gate_table gate words).inputs ≤ MAX_PINS
 unfolding gate_table
-few gate words sound = subst (λ (n : ℕ). n ≤ 15) (sym (length-map gate.pins (signal_for words))) sound.few
+few gate words sound = subst (λ (n : ℕ). n ≤ MAX_PINS) (sym (length-map gate.pins (signal_for words))) sound.few
 
 pub valued : (gate : Gate) (words : List (List ℕ)) (point : List Bool) → length point ≡ length gate.pins → table_value (gate_table gate words) point ≡ function_of (formula_of gate.expr) point
 unfolding table_value gate_table gate_rows value_by_phase

@@ -14,14 +14,16 @@ ghost use Rattle.genlib_format.specs.Soundness.{IsSound, IsSoundGate};
 ghost use Rattle.blif_gates.specs.GateLines.{signals_of, is_pairing, gate_table, read_gate};
 ghost use Rattle.blif_gates.specs.Pairings.{NamesEachOnce};
 
+use sis_base::limits::MAX_PINS;
+
 /// The rows of a table are as long as its list of inputs.
 pub fn tables_are_shaped()
     ensures { (library : List TheGate) (cell : List ℕ) (words : List (List ℕ)) (table : TheTable) → read_gate library cell words ≡ Ok table → IsShaped table }
 {}
 
-/// With a sound library a table has at most 15 inputs.
+/// With a sound library a table has at most `MAX_PINS` inputs.
 pub fn tables_have_few_inputs()
-    ensures { (library : List TheGate) (cell : List ℕ) (words : List (List ℕ)) (table : TheTable) → IsSound library → read_gate library cell words ≡ Ok table → length table.inputs ≤ 15 }
+    ensures { (library : List TheGate) (cell : List ℕ) (words : List (List ℕ)) (table : TheTable) → IsSound library → read_gate library cell words ≡ Ok table → length table.inputs ≤ MAX_PINS }
 {}
 
 /// The names of a table are words where the words of the line are.

@@ -12,6 +12,7 @@ ghost use Rattle.blif_gates.specs.GateLines.{signal_for as signal_named};
 
 use circuit_model::{Name, Names};
 use line_words::name_of;
+use sis_base::limits::MAX_NAME;
 use std::alloc::{AllocError, Global};
 use std::mem;
 
@@ -172,9 +173,9 @@ pub fn add_signals(
 /// The first word whose signal is longer than a name may be.
 fn first_long<'a, 'w>(words: &'w [&'a [u8]]) -> Option<&'w &'a [u8]>
     ensures { option_copied result
-        ≡ find (λ word. nat_lt 1023 (length (signal_of word.now))) words.now }
+        ≡ find (λ word. nat_lt MAX_NAME (length (signal_of word.now))) words.now }
 {
-    words.iter().find(|word| signal_in(word).len() > 1023)
+    words.iter().find(|word| signal_in(word).len() > MAX_NAME)
 }
 
 /// The length, in bytes, of the first signal that is longer than a name may be.

@@ -20,6 +20,7 @@ use Rattle.blif_lines.specs.Libraries.{IsSoundLibrary}
 use Rattle.blif_lines.specs.Lines.{library_fault, cell_fault}
 use Rattle.blif_lines.specs.Reader.{right_table, gate_tables, gate_inputs}
 use Rattle.blif_lines.proofs.NameLists.{others_have, same_name, all_among, all_append, all_front, all_back}
+use Rattle.sis_base.specs.declared.limits.TheConstants.{MAX_INPUTS, MAX_PINS, MAX_ROWS}
 
 -- what holds of no table and of each table that a gate may say holds of those of a line
 pub each_gate : (library : Option (List TheGate)) (words : List (List ℕ)) (P : List Table → Type 0) → P []
@@ -85,11 +86,11 @@ few_points (suc n) f = by (same (suc n) (λ point. f (false ∷ point)) (λ poin
         → length (if b then map (λ row. None ∷ row) (shannon (suc n) (λ point. f (false ∷ point))) else map (λ row. Some false ∷ row) (shannon (suc n) (λ point. f (false ∷ point))) ++ map (λ row. Some true ∷ row) (shannon (suc n) (λ point. f (true ∷ point)))) ≤ most n + most n
     by b front back = joined_few b (shannon (suc n) (λ point. f (false ∷ point))) (shannon (suc n) (λ point. f (true ∷ point))) (most n) front back
 
-few_rows : (n : ℕ) (f : List Bool → Bool) → n ≤ 15 → length (shannon n f) ≤ 32767
+few_rows : (n : ℕ) (f : List Bool → Bool) → n ≤ MAX_PINS → length (shannon n f) ≤ MAX_ROWS
 unfolding shannon
 few_rows zero f h = by (f [])
   where
-    by : (b : Bool) → length {A = List (Option Bool)} (if b then [] ∷ [] else []) ≤ 32767
+    by : (b : Bool) → length {A = List (Option Bool)} (if b then [] ∷ [] else []) ≤ MAX_ROWS
     by true = omega arith
     by false = omega arith
 few_rows (suc n) f h =
@@ -101,16 +102,16 @@ few_rows (suc n) f h =
 pub gate_shaped : (gates : List TheGate) (cell : List ℕ) (words : List (List ℕ)) (table : Table) → read_gate gates cell words ≡ Ok table → IsShaped table
 gate_shaped gates cell words table e = let t = told gates cell words table e in subst IsShaped t.is (shaped t.gate words)
 
-pub gate_small : (gates : List TheGate) (cell : List ℕ) (words : List (List ℕ)) (table : Table) → IsSoundLibrary (Some gates) → read_gate gates cell words ≡ Ok table → (length table.rows ≤ 32767) × (length table.inputs ≤ 1000)
+pub gate_small : (gates : List TheGate) (cell : List ℕ) (words : List (List ℕ)) (table : Table) → IsSoundLibrary (Some gates) → read_gate gates cell words ≡ Ok table → (length table.rows ≤ MAX_ROWS) × (length table.inputs ≤ MAX_INPUTS)
 unfolding gate_table gate_rows
 gate_small gates cell words table sound e =
     let t = told gates cell words table e in
     let good = sound_found gates cell t.gate sound.each t.named in
-    subst (λ (one : Table). (length one.rows ≤ 32767) × (length one.inputs ≤ 1000)) t.is (
-      let rows : length (shannon (length t.gate.pins) (function_of (formula_of t.gate.expr))) ≤ 32767 = few_rows (length t.gate.pins) (function_of (formula_of t.gate.expr)) good.few in
+    subst (λ (one : Table). (length one.rows ≤ MAX_ROWS) × (length one.inputs ≤ MAX_INPUTS)) t.is (
+      let rows : length (shannon (length t.gate.pins) (function_of (formula_of t.gate.expr))) ≤ MAX_ROWS = few_rows (length t.gate.pins) (function_of (formula_of t.gate.expr)) good.few in
           let same_count : length (gate_rows t.gate) ≡ length (shannon (length t.gate.pins) (function_of (formula_of t.gate.expr))) = length-map (shannon (length t.gate.pins) (function_of (formula_of t.gate.expr))) (map character_for) in
           omega arith,
-      let inputs : length (gate_table t.gate words).inputs ≤ 15 = few t.gate words good in omega arith,
+      let inputs : length (gate_table t.gate words).inputs ≤ MAX_PINS = few t.gate words good in omega arith,
     )
 
 -- the names of a line's tables

@@ -32,6 +32,7 @@ use Rattle.blif_lines.specs.declared.draft.Draft.{Draft}
 use Rattle.blif_lines.proofs.NameLists.{all_append, all_front, all_back, all_kept, all_taken, all_among, all_of_has, none_found}
 use Rattle.blif_lines.proofs.Faults.{none_first, none_later, not_when, not_mapped, right_gate}
 use Rattle.blif_lines.proofs.Gates.{gate_names_are_words, gate_names_are_signals, gate_inputs_have, gate_outputs_have}
+use Rattle.sis_base.specs.declared.limits.TheConstants.{MAX_NAME}
 
 abbrev pub signal_names : List TheLatch → List (List ℕ)
 signal_names latches = flat_map (λ (latch : TheLatch). latch.input ∷ latch.output ∷ []) latches
@@ -378,13 +379,13 @@ head_named P draft n = (
 
 -- names that are not too long
 abbrev pub IsShort : List ℕ → Type 0
-IsShort name = length name ≤ 1023
+IsShort name = length name ≤ MAX_NAME
 
 pub none_long : (names : List (List ℕ)) → long_fault names ≡ None → AllByRecursion IsShort names
 unfolding long_name
 none_long names e =
-    all_kept (λ name. nat_lt 1023 (length name) ≡ false) IsShort names (λ name h. ltb-false 1023 (length name) h)
-    (none_found (λ name. nat_lt 1023 (length name)) names (not_mapped (λ (name : List ℕ). length name) (find (λ name. nat_lt 1023 (length name)) names) (not_mapped (λ len. Limit limit.Name len) (long_name names) e)))
+    all_kept (λ name. nat_lt MAX_NAME (length name) ≡ false) IsShort names (λ name h. ltb-false MAX_NAME (length name) h)
+    (none_found (λ name. nat_lt MAX_NAME (length name)) names (not_mapped (λ (name : List ℕ). length name) (find (λ name. nat_lt MAX_NAME (length name)) names) (not_mapped (λ len. Limit limit.Name len) (long_name names) e)))
 
 pub short_ports : (library : Option (List TheGate)) (ended had : Bool) (number : ℕ) (words : List (List ℕ)) → ports_fault (place_at ended had) number words ≡ None → AllByRecursion IsShort (mentioned library had Inputs words) × AllByRecursion IsShort (mentioned library had Outputs words)
 unfolding ports_fault place_at

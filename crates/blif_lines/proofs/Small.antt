@@ -30,11 +30,12 @@ use Rattle.blif_lines.proofs.NameLists.{same_name, all_append, all_front, all_ba
 use Rattle.blif_lines.proofs.Faults.{none_first, none_later, not_when, not_not_when, right_latch, right_gate, part_begins}
 use Rattle.blif_lines.proofs.Gates.{each_gate, one_gate, gate_shaped, gate_small}
 use Rattle.circuit_tables.proofs.Folded.{folded_shaped, folded_input_count, folded_row_count}
+use Rattle.sis_base.specs.declared.limits.TheConstants.{MAX_INPUTS, MAX_NODES, MAX_ROWS}
 
 -- a table as it is written: few rows, few inputs, each row with a character for each input
 pub record IsGoodTable (table : Table) : Type 0 where
-  pub rows : length table.rows ≤ 32767
-  pub inputs : length table.inputs ≤ 1000
+  pub rows : length table.rows ≤ MAX_ROWS
+  pub inputs : length table.inputs ≤ MAX_INPUTS
   pub shaped : IsShaped table
 
 -- the tables of a draft, each with a fact, and how many nodes there are
@@ -43,7 +44,7 @@ pub record IsSmallDraft (P : Table → Type 0) (draft : Draft) : Type 0 where
   pub model : AllByRecursion P draft.model_tables
   pub none : draft.has_part ≡ false → draft.model_tables ≡ []
   pub count : length (tables_with draft.tables draft.reading) + (length draft.model_tables + length draft.latches) ≡ draft.nodes
-  pub few : draft.nodes ≤ 65535
+  pub few : draft.nodes ≤ MAX_NODES
   pub inits : AllByRecursion (λ (latch : TheLatch). latch.init ≤ 3) draft.latches
 
 pub length_with : (tables : List Table) (reading : Reading) → length (tables_with tables (Some reading)) ≡ length tables + 1
@@ -54,20 +55,20 @@ length_with tables reading = length-append tables (reading.table ∷ [])
 abbrev pub names_causes : ℕ → ℕ → List (List ℕ) → List (Option BlifFault)
 names_causes nodes number words = when (is_none words) (BadArity number) ∷ long_fault words ∷ one_too_many nodes ∷ many_inputs (input_words words) ∷ []
 
-pub few_inputs : (place : Part) (nodes number : ℕ) (words : List (List ℕ)) → names_fault place nodes number words ≡ None → length (input_words words) ≤ 1000
+pub few_inputs : (place : Part) (nodes number : ℕ) (words : List (List ℕ)) → names_fault place nodes number words ≡ None → length (input_words words) ≤ MAX_INPUTS
 unfolding names_fault
 few_inputs place nodes number words f =
-    ltb-false 1000 (length (input_words words)) (not_when (nat_lt 1000 (length (input_words words))) (Limit limit.Inputs (length (input_words words)))
+    ltb-false MAX_INPUTS (length (input_words words)) (not_when (nat_lt MAX_INPUTS (length (input_words words))) (Limit limit.Inputs (length (input_words words)))
     (none_first (many_inputs (input_words words)) []
     (none_later (one_too_many nodes) (many_inputs (input_words words) ∷ [])
     (none_later (long_fault words) (one_too_many nodes ∷ many_inputs (input_words words) ∷ [])
     (none_later (when (is_none words) (BadArity number)) (long_fault words ∷ one_too_many nodes ∷ many_inputs (input_words words) ∷ [])
     (none_later (when (is_behind place) (UnknownWord number)) (names_causes nodes number words) f))))))
 
-pub few_before : (nodes : ℕ) → one_too_many nodes ≡ None → nodes < 65535
-few_before nodes f = leb-false 65535 nodes (not_when (nat_le 65535 nodes) (Limit limit.Tables 65536) f)
+pub few_before : (nodes : ℕ) → one_too_many nodes ≡ None → nodes < MAX_NODES
+few_before nodes f = leb-false MAX_NODES nodes (not_when (nat_le MAX_NODES nodes) (Limit limit.Tables (MAX_NODES + 1)) f)
 
-pub few_tables : (place : Part) (nodes number : ℕ) (words : List (List ℕ)) → names_fault place nodes number words ≡ None → nodes < 65535
+pub few_tables : (place : Part) (nodes number : ℕ) (words : List (List ℕ)) → names_fault place nodes number words ≡ None → nodes < MAX_NODES
 unfolding names_fault
 few_tables place nodes number words f =
     few_before nodes
@@ -76,7 +77,7 @@ few_tables place nodes number words f =
     (none_later (when (is_none words) (BadArity number)) (long_fault words ∷ one_too_many nodes ∷ many_inputs (input_words words) ∷ [])
     (none_later (when (is_behind place) (UnknownWord number)) (names_causes nodes number words) f))))
 
-pub few_latches : (place : Part) (nodes number : ℕ) (words : List (List ℕ)) → latch_fault place nodes number words ≡ None → nodes < 65535
+pub few_latches : (place : Part) (nodes number : ℕ) (words : List (List ℕ)) → latch_fault place nodes number words ≡ None → nodes < MAX_NODES
 unfolding latch_fault
 few_latches place nodes number words f =
     few_before nodes
@@ -117,7 +118,7 @@ one_latch (input ∷ []) e = absurd (cc)
 one_latch (input ∷ output ∷ rest) e = refl
 
 -- tables
-pub good_new : (words : List (List ℕ)) → length (input_words words) ≤ 1000 → IsGoodTable (table_of words [])
+pub good_new : (words : List (List ℕ)) → length (input_words words) ≤ MAX_INPUTS → IsGoodTable (table_of words [])
 unfolding table_of
 good_new words h = record { rows = omega arith; inputs = h; shaped = (tt, λ e. refl) }
 
@@ -134,7 +135,7 @@ some_rows (first ∷ rows) row e = cc
 abbrev pub row_causes : Reading → ℕ → List ℕ → List (Option BlifFault)
 row_causes reading number bytes =
     when (not (output_character (width_of reading) bytes == mark_with reading bytes)) (MixedPhase number)
-    ∷ when (nat_le 32767 (length reading.table.rows)) (Limit limit.Rows 32768) ∷ []
+    ∷ when (nat_le MAX_ROWS (length reading.table.rows)) (Limit limit.Rows (MAX_ROWS + 1)) ∷ []
 
 pub shaped_row : (reading : Reading) (number : ℕ) (bytes : List ℕ) → reading_fault reading number bytes ≡ None → IsShaped reading.table → IsShaped (with_row reading bytes).table
 unfolding reading_fault with_row
@@ -149,9 +150,9 @@ shaped_row reading number bytes f s =
 pub good_row : (reading : Reading) (number : ℕ) (bytes : List ℕ) → reading_fault reading number bytes ≡ None → IsGoodTable reading.table → IsGoodTable (with_row reading bytes).table
 unfolding reading_fault with_row
 good_row reading number bytes f s =
-    let few : length reading.table.rows < 32767 = leb-false 32767 (length reading.table.rows) (not_when (nat_le 32767 (length reading.table.rows)) (Limit limit.Rows 32768)
-    (none_first (when (nat_le 32767 (length reading.table.rows)) (Limit limit.Rows 32768)) []
-    (none_later (when (not (output_character (width_of reading) bytes == mark_with reading bytes)) (MixedPhase number)) (when (nat_le 32767 (length reading.table.rows)) (Limit limit.Rows 32768) ∷ [])
+    let few : length reading.table.rows < MAX_ROWS = leb-false MAX_ROWS (length reading.table.rows) (not_when (nat_le MAX_ROWS (length reading.table.rows)) (Limit limit.Rows (MAX_ROWS + 1))
+    (none_first (when (nat_le MAX_ROWS (length reading.table.rows)) (Limit limit.Rows (MAX_ROWS + 1))) []
+    (none_later (when (not (output_character (width_of reading) bytes == mark_with reading bytes)) (MixedPhase number)) (when (nat_le MAX_ROWS (length reading.table.rows)) (Limit limit.Rows (MAX_ROWS + 1)) ∷ [])
     (none_later (when (not (is_row_of (width_of reading) bytes)) (BadRow number)) (row_causes reading number bytes) f)))) in
     record {
       rows = omega (arith, length-append reading.table.rows (row_of (width_of reading) bytes ∷ []));
@@ -165,7 +166,7 @@ good_gate gates cell words table sound e =
 
 -- a fact of tables that lines keep: a new table has it, a row leaves it, and the tables of gates have it
 pub record AreKept (library : Option (List TheGate)) (P : Table → Type 0) : Type 0 where
-  pub new : (words : List (List ℕ)) → length (input_words words) ≤ 1000 → P (table_of words [])
+  pub new : (words : List (List ℕ)) → length (input_words words) ≤ MAX_INPUTS → P (table_of words [])
   pub row : (reading : Reading) (number : ℕ) (bytes : List ℕ) → reading_fault reading number bytes ≡ None → P reading.table → P (with_row reading bytes).table
   pub gates : (words : List (List ℕ)) → AllByRecursion P (gate_tables library words)
 
@@ -202,7 +203,7 @@ small_kept library P k Inputs draft number words whole f s = record { tables = s
 small_kept library P k Outputs draft number words whole f s = record { tables = s.tables; model = s.model; none = s.none; count = s.count; few = s.few; inits = s.inits }
 small_kept library P k Clock draft number words whole f s = record { tables = s.tables; model = s.model; none = s.none; count = s.count; few = s.few; inits = s.inits }
 small_kept library P k Names draft number words whole f s =
-    let before : draft.nodes < 65535 = few_tables (place_of draft) draft.nodes number words f in
+    let before : draft.nodes < MAX_NODES = few_tables (place_of draft) draft.nodes number words f in
     let one : length (tables_with draft.tables draft.reading ++ table_of words [] ∷ []) ≡ length (tables_with draft.tables draft.reading) + 1 = length-append (tables_with draft.tables draft.reading) (table_of words [] ∷ []) in
     let all : length (tables_with draft.tables draft.reading) + (length draft.model_tables + length draft.latches) ≡ draft.nodes = s.count in
     record {
@@ -214,7 +215,7 @@ small_kept library P k Names draft number words whole f s =
       inits = s.inits;
     }
 small_kept library P k Latch draft number words whole f s =
-    let before : draft.nodes < 65535 = few_latches (place_of draft) draft.nodes number words f in
+    let before : draft.nodes < MAX_NODES = few_latches (place_of draft) draft.nodes number words f in
     let is : is_latch words ≡ true = right_latch (place_of draft) draft.nodes number words f in
     let one : length (draft.latches ++ latch_of words) ≡ length draft.latches + 1 = length-append draft.latches (latch_of words) ∙ ap (λ n. length draft.latches + n) (one_latch words is) in
     let all : length (tables_with draft.tables draft.reading) + (length draft.model_tables + length draft.latches) ≡ draft.nodes = s.count in
@@ -228,7 +229,7 @@ small_kept library P k Latch draft number words whole f s =
     }
 small_kept library P k Gate draft number words whole f s =
     let right = right_gate library (place_of draft) draft.nodes number words f in
-    let before : draft.nodes < 65535 = few_before draft.nodes right.few in
+    let before : draft.nodes < MAX_NODES = few_before draft.nodes right.few in
     let one : length (gate_tables library words) ≡ 1 = one_gate library number words (λ tables. length tables ≡ 1) right.cell (λ gates table g e. refl) in
     let more : length (tables_with draft.tables draft.reading ++ gate_tables library words) ≡ length (tables_with draft.tables draft.reading) + length (gate_tables library words) = length-append (tables_with draft.tables draft.reading) (gate_tables library words) in
     let all : length (tables_with draft.tables draft.reading) + (length draft.model_tables + length draft.latches) ≡ draft.nodes = s.count in
@@ -264,16 +265,16 @@ unfolding tables_with
 small_nothing P = record { tables = tt; model = tt; none = λ h. refl; count = refl; few = omega arith; inits = tt }
 
 -- a good table is a small one when it is folded
-pub rows_short : (width : ℕ) (rows : List (List Tri)) → width ≤ 1000 → AllByRecursion (λ (row : List Tri). length row ≡ width) rows → AllByRecursion (λ (row : List Tri). length row ≤ 1000) rows
+pub rows_short : (width : ℕ) (rows : List (List Tri)) → width ≤ MAX_INPUTS → AllByRecursion (λ (row : List Tri). length row ≡ width) rows → AllByRecursion (λ (row : List Tri). length row ≤ MAX_INPUTS) rows
 rows_short width [] h a = tt
 rows_short width (row ∷ rows) h a = (let e : length row ≡ width = a.0 in omega arith, rows_short width rows h a.1)
 
 pub small_folded : (table : Table) → IsGoodTable table → IsSmallTable (folded table)
 small_folded table g =
     let few : length (folded table).inputs ≤ length table.inputs = folded_input_count table in
-    let most : length table.inputs ≤ 1000 = g.inputs in
+    let most : length table.inputs ≤ MAX_INPUTS = g.inputs in
     let fewer : length (folded table).rows ≤ length table.rows = folded_row_count table g.shaped in
-    let rows : length table.rows ≤ 32767 = g.rows in
+    let rows : length table.rows ≤ MAX_ROWS = g.rows in
     record {
       rows = omega arith;
       inputs = omega arith;
@@ -301,7 +302,7 @@ part_tables_are P draft s = by draft.has_part
 
 pub small_kept_all : (draft : Draft) → IsSmallDraft IsGoodTable draft → IsWithinLimits (kept_circuit (kept_of draft))
 small_kept_all draft s = record {
-  nodes = let few : draft.nodes ≤ 65535 = s.few in
+  nodes = let few : draft.nodes ≤ MAX_NODES = s.few in
       let same : length (map folded (kept_of draft).tables) ≡ length (kept_of draft).tables = length-map (kept_of draft).tables folded in
       let all : length (kept_of draft).tables + length draft.latches + length (kept_of draft).dont_care ≡ draft.nodes = by draft.has_part refl in omega arith;
   tables = all_map IsGoodTable IsSmallTable folded (kept_of draft).tables small_folded (model_tables_are IsGoodTable draft s);

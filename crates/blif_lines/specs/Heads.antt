@@ -6,6 +6,7 @@ use Rattle.std.specs.List.{AllByRecursion}
 use Rattle.sis_base.specs.Written.{is_word}
 use Rattle.circuit_model.specs.Names.{all_different}
 use Rattle.blif_lines.specs.declared.content.Head.{Head}
+use Rattle.sis_base.specs.declared.limits.TheConstants.{MAX_NAME}
 
 -- the ports that a head lists
 abbrev pub listed_ports_of : Head → List (List ℕ)
@@ -16,6 +17,6 @@ pub record IsSoundHead (head : Head) : Type 0 where
   pub words : AllByRecursion (λ (name : List ℕ). is_word name ≡ true) (head.name ∷ listed_ports_of head)
   pub once : all_different (listed_ports_of head) ≡ true
 
--- each name has at most 1,023 bytes
+-- each name has at most `MAX_NAME` bytes
 pub record HasShortHead (head : Head) : Type 0 where
-  pub names : AllByRecursion (λ (name : List ℕ). length name ≤ 1023) (head.name ∷ listed_ports_of head)
+  pub names : AllByRecursion (λ (name : List ℕ). length name ≤ MAX_NAME) (head.name ∷ listed_ports_of head)

@@ -4,7 +4,8 @@ use Rattle.std.specs.Prelude.{ℕ, ◌≤◌, List, length}
 use Rattle.std.specs.List.{AllByRecursion}
 use Rattle.circuit_model.specs.Soundness.{all_names}
 use Rattle.circuit_model.specs.declared.circuit.Circuit.{Circuit}
+use Rattle.sis_base.specs.declared.limits.TheConstants.{MAX_NAME}
 
--- each name has at most 1,023 bytes
+-- each name has at most `MAX_NAME` bytes
 pub record HasShortNames (circuit : Circuit) : Type 0 where
-  pub names : AllByRecursion (λ (name : List ℕ). length name ≤ 1023) (all_names circuit)
+  pub names : AllByRecursion (λ (name : List ℕ). length name ≤ MAX_NAME) (all_names circuit)

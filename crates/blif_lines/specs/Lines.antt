@@ -21,6 +21,7 @@ use Rattle.blif_lines.specs.declared.part.Part.TheVariants as part
 use Rattle.blif_lines.specs.declared.fault.LimitKind.TheVariants as limit
 use Rattle.blif_lines.specs.declared.fault.BlifFault.{BlifFault}
 use Rattle.blif_lines.specs.declared.fault.BlifFault.TheVariants.{UnknownWord, BadArity, BadRow, MixedPhase, BadLatch, SecondModel, NoLibrary, UnknownGate, BadPins, Limit}
+use Rattle.sis_base.specs.declared.limits.TheConstants.{MAX_INPUTS, MAX_NODES, MAX_ROWS}
 
 -- a fault where a test holds
 abbrev pub when : Bool → BlifFault → Option BlifFault
@@ -104,17 +105,17 @@ is_node_kind kind = false
 unfoldable pub nodes_in : List Entry → ℕ
 nodes_in back = count_by (λ line. is_node_kind (kind_of line)) back
 
--- the first name of more than 1,023 bytes, by its length
+-- the first name of more than `MAX_NAME` bytes, by its length
 abbrev pub long_fault : List (List ℕ) → Option BlifFault
 long_fault names = option_map (λ len. Limit limit.Name len) (long_name names)
 
--- one table, latch or gate more than 65,535
+-- one table, latch or gate more than `MAX_NODES`
 abbrev pub one_too_many : ℕ → Option BlifFault
-one_too_many nodes = when (nat_le 65535 nodes) (Limit limit.Tables 65536)
+one_too_many nodes = when (nat_le MAX_NODES nodes) (Limit limit.Tables (MAX_NODES + 1))
 
--- more than 1,000 inputs, by their number
+-- more than `MAX_INPUTS` inputs, by their number
 abbrev pub many_inputs : List (List ℕ) → Option BlifFault
-many_inputs inputs = when (nat_lt 1000 (length inputs)) (Limit limit.Inputs (length inputs))
+many_inputs inputs = when (nat_lt MAX_INPUTS (length inputs)) (Limit limit.Inputs (length inputs))
 
 -- whether a word is a start value
 abbrev pub is_init : List ℕ → Bool
@@ -170,7 +171,7 @@ unfoldable pub table_row_fault : ℕ → List (List ℕ) → ℕ → List ℕ �
 table_row_fault width rows number bytes = first_of
     (when (not (is_row_of width bytes)) (BadRow number)
     ∷ when (not (has_phase_of width rows bytes)) (MixedPhase number)
-    ∷ when (nat_le 32767 (length rows)) (Limit limit.Rows 32768)
+    ∷ when (nat_le MAX_ROWS (length rows)) (Limit limit.Rows (MAX_ROWS + 1))
     ∷ [])
 
 -- the newest line that is no row

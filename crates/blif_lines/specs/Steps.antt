@@ -35,6 +35,7 @@ use Rattle.blif_lines.specs.declared.content.Content.{Content}
 use Rattle.blif_lines.specs.declared.content.Content.TheVariants as content
 use Rattle.blif_lines.specs.declared.draft.Reading.{Reading}
 use Rattle.blif_lines.specs.declared.draft.Draft.{Draft}
+use Rattle.sis_base.specs.declared.limits.TheConstants.{MAX_ROWS}
 
 -- the output character that all rows of a table have: that of its first row
 unfoldable pub mark_for : List (List Tri) → ℕ → ℕ → ℕ
@@ -54,7 +55,7 @@ unfoldable pub reading_fault : Reading → ℕ → List ℕ → Option BlifFault
 reading_fault reading number bytes = first_of
     (when (not (is_row_of (width_of reading) bytes)) (BadRow number)
     ∷ when (not (output_character (width_of reading) bytes == mark_with reading bytes)) (MixedPhase number)
-    ∷ when (nat_le 32767 (length reading.table.rows)) (Limit limit.Rows 32768)
+    ∷ when (nat_le MAX_ROWS (length reading.table.rows)) (Limit limit.Rows (MAX_ROWS + 1))
     ∷ [])
 
 -- what is wrong with bytes as a row, where a table is being read or none is

@@ -7,11 +7,11 @@ use std::alloc::{AllocError, AllocFailed};
 /// What a limit is on.
 #[derive(Clone, Copy, Debug, PartialEq, Eq)]
 pub enum LimitKind {
-    /// The bytes of a name: 1,023.
+    /// The bytes of a name: `MAX_NAME`.
     Name,
-    /// The tables, latches and gates of a model, its don't-care part among them: 65,535.
+    /// The tables, latches and gates of a model, its don't-care part among them: `MAX_NODES`.
     Tables,
-    /// The rows of a table: 32,767.
+    /// The rows of a table: `MAX_ROWS`.
     Rows,
     /// The inputs of a table: 1,000.
     Inputs,

@@ -16,6 +16,7 @@ use blif_gates::{GateFault, add_signals, long_signal, read_gate};
 use circuit_model::{Name, Names, Table};
 use genlib_format::Library;
 use line_words::{first_word, other_words};
+use sis_base::limits::MAX_NODES;
 use std::alloc::{AllocError, Global};
 
 /// The table that the cell and the pairs of a `.gate` line say. An error says what is wrong with them, or that there is no
@@ -50,7 +51,7 @@ pub fn gate_table(
     words: &[&[u8]],
 ) -> Result<Table, ReadFault>
     ensures table { IsTable result (gate_fault (option_copied library.entry) place nodes number (texts words.now)) (gate_tables (option_copied library.entry) (texts words.now)) }
-    ensures room { IfOk result (λ _. nodes < 65535) }
+    ensures room { IfOk result (λ _. nodes < MAX_NODES) }
 {
     if !is_in_model(place) {
         return Err(ReadFault::Fault(BlifFault::UnknownWord(number)));

@@ -11,6 +11,7 @@ use crate::part::Part;
 use crate::row::{is_row, mark_of};
 use crate::word_list::{first_words, front_words};
 use line_words::long_name;
+use sis_base::limits::{MAX_INPUTS, MAX_NODES, MAX_ROWS};
 
 /// Whether a place is in the model itself.
 pub fn is_in_model(place: Part) -> bool
@@ -45,10 +46,10 @@ fn long_fault(words: &[&[u8]]) -> Option<BlifFault>
 /// The fault of one table, latch or gate more than a model may have.
 pub fn one_too_many(nodes: usize) -> Option<BlifFault>
     ensures value { result ≡ one_too_many_by nodes }
-    ensures room { result ≡ None → nodes < 65535 }
+    ensures room { result ≡ None → nodes < MAX_NODES }
 {
-    if nodes >= 65535 {
-        return Some(BlifFault::Limit(LimitKind::Tables, 65536));
+    if nodes >= MAX_NODES {
+        return Some(BlifFault::Limit(LimitKind::Tables, MAX_NODES + 1));
     }
     None
 }
@@ -97,7 +98,7 @@ pub fn clock_fault(place: Part, number: usize, words: &[&[u8]]) -> Option<BlifFa
 #[tactic(auto, unfolding(crate::specs::Lines::names_fault, crate::specs::Lines::first_of))]
 pub fn names_fault(place: Part, nodes: usize, number: usize, words: &[&[u8]]) -> Option<BlifFault>
     ensures value { result ≡ names_fault_by place nodes number (texts words.now) }
-    ensures room { result ≡ None → nodes < 65535 }
+    ensures room { result ≡ None → nodes < MAX_NODES }
 {
     if is_behind(place) {
         return Some(BlifFault::UnknownWord(number));
@@ -112,7 +113,7 @@ pub fn names_fault(place: Part, nodes: usize, number: usize, words: &[&[u8]]) ->
         return Some(fault);
     }
     let count = front_words(words).len();
-    if count > 1000 {
+    if count > MAX_INPUTS {
         return Some(BlifFault::Limit(LimitKind::Inputs, count));
     }
     None
@@ -175,7 +176,7 @@ fn long_latch_name(words: &[&[u8]]) -> Option<BlifFault>
 #[tactic(auto, unfolding(crate::specs::Lines::latch_fault, crate::specs::Lines::first_of))]
 pub fn latch_fault(place: Part, nodes: usize, number: usize, words: &[&[u8]]) -> Option<BlifFault>
     ensures value { result ≡ latch_fault_by place nodes number (texts words.now) }
-    ensures room { result ≡ None → nodes < 65535 }
+    ensures room { result ≡ None → nodes < MAX_NODES }
 {
     if !is_in_model(place) {
         return Some(BlifFault::UnknownWord(number));
@@ -224,8 +225,8 @@ fn reading_fault(reading: &Reading, number: usize, bytes: &[u8]) -> Option<BlifF
     if bytes[width] != mark {
         return Some(BlifFault::MixedPhase(number));
     }
-    if reading.table.rows.len() >= 32767 {
-        return Some(BlifFault::Limit(LimitKind::Rows, 32768));
+    if reading.table.rows.len() >= MAX_ROWS {
+        return Some(BlifFault::Limit(LimitKind::Rows, MAX_ROWS + 1));
     }
     None
 }

@@ -36,6 +36,7 @@ use Rattle.blif_read.specs.Parts.{kiss_lines, lines_beside}
 use Rattle.blif_read.specs.Reader.{count_fault, made_again, made_twice, machine_fault, named, machine_with, spec_with, read_lines, Reads}
 use Rattle.blif_read.proofs.PartWords.{kiss_holds, model_holds}
 use Rattle.blif_read.proofs.Ports.{names_hold, same_count, ports_once}
+use Rattle.sis_base.specs.declared.limits.TheConstants.{MAX_NAME, MAX_PORTS}
 
 -- a result without a fault
 abbrev ok : {A : Type 0} → A → Result A BlifFault
@@ -119,9 +120,9 @@ named_sound head machine none listed sound = record {
   words = names_hold (λ name. is_word name ≡ true) head machine listed.words sound.words;
   ports_once = ports_once head.inputs head.outputs machine.inputs machine.outputs listed.once sound.ports_once none.input none.output;
   some_inputs = subst (λ n. 1 ≤ n) (sym none.inputs) sound.some_inputs;
-  few_inputs = subst (λ n. n ≤ 1000) (sym none.inputs) sound.few_inputs;
+  few_inputs = subst (λ n. n ≤ MAX_PORTS) (sym none.inputs) sound.few_inputs;
   some_outputs = subst (λ n. 1 ≤ n) (sym none.outputs) sound.some_outputs;
-  few_outputs = subst (λ n. n ≤ 1000) (sym none.outputs) sound.few_outputs;
+  few_outputs = subst (λ n. n ≤ MAX_PORTS) (sym none.outputs) sound.few_outputs;
   some_rows = sound.some_rows;
   few_rows = sound.few_rows;
   states_once = sound.states_once;
@@ -157,4 +158,4 @@ pub spec_short : (library : Option (List Gate)) (lines : List Entry) (read : Spe
 spec_short library lines read e =
     read_holds HasShortSpec library lines read e (λ circuit model. short_read library (lines_beside lines) circuit model)
     (λ head machine model table none.
-    names_hold (λ (name : List ℕ). length name ≤ 1023) head machine (short_head_read library (lines_beside lines) head model).names (table_short (kiss_lines lines) machine table))
+    names_hold (λ (name : List ℕ). length name ≤ MAX_NAME) head machine (short_head_read library (lines_beside lines) head model).names (table_short (kiss_lines lines) machine table))

@@ -9,6 +9,7 @@ use Rattle.circuit_model.specs.declared.machine.Spec.{Spec}
 use Rattle.circuit_model.specs.declared.machine.Spec.TheVariants as spec
 use Rattle.kiss_format.specs.Trips.{IsWithinLimits as IsSmallMachine}
 use Rattle.blif_lines.specs.Limits.{HasShortNames}
+use Rattle.sis_base.specs.declared.limits.TheConstants.{MAX_NAME}
 
 -- a circuit or a machine is sound
 abbrev pub IsSoundSpec : Spec → Type 0
@@ -20,7 +21,7 @@ abbrev pub IsSmallSpec : Spec → Type 0
 IsSmallSpec (spec.Circuit circuit) = IsWithinLimits circuit
 IsSmallSpec (spec.Machine machine) = IsSmallMachine machine
 
--- each name has at most 1,023 bytes
+-- each name has at most `MAX_NAME` bytes
 abbrev pub HasShortSpec : Spec → Type 0
 HasShortSpec (spec.Circuit circuit) = HasShortNames circuit
-HasShortSpec (spec.Machine machine) = AllByRecursion (λ (name : List ℕ). length name ≤ 1023) (all_names machine)
+HasShortSpec (spec.Machine machine) = AllByRecursion (λ (name : List ℕ). length name ≤ MAX_NAME) (all_names machine)

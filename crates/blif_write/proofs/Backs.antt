@@ -9,12 +9,13 @@ use Rattle.blif_lines.specs.Lines.{is_end_kind, is_ended, begins_part, has_part,
 use Rattle.blif_lines.specs.declared.part.Part.TheVariants as part
 use Rattle.blif_lines.specs.declared.keyword.Keyword.{Keyword}
 use Rattle.blif_lines.specs.declared.keyword.Keyword.TheVariants.{Names, Row}
+use Rattle.sis_base.specs.declared.limits.TheConstants.{MAX_NODES}
 
 -- the model has not ended, its don't-care part has begun or not, and so many tables and latches may still come
 pub record Goes (had : Bool) (room : ℕ) (back : List Entry) : Type 0 where
   pub going : is_ended back ≡ false
   pub part : has_part back ≡ had
-  pub few : nodes_in back + room ≤ 65535
+  pub few : nodes_in back + room ≤ MAX_NODES
 
 pub place_goes : (had : Bool) (room : ℕ) (back : List Entry) → Goes had room back → part_behind back ≡ (if had then part.DontCare else part.Model)
 unfolding part_behind

@@ -34,10 +34,11 @@ use Rattle.blif_write.proofs.Words.{OfLatch, OfTable, OfNames, end_lines}
 use Rattle.blif_write.proofs.LineKinds.{entry, row_kind}
 use Rattle.blif_write.proofs.RowTexts.{row_text, row_joined, row_taken, phase_taken, names_words, names_width, inputs_back}
 use Rattle.blif_write.proofs.Backs.{Goes, place_goes, goes_on, goes_node, heading_names, rows_names, heading_row, rows_row}
+use Rattle.sis_base.specs.declared.limits.TheConstants.{MAX_INPUTS, MAX_NAME, MAX_NODES, MAX_ROWS}
 
 -- a name that is not too long
 abbrev pub IsShort : List ℕ → Type 0
-IsShort name = length name ≤ 1023
+IsShort name = length name ≤ MAX_NAME
 
 -- no cause, no fault
 pub none_of : (causes : List (Option BlifFault)) → AllByRecursion (λ (cause : Option BlifFault). cause ≡ None) causes → first_of causes ≡ None
@@ -51,17 +52,17 @@ not_when test fault e = ap (λ b. cond b (Some fault) None) e
 not_unless : (test : Bool) (fault : BlifFault) → test ≡ true → when (not test) fault ≡ None
 not_unless test fault e = ap (λ b. cond (not b) (Some fault) None) e
 
-none_long : (names : List (List ℕ)) → AllByRecursion IsShort names → find (λ (name : List ℕ). ltb 1023 (length name)) names ≡ None
+none_long : (names : List (List ℕ)) → AllByRecursion IsShort names → find (λ (name : List ℕ). ltb MAX_NAME (length name)) names ≡ None
 none_long [] h = refl
 none_long (name ∷ names) h =
-    ap (λ b. cond b (Some name) (find (λ (name : List ℕ). ltb 1023 (length name)) names)) (le-ltb 1023 (length name) h.0) ∙ none_long names h.1
+    ap (λ b. cond b (Some name) (find (λ (name : List ℕ). ltb MAX_NAME (length name)) names)) (le-ltb MAX_NAME (length name) h.0) ∙ none_long names h.1
 
 not_long : (names : List (List ℕ)) → AllByRecursion IsShort names → long_fault names ≡ None
 unfolding long_name
 not_long names h = ap (λ found. option_map (λ len. Limit limit.Name len) (option_map (λ (name : List ℕ). length name) found)) (none_long names h)
 
-not_many : (had : Bool) (back : List Entry) (room : ℕ) → Goes had (suc room) back → when (leb 65535 (nodes_in back)) (Limit limit.Tables 65536) ≡ None
-not_many had back room goes = not_when (leb 65535 (nodes_in back)) (Limit limit.Tables 65536) (lt-leb 65535 (nodes_in back) (omega (arith, goes.few)))
+not_many : (had : Bool) (back : List Entry) (room : ℕ) → Goes had (suc room) back → when (leb MAX_NODES (nodes_in back)) (Limit limit.Tables (MAX_NODES + 1)) ≡ None
+not_many had back room goes = not_when (leb MAX_NODES (nodes_in back)) (Limit limit.Tables (MAX_NODES + 1)) (lt-leb MAX_NODES (nodes_in back) (omega (arith, goes.few)))
 
 -- line by line
 no_fault : (library : Option (List TheGate)) (back lines : List Entry) (line : Entry) → line_fault library back line ≡ None → first_line_fault library (line ∷ back) lines ≡ None → first_line_fault library back (line ∷ lines) ≡ None
@@ -124,7 +125,7 @@ latch_taken : (library : Option (List TheGate)) (number room : ℕ) (back : List
 unfolding line_fault kind_of keyword_of latch_line latch_fault
 latch_taken library number room back timing latch goes t h =
     ap (λ place. latch_fault place (nodes_in back) number (signals timing latch)) (place_goes false (suc room) back goes)
-    ∙ none_of (when false (UnknownWord number) ∷ when (not (is_latch (signals timing latch))) (BadLatch number) ∷ long_fault (latch_names (signals timing latch)) ∷ when (leb 65535 (nodes_in back)) (Limit limit.Tables 65536) ∷ []) (
+    ∙ none_of (when false (UnknownWord number) ∷ when (not (is_latch (signals timing latch))) (BadLatch number) ∷ long_fault (latch_names (signals timing latch)) ∷ when (leb MAX_NODES (nodes_in back)) (Limit limit.Tables (MAX_NODES + 1)) ∷ []) (
       refl,
       (
         not_unless (is_latch (signals timing latch)) (BadLatch number) (latch_right timing latch),
@@ -148,7 +149,7 @@ some_words (input ∷ inputs) output = refl
 
 not_wide : (table : Table) → IsSmallTable table → many_inputs (input_words (names_words table)) ≡ None
 not_wide table small =
-    ap many_inputs (inputs_back table) ∙ not_when (ltb 1000 (length table.inputs)) (Limit limit.Inputs (length table.inputs)) (le-ltb 1000 (length table.inputs) small.inputs)
+    ap many_inputs (inputs_back table) ∙ not_when (ltb MAX_INPUTS (length table.inputs)) (Limit limit.Inputs (length table.inputs)) (le-ltb MAX_INPUTS (length table.inputs) small.inputs)
 
 not_behind : (had : Bool) (room : ℕ) (back : List Entry) → Goes had room back → is_behind (part_behind back) ≡ false
 not_behind had room back goes = ap is_behind (place_goes had room back goes) ∙ by had
@@ -177,15 +178,15 @@ abbrev HasWidth : ℕ → List Tri → Type 0
 HasWidth width row = length row ≡ width
 
 -- as a row of a table of this width, behind these rows
-row_fits : (width number : ℕ) (phase : Bool) (row : List Tri) (done : List (List Tri)) → length row ≡ width → AllByRecursion (HasWidth width) done → length done < 32767 → table_row_fault width (map (row_text phase) done) number (row_text phase row) ≡ None
+row_fits : (width number : ℕ) (phase : Bool) (row : List Tri) (done : List (List Tri)) → length row ≡ width → AllByRecursion (HasWidth width) done → length done < MAX_ROWS → table_row_fault width (map (row_text phase) done) number (row_text phase row) ≡ None
 unfolding table_row_fault
 row_fits width number phase row done e h few =
     let n : length (map (row_text phase) done) ≡ length done = length-map done (row_text phase) in
-    none_of (when (not (is_row_of width (row_text phase row))) (BadRow number) ∷ when (not (has_phase_of width (map (row_text phase) done) (row_text phase row))) (MixedPhase number) ∷ when (leb 32767 (length (map (row_text phase) done))) (Limit limit.Rows 32768) ∷ []) (
+    none_of (when (not (is_row_of width (row_text phase row))) (BadRow number) ∷ when (not (has_phase_of width (map (row_text phase) done) (row_text phase row))) (MixedPhase number) ∷ when (leb MAX_ROWS (length (map (row_text phase) done))) (Limit limit.Rows (MAX_ROWS + 1)) ∷ []) (
       not_unless (is_row_of width (row_text phase row)) (BadRow number) (row_taken width phase row e),
       (
         not_unless (has_phase_of width (map (row_text phase) done) (row_text phase row)) (MixedPhase number) (phase_taken width phase row done e h),
-        (not_when (leb 32767 (length (map (row_text phase) done))) (Limit limit.Rows 32768) (lt-leb 32767 (length (map (row_text phase) done)) (omega (arith, n, few))), tt),
+        (not_when (leb MAX_ROWS (length (map (row_text phase) done))) (Limit limit.Rows (MAX_ROWS + 1)) (lt-leb MAX_ROWS (length (map (row_text phase) done)) (omega (arith, n, few))), tt),
       ),
     )
 
@@ -193,7 +194,7 @@ under_names : (table : Table) (place number : ℕ) (rows : List (List ℕ)) (byt
 unfolding kind_of keyword_of
 under_names table place number rows bytes = ap (λ (width : ℕ). table_row_fault width rows number bytes) (names_width table)
 
-row_line_taken : (library : Option (List TheGate)) (table : Table) (place number : ℕ) (row : List Tri) (done : List (List Tri)) (back : List Entry) → is_behind (part_behind back) ≡ false → Reads table place done back → length row ≡ length table.inputs → AllByRecursion (HasWidth (length table.inputs)) done → length done < 32767 → line_fault library back (entry number (row_line table.phase row)) ≡ None
+row_line_taken : (library : Option (List TheGate)) (table : Table) (place number : ℕ) (row : List Tri) (done : List (List Tri)) (back : List Entry) → is_behind (part_behind back) ≡ false → Reads table place done back → length row ≡ length table.inputs → AllByRecursion (HasWidth (length table.inputs)) done → length done < MAX_ROWS → line_fault library back (entry number (row_line table.phase row)) ≡ None
 unfolding line_fault kind_of
 row_line_taken library table place number row done back going reads e h few =
     let line = row_line table.phase row in
@@ -225,7 +226,7 @@ goes_row : (table : Table) (had : Bool) (room number : ℕ) (row : List Tri) (ba
 unfolding kind_of
 goes_row table had room number row back goes = goes_on Row had room (entry number (row_line table.phase row)) back (row_kind table.phase row) refl refl goes
 
-rows_pass : (library : Option (List TheGate)) (table : Table) (had : Bool) (room place number : ℕ) (rows done : List (List Tri)) (back : List Entry) (rest : List Written) → Goes had room back → Reads table place done back → AllByRecursion (HasWidth (length table.inputs)) rows → AllByRecursion (HasWidth (length table.inputs)) done → length done + length rows ≤ 32767 → Passes library had room rest → first_line_fault library back (numbered number (map (row_line table.phase) rows ++ rest)) ≡ None
+rows_pass : (library : Option (List TheGate)) (table : Table) (had : Bool) (room place number : ℕ) (rows done : List (List Tri)) (back : List Entry) (rest : List Written) → Goes had room back → Reads table place done back → AllByRecursion (HasWidth (length table.inputs)) rows → AllByRecursion (HasWidth (length table.inputs)) done → length done + length rows ≤ MAX_ROWS → Passes library had room rest → first_line_fault library back (numbered number (map (row_line table.phase) rows ++ rest)) ≡ None
 unfolding numbered
 rows_pass library table had room place number [] done back rest goes reads wide h few pass = pass back number goes
 rows_pass library table had room place number (row ∷ rows) done back rest goes reads wide h few pass =
@@ -288,12 +289,12 @@ part_passes library (table ∷ part) h small shaped = λ back number goes.
     no_fault library back (numbered (number + 1) (flat_map table_lines (table ∷ part) ++ end_lines)) line (part_taken library number (length (table ∷ part) + 0) back goes)
     (tables_pass library (table ∷ part) true 0 (number + 1) (line ∷ back) end_lines (goes_on DontCare false (length (table ∷ part) + 0) line back refl refl refl goes) h small shaped (end_passes library true))
 
-goes_first : (room : ℕ) → room ≤ 65535 → Goes false room []
+goes_first : (room : ℕ) → room ≤ MAX_NODES → Goes false room []
 unfolding is_ended has_part nodes_in
 goes_first room h = record { going = refl; part = refl; few = omega (arith, h) }
 
 pub no_line_fault : (library : Option (List TheGate)) (circuit : Circuit) → OfNames IsShort circuit → AllByRecursion IsSmallTable circuit.tables → AllByRecursion IsSmallTable circuit.dont_care → AllByRecursion IsShaped circuit.tables → AllByRecursion IsShaped circuit.dont_care
-    → length circuit.tables + length circuit.latches + length circuit.dont_care ≤ 65535 → first_line_fault library [] (numbered 1 (circuit_lines circuit)) ≡ None
+    → length circuit.tables + length circuit.latches + length circuit.dont_care ≤ MAX_NODES → first_line_fault library [] (numbered 1 (circuit_lines circuit)) ≡ None
 unfolding circuit_lines numbered kind_of keyword_of
 no_line_fault library circuit h small small_part shaped shaped_part few =
     let room = length circuit.latches + (length circuit.tables + (length circuit.dont_care + 0)) in

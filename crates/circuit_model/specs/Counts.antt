@@ -7,6 +7,7 @@ use Rattle.circuit_model.specs.declared.circuit.Tri.{Tri}
 use Rattle.circuit_model.specs.declared.circuit.Tri.TheVariants.{Zero, One, Free}
 use Rattle.circuit_model.specs.declared.circuit.Table.{Table}
 use Rattle.circuit_model.specs.declared.circuit.Circuit.{Circuit}
+use Rattle.sis_base.specs.declared.limits.TheConstants.{MAX_INPUTS, MAX_NODES, MAX_ROWS}
 
 -- a literal is a character of a row that is no dash
 abbrev pub is_literal : Tri → Bool
@@ -26,14 +27,16 @@ literals_of_table table = sum_by literals_of_row table.rows
 unfoldable pub literals_of : Circuit → ℕ
 literals_of circuit = sum_by literals_of_table circuit.tables
 
--- a table of at most 32,767 rows over at most 1,000 inputs, each row of at most 1,000 characters
+-- a table of at most `MAX_ROWS` rows over at most `MAX_INPUTS` inputs, each row of at most
+-- `MAX_INPUTS` characters
 pub record IsSmallTable (table : Table) : Type 0 where
-  pub rows : length table.rows ≤ 32767
-  pub inputs : length table.inputs ≤ 1000
-  pub widths : AllByRecursion (λ (row : List Tri). length row ≤ 1000) table.rows
+  pub rows : length table.rows ≤ MAX_ROWS
+  pub inputs : length table.inputs ≤ MAX_INPUTS
+  pub widths : AllByRecursion (λ (row : List Tri). length row ≤ MAX_INPUTS) table.rows
 
--- at most 65,535 tables and latches, those of the don't-care part with them, and each table small
+-- at most `MAX_NODES` tables and latches, those of the don't-care part with them, and each table
+-- small
 pub record IsWithinLimits (circuit : Circuit) : Type 0 where
-  pub nodes : length circuit.tables + length circuit.latches + length circuit.dont_care ≤ 65535
+  pub nodes : length circuit.tables + length circuit.latches + length circuit.dont_care ≤ MAX_NODES
   pub tables : AllByRecursion IsSmallTable circuit.tables
   pub dont_care : AllByRecursion IsSmallTable circuit.dont_care

@@ -8,6 +8,7 @@ use Rattle.circuit_model.specs.Names.{all_different}
 use Rattle.circuit_model.specs.declared.machine.Machine.{Machine}
 use Rattle.circuit_model.specs.declared.machine.MachineRow.{MachineRow}
 use Rattle.circuit_model.specs.Clashes.{first_clash}
+use Rattle.sis_base.specs.declared.limits.TheConstants.{MAX_PORTS}
 
 -- whether a word stands for every state, or for an open one
 abbrev pub is_any : List ℕ → Bool
@@ -32,7 +33,8 @@ pub record IsShaped (machine : Machine) (row : MachineRow) : Type 0 where
   pub input : length row.input ≡ length machine.inputs
   pub output : length row.output ≡ length machine.outputs
 
--- What a machine must meet to mean something. Names: all are words, and no port stands twice. Sizes: 1 to 1,000 inputs
+-- What a machine must meet to mean something. Names: all are words, and no port stands twice.
+-- Sizes: 1 to `MAX_PORTS` inputs
 -- and outputs, at least one row and fewer than 2^29. States: all are different, none is a word for every state, they are
 -- just those that rows mention, in the order of first mention, and the reset is one of them. Rows are shaped, and no two
 -- clash.
@@ -40,9 +42,9 @@ pub record IsSound (machine : Machine) : Type 0 where
   pub words : AllByRecursion (λ name. is_word name ≡ true) (all_names machine)
   pub ports_once : all_different (machine.inputs ++ machine.outputs) ≡ true
   pub some_inputs : 1 ≤ length machine.inputs
-  pub few_inputs : length machine.inputs ≤ 1000
+  pub few_inputs : length machine.inputs ≤ MAX_PORTS
   pub some_outputs : 1 ≤ length machine.outputs
-  pub few_outputs : length machine.outputs ≤ 1000
+  pub few_outputs : length machine.outputs ≤ MAX_PORTS
   pub some_rows : 1 ≤ length machine.rows
   pub few_rows : length machine.rows < 2 ^ 29
   pub states_once : all_different machine.states ≡ true

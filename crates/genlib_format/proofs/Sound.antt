@@ -37,6 +37,7 @@ use Rattle.genlib_expr.specs.Formula.{ArePostfix}
 use Rattle.genlib_format.proofs.Mentions.{pins_mentioned, nodes_ordered}
 use Rattle.genlib_format.proofs.Bounds.{number_below, blocks_short}
 use Rattle.genlib_format.proofs.Cells.{one_settled, cells_more, new_joins, known_joins, placed}
+use Rattle.sis_base.specs.declared.limits.TheConstants.{MAX_NAME, MAX_NESTING, MAX_PINS}
 
 none_first : {A : Type 0} (o : Option A) (os : List (Option A)) → first_of (o ∷ os) ≡ None
     → (o ≡ None) × (first_of os ≡ None)
@@ -57,20 +58,20 @@ none_mapped f (Some x) e = absurd (let off = e in cc)
 
 -- short names
 IsLimited : List ℕ → Type 0
-IsLimited name = length name ≤ 1023
+IsLimited name = length name ≤ MAX_NAME
 
-all_limited : (names : List (List ℕ)) → find (λ name. nat_lt 1023 (length name)) names ≡ None
+all_limited : (names : List (List ℕ)) → find (λ name. nat_lt MAX_NAME (length name)) names ≡ None
     → AllByRecursion IsLimited names
 unfolding IsLimited
 all_limited [] e = tt
-all_limited (name ∷ names) e = by (nat_lt 1023 (length name)) refl e (λ h. all_limited names h)
+all_limited (name ∷ names) e = by (nat_lt MAX_NAME (length name)) refl e (λ h. all_limited names h)
   where
-    by : (b : Bool) → nat_lt 1023 (length name) ≡ b
-        → (if b then Some name else find (λ name. nat_lt 1023 (length name)) names) ≡ None
-        → (find (λ name. nat_lt 1023 (length name)) names ≡ None → AllByRecursion IsLimited names)
+    by : (b : Bool) → nat_lt MAX_NAME (length name) ≡ b
+        → (if b then Some name else find (λ name. nat_lt MAX_NAME (length name)) names) ≡ None
+        → (find (λ name. nat_lt MAX_NAME (length name)) names ≡ None → AllByRecursion IsLimited names)
         → AllByRecursion IsLimited (name ∷ names)
     by true t h rest = absurd (let off = h in cc)
-    by false t h rest = (le_false 1023 (length name) t, rest h)
+    by false t h rest = (le_false MAX_NAME (length name) t, rest h)
 
 all_names : (names : List (List ℕ)) → AllByRecursion IsFit names → AllByRecursion IsLimited names
     → AllByRecursion IsName names
@@ -85,7 +86,7 @@ some_none false name e = refl
 -- what the faults of an entry leave
 record IsGood (lines : GateLines) : Type 0 where
   pub limited : AllByRecursion IsLimited (lines.cell ∷ lines.output ∷ pins_of lines.text)
-  pub few : length (pins_of lines.text) ≤ 15
+  pub few : length (pins_of lines.text) ≤ MAX_PINS
   pub inner : has (pins_of lines.text) lines.output ≡ false
   pub spelled : is_none (nodes_in lines.text) ≡ false
 
@@ -98,10 +99,10 @@ good_lines lines e =
     let d = none_first (pin_fault lines) _ c.1 in
     let names = none_first (long_name (lines.cell ∷ lines.output ∷ pins_of lines.text)) _ c.0 in
     let depth =
-    none_first (when (nat_lt 64 (depth_of lines.text)) (Limit limit.Depth (depth_of lines.text)))
+    none_first (when (nat_lt MAX_NESTING (depth_of lines.text)) (Limit limit.Depth (depth_of lines.text)))
     _ names.1 in
     let many =
-    none_first (when (nat_lt 15 (length (pins_of lines.text)))
+    none_first (when (nat_lt MAX_PINS (length (pins_of lines.text)))
     (Limit limit.Pins (length (pins_of lines.text))))
     _ depth.1 in
     let wrong =
@@ -113,7 +114,7 @@ good_lines lines e =
     record {
       limited =
           all_limited (lines.cell ∷ lines.output ∷ pins_of lines.text) (none_mapped _ _ names.0);
-      few = le_false 15 (length (pins_of lines.text)) (not_when _ _ many.0);
+      few = le_false MAX_PINS (length (pins_of lines.text)) (not_when _ _ many.0);
       inner = some_none _ lines.output own.0;
       spelled = not_when (is_none (nodes_in lines.text)) (BadExpr lines.line) b.0;
     }

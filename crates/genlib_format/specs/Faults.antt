@@ -16,6 +16,7 @@ use Rattle.genlib_format.specs.declared.fault.LimitKind.TheVariants as limit
 use Rattle.genlib_format.specs.declared.fault.LibFault.{LibFault}
 use Rattle.genlib_format.specs.declared.fault.LibFault.TheVariants.{BadNumber, BadExpr, BadPin}
 use Rattle.genlib_format.specs.declared.fault.LibFault.TheVariants.{Limit}
+use Rattle.sis_base.specs.declared.limits.TheConstants.{MAX_NAME, MAX_NESTING, MAX_PINS}
 
 -- a fault where a test holds
 abbrev pub when : Bool → LibFault → Option LibFault
@@ -37,18 +38,19 @@ number_fault lines =
 unfoldable pub expression_fault : GateLines → Option LibFault
 expression_fault lines = when (is_none (nodes_in lines.text)) (BadExpr lines.line)
 
--- the first name of more than 1,023 bytes, by its length
+-- the first name of more than `MAX_NAME` bytes, by its length
 unfoldable pub long_name : List (List ℕ) → Option LibFault
 long_name names =
     option_map (λ (name : List ℕ). Limit limit.Name (length name))
-    (find (λ name. nat_lt 1023 (length name)) names)
+    (find (λ name. nat_lt MAX_NAME (length name)) names)
 
--- a name of more than 1,023 bytes, more than 64 parentheses in one another, more than 15 pins
+-- a name of more than `MAX_NAME` bytes, more than `MAX_NESTING` parentheses in one another, more
+-- than `MAX_PINS` pins
 unfoldable pub limit_fault : GateLines → Option LibFault
 limit_fault lines = first_of
     (long_name (lines.cell ∷ lines.output ∷ pins_of lines.text)
-    ∷ when (nat_lt 64 (depth_of lines.text)) (Limit limit.Depth (depth_of lines.text))
-    ∷ when (nat_lt 15 (length (pins_of lines.text)))
+    ∷ when (nat_lt MAX_NESTING (depth_of lines.text)) (Limit limit.Depth (depth_of lines.text))
+    ∷ when (nat_lt MAX_PINS (length (pins_of lines.text)))
     (Limit limit.Pins (length (pins_of lines.text)))
     ∷ [])
 

@@ -1,7 +1,7 @@
 -- What a library file is read as: its gates, or its first fault.
 -- Source: the genlib format of SIS (UCB/ERL M92/41). Two gates of one name must be the same cell;
 -- the order of the causes and the limits are the project's own.
-use Rattle.std.specs.Prelude.{ℕ, suc, ◌==◌, ◌&&◌, Bool, not, nat_le, unwrap_or, Option, Some, None}
+use Rattle.std.specs.Prelude.{◌+◌, ℕ, suc, ◌==◌, ◌&&◌, Bool, not, nat_le, unwrap_or, Option, Some, None}
 use Rattle.std.specs.Prelude.{Result, Ok, Err, List, [], ◌∷◌, ◌++◌, length, find, map, bytes_eq}
 use Rattle.std.specs.Cmp.Lexicographic.{pointwise}
 use Rattle.std.specs.Option.{option_map_or, option_or}
@@ -24,6 +24,7 @@ use Rattle.genlib_format.specs.Words.{words_in}
 use Rattle.genlib_format.specs.Entries.{entries_of}
 use Rattle.genlib_format.specs.Faults.{when, first_of, star, is_named, lines_fault}
 use Rattle.genlib_format.specs.Spelling.{nodes_in}
+use Rattle.sis_base.specs.declared.limits.TheConstants.{MAX_GATES}
 
 -- the number of a word; 0 where it is none
 unfoldable pub number_in : List ℕ → Decimal
@@ -88,9 +89,9 @@ abbrev pub settled : Option Gate → Gate → Gate
 settled None gate = gate
 settled (Some first) gate = with_blocks gate first
 
--- one entry of a gate or latch more than 4,096
+-- one entry of a gate or latch more than `MAX_GATES`
 abbrev pub one_too_many : ℕ → Option LibFault
-one_too_many count = when (nat_le 4096 count) (Limit limit.Gates 4097)
+one_too_many count = when (nat_le MAX_GATES count) (Limit limit.Gates (MAX_GATES + 1))
 
 -- what is wrong with an entry behind so many entries, of which these gates were read
 unfoldable pub entry_fault : ℕ → List Gate → Entry → Option LibFault

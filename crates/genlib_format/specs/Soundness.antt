@@ -12,10 +12,11 @@ use Rattle.genlib_expr.specs.Functions.{function_of}
 use Rattle.genlib_format.specs.declared.gate.Gate.{Gate}
 use Rattle.genlib_format.specs.declared.gate.Block.{Block}
 use Rattle.genlib_format.specs.Gates.{is_gate_name}
+use Rattle.sis_base.specs.declared.limits.TheConstants.{MAX_NAME, MAX_PINS}
 
--- a name of the format, of at most 1,023 bytes
+-- a name of the format, of at most `MAX_NAME` bytes
 abbrev pub IsName : List ℕ → Type 0
-IsName name = (is_gate_name name ≡ true) × (length name ≤ 1023)
+IsName name = (is_gate_name name ≡ true) × (length name ≤ MAX_NAME)
 
 -- the places of pins among nodes, in order
 unfoldable pub pin_places : List Node → List ℕ
@@ -40,7 +41,7 @@ pub record IsSoundGate (gate : Gate) : Type 0 where
   pub output : IsName gate.output
   pub pins : AllByRecursion IsName gate.pins
   pub different : all_different gate.pins ≡ true
-  pub few : length gate.pins ≤ 15
+  pub few : length gate.pins ≤ MAX_PINS
   pub order : ArePostfix gate.expr
   pub mentioned : each_once (mentions gate.pins gate.expr) ≡ gate.pins
   pub inner : has gate.pins gate.output ≡ false

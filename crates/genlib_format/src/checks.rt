@@ -14,6 +14,7 @@ use crate::gates::GateLines;
 use crate::pins::{PinLine, is_number};
 use genlib_expr::Parsed;
 use sis_base::Name;
+use sis_base::limits::{MAX_NAME, MAX_NESTING, MAX_PINS};
 
 /// Whether the numbers of all pins are numbers.
 fn are_numeric(pins: &[PinLine]) -> bool
@@ -35,9 +36,9 @@ pub fn number_fault(lines: &GateLines) -> Option<LibFault>
 
 /// The first of some names that is longer than a name may be.
 fn first_long(names: &[Name]) -> Option<&Name>
-    ensures { option_copied result ≡ find (λ (name : List ℕ). nat_lt 1023 (length name)) names.now }
+    ensures { option_copied result ≡ find (λ (name : List ℕ). nat_lt MAX_NAME (length name)) names.now }
 {
-    names.iter().find(|name| name.len() > 1023)
+    names.iter().find(|name| name.len() > MAX_NAME)
 }
 
 /// The fault of the first of some names that is too long.
@@ -56,10 +57,10 @@ fn long_name(names: &[Name]) -> Option<LibFault>
 fn names_fault(cell: &Name, output: &Name, pins: &[Name]) -> Option<LibFault>
     ensures { result ≡ long_name (cell.now ∷ output.now ∷ pins.now) }
 {
-    if cell.len() > 1023 {
+    if cell.len() > MAX_NAME {
         return Some(LibFault::Limit(LimitKind::Name, cell.len()));
     }
-    if output.len() > 1023 {
+    if output.len() > MAX_NAME {
         return Some(LibFault::Limit(LimitKind::Name, output.len()));
     }
     long_name(pins)
@@ -71,15 +72,15 @@ pub fn limit_fault(lines: &GateLines, parsed: &Parsed) -> Option<LibFault>
     requires pins { parsed.now.pins ≡ pins_of lines.now.text }
     requires depth { parsed.now.depth ≡ depth_of lines.now.text }
     ensures value { result ≡ limit_fault lines.now }
-    ensures few { result ≡ None → length parsed.now.pins ≤ 15 }
+    ensures few { result ≡ None → length parsed.now.pins ≤ MAX_PINS }
 {
     if let Some(fault) = names_fault(&lines.cell, &lines.output, parsed.pins.as_slice()) {
         return Some(fault);
     }
-    if parsed.depth > 64 {
+    if parsed.depth > MAX_NESTING {
         return Some(LibFault::Limit(LimitKind::Depth, parsed.depth));
     }
-    if parsed.pins.len() > 15 {
+    if parsed.pins.len() > MAX_PINS {
         return Some(LibFault::Limit(LimitKind::Pins, parsed.pins.len()));
     }
     None

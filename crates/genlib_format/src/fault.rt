@@ -6,13 +6,13 @@ use std::alloc::{AllocError, AllocFailed};
 /// What a limit is on.
 #[derive(Clone, Copy, Debug, PartialEq, Eq)]
 pub enum LimitKind {
-    /// The bytes of a name: 1,023.
+    /// The bytes of a name: `MAX_NAME`.
     Name,
     /// The parentheses of an expression in one another: 64.
     Depth,
     /// The pins of a gate: 15.
     Pins,
-    /// The entries of gates and latches: 4,096.
+    /// The entries of gates and latches: `MAX_GATES`.
     Gates,
 }
 

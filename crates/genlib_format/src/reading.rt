@@ -18,6 +18,7 @@ use crate::gates::GateLines;
 use crate::library::Library;
 use crate::words::words_of;
 use genlib_expr::agree;
+use sis_base::limits::MAX_GATES;
 use sis_base::{Copied, Name};
 use std::alloc::{AllocError, Global};
 
@@ -87,10 +88,10 @@ fn settled(alloc: Global, first: Option<&Gate>, gate: Gate) -> Result<Gate, Allo
 /// The fault of one entry too many behind so many.
 fn one_too_many(count: usize) -> Option<LibFault>
     ensures value { result ≡ one_too_many count }
-    ensures room { result ≡ None → count < 4096 }
+    ensures room { result ≡ None → count < MAX_GATES }
 {
-    if count >= 4096 {
-        return Some(LibFault::Limit(LimitKind::Gates, 4097));
+    if count >= MAX_GATES {
+        return Some(LibFault::Limit(LimitKind::Gates, MAX_GATES + 1));
     }
     None
 }
@@ -104,7 +105,7 @@ fn gate_fault(
     gate: &Gate,
 ) -> Result<Option<LibFault>, AllocError>
     ensures value { IfOk result (λ fault. fault ≡ first_of (twice_fault (gate_named library.now gate.now.cell) gate.now ∷ one_too_many count ∷ [])) }
-    ensures room { IfOk result (λ fault. fault ≡ None → count < 4096) }
+    ensures room { IfOk result (λ fault. fault ≡ None → count < MAX_GATES) }
 {
     if let Some(fault) = twice_fault(alloc, library.gate(&gate.cell), gate)? {
         return Ok(Some(fault));
@@ -129,7 +130,7 @@ fn take_gate(
     lines: GateLines,
 ) -> Result<(), ReadFault>
     ensures value { Leaves result library.new (entry_fault count library.old (TheGate lines)) (gates_with library.old (TheGate lines)) }
-    ensures room { OnOk result (count < 4096) }
+    ensures room { OnOk result (count < MAX_GATES) }
 {
     let gate = gate_of(alloc, lines)?;
     match gate_fault(alloc, count, library, &gate)? {
@@ -150,7 +151,7 @@ fn take_entry(
     entry: Entry,
 ) -> Result<(), ReadFault>
     ensures value { Leaves result library.new (entry_fault count library.old entry) (gates_with library.old entry) }
-    ensures room { OnOk result (count < 4096) }
+    ensures room { OnOk result (count < MAX_GATES) }
 {
     match entry {
         Entry::Gate(lines) => take_gate(alloc, count, library, lines),

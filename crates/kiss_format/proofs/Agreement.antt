@@ -1,5 +1,5 @@
 -- The reader's steps, taken one after the other, come to what the form of a table says.
-use Rattle.std.specs.Prelude.{◌≡◌, ℕ, ◌==◌, nat_le, nat_lt, length, Bool, true, false, not, ◌||◌, Option, Some, None, Result, List, [], ◌∷◌, ◌++◌, option_to_list}
+use Rattle.std.specs.Prelude.{◌+◌, ◌≡◌, ℕ, ◌==◌, nat_le, nat_lt, length, Bool, true, false, not, ◌||◌, Option, Some, None, Result, List, [], ◌∷◌, ◌++◌, option_to_list}
 use Rattle.std.specs.Option.{option_or}
 use Rattle.std.proofs.Common.{refl, sym, ◌∙◌, ap, subst, arith, append_assoc, length-append}
 use Rattle.std.proofs.lemmas.List.{append-nil}
@@ -18,6 +18,7 @@ use Rattle.kiss_format.specs.declared.fault.KissFault.TheVariants.{BadHeader, Ba
 use Rattle.kiss_format.specs.declared.fault.LimitKind.TheVariants as limit
 use Rattle.kiss_format.specs.declared.draft.Draft.{Draft}
 use Rattle.kiss_format.proofs.Places.{row_stays, states_append}
+use Rattle.sis_base.specs.declared.limits.TheConstants.{MAX_MACHINE_ROWS, MAX_STATES}
 
 -- what lines say, as lists, and the draft that has it
 pub record Told (ins outs : List ℕ) (resets : List (List ℕ)) (all : List (List (List ℕ))) (named : List (List ℕ)) (draft : Draft) : Type 0 where
@@ -79,9 +80,9 @@ reset-new told number words e =
 pub row-new : (inputs outputs : Option ℕ) (states : List (List ℕ)) (rows number : ℕ) (all : List (List ℕ)) → row_fault inputs outputs states rows number all ≡ None → is_row_of inputs outputs all ≡ true
 unfolding row_fault form_fault
 row-new inputs outputs states rows number all e =
-    let form = none-either (form_fault inputs outputs rows number all) (when (nat_lt 4096 (length (with_states states (named_states all)))) (Limit limit.States 4097)) e in
-    let rest = none-later (when (is_missing inputs || is_missing outputs) (BadHeader number)) (when (not (is_row_of inputs outputs all)) (BadRow number) ∷ long_fault (state_words all) ∷ when (nat_le 32767 rows) (Limit limit.Rows 32768) ∷ []) form in
-    let bad = none-first (when (not (is_row_of inputs outputs all)) (BadRow number)) (long_fault (state_words all) ∷ when (nat_le 32767 rows) (Limit limit.Rows 32768) ∷ []) rest in
+    let form = none-either (form_fault inputs outputs rows number all) (when (nat_lt MAX_STATES (length (with_states states (named_states all)))) (Limit limit.States (MAX_STATES + 1))) e in
+    let rest = none-later (when (is_missing inputs || is_missing outputs) (BadHeader number)) (when (not (is_row_of inputs outputs all)) (BadRow number) ∷ long_fault (state_words all) ∷ when (nat_le MAX_MACHINE_ROWS rows) (Limit limit.Rows (MAX_MACHINE_ROWS + 1)) ∷ []) form in
+    let bad = none-first (when (not (is_row_of inputs outputs all)) (BadRow number)) (long_fault (state_words all) ∷ when (nat_le MAX_MACHINE_ROWS rows) (Limit limit.Rows (MAX_MACHINE_ROWS + 1)) ∷ []) rest in
     not-not (is_row_of inputs outputs all) (when-not (not (is_row_of inputs outputs all)) (BadRow number) bad)
 
 -- a row that is one

@@ -29,11 +29,12 @@ use Rattle.kiss_format.proofs.Agreement.{when-not, or-first, not-not, none-first
 use Rattle.kiss_format.proofs.Firsts.{currents, one-first}
 use Rattle.kiss_format.proofs.Mentions.{all_append, all_kept, and-parts, with_keeps, with_once, with_longer, mentions_append, words_mentioned}
 use Rattle.kiss_format.proofs.Places.{kept}
+use Rattle.sis_base.specs.declared.limits.TheConstants.{MAX_MACHINE_ROWS, MAX_NAME, MAX_PORTS, MAX_STATES}
 
--- a number that was told is one from 1 to 1,000
+-- a number that was told is one from 1 to `MAX_PORTS`
 abbrev pub IsCount : Option ℕ → Type 0
 IsCount None = Unit {0}
-IsCount (Some count) = (1 ≤ count) × (count ≤ 1000)
+IsCount (Some count) = (1 ≤ count) × (count ≤ MAX_PORTS)
 
 -- what holds of a word
 abbrev pub OfWords : Type 1
@@ -45,7 +46,7 @@ HasWidths inputs outputs row = (inputs ≡ Some (length row.input)) × (outputs 
 
 -- a name is not too long
 abbrev pub IsShort : List ℕ → Type 0
-IsShort name = length name ≤ 1023
+IsShort name = length name ≤ MAX_NAME
 
 pub record IsGood (W : OfWords) (draft : Draft) : Type 0 where
   pub inputs : IsCount draft.inputs
@@ -56,8 +57,8 @@ pub record IsGood (W : OfWords) (draft : Draft) : Type 0 where
   pub in_order : first_mentions [] (flat_map mentioned_by draft.rows) ≡ range_with_len 0 (length draft.states)
   pub within : (place : ℕ) → first_item (currents draft.rows) ≡ Some place → place < length draft.states
   pub shaped : AllByRecursion (HasWidths draft.inputs draft.outputs) draft.rows
-  pub few : length draft.rows ≤ 32767
-  pub limited : length draft.states ≤ 4096
+  pub few : length draft.rows ≤ MAX_MACHINE_ROWS
+  pub limited : length draft.states ≤ MAX_STATES
   pub short : AllByRecursion IsShort draft.states
 
 -- counts
@@ -84,9 +85,9 @@ numeral_some (digit ∷ digits) h =
 
 count_small : (word : List ℕ) → IsCount (count_of word)
 unfolding count_of
-count_small word = by (is_numeral word) (nat_le (number_of word) 1000) refl refl
+count_small word = by (is_numeral word) (nat_le (number_of word) MAX_PORTS) refl refl
   where
-    by : (a b : Bool) → is_numeral word ≡ a → nat_le (number_of word) 1000 ≡ b → IsCount (if a && b then Some (number_of word) else None)
+    by : (a b : Bool) → is_numeral word ≡ a → nat_le (number_of word) MAX_PORTS ≡ b → IsCount (if a && b then Some (number_of word) else None)
     by false b e f = tt
     by true false e f = tt
     by true true e f = (numeral_some word e, grind (arith, nat_tests))
@@ -116,28 +117,28 @@ count-first told rows number words e =
 
 -- rows
 
-below-test : (rows : ℕ) → nat_le 32767 rows ≡ false → rows < 32767
+below-test : (rows : ℕ) → nat_le MAX_MACHINE_ROWS rows ≡ false → rows < MAX_MACHINE_ROWS
 below-test rows e = grind (arith, nat_tests)
 
-row-few : (inputs outputs : Option ℕ) (states : List (List ℕ)) (rows number : ℕ) (all : List (List ℕ)) → row_fault inputs outputs states rows number all ≡ None → rows < 32767
+row-few : (inputs outputs : Option ℕ) (states : List (List ℕ)) (rows number : ℕ) (all : List (List ℕ)) → row_fault inputs outputs states rows number all ≡ None → rows < MAX_MACHINE_ROWS
 unfolding row_fault form_fault
 row-few inputs outputs states rows number all e =
-    let form = none-either (form_fault inputs outputs rows number all) (when (nat_lt 4096 (length (with_states states (named_states all)))) (Limit limit.States 4097)) e in
-    let behind = none-later (when (is_missing inputs || is_missing outputs) (BadHeader number)) (when (not (is_row_of inputs outputs all)) (BadRow number) ∷ long_fault (state_words all) ∷ when (nat_le 32767 rows) (Limit limit.Rows 32768) ∷ []) form in
-    let names = none-later (when (not (is_row_of inputs outputs all)) (BadRow number)) (long_fault (state_words all) ∷ when (nat_le 32767 rows) (Limit limit.Rows 32768) ∷ []) behind in
-    let last = none-later (long_fault (state_words all)) (when (nat_le 32767 rows) (Limit limit.Rows 32768) ∷ []) names in
-    below-test rows (when-not (nat_le 32767 rows) (Limit limit.Rows 32768) (none-first (when (nat_le 32767 rows) (Limit limit.Rows 32768)) [] last))
+    let form = none-either (form_fault inputs outputs rows number all) (when (nat_lt MAX_STATES (length (with_states states (named_states all)))) (Limit limit.States (MAX_STATES + 1))) e in
+    let behind = none-later (when (is_missing inputs || is_missing outputs) (BadHeader number)) (when (not (is_row_of inputs outputs all)) (BadRow number) ∷ long_fault (state_words all) ∷ when (nat_le MAX_MACHINE_ROWS rows) (Limit limit.Rows (MAX_MACHINE_ROWS + 1)) ∷ []) form in
+    let names = none-later (when (not (is_row_of inputs outputs all)) (BadRow number)) (long_fault (state_words all) ∷ when (nat_le MAX_MACHINE_ROWS rows) (Limit limit.Rows (MAX_MACHINE_ROWS + 1)) ∷ []) behind in
+    let last = none-later (long_fault (state_words all)) (when (nat_le MAX_MACHINE_ROWS rows) (Limit limit.Rows (MAX_MACHINE_ROWS + 1)) ∷ []) names in
+    below-test rows (when-not (nat_le MAX_MACHINE_ROWS rows) (Limit limit.Rows (MAX_MACHINE_ROWS + 1)) (none-first (when (nat_le MAX_MACHINE_ROWS rows) (Limit limit.Rows (MAX_MACHINE_ROWS + 1))) [] last))
 
-short-test : (len : ℕ) → nat_lt 1023 len ≡ false → len ≤ 1023
+short-test : (len : ℕ) → nat_lt MAX_NAME len ≡ false → len ≤ MAX_NAME
 short-test len e = grind (arith, nat_tests)
 
 all_short : (names : List (List ℕ)) → long_fault names ≡ None → AllByRecursion IsShort names
 unfolding long_name
 all_short [] e = tt
-all_short (name ∷ names) e = by (nat_lt 1023 (length name)) refl e (all_short names)
+all_short (name ∷ names) e = by (nat_lt MAX_NAME (length name)) refl e (all_short names)
   where
-    by : (b : Bool) → nat_lt 1023 (length name) ≡ b
-        → option_map (λ len. Limit limit.Name len) (option_map (λ (name : List ℕ). length name) (cond b (Some name) (find (λ (name : List ℕ). nat_lt 1023 (length name)) names))) ≡ None
+    by : (b : Bool) → nat_lt MAX_NAME (length name) ≡ b
+        → option_map (λ len. Limit limit.Name len) (option_map (λ (name : List ℕ). length name) (cond b (Some name) (find (λ (name : List ℕ). nat_lt MAX_NAME (length name)) names))) ≡ None
         → (long_fault names ≡ None → AllByRecursion IsShort names) → AllByRecursion IsShort (name ∷ names)
     by true t long rec = absurd (let no : Some (Limit limit.Name (length name)) ≡ None = long in cc)
     by false t long rec = (short-test (length name) t, rec long)
@@ -145,23 +146,23 @@ all_short (name ∷ names) e = by (nat_lt 1023 (length name)) refl e (all_short 
 row-short : (inputs outputs : Option ℕ) (states : List (List ℕ)) (rows number : ℕ) (all : List (List ℕ)) → row_fault inputs outputs states rows number all ≡ None → AllByRecursion IsShort (state_words all)
 unfolding row_fault form_fault
 row-short inputs outputs states rows number all e =
-    let form = none-either (form_fault inputs outputs rows number all) (when (nat_lt 4096 (length (with_states states (named_states all)))) (Limit limit.States 4097)) e in
-    let behind = none-later (when (is_missing inputs || is_missing outputs) (BadHeader number)) (when (not (is_row_of inputs outputs all)) (BadRow number) ∷ long_fault (state_words all) ∷ when (nat_le 32767 rows) (Limit limit.Rows 32768) ∷ []) form in
-    let names = none-later (when (not (is_row_of inputs outputs all)) (BadRow number)) (long_fault (state_words all) ∷ when (nat_le 32767 rows) (Limit limit.Rows 32768) ∷ []) behind in
-    all_short (state_words all) (none-first (long_fault (state_words all)) (when (nat_le 32767 rows) (Limit limit.Rows 32768) ∷ []) names)
+    let form = none-either (form_fault inputs outputs rows number all) (when (nat_lt MAX_STATES (length (with_states states (named_states all)))) (Limit limit.States (MAX_STATES + 1))) e in
+    let behind = none-later (when (is_missing inputs || is_missing outputs) (BadHeader number)) (when (not (is_row_of inputs outputs all)) (BadRow number) ∷ long_fault (state_words all) ∷ when (nat_le MAX_MACHINE_ROWS rows) (Limit limit.Rows (MAX_MACHINE_ROWS + 1)) ∷ []) form in
+    let names = none-later (when (not (is_row_of inputs outputs all)) (BadRow number)) (long_fault (state_words all) ∷ when (nat_le MAX_MACHINE_ROWS rows) (Limit limit.Rows (MAX_MACHINE_ROWS + 1)) ∷ []) behind in
+    all_short (state_words all) (none-first (long_fault (state_words all)) (when (nat_le MAX_MACHINE_ROWS rows) (Limit limit.Rows (MAX_MACHINE_ROWS + 1)) ∷ []) names)
 
 none-other : (one other : Option KissFault) → option_or one other ≡ None → other ≡ None
 none-other None other e = e
 none-other (Some fault) other e = absurd (let no : Some fault ≡ None = e in cc)
 
-many-test : (states : ℕ) → nat_lt 4096 states ≡ false → states ≤ 4096
+many-test : (states : ℕ) → nat_lt MAX_STATES states ≡ false → states ≤ MAX_STATES
 many-test states e = grind (arith, nat_tests)
 
-row-limited : (inputs outputs : Option ℕ) (states : List (List ℕ)) (rows number : ℕ) (all : List (List ℕ)) → row_fault inputs outputs states rows number all ≡ None → length (with_states states (named_states all)) ≤ 4096
+row-limited : (inputs outputs : Option ℕ) (states : List (List ℕ)) (rows number : ℕ) (all : List (List ℕ)) → row_fault inputs outputs states rows number all ≡ None → length (with_states states (named_states all)) ≤ MAX_STATES
 unfolding row_fault
 row-limited inputs outputs states rows number all e =
     let count = length (with_states states (named_states all)) in
-    many-test count (when-not (nat_lt 4096 count) (Limit limit.States 4097) (none-other (form_fault inputs outputs rows number all) (when (nat_lt 4096 count) (Limit limit.States 4097)) e))
+    many-test count (when-not (nat_lt MAX_STATES count) (Limit limit.States (MAX_STATES + 1)) (none-other (form_fault inputs outputs rows number all) (when (nat_lt MAX_STATES count) (Limit limit.States (MAX_STATES + 1))) e))
 
 same-width : (len width : ℕ) → (len == width) ≡ true → width ≡ len
 same-width len width e = grind (arith, nat_tests)
@@ -197,8 +198,8 @@ option-or-none None = refl
 option-or-none (Some a) = refl
 
 good_row : (W : OfWords) (draft : Draft) (input current next output : List ℕ) → IsGood W draft → W current → W next
-    → is_row_of draft.inputs draft.outputs (input ∷ current ∷ next ∷ output ∷ []) ≡ true → length draft.rows < 32767
-    → length (with_states draft.states (kept (current ∷ next ∷ []))) ≤ 4096 → AllByRecursion IsShort (current ∷ next ∷ [])
+    → is_row_of draft.inputs draft.outputs (input ∷ current ∷ next ∷ output ∷ []) ≡ true → length draft.rows < MAX_MACHINE_ROWS
+    → length (with_states draft.states (kept (current ∷ next ∷ []))) ≤ MAX_STATES → AllByRecursion IsShort (current ∷ next ∷ [])
     → IsGood W (record draft {
       states = with_states draft.states (kept (current ∷ next ∷ []));
       rows = draft.rows ++ row_of (with_states draft.states (kept (current ∷ next ∷ []))) (input ∷ current ∷ next ∷ output ∷ []);
@@ -234,8 +235,8 @@ good_row W draft input current next output good one other is few limited short =
       short = with_keeps IsShort draft.states (kept (current ∷ next ∷ [])) good.short (all_kept IsShort (λ word. not (is_any word)) (current ∷ next ∷ []) short);
     }
 
-good_words : (W : OfWords) (draft : Draft) (all : List (List ℕ)) → IsGood W draft → AllByRecursion W all → is_row_of draft.inputs draft.outputs all ≡ true → length draft.rows < 32767
-    → length (with_states draft.states (named_states all)) ≤ 4096 → AllByRecursion IsShort (state_words all)
+good_words : (W : OfWords) (draft : Draft) (all : List (List ℕ)) → IsGood W draft → AllByRecursion W all → is_row_of draft.inputs draft.outputs all ≡ true → length draft.rows < MAX_MACHINE_ROWS
+    → length (with_states draft.states (named_states all)) ≤ MAX_STATES → AllByRecursion IsShort (state_words all)
     → IsGood W (record draft { states = with_states draft.states (named_states all); rows = draft.rows ++ row_of (with_states draft.states (named_states all)) all })
 unfolding named_states
 good_words W draft (input ∷ current ∷ next ∷ output ∷ []) good words is few limited short =

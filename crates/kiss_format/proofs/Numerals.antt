@@ -9,6 +9,7 @@ use Rattle.sis_text.specs.Words.{begins_with}
 use Rattle.sis_text.specs.Decimals.{is_digit, number_of}
 use Rattle.kiss_format.specs.Lines.{count_of}
 use Rattle.kiss_format.proofs.Ports.{numeral_bytes}
+use Rattle.sis_base.specs.declared.limits.TheConstants.{MAX_PORTS}
 
 digit_at : (n : ℕ) → n < 10 → is_digit (48 + n) ≡ true
 digit_at n few = grind (arith, nat_tests)
@@ -56,12 +57,12 @@ some_test len some = grind (arith, nat_tests)
 few_test : (len most : ℕ) → len ≤ most → nat_le len most ≡ true
 few_test len most few = grind (arith, nat_tests)
 
-pub count_back : (n : ℕ) → 1 ≤ n → n ≤ 1000 → count_of (decimal n) ≡ Some n
+pub count_back : (n : ℕ) → 1 ≤ n → n ≤ MAX_PORTS → count_of (decimal n) ≡ Some n
 unfolding count_of
 count_back n some few =
     let writes = decimal_writes n (omega (arith, few)) in
     let four : length (decimal n) ≤ 4 = length-decimal-le_wide 4 n (omega arith) (omega (arith, few)) (omega (arith, few)) in
-    rw (writes.all, some_test (length (decimal n)) writes.some, few_test (length (decimal n)) 4 four, writes.lead some, writes.value, few_test n 1000 few) refl
+    rw (writes.all, some_test (length (decimal n)) writes.some, few_test (length (decimal n)) 4 four, writes.lead some, writes.value, few_test n MAX_PORTS few) refl
 
 nonempty_word : (bytes : List ℕ) → 0 < length bytes → list_all is_word_byte bytes ≡ true → is_word bytes ≡ true
 unfolding is_word

@@ -9,6 +9,7 @@ use Rattle.std.proofs.lemmas.Slice.Eq.{bytes_eq-Decides}
 use Rattle.sis_base.specs.Written.{is_word, is_word_byte}
 use Rattle.circuit_model.specs.Names.{has, all_different}
 use Rattle.kiss_format.specs.Reader.{made_names}
+use Rattle.sis_base.specs.declared.limits.TheConstants.{MAX_NAME, MAX_PORTS}
 
 digit_byte : (n : ℕ) → n < 10 → is_word_byte (48 + n) ≡ true
 digit_byte n few = grind (arith, nat_tests)
@@ -34,12 +35,12 @@ made_is_word (byte ∷ bytes) n w h =
 abbrev pub made_from : List ℕ → ℕ → ℕ → List (List ℕ)
 made_from prefix first count = map (λ k. prefix ++ decimal k) (range_with_len first count)
 
-pub made_are_words : (prefix : List ℕ) (first count : ℕ) → is_word prefix ≡ true → first + count ≤ 1000 → AllByRecursion (λ name. is_word name ≡ true) (made_from prefix first count)
+pub made_are_words : (prefix : List ℕ) (first count : ℕ) → is_word prefix ≡ true → first + count ≤ MAX_PORTS → AllByRecursion (λ name. is_word name ≡ true) (made_from prefix first count)
 made_are_words prefix first zero w h = tt
 made_are_words prefix first (suc count) w h =
     (made_is_word prefix first w (omega (arith, h)), made_are_words prefix (first + 1) count w (omega (arith, h)))
 
-pub made_are_short : (prefix : List ℕ) (first count : ℕ) → length prefix ≤ 10 → first + count ≤ 1000 → AllByRecursion (λ (name : List ℕ). length name ≤ 1023) (made_from prefix first count)
+pub made_are_short : (prefix : List ℕ) (first count : ℕ) → length prefix ≤ 10 → first + count ≤ MAX_PORTS → AllByRecursion (λ (name : List ℕ). length name ≤ MAX_NAME) (made_from prefix first count)
 made_are_short prefix first zero p h = tt
 made_are_short prefix first (suc count) p h =
     let digits = length-decimal-le_succ first (omega (arith, h)) in
@@ -52,7 +53,7 @@ bytes_differ xs ys apart = by (bytes_eq xs ys) refl
     by true e = absurd (apart ((bytes_eq-Decides xs ys).0 e))
     by false e = e
 
-numbers_differ : (prefix : List ℕ) (a b : ℕ) → a < b → b < 1000 → bytes_eq (prefix ++ decimal a) (prefix ++ decimal b) ≡ false
+numbers_differ : (prefix : List ℕ) (a b : ℕ) → a < b → b < MAX_PORTS → bytes_eq (prefix ++ decimal a) (prefix ++ decimal b) ≡ false
 numbers_differ prefix a b less few = bytes_differ (prefix ++ decimal a) (prefix ++ decimal b) apart
   where
     apart : prefix ++ decimal a ≡ prefix ++ decimal b → ⊥
@@ -60,12 +61,12 @@ numbers_differ prefix a b less few = bytes_differ (prefix ++ decimal a) (prefix 
         let same : a ≡ b = decimal_injective a b (omega (arith, less, few)) (omega (arith, few)) (append_cancel_left prefix (decimal a) (decimal b) e) in
         omega (arith, less, same)
 
-later_lack : (prefix : List ℕ) (a first count : ℕ) → a < first → first + count ≤ 1000 → has (made_from prefix first count) (prefix ++ decimal a) ≡ false
+later_lack : (prefix : List ℕ) (a first count : ℕ) → a < first → first + count ≤ MAX_PORTS → has (made_from prefix first count) (prefix ++ decimal a) ≡ false
 later_lack prefix a first zero less few = refl
 later_lack prefix a first (suc count) less few =
     rw (numbers_differ prefix a first less (omega (arith, few)), later_lack prefix a (first + 1) count (omega (arith, less)) (omega (arith, few))) refl
 
-made_differ : (prefix : List ℕ) (others : List (List ℕ)) (first count : ℕ) → first + count ≤ 1000 → ((k : ℕ) → has others (prefix ++ decimal k) ≡ false) → all_different others ≡ true
+made_differ : (prefix : List ℕ) (others : List (List ℕ)) (first count : ℕ) → first + count ≤ MAX_PORTS → ((k : ℕ) → has others (prefix ++ decimal k) ≡ false) → all_different others ≡ true
     → all_different (made_from prefix first count ++ others) ≡ true
 unfolding all_different
 made_differ prefix others first zero few apart once = once
@@ -84,12 +85,12 @@ none_once : all_different [] ≡ true
 unfolding all_different
 none_once = refl
 
-outputs_once : (count : ℕ) → count ≤ 1000 → all_different (made_names (codes "OUT_") count) ≡ true
+outputs_once : (count : ℕ) → count ≤ MAX_PORTS → all_different (made_names (codes "OUT_") count) ≡ true
 outputs_once count few =
     ap all_different (sym (append-nil (made_names (codes "OUT_") count)))
     ∙ made_differ (codes "OUT_") [] 0 count (omega (arith, few)) (λ k. refl) none_once
 
 -- the ports of a machine that is read from a table of its own
-pub ports_differ : (inputs outputs : ℕ) → inputs ≤ 1000 → outputs ≤ 1000 → all_different (made_names (codes "IN_") inputs ++ made_names (codes "OUT_") outputs) ≡ true
+pub ports_differ : (inputs outputs : ℕ) → inputs ≤ MAX_PORTS → outputs ≤ MAX_PORTS → all_different (made_names (codes "IN_") inputs ++ made_names (codes "OUT_") outputs) ≡ true
 ports_differ inputs outputs few small =
     made_differ (codes "IN_") (made_names (codes "OUT_") outputs) 0 inputs (omega (arith, few)) (λ k. outputs_lack k 0 outputs) (outputs_once outputs small)

@@ -27,6 +27,7 @@ use Rattle.kiss_format.proofs.Drafts.{IsCount, OfWords, HasWidths, IsGood, IsSho
 use Rattle.kiss_format.proofs.Firsts.{currents}
 use Rattle.kiss_format.proofs.Mentions.{all_append}
 use Rattle.kiss_format.proofs.Ports.{made_are_words, made_are_short, ports_differ}
+use Rattle.sis_base.specs.declared.limits.TheConstants.{MAX_PORTS}
 
 -- the parts of a machine that is read
 
@@ -56,7 +57,7 @@ reset_within None states rows place within e = within place e
 reset_within (Some name) states rows place within e = (position-Some (bytes_eq name) states place [] e).0
 
 first_widths : (inputs outputs : Option ℕ) (rows : List MachineRow) → 1 ≤ length rows → AllByRecursion (HasWidths inputs outputs) rows → IsCount inputs → IsCount outputs
-    → ((1 ≤ unwrap_or inputs 0) × (unwrap_or inputs 0 ≤ 1000)) × ((1 ≤ unwrap_or outputs 0) × (unwrap_or outputs 0 ≤ 1000))
+    → ((1 ≤ unwrap_or inputs 0) × (unwrap_or inputs 0 ≤ MAX_PORTS)) × ((1 ≤ unwrap_or outputs 0) × (unwrap_or outputs 0 ≤ MAX_PORTS))
 first_widths inputs outputs [] some shaped few small = absurd (omega (arith, some))
 first_widths None outputs (row ∷ rows) some shaped few small = absurd (let no : None ≡ Some (length row.input) = shaped.0.0 in cc)
 first_widths (Some inputs) None (row ∷ rows) some shaped few small = absurd (let no : None ≡ Some (length row.output) = shaped.0.1 in cc)

@@ -32,6 +32,7 @@ use Rattle.kiss_format.proofs.NamedStates.{AreNamed, row_stepped, place_back, st
 use Rattle.kiss_format.proofs.Numerals.{count_back, decimal_is_word}
 use Rattle.kiss_format.proofs.Sound.{IsText, AreOfWords, read_holds, read_limited, read_sound, proper_lines, all_weaker}
 use Rattle.kiss_format.proofs.WrittenRows.{entry, row_kind, not_long, draft_at, taken, taken_first, rows_taken}
+use Rattle.sis_base.specs.declared.limits.TheConstants.{MAX_NAME}
 
 -- the lines before the end
 
@@ -120,7 +121,7 @@ words_taken machine lines =
 reset_taken : (machine : Machine) → IsSound machine → IsWithinLimits machine → (lines : List Entry) → take_entries (with_outputs machine) (reset_line machine ∷ lines) ≡ take_entries (draft_at machine 0 []) lines
 unfolding kind_of keyword_of reset_fault first_of
 reset_taken machine sound limits lines =
-    let short = state_has (λ (state : List ℕ). length state ≤ 1023) machine.states machine.reset limits.short sound.reset in
+    let short = state_has (λ (state : List ℕ). length state ≤ MAX_NAME) machine.states machine.reset limits.short sound.reset in
     let free = not_long (state_at machine.states machine.reset ∷ []) (short, tt) in
     taken_first (with_outputs machine) (draft_at machine 0 []) (reset_line machine) lines
     (taken (with_outputs machine) (reset_line machine) Reset refl (rw free refl))

@@ -27,6 +27,7 @@ use Rattle.kiss_format.specs.declared.draft.Draft.{Draft}
 use Rattle.kiss_format.proofs.Mentions.{same_test}
 use Rattle.kiss_format.proofs.NamedStates.{AreNamed, RowStepped, row_stepped, state_has}
 use Rattle.kiss_format.proofs.Places.{kept}
+use Rattle.sis_base.specs.declared.limits.TheConstants.{MAX_MACHINE_ROWS, MAX_NAME, MAX_STATES}
 
 -- a written line as an entry
 abbrev pub entry : ℕ → Written → Entry
@@ -62,17 +63,17 @@ cube_taken row width e =
 
 -- names
 
-short_test : (len : ℕ) → len ≤ 1023 → nat_lt 1023 len ≡ false
+short_test : (len : ℕ) → len ≤ MAX_NAME → nat_lt MAX_NAME len ≡ false
 short_test len few = grind (arith, nat_tests)
 
-pub not_long : (names : List (List ℕ)) → AllByRecursion (λ (name : List ℕ). length name ≤ 1023) names → long_fault names ≡ None
+pub not_long : (names : List (List ℕ)) → AllByRecursion (λ (name : List ℕ). length name ≤ MAX_NAME) names → long_fault names ≡ None
 unfolding long_name
 not_long [] short = refl
 not_long (name ∷ names) short = rw (short_test (length name) short.0) (not_long names short.1)
 
-word_short : (states : List (List ℕ)) (mention : Option ℕ) → AllByRecursion (λ (state : List ℕ). length state ≤ 1023) states → ((place : ℕ) → mention ≡ Some place → place < length states) → length (state_word states mention) ≤ 1023
+word_short : (states : List (List ℕ)) (mention : Option ℕ) → AllByRecursion (λ (state : List ℕ). length state ≤ MAX_NAME) states → ((place : ℕ) → mention ≡ Some place → place < length states) → length (state_word states mention) ≤ MAX_NAME
 word_short states None short within = omega arith
-word_short states (Some place) short within = state_has (λ (state : List ℕ). length state ≤ 1023) states place short (within place refl)
+word_short states (Some place) short within = state_has (λ (state : List ℕ). length state ≤ MAX_NAME) states place short (within place refl)
 
 -- the draft behind the lines before the rows and some rows, where so many states are known
 abbrev pub draft_at : Machine → ℕ → List MachineRow → Draft
@@ -96,24 +97,24 @@ pub taken_first : (draft next : Draft) (line : Entry) (lines : List Entry) → t
 unfolding take_entries
 taken_first draft next line lines e = ap (λ (r : Result Draft KissFault). onward r (λ after. take_entries after lines)) e
 
-rows_test : (rows : ℕ) → rows < 32767 → nat_le 32767 rows ≡ false
+rows_test : (rows : ℕ) → rows < MAX_MACHINE_ROWS → nat_le MAX_MACHINE_ROWS rows ≡ false
 rows_test rows few = grind (arith, nat_tests)
 
-states_test : (states : ℕ) → states ≤ 4096 → nat_lt 4096 states ≡ false
+states_test : (states : ℕ) → states ≤ MAX_STATES → nat_lt MAX_STATES states ≡ false
 states_test states few = grind (arith, nat_tests)
 
 -- the words of a row that is written
 abbrev words_of : Machine → MachineRow → List (List ℕ)
 words_of machine row = map character row.input ∷ state_word machine.states row.current ∷ state_word machine.states row.next ∷ map character row.output ∷ []
 
-row_free : (machine : Machine) (row : MachineRow) (count last number rows : ℕ) → IsShaped machine row → length machine.states ≤ 4096 → last ≤ length machine.states
-    → AllByRecursion (λ (name : List ℕ). length name ≤ 1023) (state_word machine.states row.current ∷ state_word machine.states row.next ∷ [])
-    → with_states (take count machine.states) (kept (state_word machine.states row.current ∷ state_word machine.states row.next ∷ [])) ≡ take last machine.states → rows < 32767
+row_free : (machine : Machine) (row : MachineRow) (count last number rows : ℕ) → IsShaped machine row → length machine.states ≤ MAX_STATES → last ≤ length machine.states
+    → AllByRecursion (λ (name : List ℕ). length name ≤ MAX_NAME) (state_word machine.states row.current ∷ state_word machine.states row.next ∷ [])
+    → with_states (take count machine.states) (kept (state_word machine.states row.current ∷ state_word machine.states row.next ∷ [])) ≡ take last machine.states → rows < MAX_MACHINE_ROWS
     → row_fault (Some (length machine.inputs)) (Some (length machine.outputs)) (take count machine.states) rows number (words_of machine row) ≡ None
 unfolding row_fault form_fault first_of named_states
 row_free machine row count last number rows shaped few most short words less =
     let len : length (take last machine.states) ≡ last = length-take-le last machine.states most in
-    let small : nat_lt 4096 (length (take last machine.states)) ≡ false = states_test (length (take last machine.states)) (omega (arith, len, few, most)) in
+    let small : nat_lt MAX_STATES (length (take last machine.states)) ≡ false = states_test (length (take last machine.states)) (omega (arith, len, few, most)) in
     rw (cube_taken row.input (length machine.inputs) shaped.input, cube_taken row.output (length machine.outputs) shaped.output, not_long (state_word machine.states row.current ∷ state_word machine.states row.next ∷ []) short, rows_test rows less, words, small) refl
 
 row_back : (machine : Machine) (row : MachineRow) (last : ℕ) → state_of (take last machine.states) (state_word machine.states row.current) ≡ row.current
@@ -122,9 +123,9 @@ row_back : (machine : Machine) (row : MachineRow) (last : ℕ) → state_of (tak
 row_back machine row last first second =
     rw (characters_back row.input, characters_back row.output, first, second) refl
 
-row_taken : (machine : Machine) (row : MachineRow) (done : List MachineRow) (count last number : ℕ) (more : List ℕ) → IsShaped machine row → 1 ≤ length machine.inputs → length machine.states ≤ 4096
-    → AllByRecursion (λ (name : List ℕ). length name ≤ 1023) (state_word machine.states row.current ∷ state_word machine.states row.next ∷ [])
-    → RowStepped machine.states count row.current row.next more last → length done < 32767
+row_taken : (machine : Machine) (row : MachineRow) (done : List MachineRow) (count last number : ℕ) (more : List ℕ) → IsShaped machine row → 1 ≤ length machine.inputs → length machine.states ≤ MAX_STATES
+    → AllByRecursion (λ (name : List ℕ). length name ≤ MAX_NAME) (state_word machine.states row.current ∷ state_word machine.states row.next ∷ [])
+    → RowStepped machine.states count row.current row.next more last → length done < MAX_MACHINE_ROWS
     → take_entry (draft_at machine count done) (entry number (row_line machine.states row)) ≡ Ok (draft_at machine last (done ++ row ∷ []))
 unfolding row_line named_states kind_of
 row_taken machine row done count last number more shaped some few short step less =
@@ -137,7 +138,7 @@ numbers_same : (count total : ℕ) → range_with_len 0 count ≡ range_with_len
 numbers_same count total e = sym (length-range_with_len 0 count) ∙ (ap length e ∙ length-range_with_len 0 total)
 
 pub rows_taken : (machine : Machine) (rows done : List MachineRow) (count number : ℕ) → AreNamed machine.states → IsWithinLimits machine → 1 ≤ length machine.inputs → AllByRecursion (IsShaped machine) rows
-    → count ≤ length machine.states → first_mentions (range_with_len 0 count) (flat_map mentioned_by rows) ≡ range_with_len 0 (length machine.states) → length done + length rows ≤ 32767
+    → count ≤ length machine.states → first_mentions (range_with_len 0 count) (flat_map mentioned_by rows) ≡ range_with_len 0 (length machine.states) → length done + length rows ≤ MAX_MACHINE_ROWS
     → take_entries (draft_at machine count done) (numbered number (map (row_line machine.states) rows)) ≡ Ok (draft_at machine (length machine.states) (done ++ rows))
 unfolding first_mentions numbered take_entries
 rows_taken machine [] done count number are limits some shaped most e few =
@@ -145,7 +146,7 @@ rows_taken machine [] done count number are limits some shaped most e few =
 rows_taken machine (row ∷ rows) done count number are limits some shaped most e few =
     let states = machine.states in
     let (last, step) = row_stepped states count row.current row.next (flat_map mentioned_by rows) are most e in
-    let short : AllByRecursion (λ (name : List ℕ). length name ≤ 1023) (state_word states row.current ∷ state_word states row.next ∷ []) =
+    let short : AllByRecursion (λ (name : List ℕ). length name ≤ MAX_NAME) (state_word states row.current ∷ state_word states row.next ∷ []) =
     (word_short states row.current limits.short step.current_inside, (word_short states row.next limits.short step.next_inside, tt)) in
     let longer : length (done ++ row ∷ []) ≡ length done + 1 = length-append done (row ∷ []) in
     let one : take_entry (draft_at machine count done) (entry number (row_line states row)) ≡ Ok (draft_at machine last (done ++ row ∷ [])) =

@@ -3,7 +3,7 @@
 -- `.s` how many rows and states, `.r` the reset state; a row is an input cube, a current state, a next state and
 -- outputs. The order of the causes and the limits are the project's own.
 -- The lines before a line are given in file order.
-use Rattle.std.specs.Prelude.{ℕ, Bool, true, false, not, ◌&&◌, ◌||◌, ◌==◌, nat_le, nat_lt, Option, Some, None, List, [], ◌∷◌, ◌++◌, length, flat_map, option_to_list, if◌then◌else◌}
+use Rattle.std.specs.Prelude.{◌+◌, ℕ, Bool, true, false, not, ◌&&◌, ◌||◌, ◌==◌, nat_le, nat_lt, Option, Some, None, List, [], ◌∷◌, ◌++◌, length, flat_map, option_to_list, if◌then◌else◌}
 use Rattle.std.specs.List.{list_all, filter}
 use Rattle.std.specs.Option.{option_map, option_or}
 use Rattle.circuit_model.specs.Names.{has}
@@ -18,6 +18,7 @@ use Rattle.kiss_format.specs.declared.keyword.Keyword.TheVariants.{Inputs, Outpu
 use Rattle.kiss_format.specs.declared.fault.LimitKind.TheVariants as limit
 use Rattle.kiss_format.specs.declared.fault.KissFault.{KissFault}
 use Rattle.kiss_format.specs.declared.fault.KissFault.TheVariants.{BadHeader, BadRow, Limit}
+use Rattle.sis_base.specs.declared.limits.TheConstants.{MAX_MACHINE_ROWS, MAX_PORTS, MAX_STATES}
 
 -- a fault where a test holds
 abbrev pub when : Bool → KissFault → Option KissFault
@@ -43,9 +44,9 @@ first_item (item ∷ items) = Some item
 abbrev pub is_numeral : List ℕ → Bool
 is_numeral word = list_all is_digit word && nat_lt 0 (length word) && nat_le (length word) 4 && not (begins_with 48 word)
 
--- the number from 1 to 1,000 that a word writes, without a leading zero
+-- the number from 1 to `MAX_PORTS` that a word writes, without a leading zero
 unfoldable pub count_of : List ℕ → Option ℕ
-count_of word = if is_numeral word && nat_le (number_of word) 1000 then Some (number_of word) else None
+count_of word = if is_numeral word && nat_le (number_of word) MAX_PORTS then Some (number_of word) else None
 
 -- the number that one word alone writes
 abbrev pub count_in : List (List ℕ) → Option ℕ
@@ -158,14 +159,14 @@ form_fault inputs outputs rows number whole = first_of
     (when (is_missing inputs || is_missing outputs) (BadHeader number)
     ∷ when (not (is_row_of inputs outputs whole)) (BadRow number)
     ∷ long_fault (state_words whole)
-    ∷ when (nat_le 32767 rows) (Limit limit.Rows 32768)
+    ∷ when (nat_le MAX_MACHINE_ROWS rows) (Limit limit.Rows (MAX_MACHINE_ROWS + 1))
     ∷ [])
 
 -- what is wrong with the words of a row, where states are those that the rows before it name
 unfoldable pub row_fault : Option ℕ → Option ℕ → List (List ℕ) → ℕ → ℕ → List (List ℕ) → Option KissFault
 row_fault inputs outputs states rows number whole =
     option_or (form_fault inputs outputs rows number whole)
-    (when (nat_lt 4096 (length (with_states states (named_states whole)))) (Limit limit.States 4097))
+    (when (nat_lt MAX_STATES (length (with_states states (named_states whole)))) (Limit limit.States (MAX_STATES + 1)))
 
 -- what is wrong with a line behind the lines before it, by its kind: its number, its words behind the first, all words
 abbrev pub fault_as : Keyword → List Entry → ℕ → List (List ℕ) → List (List ℕ) → Option KissFault

@@ -4,12 +4,13 @@ use Rattle.std.specs.Prelude.{ℕ, ◌≤◌, List, length, codes}
 use Rattle.std.specs.List.{AllByRecursion}
 use Rattle.circuit_model.specs.declared.machine.Machine.{Machine}
 use Rattle.kiss_format.specs.Reader.{made_names}
+use Rattle.sis_base.specs.declared.limits.TheConstants.{MAX_MACHINE_ROWS, MAX_NAME, MAX_STATES}
 
 -- a machine keeps the limits on rows, on states and on the names of states
 pub record IsWithinLimits (machine : Machine) : Type 0 where
-  pub rows : length machine.rows ≤ 32767
-  pub states : length machine.states ≤ 4096
-  pub short : AllByRecursion (λ (state : List ℕ). length state ≤ 1023) machine.states
+  pub rows : length machine.rows ≤ MAX_MACHINE_ROWS
+  pub states : length machine.states ≤ MAX_STATES
+  pub short : AllByRecursion (λ (state : List ℕ). length state ≤ MAX_NAME) machine.states
 
 -- a machine with made names for itself and its ports
 abbrev pub plainly_named : Machine → Machine

@@ -16,6 +16,7 @@ use crate::states::StateNames;
 use circuit_model::{MachineRow, MachineRows, Name};
 use line_words::{characters, first_word, name_of, other_words};
 use sis_base::Sequence;
+use sis_base::limits::MAX_STATES;
 use std::alloc::{AllocError, Global};
 
 /// What the lines so far say: the numbers of inputs and outputs and the name of the reset state, where they are told, the
@@ -144,8 +145,8 @@ impl Draft {
             return Err(ReadFault::Fault(fault));
         }
         self.states.mention_all(alloc, whole)?;
-        if self.states.len() > 4096 {
-            return Err(ReadFault::Fault(KissFault::Limit(LimitKind::States, 4097)));
+        if self.states.len() > MAX_STATES {
+            return Err(ReadFault::Fault(KissFault::Limit(LimitKind::States, MAX_STATES + 1)));
         }
         add_row(alloc, &mut self.rows, &self.states, whole)?;
         Ok(())

@@ -6,18 +6,19 @@ use std::alloc::{AllocError, AllocFailed};
 /// What a limit is on.
 #[derive(Clone, Copy, Debug, PartialEq, Eq)]
 pub enum LimitKind {
-    /// The bytes of a name: 1,023.
+    /// The bytes of a name: `MAX_NAME`.
     Name,
-    /// The rows of a machine: 32,767.
+    /// The rows of a machine: `MAX_MACHINE_ROWS`.
     Rows,
-    /// The states of a machine: 4,096.
+    /// The states of a machine: `MAX_STATES`.
     States,
 }
 
 /// Why a table is not read as a machine. Lines are numbers of physical lines, from 1; rows are numbers from 1.
 #[derive(Debug, Drop, PartialEq)]
 pub enum KissFault {
-    /// A dotted word that is not known; `.i` or `.o` twice, behind a row, or without one number from 1 to 1,000; `.p`
+    /// A dotted word that is not known; `.i` or `.o` twice, behind a row, or without one number
+    /// from 1 to `MAX_PORTS`; `.p`
     /// or `.s` without one word; `.r` twice or without one word; the first row, where `.i` or `.o` is missing.
     BadHeader(usize),
     /// A row that is not an input cube, two states and an output cube, each cube with as many characters as was told.

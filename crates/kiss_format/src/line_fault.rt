@@ -8,6 +8,7 @@ use crate::fault::{KissFault, LimitKind};
 use crate::number::count_in;
 use circuit_model::Name;
 use line_words::{are_characters, long_name};
+use sis_base::limits::MAX_MACHINE_ROWS;
 
 /// Whether there is just one word.
 fn is_one_word(words: &[&[u8]]) -> bool
@@ -118,8 +119,8 @@ pub fn form_fault(
     if let Some(fault) = long_fault(state_words(words)) {
         return Some(fault);
     }
-    if rows >= 32767 {
-        return Some(KissFault::Limit(LimitKind::Rows, 32768));
+    if rows >= MAX_MACHINE_ROWS {
+        return Some(KissFault::Limit(LimitKind::Rows, MAX_MACHINE_ROWS + 1));
     }
     None
 }

@@ -7,6 +7,8 @@ ghost use Rattle.sis_text.specs.Decimals.{is_digit as is_digit_byte, number_of a
 ghost use Rattle.kiss_format.specs.Lines.{is_numeral as is_numeral_word, count_of as count_by, count_in as count_among};
 ghost use Rattle.line_words.specs.LineWords.{texts};
 
+use sis_base::limits::MAX_PORTS;
+
 /// Whether a byte is a decimal digit.
 fn is_digit(byte: u8) -> bool
     ensures { result ≡ is_digit_byte byte }
@@ -57,7 +59,7 @@ fn is_numeral(word: &[u8]) -> bool
     !begins_with_zero(word)
 }
 
-/// The number from 1 to 1,000 that a word writes, without a leading zero.
+/// The number from 1 to `MAX_PORTS` that a word writes, without a leading zero.
 #[tactic(auto, unfolding(crate::specs::Lines::count_of))]
 fn count_of(word: &[u8]) -> Option<usize>
     ensures { result ≡ count_by word.now }
@@ -66,13 +68,13 @@ fn count_of(word: &[u8]) -> Option<usize>
         return None;
     }
     let number = number_of(word);
-    if number > 1000 {
+    if number > MAX_PORTS {
         return None;
     }
     Some(number)
 }
 
-/// The number from 1 to 1,000 that one word alone writes.
+/// The number from 1 to `MAX_PORTS` that one word alone writes.
 pub fn count_in(words: &[&[u8]]) -> Option<usize>
     ensures { result ≡ count_among (texts words.now) }
 {

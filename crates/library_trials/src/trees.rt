@@ -14,6 +14,7 @@ use crate::tiles::{put_tiles, put_totals};
 use circuit_model::Circuit;
 use genlib_format::Library;
 use pattern_set::{Patterns, covers_all, patterns};
+use sis_base::limits::MAX_VERTICES;
 use std::alloc::Global;
 use subject_tree::{Arena, Forest, ForestFault, forest_of};
 use tree_cover::library_laws::sound_libraries_cover_trees;
@@ -80,7 +81,7 @@ fn put_matches(alloc: Global, out: &mut Vec<u8>) -> Result<(), CaseFault> {
 /// The forest of a circuit.
 fn forest(alloc: Global, circuit: &Circuit) -> Result<Forest, ForestFault>
     requires { IsSoundCircuit circuit.now }
-    ensures { IfOk result (λ forest. (n : ℕ) → n < length forest.arena → size_of (tree_at forest.arena n) ≤ 1048575) }
+    ensures { IfOk result (λ forest. (n : ℕ) → n < length forest.arena → size_of (tree_at forest.arena n) ≤ MAX_VERTICES) }
 {
     forest_of(alloc, circuit)
 }
@@ -174,7 +175,7 @@ fn cover_forest(
     is_whole: bool,
 ) -> Result<(), CaseFault>
     requires patterns { IsLibrary patterns.now.arena patterns.now.gates }
-    requires sizes { (n : ℕ) → n < length forest.now.arena → size_of (tree_at forest.now.arena n) ≤ 1048575 }
+    requires sizes { (n : ℕ) → n < length forest.now.arena → size_of (tree_at forest.now.arena n) ≤ MAX_VERTICES }
 {
     let choices = best(alloc, &forest.leaves, &forest.arena, patterns)?;
     put_covers(alloc, out, library, forest, &choices, is_whole)

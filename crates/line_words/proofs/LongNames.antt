@@ -4,6 +4,7 @@ use Rattle.std.specs.Borrow.{Bor}
 use Rattle.std.specs.Option.{option_map}
 use Rattle.std.proofs.Common.{refl, sym, ◌∙◌, ap}
 use Rattle.line_words.specs.LineWords.{texts, long_name}
+use Rattle.sis_base.specs.declared.limits.TheConstants.{MAX_NAME}
 
 found_texts : (test : List ℕ → Bool) (words : List (Bor (List ℕ))) → find test (texts words) ≡ option_map (λ (word : Bor (List ℕ)). word.now) (find (λ (word : Bor (List ℕ)). test word.now) words)
 found_texts test [] = refl
@@ -13,7 +14,7 @@ found_texts test (word ∷ words) = by (test word.now) (find test (texts words))
     by true left right e = refl
     by false left right e = e
 
-pub long_found : (words : List (Bor (List ℕ))) (found : Option (Bor (List ℕ))) → found ≡ find (λ (word : Bor (List ℕ)). nat_lt 1023 (length word.now)) words → option_map (λ (word : Bor (List ℕ)). length word.now) found ≡ long_name (texts words)
+pub long_found : (words : List (Bor (List ℕ))) (found : Option (Bor (List ℕ))) → found ≡ find (λ (word : Bor (List ℕ)). nat_lt MAX_NAME (length word.now)) words → option_map (λ (word : Bor (List ℕ)). length word.now) found ≡ long_name (texts words)
 unfolding long_name
-long_found words None e = ap (option_map (λ (name : List ℕ). length name)) (ap (option_map (λ (word : Bor (List ℕ)). word.now)) e ∙ sym (found_texts (λ name. nat_lt 1023 (length name)) words))
-long_found words (Some word) e = ap (option_map (λ (name : List ℕ). length name)) (ap (option_map (λ (word : Bor (List ℕ)). word.now)) e ∙ sym (found_texts (λ name. nat_lt 1023 (length name)) words))
+long_found words None e = ap (option_map (λ (name : List ℕ). length name)) (ap (option_map (λ (word : Bor (List ℕ)). word.now)) e ∙ sym (found_texts (λ name. nat_lt MAX_NAME (length name)) words))
+long_found words (Some word) e = ap (option_map (λ (name : List ℕ). length name)) (ap (option_map (λ (word : Bor (List ℕ)). word.now)) e ∙ sym (found_texts (λ name. nat_lt MAX_NAME (length name)) words))

@@ -6,6 +6,7 @@ use Rattle.std.specs.Borrow.{Bor}
 use Rattle.std.specs.Option.{option_map}
 use Rattle.circuit_model.specs.declared.circuit.Tri.{Tri}
 use Rattle.circuit_model.specs.declared.circuit.Tri.TheVariants.{Zero, One, Free}
+use Rattle.sis_base.specs.declared.limits.TheConstants.{MAX_NAME}
 
 -- the bytes of words that stand in a text
 abbrev pub texts : List (Bor (List ℕ)) → List (List ℕ)
@@ -21,9 +22,9 @@ abbrev pub other_words : List (List ℕ) → List (List ℕ)
 other_words [] = []
 other_words (word ∷ words) = words
 
--- the length of the first name of more than 1,023 bytes
+-- the length of the first name of more than `MAX_NAME` bytes
 unfoldable pub long_name : List (List ℕ) → Option ℕ
-long_name names = option_map (λ (name : List ℕ). length name) (find (λ name. nat_lt 1023 (length name)) names)
+long_name names = option_map (λ (name : List ℕ). length name) (find (λ name. nat_lt MAX_NAME (length name)) names)
 
 -- whether a byte is a cube character
 abbrev pub is_character : ℕ → Bool

@@ -9,6 +9,7 @@ ghost use Rattle.line_words.specs.LineWords.{is_character as is_character_byte};
 ghost use Rattle.line_words.specs.LineWords.{character_of as character_by};
 
 use circuit_model::{Name, Names, Row, Tri};
+use sis_base::limits::MAX_NAME;
 use std::alloc::{AllocError, Global};
 use std::mem;
 
@@ -79,9 +80,9 @@ pub fn add_names(alloc: Global, names: &mut Names, words: &[&[u8]]) -> Result<()
 
 /// The first of some words that is longer than a name may be.
 fn first_long<'a, 'w>(words: &'w [&'a [u8]]) -> Option<&'w &'a [u8]>
-    ensures { option_copied result ≡ find (λ word. nat_lt 1023 (length word.now)) words.now }
+    ensures { option_copied result ≡ find (λ word. nat_lt MAX_NAME (length word.now)) words.now }
 {
-    words.iter().find(|word| word.len() > 1023)
+    words.iter().find(|word| word.len() > MAX_NAME)
 }
 
 /// The length, in bytes, of the first word that is longer than a name may be.

@@ -13,6 +13,7 @@ use Rattle.net_candidates.specs.declared.rule.Rule.{Rule}
 use Rattle.cover_names.specs.Literals.{NamedCover}
 use Rattle.cover_names.proofs.Orders.{IsOrder, cover_order}
 use Rattle.net_core.specs.Fresh.{bracketed, IsNewName, node_count}
+use Rattle.sis_base.specs.declared.limits.TheConstants.{MAX_NODES}
 
 -- chains of steps that each have one outcome come to one end, where nothing follows the ends
 pub follows_one : {N : Type 0} (Next : N → N → Type 0) → ((x y z : N) → Next x y → Next x z → y ≡ z) → (one other : List N) (from first second : N)
@@ -69,8 +70,8 @@ done_no_next rule circuit done name cover next =
 pub done_no_step : (rule : Rule) (circuit : Circuit) → IsDone rule circuit → (new : Circuit) → IsStep rule circuit new → ⊥
 done_no_step rule circuit done new step = done_no_next rule circuit done step.name step.cover step.next
 
-pub over_no_step : (rule : Rule) (circuit : Circuit) → 65535 ≤ node_count circuit → (new : Circuit) → IsStep rule circuit new → ⊥
-over_no_step rule circuit over new step = not_beyond (node_count circuit) 65535 step.room over
+pub over_no_step : (rule : Rule) (circuit : Circuit) → MAX_NODES ≤ node_count circuit → (new : Circuit) → IsStep rule circuit new → ⊥
+over_no_step rule circuit over new step = not_beyond (node_count circuit) MAX_NODES step.room over
 
 pub extracted_one : (rule : Rule) (circuit new other : Circuit) → IsExtracted rule circuit new → IsExtracted rule circuit other → new ≡ other
 extracted_one rule circuit new other end second =

@@ -19,6 +19,7 @@ use Rattle.alg_tables.proofs.Quotients.{image_has}
 use Rattle.net_candidates.specs.Faults.{fault_of}
 use Rattle.net_candidates.specs.Listed.{IsOwn}
 use Rattle.net_candidates.specs.declared.fault.ListFault.TheVariants.{ManyKernels}
+use Rattle.sis_base.specs.declared.limits.TheConstants.{MAX_KERNELS}
 
 cubes_back : (names : List (List ℕ)) (rows : List (List (Option Bool)))
     → map (λ row. sorted_cube (cube_over names (places_of row))) (map characters_of rows) ≡ map (λ row. sorted_cube (cube_over names row)) rows
@@ -64,9 +65,9 @@ kernels_own output table kernels over are cover = (
       (Has-map (cover_over table.inputs) k.rows kernels (are.every k.rows (moved_back table over (λ (width : ℕ) (f : List (List (Option Bool))). IsKernel width f k.rows) k.kernel))),
 )
 
-pub many_kernels : {R : Type 0} (output : List ℕ) (table : Table R) → IsOverInputs table → MoreKernels 10000 table.cover.width table.cover.rows ↔ HasManyKernels Gkx (named output table)
+pub many_kernels : {R : Type 0} (output : List ℕ) (table : Table R) → IsOverInputs table → MoreKernels MAX_KERNELS table.cover.width table.cover.rows ↔ HasManyKernels Gkx (named output table)
 unfolding named
-many_kernels output table over = (moved table over (MoreKernels 10000), moved_back table over (MoreKernels 10000))
+many_kernels output table over = (moved table over (MoreKernels MAX_KERNELS), moved_back table over (MoreKernels MAX_KERNELS))
 
 -- ---- what is answered where kernels are asked for
 
@@ -79,7 +80,7 @@ gkx_own rule output table names covers kernels made asked over same those e are 
     (sym (e ∙ ap₂ (λ (ns : List (List ℕ)) (ks : List Shape). map (cover_over ns) (rows_in ks)) same those))
     (kernels_own output table (rows_in kernels) over are cover))
 
-pub gkx_listable : {R : Type 0} (rule : Rule) (output : List ℕ) (table : Table R) → rule ≡ Gkx → IsOverInputs table → (MoreKernels 10000 table.cover.width table.cover.rows → ⊥)
+pub gkx_listable : {R : Type 0} (rule : Rule) (output : List ℕ) (table : Table R) → rule ≡ Gkx → IsOverInputs table → (MoreKernels MAX_KERNELS table.cover.width table.cover.rows → ⊥)
     → HasManyKernels rule (named output table) → ⊥
 gkx_listable rule output table asked over few many =
     few ((many_kernels output table over).1 (subst (λ (r : Rule). HasManyKernels r (named output table)) asked many))
@@ -89,6 +90,6 @@ limit_of KernelLimit e = refl
 limit_of KernelMemory e = absurd cc
 
 pub gkx_many : {R : Type 0} (rule : Rule) (output : List ℕ) (table : Table R) (fault : KernelFault) → rule ≡ Gkx → IsOverInputs table → fault_of fault ≡ ManyKernels
-    → (fault ≡ KernelLimit → MoreKernels 10000 table.cover.width table.cover.rows) → HasManyKernels rule (named output table)
+    → (fault ≡ KernelLimit → MoreKernels MAX_KERNELS table.cover.width table.cover.rows) → HasManyKernels rule (named output table)
 gkx_many rule output table fault asked over e many =
     subst (λ (r : Rule). HasManyKernels r (named output table)) (sym asked) ((many_kernels output table over).0 (many (limit_of fault e)))

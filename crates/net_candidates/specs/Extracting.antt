@@ -18,19 +18,21 @@ use Rattle.net_core.specs.Fresh.{IsNewName, node_count}
 use Rattle.net_core.specs.Tables.{places_of}
 use Rattle.circuit_laws.specs.Splits.{with_split}
 use Rattle.alg_tables.specs.Dividing.{cover_table, divided}
+use Rattle.sis_base.specs.declared.limits.TheConstants.{MAX_INPUTS, MAX_KERNELS, MAX_NODES}
 
 -- the circuit with the table of a cover under a name, its last, by which all tables that stood before are divided
 abbrev pub extracted : Circuit → List ℕ → NamedCover → Circuit
 extracted circuit name cover = with_split circuit (divided name true cover) (cover_table name cover)
 
--- a table stays as it is, or has at most 1,000 inputs once it is divided
+-- a table stays as it is, or has at most `MAX_INPUTS` inputs once it is divided
 abbrev pub IsNarrow : List ℕ → NamedCover → Table → Type 0
-IsNarrow name cover table = (divided name true cover table ≡ table) ⊎ (length (divided name true cover table).inputs ≤ 1000)
+IsNarrow name cover table = (divided name true cover table ≡ table) ⊎ (length (divided name true cover table).inputs ≤ MAX_INPUTS)
 
--- a candidate that may be extracted: no table that it adds or changes then has more than 1,000 inputs
+-- a candidate that may be extracted: no table that it adds or changes then has more than
+-- `MAX_INPUTS` inputs
 pub record IsOpen (rule : Rule) (circuit : Circuit) (name : List ℕ) (cover : NamedCover) : Type 0 where
   pub candidate : IsCandidate rule circuit.tables cover
-  pub added : length (cover_table name cover).inputs ≤ 1000
+  pub added : length (cover_table name cover).inputs ≤ MAX_INPUTS
   pub changed : AllByRecursion (IsNarrow name cover) circuit.tables
 
 -- how many literals there are once a cover is extracted
@@ -45,9 +47,9 @@ pub record IsBest (rule : Rule) (circuit : Circuit) (name : List ℕ) (cover : N
   pub first : (other : NamedCover) → IsOpen rule circuit name other → literals_after circuit name other ≡ literals_after circuit name cover
       → cover_cmp other cover ≡ Less → ⊥
 
--- where kernels are the candidates: a table has more than 10,000 of them
+-- where kernels are the candidates: a table has more than `MAX_KERNELS` of them
 abbrev pub HasManyKernels : Rule → Table → Type 0
-HasManyKernels Gkx table = MoreKernels 10000 (length table.inputs) (map places_of table.rows)
+HasManyKernels Gkx table = MoreKernels MAX_KERNELS (length table.inputs) (map places_of table.rows)
 HasManyKernels rule table = ⊥
 
 -- the candidates of a table can be listed
@@ -65,7 +67,7 @@ pub record IsStep (rule : Rule) (circuit new : Circuit) : Type 0 where
   pub name : List ℕ
   pub cover : NamedCover
   pub next : IsNext rule circuit name cover
-  pub room : node_count circuit < 65535
+  pub room : node_count circuit < MAX_NODES
   pub made : new ≡ extracted circuit name cover
 
 -- steps lead from one circuit to another one
@@ -90,7 +92,7 @@ pub record IsFull (rule : Rule) (circuit : Circuit) : Type 0 where
   pub name : List ℕ
   pub cover : NamedCover
   pub next : IsNext rule full name cover
-  pub over : 65535 ≤ node_count full
+  pub over : MAX_NODES ≤ node_count full
 
 -- steps lead to a circuit whose first table with too many kernels is that of a name
 pub record IsUnlistable (rule : Rule) (circuit : Circuit) (name : List ℕ) : Type 0 where

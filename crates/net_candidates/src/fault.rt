@@ -6,7 +6,7 @@ use std::alloc::AllocError;
 /// Why the candidates of a table are not listed.
 #[derive(Clone, Copy, Debug, PartialEq, Eq, Drop)]
 pub enum ListFault {
-    /// The table has more than 10,000 kernels.
+    /// The table has more than `MAX_KERNELS` kernels.
     ManyKernels,
     /// There is not enough memory.
     Memory,

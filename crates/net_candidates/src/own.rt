@@ -97,7 +97,7 @@ fn covers_over<R: Row>(
 }
 
 /// What a table gives by a rule by itself: sums of two cubes and products of two literals, or kernels; under the third rule nothing.
-/// `ManyKernels` just where there are more than 10,000 kernels and they are asked for.
+/// `ManyKernels` just where there are more than `MAX_KERNELS` kernels and they are asked for.
 pub fn own_candidates<R: Row>(
     alloc: Global,
     rule: Rule,

@@ -1,6 +1,6 @@
 -- The names of new tables, and when one more table may stand.
 -- Source: the names `[n]` are those of SIS's own new nodes (UCB/ERL M92/41); that the least free number is taken, and the
--- limit of 65,535, are the project's own.
+-- limit of `MAX_NODES`, are the project's own.
 use Rattle.std.specs.Prelude.{◌≡◌, ℕ, ◌+◌, ◌^◌, ◌<◌, ◌≤◌, true, false, Result, Ok, Err, List, ◌++◌, length, decimal, codes}
 use Rattle.circuit_model.specs.Names.{has}
 use Rattle.circuit_model.specs.Soundness.{given, control_of, names_of}
@@ -10,6 +10,7 @@ use Rattle.net_core.specs.Tables.{named}
 use Rattle.net_core.specs.declared.table.Table.{Table}
 use Rattle.net_core.specs.declared.adding.AddFault.{AddFault}
 use Rattle.net_core.specs.declared.adding.AddFault.TheVariants.{NodeLimit, Memory}
+use Rattle.sis_base.specs.declared.limits.TheConstants.{MAX_NODES}
 
 -- a number in brackets
 unfoldable pub bracketed : ℕ → List ℕ
@@ -34,6 +35,6 @@ node_count circuit = length circuit.tables + length circuit.latches + length cir
 
 -- what adding a table to a circuit may answer, and what it leaves
 abbrev pub Adds : {R : Type 0} → Circuit → Table R → Circuit → Result (List ℕ) AddFault → Type 0
-Adds old table new (Ok name) = (node_count old < 65535) × IsNewName old name × (new ≡ with_added old (named name table))
-Adds old table new (Err NodeLimit) = (65535 ≤ node_count old) × (new ≡ old)
-Adds old table new (Err Memory) = (node_count old < 65535) × (new ≡ old)
+Adds old table new (Ok name) = (node_count old < MAX_NODES) × IsNewName old name × (new ≡ with_added old (named name table))
+Adds old table new (Err NodeLimit) = (MAX_NODES ≤ node_count old) × (new ≡ old)
+Adds old table new (Err Memory) = (node_count old < MAX_NODES) × (new ≡ old)

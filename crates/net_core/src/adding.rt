@@ -12,10 +12,8 @@ use crate::places::Entry;
 use crate::reads::is_among;
 use circuit_model::{Latch, Name, Table as Written, Timing};
 use cube_cover::Row;
+use sis_base::limits::MAX_NODES;
 use std::alloc::{AllocError, Global};
-
-/// How many tables and latches may stand, the tables of the don't-care part with them.
-const NODE_LIMIT: u128 = 65_535;
 
 /// Why no table was added: so many tables and latches stand already, or memory is wanting.
 #[derive(Clone, Copy, Debug, PartialEq, Eq, Drop)]
@@ -91,9 +89,9 @@ pub(crate) fn is_mentioned(tables: &[Written], name: &Name) -> bool
 
 // Whether no more table may stand.
 fn is_over(tables: usize, latches: usize, dont_care: usize) -> bool
-    ensures { IsTrue result ↔ (65535 ≤ tables + latches + dont_care) }
+    ensures { IsTrue result ↔ (MAX_NODES ≤ tables + latches + dont_care) }
 {
-    NODE_LIMIT <= tables as u128 + latches as u128 + dont_care as u128
+    MAX_NODES as u128 <= tables as u128 + latches as u128 + dont_care as u128
 }
 
 // One for a table, none where it is gone.
@@ -123,7 +121,7 @@ pub(crate) fn table_count<R: Row>(slots: &[Option<Entry<R>>]) -> usize
 /// places only where there are so many that it must.
 #[tactic(auto, using(crate::proofs::Counting::fewer_present))]
 pub fn is_full<R: Row>(slots: &[Option<Entry<R>>], latches: usize, dont_care: usize) -> bool
-    ensures { IsTrue result ↔ (65535 ≤ length (present slots.now) + latches + dont_care) }
+    ensures { IsTrue result ↔ (MAX_NODES ≤ length (present slots.now) + latches + dont_care) }
 {
     if !is_over(slots.len(), latches, dont_care) {
         return false;

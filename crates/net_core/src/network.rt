@@ -28,6 +28,7 @@ use circuit_model::{
 use circuit_order::order;
 use cube_cover::Row;
 use indexmap::IndexMap;
+use sis_base::limits::MAX_NODES;
 use sis_base::{Copied, Sequence, Whole};
 use std::alloc::{AllocError, Global};
 use std::marker::Model;
@@ -494,7 +495,7 @@ impl<R: Row> Network<R> {
 
     // Whether no more table may stand.
     fn is_at_limit(&self) -> bool
-        ensures { IsTrue result ↔ (65535 ≤ node_count self.now) }
+        ensures { IsTrue result ↔ (MAX_NODES ≤ node_count self.now) }
     {
         is_full(self.slots(), self.latches.len(), self.dont_care.len())
     }

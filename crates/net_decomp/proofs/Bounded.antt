@@ -29,6 +29,7 @@ use Rattle.net_decomp.proofs.Values.{KeepsRows}
 use Rattle.net_decomp.proofs.Adding.{characters_wide, HoldsParts, parts_hold, found_many}
 use Rattle.net_decomp.proofs.PartedSteps.{over_names, parted_wide, next_at, next_keeps, step_extended, reached_extended}
 use Rattle.net_decomp.proofs.Counts.{HasCounts, sums_of, due_counts}
+use Rattle.sis_base.specs.declared.limits.TheConstants.{MAX_NODES}
 
 -- a table has at most so many rows and inputs
 abbrev pub IsWithin : ℕ → ℕ → Table → Type 0
@@ -134,7 +135,7 @@ step_nodes rule circuit new step =
 
 -- no node was added, or there is room for all
 abbrev pub HadRoom : Circuit → Circuit → Type 0
-HadRoom old new = (node_count new ≡ node_count old) ⊎ (node_count new ≤ 65535)
+HadRoom old new = (node_count new ≡ node_count old) ⊎ (node_count new ≤ MAX_NODES)
 
 pub room_through : (first second third : Circuit) → HadRoom first second → HadRoom second third → HadRoom first third
 room_through first second third (inl one) (inl two) = inl (two ∙ one)
@@ -153,7 +154,7 @@ none_or_room (first ∷ list) count most room =
 pub step_room : (rule : Rule) (circuit new : Circuit) → IsStep rule circuit new → HadRoom circuit new
 step_room rule circuit new step =
     let same : node_count new ≡ node_count circuit + length step.parting.parts = step_nodes rule circuit new step in
-    elim (none_or_room step.parting.parts (node_count circuit) 65535 step.parted.room) as (λ _. HadRoom circuit new) [
+    elim (none_or_room step.parting.parts (node_count circuit) MAX_NODES step.parted.room) as (λ _. HadRoom circuit new) [
       | inl none ↦ inl (omega (arith, same, none))
       | inr room ↦ inr (omega (arith, same, room))
     ]
@@ -230,7 +231,7 @@ reached_within_nodes rule start rows inputs one circuit new within reached =
     reached.between circuit new within reached.steps
 
 -- where all but the tables stays, and there was room for each node more, the bounds stay
-pub room_bounds : (inputs : ℕ) (circuit new : Circuit) → inputs + 65535 < 2 ^ 30 → HasBounds circuit → new ≡ with_tables circuit new.tables
+pub room_bounds : (inputs : ℕ) (circuit new : Circuit) → inputs + MAX_NODES < 2 ^ 30 → HasBounds circuit → new ≡ with_tables circuit new.tables
     → IsWithinNodes (node_count circuit) 536870911 inputs new → HadRoom circuit new → HasBounds new
 room_bounds inputs circuit new narrow bounds rest within had = cases had
   where
@@ -240,7 +241,7 @@ room_bounds inputs circuit new narrow bounds rest within had = cases had
     others : length new.dont_care ≡ length circuit.dont_care
     others = ap (λ (c : Circuit). length c.dont_care) rest
 
-    tables : within.added ≤ 65535 → AllByRecursion IsBounded new.tables
+    tables : within.added ≤ MAX_NODES → AllByRecursion IsBounded new.tables
     tables few =
         all_weaker (IsWithin 536870911 (inputs + within.added)) IsBounded
         (λ table small. record { rows = omega (arith, small.0); inputs = omega (arith, small.1, few, narrow) }) new.tables within.tables
@@ -249,8 +250,9 @@ room_bounds inputs circuit new narrow bounds rest within had = cases had
     cases (inl same) = record { nodes = omega (arith, same, latches, others, bounds.nodes); tables = tables (omega (arith, same, within.nodes)) }
     cases (inr room) = record { nodes = omega (arith, room); tables = tables (omega (arith, room, within.nodes)) }
 
--- a network keeps its bounds where the inputs of each table are 65,535 below them, and the rule makes sums of a row or more
-pub reached_bounds : (rule : Rule) (inputs : ℕ) (circuit new : Circuit) → 1 ≤ sums_of rule → inputs + 65535 < 2 ^ 30 → IsSound circuit → HasBounds circuit
+-- a network keeps its bounds where the inputs of each table are `MAX_NODES` below them, and the
+-- rule makes sums of a row or more
+pub reached_bounds : (rule : Rule) (inputs : ℕ) (circuit new : Circuit) → 1 ≤ sums_of rule → inputs + MAX_NODES < 2 ^ 30 → IsSound circuit → HasBounds circuit
     → AllByRecursion (λ (table : Table). length table.inputs ≤ inputs) circuit.tables → IsReached rule circuit new → HasBounds new
 reached_bounds rule inputs circuit new one narrow sound bounds all reached =
     let made = reached_within_nodes rule (node_count circuit) 536870911 inputs one circuit new (record {

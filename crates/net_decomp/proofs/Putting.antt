@@ -18,6 +18,7 @@ use Rattle.net_decomp.proofs.Bounded.{parts_nodes}
 use Rattle.net_work.specs.Placed.{Placed, circuit_of, with_last}
 use Rattle.net_work.proofs.Standing.{standing_push}
 use Rattle.net_decomp.specs.Cursor.{ArePut, HasRoomFor}
+use Rattle.sis_base.specs.declared.limits.TheConstants.{MAX_NODES}
 
 -- one part more
 parts_more : (table : Table) (parts : List (List (List (Option Bool)))) (part : List (List (Option Bool))) (circuit : Circuit) (names : List (List ℕ)) (name : List ℕ) (between : Circuit)
@@ -98,12 +99,12 @@ module _ {V : Type 0} (rows : V → List (List (Option Bool))) where
       at (first ∷ done) h = at done h.1
 
   pub part_fault : (inputs : List (List ℕ)) (done rest all : List V) (part : V) (names : List (List ℕ)) (before now : Placed) (fault : AddFault) → done ++ part ∷ rest ≡ all
-      → ArePut inputs (map rows done) names before now → HasRoomFor (node_count (circuit_of before)) (length all) → (fault ≡ NodeLimit → 65535 ≤ node_count (circuit_of now)) → fault ≡ Memory
+      → ArePut inputs (map rows done) names before now → HasRoomFor (node_count (circuit_of before)) (length all) → (fault ≡ NodeLimit → MAX_NODES ≤ node_count (circuit_of now)) → fault ≡ Memory
   part_fault inputs done rest all part names before now NodeLimit is put room limit =
       let nodes : node_count (circuit_of now) ≡ node_count (circuit_of before) + length (map rows done) = put_nodes inputs (map rows done) names before now put in
       let many : length (map rows done) ≡ length done = length-map done rows in
       let more : length done + suc (length rest) ≡ length all = sym (length-append done (part ∷ rest)) ∙ ap length is in
-      let full : 65535 ≤ node_count (circuit_of now) = limit refl in
-      let fits : node_count (circuit_of before) + length all ≤ 65535 = room (omega (arith, more)) in
+      let full : MAX_NODES ≤ node_count (circuit_of now) = limit refl in
+      let fits : node_count (circuit_of before) + length all ≤ MAX_NODES = room (omega (arith, more)) in
       absurd (omega (arith, nodes, many, more, full, fits))
   part_fault inputs done rest all part names before now Memory is put room limit = refl

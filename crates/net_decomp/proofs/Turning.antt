@@ -27,6 +27,7 @@ use Rattle.net_decomp.specs.Cursor.{ArePut, IsTurned, IsPartedAt, HasRoomFor, ro
 use Rattle.net_decomp.proofs.Slots.{standing_behind, table_before, table_within, table_set, table_other, among, standing_set}
 use Rattle.net_decomp.proofs.Putting.{put_nodes}
 use Rattle.net_decomp.proofs.Falling.{due_falls}
+use Rattle.sis_base.specs.declared.limits.TheConstants.{MAX_NODES}
 
 -- the table at a place drives its signal
 pub placed_drives : (now : Placed) (place : ℕ) (table : Table) → IsSound (circuit_of now) → table_at now.slots place ≡ Some table → driver (standing now.slots) table.output ≡ Some table
@@ -89,8 +90,8 @@ bit_bound : (b : Bool) → cond {A = ℕ} b 1 0 ≤ 1
 bit_bound true = omega arith
 bit_bound false = omega arith
 
-falls_by_room : (nodes more : ℕ) (before now : Bool) → 1 ≤ more → nodes + more ≤ 65535
-    → 2 * (65536 - (nodes + more)) + cond {A = ℕ} now 1 0 < 2 * (65536 - nodes) + cond {A = ℕ} before 1 0
+falls_by_room : (nodes more : ℕ) (before now : Bool) → 1 ≤ more → nodes + more ≤ MAX_NODES
+    → 2 * ((MAX_NODES + 1) - (nodes + more)) + cond {A = ℕ} now 1 0 < 2 * ((MAX_NODES + 1) - nodes) + cond {A = ℕ} before 1 0
 falls_by_room nodes more before now some room = omega (arith, some, room, bit_bound now)
 
 pub turned_falls : (rule : Rule) (table : Table) (parting : Parting) (place : ℕ) (before now : Placed) → IsTurned table parting place before now → IsSound (circuit_of before)
@@ -109,7 +110,7 @@ turned_falls rule table parting place before now turned sound there wide due roo
     left = ltb 1 (row_count (table_at now.slots place))
 
     cases : (parts : List (List (List (Option Bool)))) → parting.parts ≡ parts → ArePartsAdded table parts (circuit_of before) turned.names (circuit_of turned.between)
-        → 2 * (65536 - node_count (circuit_of now)) + cond {A = ℕ} left 1 0 < 2 * (65536 - node_count (circuit_of before)) + cond {A = ℕ} several 1 0
+        → 2 * ((MAX_NODES + 1) - node_count (circuit_of now)) + cond {A = ℕ} left 1 0 < 2 * ((MAX_NODES + 1) - node_count (circuit_of before)) + cond {A = ℕ} several 1 0
     cases [] none added =
         let long : 1 < length (rows_of table) = (due_falls rule table parting due none).several in
         let same : length (rows_of table) ≡ length table.rows = length-map table.rows places_of in
@@ -122,7 +123,7 @@ turned_falls rule table parting place before now turned sound there wide due roo
         omega (arith, first_is, last_is, as_many)
     cases (part ∷ parts) some added =
         let many : length parting.parts ≡ suc (length parts) = ap length some in
-        subst (λ (n : ℕ). 2 * (65536 - n) + cond {A = ℕ} left 1 0 < 2 * (65536 - node_count (circuit_of before)) + cond {A = ℕ} several 1 0) (sym nodes)
+        subst (λ (n : ℕ). 2 * ((MAX_NODES + 1) - n) + cond {A = ℕ} left 1 0 < 2 * ((MAX_NODES + 1) - node_count (circuit_of before)) + cond {A = ℕ} several 1 0) (sym nodes)
         (falls_by_room (node_count (circuit_of before)) (length parting.parts) several left (omega (arith, many)) (room (omega (arith, many))))
 
 -- where there is room for the parts, they are not too many; where there is none, they are
@@ -132,7 +133,7 @@ room_not_full circuit parting room (some, over) = some (nil_from_length parting.
 pub over_full : (circuit : Circuit) (parting : Parting) → (HasRoomFor (node_count circuit) (length parting.parts) → ⊥) → IsOverfull circuit parting
 over_full circuit parting over = (
   λ none. let zero : length parting.parts ≡ 0 = ap length none in over (λ some. absurd (omega (arith, zero, some))),
-  elim (cases_lt 65535 (node_count circuit + length parting.parts)) as (λ _. 65535 < node_count circuit + length parting.parts) [
+  elim (cases_lt MAX_NODES (node_count circuit + length parting.parts)) as (λ _. MAX_NODES < node_count circuit + length parting.parts) [
     | inl more ↦ more
     | inr fits ↦ absurd (over (λ some. fits))
   ],

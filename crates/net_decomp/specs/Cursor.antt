@@ -16,6 +16,7 @@ use Rattle.net_core.specs.Reads.{IsBounded, HasBounds}
 use Rattle.net_work.specs.Placed.{Placed, standing, circuit_of, table_at, with_slot}
 use Rattle.net_decomp.specs.Told.{told}
 use Rattle.net_decomp.specs.declared.stepping.Due.{Due}
+use Rattle.sis_base.specs.declared.limits.TheConstants.{MAX_NODES}
 
 -- a table is due, and what is told of it
 pub record IsDueOf {R : Type 0} (rule : Rule) (f : R → List (Option Bool)) (table : Table) (due : Due R) : Type 0 where
@@ -53,7 +54,7 @@ row_count (Some table) = length table.rows
 
 -- a number that falls with each step at a place: parts take room; and where there are none, one row is left of several
 unfoldable pub weight : ℕ → Placed → ℕ
-weight place now = 2 * (65536 - node_count (circuit_of now)) + cond {A = ℕ} (ltb 1 (row_count (table_at now.slots place))) 1 0
+weight place now = 2 * ((MAX_NODES + 1) - node_count (circuit_of now)) + cond {A = ℕ} (ltb 1 (row_count (table_at now.slots place))) 1 0
 
 -- the table at a place was parted by a rule
 pub record IsPartedAt (rule : Rule) (place : ℕ) (before now : Placed) : Type 0 where
@@ -68,7 +69,7 @@ pub record IsPartedAt (rule : Rule) (place : ℕ) (before now : Placed) : Type 0
 
 -- among so many nodes there is room for so many more; for none there always is
 abbrev pub HasRoomFor : ℕ → ℕ → Type 0
-HasRoomFor nodes more = 1 ≤ more → nodes + more ≤ 65535
+HasRoomFor nodes more = 1 ≤ more → nodes + more ≤ MAX_NODES
 
 -- there is no room for the parts of the table at a place
 pub record IsOverAt (rule : Rule) (place : ℕ) (now : Placed) : Type 0 where

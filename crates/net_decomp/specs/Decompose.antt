@@ -1,5 +1,6 @@
 -- What decomposing a network answers: the decomposed network, or that there is no room.
--- Source: the SIS report (UCB/ERL M92/41), `decomp` and `tech_decomp`. The limit of 65,535 nodes is the project's own.
+-- Source: the SIS report (UCB/ERL M92/41), `decomp` and `tech_decomp`. The limit of `MAX_NODES`
+-- nodes is the project's own.
 use Rattle.std.specs.Prelude.{Result, Ok, Err}
 use Rattle.circuit_model.specs.declared.circuit.Circuit.{Circuit}
 use Rattle.net_decomp.specs.Decomposed.{IsDecomposed, IsFull}

@@ -1,7 +1,8 @@
 -- Parts of a table that become tables of their own, over whose signals the table is rewritten.
 -- Source: Brayton, Rudell, Sangiovanni-Vincentelli and Wang, "MIS: A Multiple-Level Logic Optimization System" (1987), and the SIS
 -- report (UCB/ERL M92/41), `decomp` and `tech_decomp`; De Micheli, "Synthesis and Optimization of Digital Circuits", chapter 8
--- (decomposition of a vertex). That new signals take the least free name in brackets, and the limit of 65,535 nodes, are the
+-- (decomposition of a vertex). That new signals take the least free name in brackets, and the limit
+-- of `MAX_NODES` nodes, are the
 -- project's own.
 use Rattle.std.specs.Prelude.{◌≡◌, ◌≢◌, ℕ, ◌+◌, ◌<◌, Bool, true, Option, List, [], ◌∷◌, ◌++◌, map, length}
 use Rattle.circuit_model.specs.declared.circuit.Table.{Table}
@@ -10,6 +11,7 @@ use Rattle.circuit_laws.specs.Edits.{with_added, with_replaced}
 use Rattle.net_core.specs.Fresh.{IsNewName, node_count}
 use Rattle.net_core.specs.Tables.{places_of, characters_of}
 use Rattle.circuit_tables.specs.Tidy.{tidied}
+use Rattle.sis_base.specs.declared.limits.TheConstants.{MAX_NODES}
 
 -- rows over the inputs of a table, in lists of which each is to become a table; and the rows that the table then has, over its inputs
 -- and one more input for each of those tables
@@ -38,7 +40,7 @@ parted_table table names rows = tidied (record table { inputs = table.inputs ++ 
 
 -- there are parts, and with them there would be more nodes than may stand
 abbrev pub IsOverfull : Circuit → Parting → Type 0
-IsOverfull circuit parting = (parting.parts ≢ []) × (65535 < node_count circuit + length parting.parts)
+IsOverfull circuit parting = (parting.parts ≢ []) × (MAX_NODES < node_count circuit + length parting.parts)
 
 -- a table of a circuit is parted: there is room for its parts, they are added, and it is rewritten over their signals in its place
 pub record IsParted (circuit : Circuit) (table : Table) (parting : Parting) (new : Circuit) : Type 0 where

@@ -76,7 +76,8 @@ fn nodes_of<R: Row>(network: &Network<R>) -> u128
 /// A network after decomposition, beside the one that stays. Tables are parted by a rule until all
 /// are done, always the earliest one that is not; parts become tables that stand last, under the
 /// least free names. `NodeLimit` exactly where a step has parts and with them there would be more
-/// than 65,535 tables and latches, those of the don't-care part counted. `Memory` stands also for a
+/// than `MAX_NODES` tables and latches, those of the don't-care part counted. `Memory` stands also
+/// for a
 /// tidy table of 2^30 inputs or 2^29 rows that would be made.
 pub fn decompose<R: Row>(
     alloc: Global,

@@ -23,10 +23,11 @@ use cube_cover::{Cover, Row};
 use net_core::{AddFault, Table, tidy};
 use net_work::Work;
 use sis_base::Copied;
+use sis_base::limits::MAX_NODES;
 use std::alloc::{AllocError, Global};
 
 /// How many tables and latches may stand, the tables of the don't-care part with them.
-const NODE_LIMIT: u128 = 65_535;
+const NODE_LIMIT: u128 = MAX_NODES as u128;
 
 /// A table of so many inputs is not made: that is answered as want of memory.
 const INPUT_BOUND: usize = 1 << 30;
@@ -118,7 +119,7 @@ fn add_part<R: Row>(
     requires { HasWidth (length inputs.now) (map R.literals part.items) }
     ensures added { IfOk result (λ name. IsNewName (circuit_of work.old) name × (work.new ≡ with_last work.old (tidied (record { inputs = inputs.now; output = name; rows = map characters_of (map R.literals part.items); phase = true })))) }
     ensures bounded { IfOk result (λ name. IsBounded (tidied (record { inputs = inputs.now; output = name; rows = map characters_of (map R.literals part.items); phase = true }))) }
-    ensures limit { IfErr result (λ fault. fault ≡ NodeLimit → 65535 ≤ node_count (circuit_of work.old)) }
+    ensures limit { IfErr result (λ fault. fault ≡ NodeLimit → MAX_NODES ≤ node_count (circuit_of work.old)) }
 {
     let table = tidy_table(alloc, inputs.copy(alloc)?, part, true)?;
     work.add(alloc, table)

@@ -17,6 +17,7 @@ use Rattle.net_elim.specs.Collapsing.{with_put, is_outer, refusal_among, put_ref
 use Rattle.net_elim.proofs.Small.{taken_bounded, kept_bounded}
 use Rattle.net_elim.proofs.Gathered.{collapse_reduced}
 use Rattle.net_elim.proofs.Leaving.{kept_tables}
+use Rattle.sis_base.specs.declared.limits.TheConstants.{MAX_ROWS}
 
 abbrev named_fault : List ℕ → TakeFault → List ℕ × TakeFault
 named_fault name fault = (name, fault)
@@ -34,8 +35,8 @@ all_taken : (inner : Table) (tables : List Table) → refusal_among inner tables
 unfolding refusal_among
 all_taken inner [] none all = tt
 all_taken inner (outer ∷ tables) none all =
-    let (first, rest) = or_none (option_map (λ (fault : TakeFault). named_fault outer.output fault) (take_refusal 32767 32767 inner outer)) (refusal_among inner tables) none in
-    (taken_bounded 32767 inner outer (omega arith) (map_none (λ (fault : TakeFault). named_fault outer.output fault) (take_refusal 32767 32767 inner outer) first) all.0, all_taken inner tables rest all.1)
+    let (first, rest) = or_none (option_map (λ (fault : TakeFault). named_fault outer.output fault) (take_refusal MAX_ROWS MAX_ROWS inner outer)) (refusal_among inner tables) none in
+    (taken_bounded MAX_ROWS inner outer (omega arith) (map_none (λ (fault : TakeFault). named_fault outer.output fault) (take_refusal MAX_ROWS MAX_ROWS inner outer) first) all.0, all_taken inner tables rest all.1)
 
 all_put : (circuit : Circuit) (name : List ℕ) → put_refusal circuit name ≡ None → AllByRecursion IsBounded circuit.tables
     → AllByRecursion IsBounded (with_put circuit name).tables × (length (with_put circuit name).tables ≡ length circuit.tables)

@@ -29,6 +29,7 @@ use Rattle.net_elim.specs.declared.putting.Made.{Made}
 use Rattle.net_elim.specs.declared.putting.PutFault.{PutFault}
 use Rattle.net_elim.specs.declared.putting.PutFault.TheVariants.{Refused, Memory}
 use Rattle.net_elim.proofs.Places.{same_lists, drives_at, tests_all, tests_none}
+use Rattle.sis_base.specs.declared.limits.TheConstants.{MAX_ROWS}
 
 -- one reader
 module _ {R : Type 0} where
@@ -61,21 +62,21 @@ reader_there slots at name h = cases (table_at slots at) h
     cases (Some t) k = refl
 
 pub all_taken : (rows : ℕ) (placed : Placed) (inner : Written) (readers : List ℕ) → ((at : ℕ) → is_in readers at ≡ has (inputs_at placed.slots at) inner.output)
-    → ((at : ℕ) (outer : Written) → is_in readers at ≡ true → table_at placed.slots at ≡ Some outer → take_refusal 32767 rows inner outer ≡ None) → all_take rows (circuit_of placed) inner ≡ true
+    → ((at : ℕ) (outer : Written) → is_in readers at ≡ true → table_at placed.slots at ≡ Some outer → take_refusal MAX_ROWS rows inner outer ≡ None) → all_take rows (circuit_of placed) inner ≡ true
 unfolding all_take
 all_taken rows placed inner readers are fits =
-    tests_all (λ (outer : Written). is_none (take_refusal 32767 rows inner outer)) placed.slots (λ at outer e. cases at outer e (has outer.inputs inner.output) refl)
+    tests_all (λ (outer : Written). is_none (take_refusal MAX_ROWS rows inner outer)) placed.slots (λ at outer e. cases at outer e (has outer.inputs inner.output) refl)
   where
-    cases : (at : ℕ) (outer : Written) → table_at placed.slots at ≡ Some outer → (b : Bool) → has outer.inputs inner.output ≡ b → is_none (take_refusal 32767 rows inner outer) ≡ true
+    cases : (at : ℕ) (outer : Written) → table_at placed.slots at ≡ Some outer → (b : Bool) → has outer.inputs inner.output ≡ b → is_none (take_refusal MAX_ROWS rows inner outer) ≡ true
     cases at outer e true k =
         ap is_none (fits at outer (are at ∙ (ap (λ (o : Option Written). has (inputs_in o) inner.output) e ∙ k)) e)
-    cases at outer e false k = ap is_none (unread_takes 32767 rows inner outer k)
+    cases at outer e false k = ap is_none (unread_takes MAX_ROWS rows inner outer k)
 
-pub none_taken : (rows : ℕ) (placed : Placed) (inner : Written) (at : ℕ) (outer : Written) → table_at placed.slots at ≡ Some outer → is_some (take_refusal 32767 rows inner outer) ≡ true
+pub none_taken : (rows : ℕ) (placed : Placed) (inner : Written) (at : ℕ) (outer : Written) → table_at placed.slots at ≡ Some outer → is_some (take_refusal MAX_ROWS rows inner outer) ≡ true
     → all_take rows (circuit_of placed) inner ≡ false
 unfolding all_take
 none_taken rows placed inner at outer e h =
-    tests_none (λ (o : Written). is_none (take_refusal 32767 rows inner o)) placed.slots at outer e (refused (take_refusal 32767 rows inner outer) h)
+    tests_none (λ (o : Written). is_none (take_refusal MAX_ROWS rows inner o)) placed.slots at outer e (refused (take_refusal MAX_ROWS rows inner outer) h)
   where
     refused : (o : Option TakeFault) → is_some o ≡ true → is_none o ≡ false
     refused None k = absurd (false≢true k)
@@ -202,14 +203,14 @@ module _ {R : Type 0} where
 
   pub entry_takes : (rows : ℕ) (placed : Placed) (place : ℕ) (entry : Entry R) (readers : List ℕ) → Some (written_of entry) ≡ table_at placed.slots place
       → ((at : ℕ) → is_in readers at ≡ has (inputs_at placed.slots at) entry.output)
-      → ((at : ℕ) (outer : Written) → is_in readers at ≡ true → table_at placed.slots at ≡ Some outer → take_refusal 32767 rows (written_of entry) outer ≡ None)
+      → ((at : ℕ) (outer : Written) → is_in readers at ≡ true → table_at placed.slots at ≡ Some outer → take_refusal MAX_ROWS rows (written_of entry) outer ≡ None)
       → (inner : Written) → table_at placed.slots place ≡ Some inner → all_take rows (circuit_of placed) inner ≡ true
   unfolding named
   entry_takes rows placed place entry readers there are fits inner e =
       subst (λ (t : Written). all_take rows (circuit_of placed) t ≡ true) (same_Some (written_of entry) inner (there ∙ e)) (all_taken rows placed (written_of entry) readers are fits)
 
   pub entry_refused : (rows : ℕ) (placed : Placed) (place : ℕ) (entry : Entry R) (fault : PutFault) → Some (written_of entry) ≡ table_at placed.slots place
-      → (fault ≡ Memory) ⊎ ((fault ≡ Refused) × ((at : ℕ) × ((outer : Written) → table_at placed.slots at ≡ Some outer → is_some (take_refusal 32767 rows (written_of entry) outer) ≡ true) × (is_some (table_at placed.slots at) ≡ true)))
+      → (fault ≡ Memory) ⊎ ((fault ≡ Refused) × ((at : ℕ) × ((outer : Written) → table_at placed.slots at ≡ Some outer → is_some (take_refusal MAX_ROWS rows (written_of entry) outer) ≡ true) × (is_some (table_at placed.slots at) ≡ true)))
       → (fault ≡ Memory) ⊎ ((fault ≡ Refused) × ((inner : Written) → table_at placed.slots place ≡ Some inner → all_take rows (circuit_of placed) inner ≡ false))
   entry_refused rows placed place entry fault there (inl none) = inl none
   entry_refused rows placed place entry fault there (inr (is, (at, refuses, stands))) =
@@ -221,8 +222,8 @@ module _ {R : Type 0} where
       )
 
   pub refused_among : (rows : ℕ) (placed : Placed) (entry : Entry R) (fault : PutFault) (at : ℕ) → is_some (table_at placed.slots at) ≡ true
-      → (fault ≡ Memory) ⊎ ((fault ≡ Refused) × ((outer : Written) → table_at placed.slots at ≡ Some outer → is_some (take_refusal 32767 rows (written_of entry) outer) ≡ true))
-      → (fault ≡ Memory) ⊎ ((fault ≡ Refused) × ((x : ℕ) × ((outer : Written) → table_at placed.slots x ≡ Some outer → is_some (take_refusal 32767 rows (written_of entry) outer) ≡ true) × (is_some (table_at placed.slots x) ≡ true)))
+      → (fault ≡ Memory) ⊎ ((fault ≡ Refused) × ((outer : Written) → table_at placed.slots at ≡ Some outer → is_some (take_refusal MAX_ROWS rows (written_of entry) outer) ≡ true))
+      → (fault ≡ Memory) ⊎ ((fault ≡ Refused) × ((x : ℕ) × ((outer : Written) → table_at placed.slots x ≡ Some outer → is_some (take_refusal MAX_ROWS rows (written_of entry) outer) ≡ true) × (is_some (table_at placed.slots x) ≡ true)))
   refused_among rows placed entry fault at stands (inl none) = inl none
   refused_among rows placed entry fault at stands (inr (is, refuses)) = inr (is, (at, refuses, stands))
 

@@ -24,6 +24,7 @@ use Rattle.alg_tables.specs.Taking.{taken_in, take_refusal, refusal_at, is_list_
 use Rattle.alg_tables.specs.declared.taking.TakeFault.TheVariants.{CubeLimit, TooWide}
 use Rattle.net_elim.specs.Eliminating.{all_take, is_candidate, least, with_eliminated, eliminate_step}
 use Rattle.net_elim.proofs.Stepping.{filter_all, all_weaker, least_all, step_reduced}
+use Rattle.sis_base.specs.declared.limits.TheConstants.{MAX_ROWS}
 
 -- what tidying makes has at most one row more, and no more inputs
 folded_few : (table : Table) → length (folded table).rows ≤ suc (length table.rows)
@@ -115,16 +116,16 @@ few_enough false most rows inputs h = cases (ltb most rows) refl (ltb 1000 input
     cases false e false f k = (ltb-false most rows e, ltb-false 1000 inputs f)
 
 pub taken_bounded : (most : ℕ) (inner outer : Table) → suc most < 2 ^ 29
-    → take_refusal 32767 most inner outer ≡ None → IsBounded outer
+    → take_refusal MAX_ROWS most inner outer ≡ None → IsBounded outer
     → IsBounded (taken_in inner outer)
 unfolding taken_in take_refusal
 taken_bounded most inner outer small none bounded = cases (read_place inner outer) none
   where
-    cases : (o : Option ℕ) → option_map_or (λ place. refusal_at 32767 most place inner outer) o None
+    cases : (o : Option ℕ) → option_map_or (λ place. refusal_at MAX_ROWS most place inner outer) o None
         ≡ None → IsBounded (option_map_or (λ place. tidied (composed_at place inner outer)) o outer)
     cases None h = bounded
     cases (Some place) h =
-        let (rows, inputs) = few_enough (is_list_long 32767 place inner outer) most
+        let (rows, inputs) = few_enough (is_list_long MAX_ROWS place inner outer) most
         (length (composed_at place inner outer).rows)
         (length (composed_at place inner outer).inputs) h in
         record {
@@ -146,15 +147,15 @@ first_of_both true y h = refl
 first_of_both false y h = cc
 
 all_taken : (most : ℕ) (inner : Table) (tables : List Table) → suc most < 2 ^ 29
-    → list_all (λ (outer : Table). is_none (take_refusal 32767 most inner outer)) tables ≡ true
+    → list_all (λ (outer : Table). is_none (take_refusal MAX_ROWS most inner outer)) tables ≡ true
     → AllByRecursion IsBounded tables → AllByRecursion IsBounded (map (taken_in inner) tables)
 all_taken most inner [] small take all = tt
 all_taken most inner (outer ∷ tables) small take all = (
   taken_bounded most inner outer small
-      (refuses_nothing (take_refusal 32767 most inner outer)
-      (first_of_both (is_none (take_refusal 32767 most inner outer)) _ take)) all.0,
+      (refuses_nothing (take_refusal MAX_ROWS most inner outer)
+      (first_of_both (is_none (take_refusal MAX_ROWS most inner outer)) _ take)) all.0,
   all_taken most inner tables small
-      (second (is_none (take_refusal 32767 most inner outer)) _ take) all.1,
+      (second (is_none (take_refusal MAX_ROWS most inner outer)) _ take) all.1,
 )
 
 fewer_kept : (test : Table → Bool) (tables : List Table)

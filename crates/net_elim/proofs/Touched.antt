@@ -28,6 +28,7 @@ use Rattle.net_elim.proofs.Places.{tests_all, tests_each}
 use Rattle.net_elim.proofs.Readers.{unread_takes}
 use Rattle.net_elim.proofs.Steps.{there_named, place_within, worth_of_table, candidate_worth, worth_candidate}
 use Rattle.net_elim.proofs.Uses.{IsUntouched, same_place, slot_left, worth_left}
+use Rattle.sis_base.specs.declared.limits.TheConstants.{MAX_ROWS}
 
 -- a place behind others
 in_more : (places : List ℕ) (place at : ℕ) → is_in (places ++ place ∷ []) at ≡ true → (is_in places at ≡ true) ⊎ (place ≡ at)
@@ -172,12 +173,12 @@ takes_before : (rows : ℕ) (placed next : Placed) (place : ℕ) (inner t : Tabl
     → all_take rows (circuit_of next) t ≡ true → all_take rows (circuit_of placed) t ≡ true
 unfolding all_take
 takes_before rows placed next place inner t e is untouched h =
-    tests_all (λ (u : Table). is_none (take_refusal 32767 rows t u)) placed.slots (λ other u there. cases other u there (has u.inputs t.output) refl)
+    tests_all (λ (u : Table). is_none (take_refusal MAX_ROWS rows t u)) placed.slots (λ other u there. cases other u there (has u.inputs t.output) refl)
   where
-    cases : (other : ℕ) (u : Table) → table_at placed.slots other ≡ Some u → (b : Bool) → has u.inputs t.output ≡ b → is_none (take_refusal 32767 rows t u) ≡ true
-    cases other u there false k = ap is_none (unread_takes 32767 rows t u k)
+    cases : (other : ℕ) (u : Table) → table_at placed.slots other ≡ Some u → (b : Bool) → has u.inputs t.output ≡ b → is_none (take_refusal MAX_ROWS rows t u) ≡ true
+    cases other u there false k = ap is_none (unread_takes MAX_ROWS rows t u k)
     cases other u there true k =
-        tests_each (λ (u : Table). is_none (take_refusal 32767 rows t u)) next.slots h other u
+        tests_each (λ (u : Table). is_none (take_refusal MAX_ROWS rows t u)) next.slots h other u
         (ap (λ (p : Placed). table_at p.slots other) is
         ∙ (slot_left placed.slots place other inner apart
         ∙ (ap (option_map (taken_in inner)) there

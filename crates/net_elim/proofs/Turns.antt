@@ -25,6 +25,7 @@ use Rattle.net_elim.specs.declared.fault.CollapseFault.TheVariants.{CubeLimit, T
 use Rattle.net_elim.specs.Phases.{IsPut, IsPutInAll}
 use Rattle.net_elim.proofs.Stands.{all_stand, some_there, written_there, written_elsewhere}
 use Rattle.net_elim.proofs.Rising.{before_done, in_more, in_at, not_in_take}
+use Rattle.sis_base.specs.declared.limits.TheConstants.{MAX_ROWS}
 
 -- a table of a sound network drives its signal, does not read it, and names each input once
 pub drives : (placed : Placed) (place : ℕ) (inner : Table) → IsSound (circuit_of placed) → table_at placed.slots place ≡ Some inner → driver (standing placed.slots) inner.output ≡ Some inner
@@ -65,7 +66,7 @@ cause_none other Memory h = tt
 abbrev named_fault : Table → Option TakeFault → Option (List ℕ × TakeFault)
 named_fault outer found = option_map (λ (fault : TakeFault). (outer.output, fault)) found
 
-pub none_refuses : (inner : Table) (slots : List (Option Table)) → ((at : ℕ) (outer : Table) → table_at slots at ≡ Some outer → take_refusal 32767 32767 inner outer ≡ None)
+pub none_refuses : (inner : Table) (slots : List (Option Table)) → ((at : ℕ) (outer : Table) → table_at slots at ≡ Some outer → take_refusal MAX_ROWS MAX_ROWS inner outer ≡ None)
     → refusal_among inner (standing slots) ≡ None
 unfolding refusal_among standing
 none_refuses inner [] h = refl
@@ -74,13 +75,13 @@ none_refuses inner (Some table ∷ slots) h =
     ap (λ (o : Option TakeFault). option_or (named_fault table o) (refusal_among inner (standing slots))) (h 0 table refl) ∙ none_refuses inner slots (λ at. h (suc at))
 
 first_found : (inner : Table) (slots : List (Option Table)) (place : ℕ) (outer : Table) → table_at slots place ≡ Some outer
-    → ((at : ℕ) (other : Table) → at < place → table_at slots at ≡ Some other → take_refusal 32767 32767 inner other ≡ None)
-    → (rest : Option (List ℕ × TakeFault)) × (refusal_among inner (standing slots) ≡ option_or (named_fault outer (take_refusal 32767 32767 inner outer)) rest)
+    → ((at : ℕ) (other : Table) → at < place → table_at slots at ≡ Some other → take_refusal MAX_ROWS MAX_ROWS inner other ≡ None)
+    → (rest : Option (List ℕ × TakeFault)) × (refusal_among inner (standing slots) ≡ option_or (named_fault outer (take_refusal MAX_ROWS MAX_ROWS inner outer)) rest)
 unfolding refusal_among standing
 first_found inner [] place outer at before = absurd (none-some outer at)
 first_found inner (None ∷ slots) zero outer at before = absurd (none-some outer at)
 first_found inner (Some table ∷ slots) zero outer at before =
-    (refusal_among inner (standing slots), ap (λ (t : Table). option_or (named_fault t (take_refusal 32767 32767 inner t)) (refusal_among inner (standing slots))) (same_Some table outer at))
+    (refusal_among inner (standing slots), ap (λ (t : Table). option_or (named_fault t (take_refusal MAX_ROWS MAX_ROWS inner t)) (refusal_among inner (standing slots))) (same_Some table outer at))
 first_found inner (None ∷ slots) (suc place) outer at before = first_found inner slots place outer at (λ i other lt. before (suc i) other (omega (arith, lt)))
 first_found inner (Some table ∷ slots) (suc place) outer at before =
     let (rest, is) = first_found inner slots place outer at (λ i other lt. before (suc i) other (omega (arith, lt))) in
@@ -118,7 +119,7 @@ some_now inner done before now reader outer put at =
 pub put_more : (inner : Table) (done : List ℕ) (before now new : Placed) (reader : ℕ) (outer : Table) → IsPut inner done before now → has inner.inputs inner.output ≡ false
     → table_at before.slots reader ≡ Some outer → all_different outer.inputs ≡ true
     → ((table : Table) → table_at now.slots reader ≡ Some table → new ≡ with_slot now reader (Some (taken_in inner table)))
-    → ((table : Table) → table_at now.slots reader ≡ Some table → take_refusal 32767 32767 inner table ≡ None) → IsPut inner (done ++ reader ∷ []) before new
+    → ((table : Table) → table_at now.slots reader ≡ Some table → take_refusal MAX_ROWS MAX_ROWS inner table ≡ None) → IsPut inner (done ++ reader ∷ []) before new
 put_more inner done before now new reader outer put apart at once set_there takes = record { frame = frame; tables = tables; within = within }
   where
     twice : taken_in inner (taken_in inner outer) ≡ taken_in inner outer
@@ -162,10 +163,10 @@ put_more inner done before now new reader outer put apart at once set_there take
             ∙ (put.tables i
             ∙ ap (λ (x : Bool). if x then option_map (taken_in inner) (table_at before.slots i) else table_at before.slots i) (sym (ap (λ (x : Bool). is_in done i || x) e ∙ or_false (is_in done i))))
 
-    within : (i : ℕ) (other : Table) → is_in (done ++ reader ∷ []) i ≡ true → table_at before.slots i ≡ Some other → take_refusal 32767 32767 inner other ≡ None
+    within : (i : ℕ) (other : Table) → is_in (done ++ reader ∷ []) i ≡ true → table_at before.slots i ≡ Some other → take_refusal MAX_ROWS MAX_ROWS inner other ≡ None
     within i other among other_at = cases (is_in done i) refl (sym (in_more done reader i) ∙ among)
       where
-        cases : (b : Bool) → is_in done i ≡ b → (b || (reader == i)) ≡ true → take_refusal 32767 32767 inner other ≡ None
+        cases : (b : Bool) → is_in done i ≡ b → (b || (reader == i)) ≡ true → take_refusal MAX_ROWS MAX_ROWS inner other ≡ None
         cases true e k = put.within i other e other_at
         cases false e k =
             let same : reader ≡ i = eqb-true reader i k in
@@ -187,9 +188,9 @@ put_complete inner readers before now put exact = record { frame = put.frame; ta
         ∙ (ap (λ (t : Table). Some t) (sym (taken_apart inner outer (sym (read_at before.slots at outer inner.output there) ∙ (sym (exact at) ∙ e)))) ∙ sym (ap (option_map (taken_in inner)) there)))
 
 takes_there : (inner : Table) (before : Placed) (among : Bool) (at : ℕ) (outer : Table) → table_at before.slots at ≡ Some outer → among ≡ has (inputs_at before.slots at) inner.output
-    → (among ≡ true → take_refusal 32767 32767 inner outer ≡ None) → take_refusal 32767 32767 inner outer ≡ None
+    → (among ≡ true → take_refusal MAX_ROWS MAX_ROWS inner outer ≡ None) → take_refusal MAX_ROWS MAX_ROWS inner outer ≡ None
 takes_there inner before true at outer there exact h = h refl
-takes_there inner before false at outer there exact h = unread_takes 32767 32767 inner outer (sym (read_at before.slots at outer inner.output there) ∙ sym exact)
+takes_there inner before false at outer there exact h = unread_takes MAX_ROWS MAX_ROWS inner outer (sym (read_at before.slots at outer inner.output there) ∙ sym exact)
 
 pub none_complete : (inner : Table) (readers : List ℕ) (before now : Placed) → IsPut inner readers before now → ((at : ℕ) → is_in readers at ≡ has (inputs_at before.slots at) inner.output)
     → refusal_among inner (standing before.slots) ≡ None
@@ -200,15 +201,15 @@ none_complete inner readers before now put exact =
 pub refused_first : (inner : Table) (readers : List ℕ) (before now : Placed) (i reader : ℕ) (outer : Table) → IsPut inner (take i readers) before now → ((at : ℕ) → is_in readers at ≡ has (inputs_at before.slots at) inner.output)
     → (rises : (at : ℕ) → is_in readers at ≡ true → at < reader → is_in (take i readers) at ≡ true) → has inner.inputs inner.output ≡ false
     → table_at before.slots reader ≡ Some outer → all_different outer.inputs ≡ true
-    → (fault : CollapseFault) → ((table : Table) → table_at now.slots reader ≡ Some table → IsCause (named_fault table (take_refusal 32767 32767 inner table)) fault) → IsCause (refusal_among inner (standing before.slots)) fault
+    → (fault : CollapseFault) → ((table : Table) → table_at now.slots reader ≡ Some table → IsCause (named_fault table (take_refusal MAX_ROWS MAX_ROWS inner table)) fault) → IsCause (refusal_among inner (standing before.slots)) fault
 refused_first inner readers before now i reader outer put exact rises apart at once fault cause =
     elim (now_there inner (take i readers) before now reader outer put at) as (λ _. IsCause (refusal_among inner (standing before.slots)) fault) [
       | inl e ↦ cause_none (refusal_among inner (standing before.slots)) fault
-          (subst (λ (o : Option TakeFault). IsCause (named_fault (taken_in inner outer) o) fault) (unread_takes 32767 32767 inner (taken_in inner outer) (taken_unread inner outer once apart)) (cause (taken_in inner outer) e))
+          (subst (λ (o : Option TakeFault). IsCause (named_fault (taken_in inner outer) o) fault) (unread_takes MAX_ROWS MAX_ROWS inner (taken_in inner outer) (taken_unread inner outer once apart)) (cause (taken_in inner outer) e))
       | inr e ↦
           let (rest, is) = first_found inner before.slots reader outer at (λ p other lt there.
           takes_there inner before (is_in readers p) p other there (exact p) (λ among. put.within p other (rises p among lt) there)) in
-          subst (λ (o : Option (List ℕ × TakeFault)). IsCause o fault) (sym is) (cause_or (named_fault outer (take_refusal 32767 32767 inner outer)) rest fault (cause outer e.1))
+          subst (λ (o : Option (List ℕ × TakeFault)). IsCause o fault) (sym is) (cause_or (named_fault outer (take_refusal MAX_ROWS MAX_ROWS inner outer)) rest fault (cause outer e.1))
     ]
 
 -- what is known before a reader's turn
@@ -259,7 +260,7 @@ step_apart before now place readers i reader step inner at =
 
 pub step_more : (before now new : Placed) (place : ℕ) (readers : List ℕ) (i reader : ℕ) → IsStep before now place readers i reader
     → ((inner outer : Table) → table_at now.slots place ≡ Some inner → table_at now.slots reader ≡ Some outer → new ≡ with_slot now reader (Some (taken_in inner outer)))
-    → ((inner outer : Table) → table_at now.slots place ≡ Some inner → table_at now.slots reader ≡ Some outer → take_refusal 32767 32767 inner outer ≡ None)
+    → ((inner outer : Table) → table_at now.slots place ≡ Some inner → table_at now.slots reader ≡ Some outer → take_refusal MAX_ROWS MAX_ROWS inner outer ≡ None)
     → (inner : Table) → table_at before.slots place ≡ Some inner → IsPut inner (take (i + 1) readers) before new
 step_more before now new place readers i reader step puts takes inner at =
     let (outer, there) = reader_there before now place readers i reader step inner at in
@@ -270,7 +271,7 @@ step_more before now new place readers i reader step puts takes inner at =
     (λ table now_at. puts inner table stays now_at) (λ table now_at. takes inner table stays now_at))
 
 pub step_refused : (before now : Placed) (place : ℕ) (readers : List ℕ) (i reader : ℕ) → IsStep before now place readers i reader → (fault : CollapseFault)
-    → ((inner outer : Table) → table_at now.slots place ≡ Some inner → table_at now.slots reader ≡ Some outer → IsCause (option_map (λ (found : TakeFault). (outer.output, found)) (take_refusal 32767 32767 inner outer)) fault)
+    → ((inner outer : Table) → table_at now.slots place ≡ Some inner → table_at now.slots reader ≡ Some outer → IsCause (option_map (λ (found : TakeFault). (outer.output, found)) (take_refusal MAX_ROWS MAX_ROWS inner outer)) fault)
     → (inner : Table) → table_at before.slots place ≡ Some inner → IsCause (refusal_among inner (standing before.slots)) fault
 step_refused before now place readers i reader step fault cause inner at =
     let (outer, there) = reader_there before now place readers i reader step inner at in

@@ -16,6 +16,7 @@ use Rattle.circuit_order.specs.Order.{order_of}
 use Rattle.alg_tables.specs.Taking.{take_refusal}
 use Rattle.alg_tables.specs.declared.taking.TakeFault.{TakeFault}
 use Rattle.net_elim.specs.Eliminating.{with_taken}
+use Rattle.sis_base.specs.declared.limits.TheConstants.{MAX_ROWS}
 
 -- the table of a signal is taken into all that read it
 unfoldable pub with_put : Circuit → List ℕ → Circuit
@@ -38,7 +39,7 @@ pub record IsCollapsed (circuit : Circuit) : Type 0 where
 unfoldable pub refusal_among : Table → List Table → Option (List ℕ × TakeFault)
 refusal_among inner [] = None
 refusal_among inner (outer ∷ tables) =
-    option_or (option_map (λ (fault : TakeFault). (outer.output, fault)) (take_refusal 32767 32767 inner outer)) (refusal_among inner tables)
+    option_or (option_map (λ (fault : TakeFault). (outer.output, fault)) (take_refusal MAX_ROWS MAX_ROWS inner outer)) (refusal_among inner tables)
 
 -- the first reader that cannot take the table of a signal in, and why
 abbrev pub put_refusal : Circuit → List ℕ → Option (List ℕ × TakeFault)
@@ -49,7 +50,9 @@ unfoldable pub refusal_along : Circuit → List (List ℕ) → Option (List ℕ 
 refusal_along circuit [] = None
 refusal_along circuit (name ∷ names) = option_or (put_refusal circuit name) (refusal_along (with_put circuit name) names)
 
--- why a circuit is not collapsed: the reader and its fault, where a list or a composition has more than 32,767 rows or else a
--- composition more than 1,000 inputs; the first such composition, tables in order and their readers in table order
+-- why a circuit is not collapsed: the reader and its fault, where a list or a composition has more
+-- than `MAX_ROWS` rows or else a
+-- composition more than `MAX_INPUTS` inputs; the first such composition, tables in order and their
+-- readers in table order
 abbrev pub collapse_refusal : Circuit → Option (List ℕ × TakeFault)
 collapse_refusal circuit = refusal_along circuit (order_of circuit.tables)

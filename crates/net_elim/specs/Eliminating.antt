@@ -11,11 +11,13 @@ use Rattle.circuit_model.specs.declared.circuit.Circuit.{Circuit}
 use Rattle.circuit_laws.specs.Edits.{with_tables, with_removed, is_root}
 use Rattle.net_core.specs.Reads.{value_of}
 use Rattle.alg_tables.specs.Taking.{taken_in, take_refusal}
+use Rattle.sis_base.specs.declared.limits.TheConstants.{MAX_ROWS}
 
--- whether each table that reads it can take a table in: no list has more than 32,767 rows, and no result has more than `rows` rows
--- or more than 1,000 inputs
+-- whether each table that reads it can take a table in: no list has more than `MAX_ROWS` rows, and
+-- no result has more than `rows` rows
+-- or more than `MAX_INPUTS` inputs
 unfoldable pub all_take : ℕ → Circuit → Table → Bool
-all_take rows circuit inner = list_all (λ (outer : Table). is_none (take_refusal 32767 rows inner outer)) circuit.tables
+all_take rows circuit inner = list_all (λ (outer : Table). is_none (take_refusal MAX_ROWS rows inner outer)) circuit.tables
 
 -- whether a table may be eliminated: it drives no output and no latch's input, its value is not above the threshold, and all its
 -- readers can take it in

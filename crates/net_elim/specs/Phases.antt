@@ -12,12 +12,13 @@ use Rattle.net_readers.specs.Readers.{is_in}
 use Rattle.alg_tables.specs.Taking.{taken_in, take_refusal}
 use Rattle.net_elim.specs.Collapsing.{with_put, refusal_along}
 use Rattle.net_work.specs.Placed.{Placed, circuit_of, table_at, name_at}
+use Rattle.sis_base.specs.declared.limits.TheConstants.{MAX_ROWS}
 
 -- the table at a place was taken into those at some places, of which none refused
 pub record IsPut (inner : Table) (done : List ℕ) (before now : Placed) : Type 0 where
   pub frame : now.frame ≡ before.frame
   pub tables : (at : ℕ) → table_at now.slots at ≡ (if is_in done at then option_map (taken_in inner) (table_at before.slots at) else table_at before.slots at)
-  pub within : (at : ℕ) (outer : Table) → is_in done at ≡ true → table_at before.slots at ≡ Some outer → take_refusal 32767 32767 inner outer ≡ None
+  pub within : (at : ℕ) (outer : Table) → is_in done at ≡ true → table_at before.slots at ≡ Some outer → take_refusal MAX_ROWS MAX_ROWS inner outer ≡ None
 
 -- the table was taken into all tables; those that do not read it stay as they are
 pub record IsPutInAll (inner : Table) (before now : Placed) : Type 0 where

@@ -19,12 +19,13 @@ ghost use Rattle.net_elim.specs.Collapse.{IsCause};
 ghost use Rattle.net_elim.specs.Phases.{IsPutInAll};
 
 use crate::fault::{CollapseFault, fault_of};
-use crate::putting::{LIST_LIMIT, taken_at};
+use crate::putting::taken_at;
 use alg_tables::TakeFault;
 use cube_cover::Row;
 use net_core::Table;
 use net_work::Work;
 use sis_base::Copied;
+use sis_base::limits::MAX_ROWS;
 use std::alloc::{AllocError, Global};
 
 // What the table at the second place becomes where that at the first is taken into it.
@@ -45,15 +46,15 @@ fn taken_from<R: Row>(
     ensures once { IfOk result (λ made. all_different made.inputs ≡ true) }
     ensures within { OnOk result ((inner outer : TheWritten)
         → table_at work.now.slots place ≡ Some inner → table_at work.now.slots reader ≡ Some outer
-        → take_refusal 32767 32767 inner outer ≡ None) }
+        → take_refusal MAX_ROWS MAX_ROWS inner outer ≡ None) }
     ensures fault { IfErr result (λ fault. (fault ≡ NoMemory)
         ⊎ ((inner outer : TheWritten) → table_at work.now.slots place ≡ Some inner
         → table_at work.now.slots reader ≡ Some outer
-        → take_refusal 32767 32767 inner outer ≡ Some fault)) }
+        → take_refusal MAX_ROWS MAX_ROWS inner outer ≡ Some fault)) }
 {
     match work.entry(place) {
         None => unreachable!(),
-        Some(inner) => taken_at(alloc, work, inner, reader, LIST_LIMIT),
+        Some(inner) => taken_at(alloc, work, inner, reader, MAX_ROWS),
     }
 }
 
@@ -88,11 +89,11 @@ fn put_into<R: Row>(
         → work.new ≡ with_slot work.old reader (Some (taken_in inner outer))) }
     ensures within { OnOk result ((inner outer : TheWritten)
         → table_at work.old.slots place ≡ Some inner → table_at work.old.slots reader ≡ Some outer
-        → take_refusal 32767 32767 inner outer ≡ None) }
+        → take_refusal MAX_ROWS MAX_ROWS inner outer ≡ None) }
     ensures fault { IfErr result (λ fault. (inner outer : TheWritten)
         → table_at work.old.slots place ≡ Some inner → table_at work.old.slots reader ≡ Some outer
         → IsCause (option_map (λ (found : TheTakeFault). (outer.output, found))
-        (take_refusal 32767 32767 inner outer)) fault) }
+        (take_refusal MAX_ROWS MAX_ROWS inner outer)) fault) }
 {
     match taken_from(alloc, work, place, reader) {
         Ok(table) => {

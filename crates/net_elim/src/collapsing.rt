@@ -63,7 +63,8 @@ fn collapse_tables<R: Row>(alloc: Global, work: &mut Work<R>) -> Result<(), Coll
 /// A network after collapse, beside the one that stays. Each table is taken into all that read it,
 /// in the order in which each stands behind what it reads; then the inner tables go, and what is
 /// left reads inputs and latches alone. `CubeLimit` with the name of the first reader for which a
-/// list of rows, or what it becomes, has more than 32,767 rows; else `TooWide` with its name and
+/// list of rows, or what it becomes, has more than `MAX_ROWS` rows; else `TooWide` with its name
+/// and
 /// the count of its inputs where these are more than 1,000: the first such reader, tables in order
 /// and their readers in table order.
 pub fn collapse<R: Row>(alloc: Global, network: &Network<R>) -> Result<Network<R>, CollapseFault>

@@ -208,7 +208,8 @@ fn take_steps<R: Row>(
 
 /// A network after elimination, beside the one that stays. Table after table is eliminated: always
 /// the first inner table of least value, not above the threshold, that all its readers can take in
-/// with no list of more than 32,767 rows and no result of more than `rows` rows or 1,000 inputs;
+/// with no list of more than `MAX_ROWS` rows and no result of more than `rows` rows or `MAX_INPUTS`
+/// inputs;
 /// until there is none. An error only for want of memory.
 pub fn eliminate<R: Row>(
     alloc: Global,

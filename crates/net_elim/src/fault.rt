@@ -10,7 +10,7 @@ use std::alloc::AllocError;
 /// Why a network is not collapsed.
 #[derive(Debug, PartialEq, Drop)]
 pub enum CollapseFault {
-    /// A list of rows, or what a table of this name becomes, has more than 32,767 rows.
+    /// A list of rows, or what a table of this name becomes, has more than `MAX_ROWS` rows.
     CubeLimit(Name),
     /// What a table of this name becomes has so many inputs, more than 1,000.
     TooWide(Name, usize),

@@ -20,10 +20,8 @@ use alg_tables::{TakeFault, take_in};
 use cube_cover::Row;
 use net_core::{Entry, Table};
 use net_work::Work;
+use sis_base::limits::MAX_ROWS;
 use std::alloc::{AllocError, Global};
-
-/// How many rows a list may have by which a table is taken into another one; and, under collapse, what a table becomes.
-pub(crate) const LIST_LIMIT: usize = 32_767;
 
 /// Why a table is not taken into all that read it.
 #[derive(Clone, Copy, Debug, PartialEq, Eq, Drop)]
@@ -67,8 +65,8 @@ pub(crate) fn taken_at<R: Row>(
     ensures ok { IfOk result (λ made. (outer : TheWritten) → table_at work.now.slots place ≡ Some outer → named outer.output made ≡ taken_in (written_of inner.now) outer) }
     ensures over { IfOk result IsOverInputs }
     ensures once { IfOk result (λ made. all_different made.inputs ≡ true) }
-    ensures within { OnOk result ((outer : TheWritten) → table_at work.now.slots place ≡ Some outer → take_refusal 32767 rows (written_of inner.now) outer ≡ None) }
-    ensures fault { IfErr result (λ fault. (fault ≡ NoMemory) ⊎ ((outer : TheWritten) → table_at work.now.slots place ≡ Some outer → take_refusal 32767 rows (written_of inner.now) outer ≡ Some fault)) }
+    ensures within { OnOk result ((outer : TheWritten) → table_at work.now.slots place ≡ Some outer → take_refusal MAX_ROWS rows (written_of inner.now) outer ≡ None) }
+    ensures fault { IfErr result (λ fault. (fault ≡ NoMemory) ⊎ ((outer : TheWritten) → table_at work.now.slots place ≡ Some outer → take_refusal MAX_ROWS rows (written_of inner.now) outer ≡ Some fault)) }
 {
     match work.entry(place) {
         None => unreachable!(),
@@ -77,7 +75,7 @@ pub(crate) fn taken_at<R: Row>(
             &inner.output,
             &inner.table,
             &outer.table,
-            LIST_LIMIT,
+            MAX_ROWS,
             rows,
         ),
     }
@@ -119,8 +117,8 @@ fn push_made<R: Row>(
     ensures places { OnOk result (places_made made.new.items ≡ places_made made.old.items ++ place ∷ []) }
     ensures made { OnOk result (AllByRecursion (IsMade (written_of inner.now) work.now.slots) made.old.items → AllByRecursion (IsMade (written_of inner.now) work.now.slots) made.new.items) }
     ensures fit { OnOk result (AllByRecursion IsFit made.old.items → AllByRecursion IsFit made.new.items) }
-    ensures within { OnOk result ((outer : TheWritten) → table_at work.now.slots place ≡ Some outer → take_refusal 32767 rows (written_of inner.now) outer ≡ None) }
-    ensures fault { IfErr result (λ fault. (fault ≡ Memory) ⊎ ((fault ≡ Refused) × ((outer : TheWritten) → table_at work.now.slots place ≡ Some outer → is_some (take_refusal 32767 rows (written_of inner.now) outer) ≡ true))) }
+    ensures within { OnOk result ((outer : TheWritten) → table_at work.now.slots place ≡ Some outer → take_refusal MAX_ROWS rows (written_of inner.now) outer ≡ None) }
+    ensures fault { IfErr result (λ fault. (fault ≡ Memory) ⊎ ((fault ≡ Refused) × ((outer : TheWritten) → table_at work.now.slots place ≡ Some outer → is_some (take_refusal MAX_ROWS rows (written_of inner.now) outer) ≡ true))) }
 {
     match taken_at(alloc, work, inner, place, rows) {
         Ok(table) => {
@@ -146,8 +144,8 @@ fn all_made<R: Row>(
     ensures places { IfOk result (λ made. places_made made.items ≡ readers.now) }
     ensures made { IfOk result (λ made. AllByRecursion (IsMade (written_of inner.now) work.now.slots) made.items) }
     ensures fit { IfOk result (λ made. AllByRecursion IsFit made.items) }
-    ensures within { OnOk result ((place : ℕ) (outer : TheWritten) → is_in readers.now place ≡ true → table_at work.now.slots place ≡ Some outer → take_refusal 32767 rows (written_of inner.now) outer ≡ None) }
-    ensures fault { IfErr result (λ fault. (fault ≡ Memory) ⊎ ((fault ≡ Refused) × ((place : ℕ) × ((outer : TheWritten) → table_at work.now.slots place ≡ Some outer → is_some (take_refusal 32767 rows (written_of inner.now) outer) ≡ true) × (is_some (table_at work.now.slots place) ≡ true)))) }
+    ensures within { OnOk result ((place : ℕ) (outer : TheWritten) → is_in readers.now place ≡ true → table_at work.now.slots place ≡ Some outer → take_refusal MAX_ROWS rows (written_of inner.now) outer ≡ None) }
+    ensures fault { IfErr result (λ fault. (fault ≡ Memory) ⊎ ((fault ≡ Refused) × ((place : ℕ) × ((outer : TheWritten) → table_at work.now.slots place ≡ Some outer → is_some (take_refusal MAX_ROWS rows (written_of inner.now) outer) ≡ true) × (is_some (table_at work.now.slots place) ≡ true)))) }
 {
     let mut made = Vec::with_capacity(alloc, readers.len())?;
     for place in readers {

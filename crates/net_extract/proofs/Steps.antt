@@ -34,6 +34,7 @@ use Rattle.net_savings.proofs.Slots.{standing_turned}
 use Rattle.net_savings.proofs.Summing.{rising_once}
 use Rattle.net_savings.proofs.Losing.{AreAll}
 use Rattle.net_extract.proofs.Places.{divided_all}
+use Rattle.sis_base.specs.declared.limits.TheConstants.{MAX_NODES}
 
 -- ---- a cover extracted
 
@@ -102,7 +103,7 @@ pub along_begin : (rule : Rule) (now : Placed) → IsSound (circuit_of now) → 
 along_begin rule now sound = record { reached = record { between = []; steps = refl }; sound = sound; bounds = λ bounds. bounds }
 
 -- a step leaves few tables and latches
-few_nodes : (circuit new : Circuit) (name : List ℕ) (cover : NamedCover) → new ≡ extracted circuit name cover → node_count circuit < 65535 → length new.tables + length new.latches < 2 ^ 29
+few_nodes : (circuit new : Circuit) (name : List ℕ) (cover : NamedCover) → new ≡ extracted circuit name cover → node_count circuit < MAX_NODES → length new.tables + length new.latches < 2 ^ 29
 few_nodes circuit new name cover is room =
     let tables : length new.tables ≡ length (map (divided name true cover) circuit.tables ++ cover_table name cover ∷ []) = ap (λ (c : Circuit). length c.tables) is in
     let latches : length new.latches ≡ length circuit.latches = ap (λ (c : Circuit). length c.latches) is in

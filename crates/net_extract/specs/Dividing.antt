@@ -12,6 +12,7 @@ use Rattle.net_core.specs.Tables.{named, IsOverInputs}
 use Rattle.net_core.specs.declared.table.Table.{Table}
 use Rattle.net_work.specs.Placed.{Placed, circuit_of, table_at, with_last}
 use Rattle.alg_tables.specs.Dividing.{divided, cover_table}
+use Rattle.sis_base.specs.declared.limits.TheConstants.{MAX_NODES}
 
 -- a slot, its table divided
 abbrev pub divided_slot : List ℕ → NamedCover → Option Written → Option Written
@@ -42,6 +43,6 @@ pub record IsMadeAt {R : Type 0} (name : List ℕ) (cover : NamedCover) (slots :
 -- the table of a cover stands behind the last, under the new name
 pub record IsAdded (cover : NamedCover) (name : List ℕ) (before now : Placed) : Type 0 where
   pub free : IsNewName (circuit_of before) name
-  pub room : node_count (circuit_of before) < 65535
+  pub room : node_count (circuit_of before) < MAX_NODES
   pub is : now ≡ with_last before (cover_table name cover)
   pub bounded : IsBounded (cover_table name cover)

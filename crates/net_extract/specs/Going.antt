@@ -18,13 +18,14 @@ use Rattle.net_work.specs.Placed.{Placed, standing, circuit_of}
 use Rattle.net_extract.specs.Extract.{HasExtracted}
 use Rattle.net_extract.specs.declared.fault.ExtractFault.{ExtractFault}
 use Rattle.net_extract.specs.declared.fault.ExtractFault.TheVariants.{KernelLimit, NodeLimit, Memory}
+use Rattle.sis_base.specs.declared.limits.TheConstants.{MAX_NODES}
 
 -- what is next has no room
 pub record IsOver (rule : Rule) (circuit : Circuit) : Type 0 where
   pub name : List ℕ
   pub cover : NamedCover
   pub next : IsNext rule circuit name cover
-  pub over : 65535 ≤ node_count circuit
+  pub over : MAX_NODES ≤ node_count circuit
 
 -- why there is no step; want of memory is free
 abbrev pub IsStopped : Rule → Circuit → ExtractFault → Type 0
@@ -40,14 +41,14 @@ fault_of SavingsMemory = Memory
 -- why a table is not added; want of memory is free
 abbrev pub IsNotAdded : Circuit → ExtractFault → Type 0
 IsNotAdded circuit (KernelLimit name) = ⊥
-IsNotAdded circuit NodeLimit = 65535 ≤ node_count circuit
+IsNotAdded circuit NodeLimit = MAX_NODES ≤ node_count circuit
 IsNotAdded circuit Memory = Unit {0}
 
 -- a cover was extracted under the new name; tables keep within their bounds
 pub record IsPut (cover : NamedCover) (before now : Placed) : Type 0 where
   pub name : List ℕ
   pub free : IsNewName (circuit_of before) name
-  pub room : node_count (circuit_of before) < 65535
+  pub room : node_count (circuit_of before) < MAX_NODES
   pub made : circuit_of now ≡ extracted (circuit_of before) name cover
   pub bounded : AllByRecursion IsBounded (standing before.slots) → AllByRecursion IsBounded (standing now.slots)
 

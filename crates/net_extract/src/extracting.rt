@@ -34,8 +34,8 @@ fn take_steps<R: Row>(alloc: Global, work: &mut Work<R>, rule: Rule) -> Result<(
 /// A network after extraction, beside the one that stays. Candidates of a rule are extracted as
 /// long as one saves literals: always the one that saves most, of those that save as much the
 /// first. New tables stand last, under the least free names. `KernelLimit` where a table has more
-/// than 10,000 kernels and they are asked for, with the first such table's name; `NodeLimit`
-/// exactly where a candidate saves literals and with its table there would be more than 65,535
+/// than `MAX_KERNELS` kernels and they are asked for, with the first such table's name; `NodeLimit`
+/// exactly where a candidate saves literals and with its table there would be more than `MAX_NODES`
 /// tables and latches, those of the don't-care part counted.
 pub fn extract<R: Row>(
     alloc: Global,

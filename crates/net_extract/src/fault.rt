@@ -7,7 +7,7 @@ use std::alloc::AllocError;
 /// Why a network is not extracted.
 #[derive(Debug, PartialEq, Drop)]
 pub enum ExtractFault {
-    /// The table of this name has more than 10,000 kernels.
+    /// The table of this name has more than `MAX_KERNELS` kernels.
     KernelLimit(Name),
     /// There would be more tables and latches than may stand.
     NodeLimit,

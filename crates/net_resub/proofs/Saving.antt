@@ -16,6 +16,7 @@ use Rattle.net_resub.specs.Best.{is_led, worth_at}
 use Rattle.net_resub.specs.Pairs.{saving_of, saving_between, saving_at}
 use Rattle.net_resub.proofs.Slots.{standing_set, literals_set, place_has}
 use Rattle.net_resub.proofs.Graph.{one_place, led_leads, leads_led}
+use Rattle.sis_base.specs.declared.limits.TheConstants.{MAX_INPUTS}
 
 -- literals of the whole circuit
 pub after_is : (placed : Placed) (place : ℕ) (table by : Table) → all_different (outputs_of (standing placed.slots)) ≡ true → table_at placed.slots place ≡ Some table
@@ -34,36 +35,36 @@ zero_saving n some none = omega (arith, some, none)
 -- a saving that is some: the division may be made as far as the two tables tell
 pub record IsSaving (by table : Table) : Type 0 where
   pub unread : has table.inputs by.output ≡ false
-  pub narrow : length (resubbed by table).inputs ≤ 1000
+  pub narrow : length (resubbed by table).inputs ≤ MAX_INPUTS
   pub is : saving_of by table ≡ literals_of_table table - literals_of_table (resubbed by table)
 
 pub saving_some : (by table : Table) → 0 < saving_of by table → IsSaving by table
 unfolding saving_of
-saving_some by table some = cases (has table.inputs by.output) refl (ltb 1000 (length (resubbed by table).inputs)) refl some
+saving_some by table some = cases (has table.inputs by.output) refl (ltb MAX_INPUTS (length (resubbed by table).inputs)) refl some
   where
     left_over : ℕ
     left_over = literals_of_table table - literals_of_table (resubbed by table)
 
-    cases : (a : Bool) → has table.inputs by.output ≡ a → (b : Bool) → ltb 1000 (length (resubbed by table).inputs) ≡ b
+    cases : (a : Bool) → has table.inputs by.output ≡ a → (b : Bool) → ltb MAX_INPUTS (length (resubbed by table).inputs) ≡ b
         → 0 < cond {A = ℕ} (a || b) 0 left_over → IsSaving by table
     cases true e b f h = absurd (omega (arith, h))
     cases false e true f h = absurd (omega (arith, h))
     cases false e false f h = record {
       unread = e;
-      narrow = ltb-false 1000 (length (resubbed by table).inputs) f;
-      is = ap (λ (a : Bool). cond {A = ℕ} (a || ltb 1000 (length (resubbed by table).inputs)) 0 left_over) e ∙ ap (λ (b : Bool). cond {A = ℕ} b 0 left_over) f;
+      narrow = ltb-false MAX_INPUTS (length (resubbed by table).inputs) f;
+      is = ap (λ (a : Bool). cond {A = ℕ} (a || ltb MAX_INPUTS (length (resubbed by table).inputs)) 0 left_over) e ∙ ap (λ (b : Bool). cond {A = ℕ} b 0 left_over) f;
     }
 
-pub saving_is : (by table : Table) → has table.inputs by.output ≡ false → length (resubbed by table).inputs ≤ 1000 → saving_of by table ≡ literals_of_table table - literals_of_table (resubbed by table)
+pub saving_is : (by table : Table) → has table.inputs by.output ≡ false → length (resubbed by table).inputs ≤ MAX_INPUTS → saving_of by table ≡ literals_of_table table - literals_of_table (resubbed by table)
 unfolding saving_of
 saving_is by table unread narrow =
-    ap (λ (a : Bool). cond {A = ℕ} (a || ltb 1000 (length (resubbed by table).inputs)) 0 (literals_of_table table - literals_of_table (resubbed by table))) unread
-    ∙ ap (λ (b : Bool). cond {A = ℕ} b 0 (literals_of_table table - literals_of_table (resubbed by table))) (le-ltb 1000 (length (resubbed by table).inputs) narrow)
+    ap (λ (a : Bool). cond {A = ℕ} (a || ltb MAX_INPUTS (length (resubbed by table).inputs)) 0 (literals_of_table table - literals_of_table (resubbed by table))) unread
+    ∙ ap (λ (b : Bool). cond {A = ℕ} b 0 (literals_of_table table - literals_of_table (resubbed by table))) (le-ltb MAX_INPUTS (length (resubbed by table).inputs) narrow)
 
 -- a table that stays saves nothing
 pub stays_saves : (by table : Table) → resubbed by table ≡ table → saving_of by table ≡ 0
 unfolding saving_of
-stays_saves by table same = cases (has table.inputs by.output || ltb 1000 (length (resubbed by table).inputs))
+stays_saves by table same = cases (has table.inputs by.output || ltb MAX_INPUTS (length (resubbed by table).inputs))
   where
     cases : (b : Bool) → cond {A = ℕ} b 0 (literals_of_table table - literals_of_table (resubbed by table)) ≡ 0
     cases true = refl
@@ -73,16 +74,16 @@ stays_saves by table same = cases (has table.inputs by.output || ltb 1000 (lengt
 pub read_saves : (by table : Table) → has table.inputs by.output ≡ true → saving_of by table ≡ 0
 unfolding saving_of
 read_saves by table read =
-    ap (λ (a : Bool). cond {A = ℕ} (a || ltb 1000 (length (resubbed by table).inputs)) 0 (literals_of_table table - literals_of_table (resubbed by table))) read
+    ap (λ (a : Bool). cond {A = ℕ} (a || ltb MAX_INPUTS (length (resubbed by table).inputs)) 0 (literals_of_table table - literals_of_table (resubbed by table))) read
 
 -- what is counted of the table that is made
 pub saved_is : (by table made : Table) (saved : ℕ) → has table.inputs by.output ≡ false → made ≡ resubbed by table
-    → saved ≡ cond {A = ℕ} (ltb 1000 (length made.inputs)) 0 (literals_of_table table - literals_of_table made) → saved ≡ saving_of by table
+    → saved ≡ cond {A = ℕ} (ltb MAX_INPUTS (length made.inputs)) 0 (literals_of_table table - literals_of_table made) → saved ≡ saving_of by table
 unfolding saving_of
 saved_is by table made saved unread is counted =
     counted
-    ∙ (ap (λ (t : Table). cond {A = ℕ} (ltb 1000 (length t.inputs)) 0 (literals_of_table table - literals_of_table t)) is
-    ∙ sym (ap (λ (a : Bool). cond {A = ℕ} (a || ltb 1000 (length (resubbed by table).inputs)) 0 (literals_of_table table - literals_of_table (resubbed by table))) unread))
+    ∙ (ap (λ (t : Table). cond {A = ℕ} (ltb MAX_INPUTS (length t.inputs)) 0 (literals_of_table table - literals_of_table t)) is
+    ∙ sym (ap (λ (a : Bool). cond {A = ℕ} (a || ltb MAX_INPUTS (length (resubbed by table).inputs)) 0 (literals_of_table table - literals_of_table (resubbed by table))) unread))
 
 -- nor does one that reads not all names of the other one's literals
 pub unread_saves : (by table : Table) → is_over table.inputs (row_cubes by) ≡ false → saving_of by table ≡ 0

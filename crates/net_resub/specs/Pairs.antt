@@ -1,6 +1,6 @@
 -- What the division of one table by another one saves. No public clause needs these definitions.
 -- Source: Brayton, Rudell, Sangiovanni-Vincentelli and Wang, "MIS: A Multiple-Level Logic Optimization System" (1987); the SIS report
--- (UCB/ERL M92/41), `resub`. The limit of 1,000 inputs is the project's own.
+-- (UCB/ERL M92/41), `resub`. The limit of `MAX_INPUTS` inputs is the project's own.
 use Rattle.std.specs.Prelude.{ℕ, ◌-◌, ◌==◌, ltb, Bool, ◌||◌, if◌then◌else◌, Option, Some, None, List, length}
 use Rattle.std.specs.List.{list_all}
 use Rattle.circuit_model.specs.Names.{has}
@@ -10,11 +10,12 @@ use Rattle.cover_names.specs.Literals.{Cube}
 use Rattle.cover_names.specs.declared.literal.Literal.{Literal}
 use Rattle.net_work.specs.Placed.{table_at}
 use Rattle.net_resub.specs.Resubbed.{resubbed}
+use Rattle.sis_base.specs.declared.limits.TheConstants.{MAX_INPUTS}
 
 -- how many literals go where a table is divided by another one; none where it reads that one's signal already, or becomes too wide
 unfoldable pub saving_of : Table → Table → ℕ
 saving_of by table =
-    if has table.inputs by.output || ltb 1000 (length (resubbed by table).inputs) then 0 else literals_of_table table - literals_of_table (resubbed by table)
+    if has table.inputs by.output || ltb MAX_INPUTS (length (resubbed by table).inputs) then 0 else literals_of_table table - literals_of_table (resubbed by table)
 
 -- the same of tables that need not stand
 abbrev pub saving_between : Option Table → Option Table → ℕ

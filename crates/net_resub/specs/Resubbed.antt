@@ -1,7 +1,8 @@
 -- Resubstitution: a table is divided by the rows of another one that stands already, whose signal then takes their place; step by step,
 -- until no such division saves a literal.
 -- Source: Brayton, Rudell, Sangiovanni-Vincentelli and Wang, "MIS: A Multiple-Level Logic Optimization System" (1987); the SIS report
--- (UCB/ERL M92/41), `resub`. The order among pairs that save as much, and the limit of 1,000 inputs, are the project's own.
+-- (UCB/ERL M92/41), `resub`. The order among pairs that save as much, and the limit of `MAX_INPUTS`
+-- inputs, are the project's own.
 use Rattle.std.specs.Prelude.{◌≡◌, ◌≢◌, ◌⊎◌, ℕ, ◌<◌, ◌≤◌, false, List, map, length}
 use Rattle.circuit_model.specs.Names.{has}
 use Rattle.circuit_model.specs.Counts.{literals_of}
@@ -16,6 +17,7 @@ use Rattle.cover_names.specs.Literals.{NamedCover}
 use Rattle.cover_names.specs.Cubes.{cube_over}
 use Rattle.net_core.specs.Tables.{places_of}
 use Rattle.alg_tables.specs.Dividing.{divided}
+use Rattle.sis_base.specs.declared.limits.TheConstants.{MAX_INPUTS}
 
 -- the cubes of a table's rows, in their order, the literals of each in the order of the inputs
 abbrev pub row_cubes : Table → NamedCover
@@ -28,14 +30,14 @@ resubbed by table = divided by.output by.phase (row_cubes by) table
 
 -- a table of a circuit may be divided by another one: it does not have that one's signal as an input; that one does not depend on it
 -- through any tables (nor in no step, so the two differ); the quotient has a cube, so that it becomes another table; and that table, tidy,
--- has at most 1,000 inputs
+-- has at most `MAX_INPUTS` inputs
 pub record IsCandidate (circuit : Circuit) (by table : Table) : Type 0 where
   pub by_stands : Has by circuit.tables
   pub stands : Has table circuit.tables
   pub unread : has table.inputs by.output ≡ false
   pub apart : (steps : ℕ) → Leads circuit.tables steps by.output table.output → ⊥
   pub changed : resubbed by table ≢ table
-  pub narrow : length (resubbed by table).inputs ≤ 1000
+  pub narrow : length (resubbed by table).inputs ≤ MAX_INPUTS
 
 -- the circuit in which a table has given place to what division by another one makes of it
 abbrev pub with_resubbed : Circuit → Table → Table → Circuit

@@ -20,10 +20,8 @@ use cover_names::{Cube, cube_over};
 use cube_cover::Row;
 use net_core::{Entry, Table};
 use net_work::{Work, literal_count};
+use sis_base::limits::MAX_INPUTS;
 use std::alloc::{AllocError, Global};
-
-/// How many inputs a table may have that a division makes.
-const INPUT_LIMIT: usize = 1_000;
 
 /// A table of so many inputs is not made: that is answered as want of memory.
 const INPUT_BOUND: usize = 1 << 30;
@@ -111,9 +109,9 @@ fn resubbed_table<R: Row>(
 
 // How many literals go where a table gives place to another one, if that is not too wide.
 fn saved<R: Row>(table: &Table<R>, made: &Table<R>) -> u128
-    ensures { (name : List ℕ) → result ≡ (if ltb 1000 (length made.now.inputs) then 0 else literals_of_table (named name table.now) - literals_of_table (named name made.now)) }
+    ensures { (name : List ℕ) → result ≡ (if ltb MAX_INPUTS (length made.now.inputs) then 0 else literals_of_table (named name table.now) - literals_of_table (named name made.now)) }
 {
-    if made.inputs.len() > INPUT_LIMIT {
+    if made.inputs.len() > MAX_INPUTS {
         0
     } else {
         literal_count(table).saturating_sub(literal_count(made))

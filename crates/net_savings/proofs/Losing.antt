@@ -24,35 +24,36 @@ use Rattle.net_savings.specs.Saving.{lost_by, lost_of, lost_at, IsNarrowIn, IsLo
 use Rattle.net_savings.proofs.Slots.{all_at, all_standing}
 use Rattle.net_savings.proofs.Summing.{in_has, sum_places}
 use Rattle.net_savings.proofs.Reading.{divided_reads_name}
+use Rattle.sis_base.specs.declared.limits.TheConstants.{MAX_INPUTS}
 
 module _ (name : List ℕ) (cover : NamedCover) (table : Table) where
-  pub wide_loss : (inputs : List (List ℕ)) → has table.inputs name ≡ false → inputs ≡ (divided name true cover table).inputs → (ltb 1000 (length inputs) && has inputs name) ≡ true
+  pub wide_loss : (inputs : List (List ℕ)) → has table.inputs name ≡ false → inputs ≡ (divided name true cover table).inputs → (ltb MAX_INPUTS (length inputs) && has inputs name) ≡ true
       → IsLoss name cover (Some table) None
   wide_loss inputs free is wide narrow =
-      let parts = and_parts (ltb 1000 (length inputs)) (has inputs name) wide in
+      let parts = and_parts (ltb MAX_INPUTS (length inputs)) (has inputs name) wide in
       elim narrow as (λ _. ⊥) [
         | inl stays ↦ false≢true (sym free ∙ (ap (λ (t : Table). has t.inputs name) (sym stays) ∙ (ap (λ (names : List (List ℕ)). has names name) (sym is) ∙ parts.1)))
-        | inr few ↦ (let many : 1000 < length inputs = ltb-true 1000 (length inputs) parts.0 in
+        | inr few ↦ (let many : MAX_INPUTS < length inputs = ltb-true MAX_INPUTS (length inputs) parts.0 in
             let same : length inputs ≡ length (divided name true cover table).inputs = ap length is in
             absurd (omega (arith, few, many, same)))
       ]
 
   pub narrow_loss : (inputs : List (List ℕ)) (lost : ℕ) → IsWide table → all_different table.inputs ≡ true → has table.inputs name ≡ false → inputs ≡ (divided name true cover table).inputs
-      → (ltb 1000 (length inputs) && has inputs name) ≡ false → lost ≡ lost_of name cover (Some table) → IsLoss name cover (Some table) (Some lost)
+      → (ltb MAX_INPUTS (length inputs) && has inputs name) ≡ false → lost ≡ lost_of name cover (Some table) → IsLoss name cover (Some table) (Some lost)
   narrow_loss inputs lost shaped once free is test exact = (
     exact,
     elim (divided_or_not name true cover table) as (λ _. IsNarrow name cover table) [
-      | inl way ↦ inr (few (ltb 1000 (length inputs)) refl (ap (λ (names : List (List ℕ)). has names name) is ∙ divided_reads_name name true cover table once free way shaped))
+      | inl way ↦ inr (few (ltb MAX_INPUTS (length inputs)) refl (ap (λ (names : List (List ℕ)). has names name) is ∙ divided_reads_name name true cover table once free way shaped))
       | inr stays ↦ inl stays
     ],
   )
     where
-      few : (b : Bool) → ltb 1000 (length inputs) ≡ b → has inputs name ≡ true → length (divided name true cover table).inputs ≤ 1000
+      few : (b : Bool) → ltb MAX_INPUTS (length inputs) ≡ b → has inputs name ≡ true → length (divided name true cover table).inputs ≤ MAX_INPUTS
       few true e reads = absurd (false≢true (sym test ∙ (ap (λ (b : Bool). b && has inputs name) e ∙ reads)))
       few false e reads =
           let same : length inputs ≡ length (divided name true cover table).inputs = ap length is in
-          elim (cases_lt 1000 (length inputs)) as (λ _. length (divided name true cover table).inputs ≤ 1000) [
-            | inl more ↦ absurd (false≢true (sym e ∙ lt-ltb 1000 (length inputs) more))
+          elim (cases_lt MAX_INPUTS (length inputs)) as (λ _. length (divided name true cover table).inputs ≤ MAX_INPUTS) [
+            | inl more ↦ absurd (false≢true (sym e ∙ lt-ltb MAX_INPUTS (length inputs) more))
             | inr less ↦ omega (arith, same, less)
           ]
 
@@ -101,7 +102,7 @@ module _ (name : List ℕ) (cover : NamedCover) (slots : List (Option Table)) wh
 
   -- what the cover saves
   pub saved_from : (places : List ℕ) (lost found : Option ℕ) (own : ℕ) → AreAll cover slots places → own ≡ literals_of_table (cover_table name cover)
-      → length (cover_table name cover).inputs ≤ 1000 → AreLosses name cover slots places lost
+      → length (cover_table name cover).inputs ≤ MAX_INPUTS → AreLosses name cover slots places lost
       → MatchOption found ((number : ℕ) → lost ≡ Some number → number ≤ own) (λ more. (lost ≡ Some (more + own)) × (1 ≤ more))
       → IsSaved (standing slots) name cover found
   saved_from places lost (Some more) own are is few losses told =
@@ -117,7 +118,7 @@ module _ (name : List ℕ) (cover : NamedCover) (slots : List (Option Table)) wh
       let sum : lost ≡ sum_by (lost_by name cover) (standing slots) = losses.0 ∙ all_lost places are in
       absurd (omega (arith, bound, sum, is, saving.exact, saving.some))
 
-  pub saved_wide : 1000 < length (cover_table name cover).inputs → IsSaved (standing slots) name cover None
+  pub saved_wide : MAX_INPUTS < length (cover_table name cover).inputs → IsSaved (standing slots) name cover None
   saved_wide many = λ number saving. absurd (omega (arith, many, saving.narrow.added))
 
 -- one place more

@@ -16,6 +16,7 @@ use Rattle.alg_tables.proofs.Divisions.{divisor, found}
 use Rattle.circuit_tables.specs.Tidy.{IsWide, front_place, behind_front, used_places, chosen, rows_once, narrowed, with_rows_once}
 use Rattle.net_savings.specs.Saving.{lost_by, IsSaving}
 use Rattle.net_savings.proofs.Reading.{divided_narrowed, divided_reads_name}
+use Rattle.sis_base.specs.declared.limits.TheConstants.{MAX_INPUTS}
 
 -- ---- tables over as many inputs
 
@@ -133,7 +134,7 @@ module _ (name other : List ℕ) (cover : NamedCover) where
   pub saving_renamed : (tables : List Table) (number : ℕ) → AllByRecursion (AreFree name other cover) tables → IsSaving tables name cover number → IsSaving tables other cover number
   saving_renamed tables number all saving = record {
     narrow = record {
-      added = subst (λ (n : ℕ). n ≤ 1000) table_inputs_same saving.narrow.added;
+      added = subst (λ (n : ℕ). n ≤ MAX_INPUTS) table_inputs_same saving.narrow.added;
       changed = all_narrow_same tables all saving.narrow.changed;
     };
     exact = ap (λ (n : ℕ). number + n) (sym table_literals_same) ∙ (saving.exact ∙ all_lost_same tables all);

@@ -20,10 +20,11 @@ use Rattle.net_savings.specs.Saving.{IsNarrowIn, IsLoss, LeavesNarrow}
 use Rattle.net_savings.proofs.Losing.{AreAll, all_narrow, narrow_there}
 use Rattle.net_savings.proofs.Reading.{divided_few}
 use Rattle.net_savings.proofs.Tabled.{name_unread}
+use Rattle.sis_base.specs.declared.limits.TheConstants.{MAX_INPUTS}
 
 module _ (name : List ℕ) (cover : NamedCover) where
   -- a table that has fewer inputs than may be
-  few_narrow : (table : Table) → all_different table.inputs ≡ true → has table.inputs name ≡ false → length table.inputs < 1000 → IsNarrow name cover table
+  few_narrow : (table : Table) → all_different table.inputs ≡ true → has table.inputs name ≡ false → length table.inputs < MAX_INPUTS → IsNarrow name cover table
   few_narrow table once free few =
       elim (divided_or_not name true cover table) as (λ _. IsNarrow name cover table) [
         | inl way ↦ inr (let more : length (divided name true cover table).inputs ≤ length table.inputs + 1 = divided_few name true cover table once free way in omega (arith, few, more))
@@ -31,7 +32,7 @@ module _ (name : List ℕ) (cover : NamedCover) where
       ]
 
   pub entry_narrow : {R : Type 0} (now : Placed) (entry : Entry R) (place : ℕ) → IsSound (circuit_of now) → IsNewName (circuit_of now) name → Some (written_of entry) ≡ table_at now.slots place
-      → all_different entry.table.inputs ≡ true → length entry.table.inputs < 1000 → IsNarrowIn name cover (table_at now.slots place)
+      → all_different entry.table.inputs ≡ true → length entry.table.inputs < MAX_INPUTS → IsNarrowIn name cover (table_at now.slots place)
   unfolding named
   entry_narrow now entry place sound new there once few =
       subst (IsNarrowIn name cover) there (few_narrow (written_of entry) once (name_unread now name entry place sound new there) few)
@@ -56,12 +57,12 @@ module _ (name : List ℕ) (cover : NamedCover) where
     each_narrow (place ∷ places) all = (narrow_there name cover slots all place, each_narrow places all)
 
     -- the places of all tables that the cover may divide tell of all tables
-    pub leaves_told : (places : List ℕ) → AreAll cover slots places → length (cover_table name cover).inputs ≤ 1000 → (narrow : Bool)
+    pub leaves_told : (places : List ℕ) → AreAll cover slots places → length (cover_table name cover).inputs ≤ MAX_INPUTS → (narrow : Bool)
         → IsTrue narrow ↔ AllByRecursion (λ at. IsNarrowIn name cover (table_at slots at)) places → IsTrue narrow ↔ LeavesNarrow (standing slots) name cover
     leaves_told places are few narrow told = (
       λ yes. record { added = few; changed = all_narrow name cover slots places are (told.0 yes) },
       λ leaves. told.1 (each_narrow places leaves.changed),
     )
 
-    pub leaves_wide : 1000 < length (cover_table name cover).inputs → IsTrue false ↔ LeavesNarrow (standing slots) name cover
+    pub leaves_wide : MAX_INPUTS < length (cover_table name cover).inputs → IsTrue false ↔ LeavesNarrow (standing slots) name cover
     leaves_wide many = (λ yes. absurd (false≢true yes), λ leaves. absurd (omega (arith, many, leaves.added)))

@@ -23,6 +23,7 @@ use Rattle.std.proofs.lemmas.Bool.{false≢true}
 use Rattle.net_savings.specs.Saving.{IsLoss}
 use Rattle.net_savings.proofs.Losing.{wide_loss, narrow_loss}
 use Rattle.net_savings.proofs.Slots.{all_at}
+use Rattle.sis_base.specs.declared.limits.TheConstants.{MAX_INPUTS}
 
 module _ {R : Type 0} (name : List ℕ) (cover : NamedCover) (table : Table R) where
   module _ (made : Table R) (some : (output : List ℕ) → named output made ≡ divided name true cover (named output table)) where
@@ -30,12 +31,12 @@ module _ {R : Type 0} (name : List ℕ) (cover : NamedCover) (table : Table R) w
     unfolding named
     made_inputs output = ap (λ (t : Written). t.inputs) (some output)
 
-    pub loss_wide : has table.inputs name ≡ false → (ltb 1000 (length made.inputs) && has made.inputs name) ≡ true → (output : List ℕ) → IsLoss name cover (Some (named output table)) None
+    pub loss_wide : has table.inputs name ≡ false → (ltb MAX_INPUTS (length made.inputs) && has made.inputs name) ≡ true → (output : List ℕ) → IsLoss name cover (Some (named output table)) None
     unfolding named
     loss_wide free wide output = wide_loss name cover (named output table) made.inputs free (made_inputs output) wide
 
     pub loss_narrow : (lost one other : ℕ) → IsOverInputs table → HasWidth table.cover.width table.cover.rows → all_different table.inputs ≡ true → has table.inputs name ≡ false
-        → (ltb 1000 (length made.inputs) && has made.inputs name) ≡ false → ((output : List ℕ) → one ≡ literals_of_table (named output table)) → ((output : List ℕ) → other ≡ literals_of_table (named output made))
+        → (ltb MAX_INPUTS (length made.inputs) && has made.inputs name) ≡ false → ((output : List ℕ) → one ≡ literals_of_table (named output table)) → ((output : List ℕ) → other ≡ literals_of_table (named output made))
         → lost ≡ one - other → (output : List ℕ) → IsLoss name cover (Some (named output table)) (Some lost)
     unfolding named
     loss_narrow lost one other over wide once free narrow before after is output =

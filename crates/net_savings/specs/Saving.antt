@@ -9,6 +9,7 @@ use Rattle.net_candidates.specs.Extracting.{IsNarrow}
 use Rattle.cover_names.specs.Literals.{Cube, NamedCover}
 use Rattle.net_work.specs.Placed.{table_at}
 use Rattle.alg_tables.specs.Dividing.{divided, cover_table}
+use Rattle.sis_base.specs.declared.limits.TheConstants.{MAX_INPUTS}
 
 -- how many literals a table loses where it is divided, none where there is no table
 abbrev pub lost_by : List ℕ → NamedCover → Table → ℕ
@@ -44,7 +45,7 @@ literals_in cover = sum_by (λ (cube : Cube). length cube) cover
 
 -- a cover leaves all tables narrow: its own, and each that it divides
 pub record LeavesNarrow (tables : List Table) (name : List ℕ) (cover : NamedCover) : Type 0 where
-  pub added : length (cover_table name cover).inputs ≤ 1000
+  pub added : length (cover_table name cover).inputs ≤ MAX_INPUTS
   pub changed : AllByRecursion (IsNarrow name cover) tables
 
 -- a cover that leaves all tables narrow saves so many literals, one or more

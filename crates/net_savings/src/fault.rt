@@ -6,7 +6,7 @@ use std::alloc::AllocError;
 /// Why candidates are not listed, or what they save is not kept.
 #[derive(Debug, PartialEq, Drop)]
 pub enum SavingsFault {
-    /// The table of this name has more than 10,000 kernels.
+    /// The table of this name has more than `MAX_KERNELS` kernels.
     ManyKernels(Name),
     /// There is not enough memory.
     Memory,

@@ -7,13 +7,14 @@ ghost use Rattle.net_core.specs.Fresh.{IsNewName};
 ghost use Rattle.net_work.specs.Placed.{standing, circuit_of, table_at};
 ghost use Rattle.net_savings.specs.Saving.{literals_in, IsNarrowIn, LeavesNarrow};
 
-use crate::saving::{INPUT_LIMIT, loss_of, places_for};
+use crate::saving::{loss_of, places_for};
 use alg_tables::cover_table;
 use circuit_model::Name;
 use cover_names::Cube;
 use cube_cover::Row;
 use net_core::Table;
 use net_work::Work;
+use sis_base::limits::MAX_INPUTS;
 use std::alloc::{AllocError, Global};
 
 // Whether the table at a place stays or becomes narrow, if one stands there. Division adds one input at most, so that only a table that
@@ -32,7 +33,7 @@ fn is_narrow_at<R: Row>(
     match work.entry(place) {
         None => Ok(true),
         Some(entry) => {
-            if entry.table.inputs.len() < INPUT_LIMIT {
+            if entry.table.inputs.len() < MAX_INPUTS {
                 Ok(true)
             } else {
                 let loss = loss_of(alloc, &entry.table, name, cover)?;
@@ -62,7 +63,8 @@ fn are_narrow_at<R: Row>(
     Ok(true)
 }
 
-/// Whether a cover that is extracted under a new name leaves all tables narrow: none that it adds or changes has more than 1,000 inputs then. An
+/// Whether a cover that is extracted under a new name leaves all tables narrow: none that it adds
+/// or changes has more than `MAX_INPUTS` inputs then. An
 /// error only for want of memory.
 pub fn leaves_narrow<R: Row>(
     alloc: Global,
@@ -76,7 +78,7 @@ pub fn leaves_narrow<R: Row>(
     ensures { IfOk result (λ narrow. IsTrue narrow ↔ LeavesNarrow (standing work.now.slots) name.now cover.now) }
 {
     let table: Table<R> = cover_table(alloc, cover)?;
-    if INPUT_LIMIT < table.inputs.len() {
+    if MAX_INPUTS < table.inputs.len() {
         return Ok(false);
     }
     let places = places_for(alloc, work, cover)?;

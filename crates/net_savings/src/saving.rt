@@ -21,10 +21,8 @@ use cover_names::{Cube, Literal};
 use cube_cover::Row;
 use net_core::Table;
 use net_work::{Work, literal_count};
+use sis_base::limits::MAX_INPUTS;
 use std::alloc::{AllocError, Global};
-
-/// How many inputs a table may have that extraction adds or changes.
-pub(crate) const INPUT_LIMIT: usize = 1_000;
 
 // Whether a name is among names.
 fn has_name(names: &[Name], name: &Name) -> bool
@@ -107,9 +105,9 @@ pub fn places_for<R: Row>(
 
 // Whether a table has too many inputs, and a name is one of them.
 fn is_wide<R: Row>(table: &Table<R>, name: &Name) -> bool
-    ensures { result ≡ (ltb 1000 (length table.now.inputs) && has table.now.inputs name.now) }
+    ensures { result ≡ (ltb MAX_INPUTS (length table.now.inputs) && has table.now.inputs name.now) }
 {
-    INPUT_LIMIT < table.inputs.len() && has_name(table.inputs.as_slice(), name)
+    MAX_INPUTS < table.inputs.len() && has_name(table.inputs.as_slice(), name)
 }
 
 /// What a table loses where it is divided by a cover; none where it has too many inputs then.
@@ -215,7 +213,7 @@ pub(crate) fn saving_of<R: Row>(
     ensures { IfOk result (λ saved. IsSaved (standing work.now.slots) name.now cover.now saved) }
 {
     let table: Table<R> = cover_table(alloc, cover)?;
-    if INPUT_LIMIT < table.inputs.len() {
+    if MAX_INPUTS < table.inputs.len() {
         return Ok(None);
     }
     let places = places_for(alloc, work, cover)?;

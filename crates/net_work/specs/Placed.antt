@@ -11,6 +11,7 @@ use Rattle.net_core.specs.Tables.{named}
 use Rattle.net_core.specs.declared.table.Table.{Table as Covered}
 use Rattle.net_core.specs.declared.adding.AddFault.{AddFault}
 use Rattle.net_core.specs.declared.adding.AddFault.TheVariants.{NodeLimit, Memory}
+use Rattle.sis_base.specs.declared.limits.TheConstants.{MAX_NODES}
 
 -- a circuit, of which all but the tables counts, and its tables at their places; a place whose table is gone stays empty
 pub record Placed : Type 0 where
@@ -50,6 +51,6 @@ with_last placed table = record placed { slots = placed.slots ++ Some table ∷ 
 
 -- what adding a table may answer, and what it leaves; for want of memory any network may be left
 abbrev pub AddsLast : {R : Type 0} → Placed → Covered R → Placed → Result (List ℕ) AddFault → Type 0
-AddsLast old table new (Ok name) = (node_count (circuit_of old) < 65535) × IsNewName (circuit_of old) name × (new ≡ with_last old (named name table))
-AddsLast old table new (Err NodeLimit) = (65535 ≤ node_count (circuit_of old)) × (new ≡ old)
+AddsLast old table new (Ok name) = (node_count (circuit_of old) < MAX_NODES) × IsNewName (circuit_of old) name × (new ≡ with_last old (named name table))
+AddsLast old table new (Err NodeLimit) = (MAX_NODES ≤ node_count (circuit_of old)) × (new ≡ old)
 AddsLast old table new (Err Memory) = Unit {0}

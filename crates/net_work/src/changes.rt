@@ -18,6 +18,7 @@ use circuit_model::Name;
 use cube_cover::Row;
 use indexmap::IndexMap;
 use net_core::{AddFault, Table, bracketed_name, found_place, is_full};
+use sis_base::limits::MAX_NODES;
 use std::alloc::{AllocError, Global};
 
 // Whether no new table may take a name.
@@ -128,7 +129,7 @@ impl<R: Row> Work<R> {
 
     // Whether no more table may stand.
     fn is_at_limit(&self) -> bool
-        ensures { IsTrue result ↔ (65535 ≤ node_count (circuit_of self.now)) }
+        ensures { IsTrue result ↔ (MAX_NODES ≤ node_count (circuit_of self.now)) }
     {
         let circuit = self.frame.circuit();
         is_full(

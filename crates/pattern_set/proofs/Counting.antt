@@ -9,6 +9,7 @@ use Rattle.genlib_expr.specs.declared.node.Node.TheVariants.{Not, And, Or}
 use Rattle.pattern_set.specs.Patterns.{has_constant, literal_count, is_used}
 use Rattle.pattern_set.specs.Usage.{is_constant_node, is_pin_node}
 use Rattle.pattern_set.proofs.Values.{or_false}
+use Rattle.sis_base.specs.declared.limits.TheConstants.{MAX_LITERALS}
 
 any_of_both : (ns ms : List Node) (last : Node) (a b : Bool) → is_constant_node last ≡ false → list_any is_constant_node ns ≡ a → list_any is_constant_node ms ≡ b → list_any is_constant_node ((ns ++ ms) ++ last ∷ []) ≡ (a || b)
 any_of_both ns ms last a b none f g =
@@ -37,20 +38,20 @@ pins (product d e) = omega (arith, count_of_both (postfix d ++ postfix e) (And �
 pins (sum d e) = omega (arith, count_of_both (postfix d ++ postfix e) (Or ∷ []), count_of_both (postfix d) (postfix e), pins d, pins e)
 
 -- the test on nodes is that on the formula
-pub used_nodes : (nodes : List Node) → ArePostfix nodes → (not (list_any is_constant_node nodes) && nat_le (count_by is_pin_node nodes) 6) ≡ is_used (formula_of nodes)
+pub used_nodes : (nodes : List Node) → ArePostfix nodes → (not (list_any is_constant_node nodes) && nat_le (count_by is_pin_node nodes) MAX_LITERALS) ≡ is_used (formula_of nodes)
 used_nodes nodes order =
-    ap (λ (ns : List Node). not (list_any is_constant_node ns) && nat_le (count_by is_pin_node ns) 6) order
-    ∙ (ap (λ (b : Bool). not b && nat_le (count_by is_pin_node (postfix (formula_of nodes))) 6) (constants (formula_of nodes))
-    ∙ ap (λ (n : ℕ). not (has_constant (formula_of nodes)) && nat_le n 6) (pins (formula_of nodes)))
+    ap (λ (ns : List Node). not (list_any is_constant_node ns) && nat_le (count_by is_pin_node ns) MAX_LITERALS) order
+    ∙ (ap (λ (b : Bool). not b && nat_le (count_by is_pin_node (postfix (formula_of nodes))) MAX_LITERALS) (constants (formula_of nodes))
+    ∙ ap (λ (n : ℕ). not (has_constant (formula_of nodes)) && nat_le n MAX_LITERALS) (pins (formula_of nodes)))
 
 pub used_by : (expr nodes : List Node) (constant_there : Bool) (count : ℕ) → nodes ≡ expr → ArePostfix expr → constant_there ≡ list_any is_constant_node nodes → constant_there ≡ false → count ≡ count_by is_pin_node nodes
-    → nat_le count 6 ≡ is_used (formula_of expr)
+    → nat_le count MAX_LITERALS ≡ is_used (formula_of expr)
 used_by expr nodes constant_there count same order there none counts =
     let absent : not (list_any is_constant_node expr) ≡ true = ap not (sym (there ∙ ap (list_any is_constant_node) same) ∙ none) in
-    ap (λ (n : ℕ). nat_le n 6) (counts ∙ ap (count_by is_pin_node) same)
-    ∙ (sym (ap (λ (b : Bool). b && nat_le (count_by is_pin_node expr) 6) absent) ∙ used_nodes expr order)
+    ap (λ (n : ℕ). nat_le n MAX_LITERALS) (counts ∙ ap (count_by is_pin_node) same)
+    ∙ (sym (ap (λ (b : Bool). b && nat_le (count_by is_pin_node expr) MAX_LITERALS) absent) ∙ used_nodes expr order)
 
 pub unused_by : (expr nodes : List Node) (constant_there : Bool) → nodes ≡ expr → ArePostfix expr → constant_there ≡ list_any is_constant_node nodes → constant_there ≡ true → not constant_there ≡ is_used (formula_of expr)
 unused_by expr nodes constant_there same order there some =
     let present : not (list_any is_constant_node expr) ≡ false = ap not (sym (there ∙ ap (list_any is_constant_node) same) ∙ some) in
-    ap not some ∙ (sym (ap (λ (b : Bool). b && nat_le (count_by is_pin_node expr) 6) present) ∙ used_nodes expr order)
+    ap not some ∙ (sym (ap (λ (b : Bool). b && nat_le (count_by is_pin_node expr) MAX_LITERALS) present) ∙ used_nodes expr order)

@@ -6,6 +6,7 @@
 use Rattle.std.specs.Prelude.{ℕ, ◌+◌, Bool, true, false, not, ◌&&◌, ◌||◌, List, [], ◌∷◌, ◌++◌, nat_le}
 use Rattle.subject_tree.specs.Trees.{Tree, Leaf, complement_of, product_of, sum_of}
 use Rattle.genlib_expr.specs.Formula.{Formula, constant, pin, complement, product, sum}
+use Rattle.sis_base.specs.declared.limits.TheConstants.{MAX_LITERALS}
 
 -- the factors of a formula: those of a product's two sides, and else itself
 unfoldable pub factors : Formula → List Formula
@@ -64,4 +65,4 @@ literal_count (sum d e) = literal_count d + literal_count e
 -- whether a gate is used in covers: it has pins and no constant, and at most six literals. (A formula without constants
 -- has a pin.)
 abbrev pub is_used : Formula → Bool
-is_used e = not (has_constant e) && nat_le (literal_count e) 6
+is_used e = not (has_constant e) && nat_le (literal_count e) MAX_LITERALS

@@ -7,6 +7,7 @@ ghost use Rattle.pattern_set.specs.Patterns.{is_used as is_used_formula};
 ghost use Rattle.pattern_set.specs.Usage.{is_constant_node, is_pin_node};
 
 use genlib_expr::{Expr, Node};
+use sis_base::limits::MAX_LITERALS;
 
 // Whether a node is a constant.
 fn is_constant(node: &Node) -> bool
@@ -53,5 +54,5 @@ pub fn is_used(expr: &Expr) -> bool
     ensures { result ≡ is_used_formula (formula_of expr.now) }
 {
     let nodes = expr.nodes();
-    !has_constant(nodes) && literals(nodes) <= 6
+    !has_constant(nodes) && literals(nodes) <= MAX_LITERALS
 }

@@ -29,6 +29,7 @@ use Rattle.sdc_simplify.specs.Simplify.{IsCause}
 use Rattle.sdc_simplify.specs.Turns.{own_refusal, seen, AreLocal}
 use Rattle.sdc_simplify.specs.declared.fault.SimplifyFault.{SimplifyFault}
 use Rattle.sdc_simplify.specs.declared.fault.SimplifyFault.TheVariants.{Memory}
+use Rattle.sis_base.specs.declared.limits.TheConstants.{MAX_ROWS}
 
 -- where no question is refused, no minimum is
 never_to : (meaning : Meaning) → ((row : List (Option Bool)) → meaning.refuses_off row ≡ false) → (row : List (Option Bool)) (place : ℕ) → refuses_to meaning row place ≡ false
@@ -98,27 +99,27 @@ module _ {R : Type 0} where
   pub own_short : (entry : Entry R) → entry.table.phase ≡ true → is_list_long (written_of entry) ≡ false
   unfolding is_list_long named
   own_short entry phase =
-      ap (λ (b : Bool). not b && ltb 32767 (length (list_rows (length entry.table.inputs) false (map places_of (map characters_of entry.table.cover.rows))))) phase
+      ap (λ (b : Bool). not b && ltb MAX_ROWS (length (list_rows (length entry.table.inputs) false (map places_of (map characters_of entry.table.cover.rows))))) phase
 
   long_by : (entry : Entry R) → IsOverInputs entry.table → entry.table.phase ≡ false
-      → is_list_long (written_of entry) ≡ ltb 32767 (length (list_rows entry.table.cover.width false entry.table.cover.rows))
+      → is_list_long (written_of entry) ≡ ltb MAX_ROWS (length (list_rows entry.table.cover.width false entry.table.cover.rows))
   unfolding is_list_long named
   long_by entry over phase =
-      ap (λ (b : Bool). not b && ltb 32767 (length (list_rows (length entry.table.inputs) false (map places_of (map characters_of entry.table.cover.rows))))) phase
-      ∙ ap (λ (rows : List (List (Option Bool))). ltb 32767 (length rows)) (sym (listed_rows entry over))
+      ap (λ (b : Bool). not b && ltb MAX_ROWS (length (list_rows (length entry.table.inputs) false (map places_of (map characters_of entry.table.cover.rows))))) phase
+      ∙ ap (λ (rows : List (List (Option Bool))). ltb MAX_ROWS (length rows)) (sym (listed_rows entry over))
 
-  pub listed_short : (entry : Entry R) → IsOverInputs entry.table → entry.table.phase ≡ false → length (list_rows entry.table.cover.width false entry.table.cover.rows) ≤ 32767 → is_list_long (written_of entry) ≡ false
-  listed_short entry over phase short = long_by entry over phase ∙ le-ltb 32767 (length (list_rows entry.table.cover.width false entry.table.cover.rows)) short
+  pub listed_short : (entry : Entry R) → IsOverInputs entry.table → entry.table.phase ≡ false → length (list_rows entry.table.cover.width false entry.table.cover.rows) ≤ MAX_ROWS → is_list_long (written_of entry) ≡ false
+  listed_short entry over phase short = long_by entry over phase ∙ le-ltb MAX_ROWS (length (list_rows entry.table.cover.width false entry.table.cover.rows)) short
 
-  pub listed_cause : (entry : Entry R) (fault : SimplifyFault) → IsOverInputs entry.table → entry.table.phase ≡ false → 32767 < length (list_rows entry.table.cover.width false entry.table.cover.rows)
+  pub listed_cause : (entry : Entry R) (fault : SimplifyFault) → IsOverInputs entry.table → entry.table.phase ≡ false → MAX_ROWS < length (list_rows entry.table.cover.width false entry.table.cover.rows)
       → IsCause (Some entry.output) fault → IsCause (own_refusal (written_of entry)) fault
   unfolding named
   listed_cause entry fault over phase long cause =
       subst (λ (b : Bool). IsCause (if b then Some entry.output else None) fault)
-      (sym (long_by entry over phase ∙ lt-ltb 32767 (length (list_rows entry.table.cover.width false entry.table.cover.rows)) long)) cause
+      (sym (long_by entry over phase ∙ lt-ltb MAX_ROWS (length (list_rows entry.table.cover.width false entry.table.cover.rows)) long)) cause
 
   pub listed_fault : (entry : Entry R) (list_fault : ListFault) (fault : SimplifyFault) → IsOverInputs entry.table → entry.table.phase ≡ false
-      → (list_fault ≡ LongList → 32767 < length (list_rows entry.table.cover.width false entry.table.cover.rows)) → (list_fault ≡ LongList → IsCause (Some entry.output) fault)
+      → (list_fault ≡ LongList → MAX_ROWS < length (list_rows entry.table.cover.width false entry.table.cover.rows)) → (list_fault ≡ LongList → IsCause (Some entry.output) fault)
       → (list_fault ≡ NoMemory → fault ≡ Memory) → IsCause (own_refusal (written_of entry)) fault
   listed_fault entry LongList fault over phase long cause memory = listed_cause entry fault over phase (long refl) (cause refl)
   listed_fault entry NoMemory fault over phase long cause memory = subst (λ (f : SimplifyFault). IsCause (own_refusal (written_of entry)) f) (sym (memory refl)) tt

@@ -27,6 +27,7 @@ use Rattle.sdc_simplify.specs.Minimized.{on_rows, meaning_of, with_minimum_rows,
 use Rattle.sdc_simplify.specs.Simplified.{with_minimum, is_refused, refusal_along, simplify_refusal, simplified}
 use Rattle.sdc_simplify.proofs.Minimal.{minimum_wide}
 use Rattle.sdc_simplify.proofs.InTurns.{turn_sound}
+use Rattle.sis_base.specs.declared.limits.TheConstants.{MAX_ROWS}
 
 -- the minimum of rows has no more of them
 needed_few : (on : List Bool → Bool) (kept rows : List (List (Option Bool))) → length (needed_behind on kept rows) ≤ length kept + length rows
@@ -86,9 +87,9 @@ on_few table short few = cases table.phase short
     listed : List (List (Option Bool))
     listed = list_rows (length table.inputs) false (map places_of table.rows)
 
-    cases : (phase : Bool) → (not phase && ltb 32767 (length listed)) ≡ false → length (if phase then map places_of table.rows else listed) < 2 ^ 29
+    cases : (phase : Bool) → (not phase && ltb MAX_ROWS (length listed)) ≡ false → length (if phase then map places_of table.rows else listed) < 2 ^ 29
     cases true h = let same : length (map places_of table.rows) ≡ length table.rows = length-map table.rows places_of in omega (arith, same, few)
-    cases false h = let most : length listed ≤ 32767 = ltb-false 32767 (length listed) h in omega (arith, most)
+    cases false h = let most : length listed ≤ MAX_ROWS = ltb-false MAX_ROWS (length listed) h in omega (arith, most)
 
 pub minimized_bounded : (table : Table) (is_free : List Bool → Bool) → is_list_long table ≡ false → IsWide table → IsBounded table → IsBounded (minimized table is_free)
 unfolding minimized

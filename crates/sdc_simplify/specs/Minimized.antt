@@ -1,6 +1,7 @@
 -- A table made minimal where some points of its inputs are free.
 -- Source: De Micheli, "Synthesis and Optimization of Digital Circuits", chapters 7 and 8 (two-level minimization of the local
--- function of a vertex under don't-cares). The rows are those of cover_min, the limit of 32,767 rows is the project's own.
+-- function of a vertex under don't-cares). The rows are those of cover_min, the limit of `MAX_ROWS`
+-- rows is the project's own.
 use Rattle.std.specs.Prelude.{Bool, true, false, not, ltb, ◌&&◌, if◌then◌else◌, Option, List, map, length}
 use Rattle.circuit_model.specs.Values.{table_value}
 use Rattle.circuit_model.specs.declared.circuit.Table.{Table}
@@ -8,6 +9,7 @@ use Rattle.cover_ops.specs.Shannon.{list_rows}
 use Rattle.cover_min.specs.Minimum.{Meaning, minimum_rows}
 use Rattle.net_core.specs.Tables.{places_of, characters_of}
 use Rattle.circuit_tables.specs.Tidy.{tidied}
+use Rattle.sis_base.specs.declared.limits.TheConstants.{MAX_ROWS}
 
 -- rows whose phase is 1 for a table's function: the rows that it has where that is its phase, and the on-list where it is not
 unfoldable pub on_rows : Table → List (List (Option Bool))
@@ -33,6 +35,6 @@ with_minimum_rows table is_free =
 unfoldable pub minimized : Table → (List Bool → Bool) → Table
 minimized table is_free = tidied (with_minimum_rows table is_free)
 
--- whether a table's on-list must be made, and has more than 32,767 rows
+-- whether a table's on-list must be made, and has more than `MAX_ROWS` rows
 unfoldable pub is_list_long : Table → Bool
-is_list_long table = not table.phase && ltb 32767 (length (list_rows (length table.inputs) false (map places_of table.rows)))
+is_list_long table = not table.phase && ltb MAX_ROWS (length (list_rows (length table.inputs) false (map places_of table.rows)))

@@ -35,6 +35,7 @@ refusal_along is_free circuit (name ∷ names) =
 unfoldable pub simplified : Circuit → Circuit
 simplified circuit = fold (with_minimum is_local) circuit (order_of circuit.tables)
 
--- why a circuit is not simplified: the first signal in that order whose table's on-list must be made and has more than 32,767 rows
+-- why a circuit is not simplified: the first signal in that order whose table's on-list must be
+-- made and has more than `MAX_ROWS` rows
 abbrev pub simplify_refusal : Circuit → Option (List ℕ)
 simplify_refusal circuit = refusal_along is_local circuit (order_of circuit.tables)

@@ -6,7 +6,8 @@ use std::alloc::AllocError;
 /// Why a network is not simplified.
 #[derive(Debug, PartialEq, Drop)]
 pub enum SimplifyFault {
-    /// The table of this name gives its function by the rows where it is 0, and the list of those where it is 1 has more than 32,767
+    /// The table of this name gives its function by the rows where it is 0, and the list of those
+    /// where it is 1 has more than `MAX_ROWS`
     /// rows.
     CubeLimit(Name),
     /// There is not enough memory.

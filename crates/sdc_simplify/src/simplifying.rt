@@ -51,7 +51,7 @@ fn minimize_all<R: Row>(alloc: Global, work: &mut Work<R>) -> Result<(), Simplif
 /// A network after simplification, beside the one that stays. Each table becomes minimal under its
 /// local don't-cares, in the order in which each stands behind what it reads. `CubeLimit` with the
 /// name of the first table, in that order, that gives its function by the rows where it is 0 and
-/// whose list of those where it is 1 has more than 32,767 rows in its turn.
+/// whose list of those where it is 1 has more than `MAX_ROWS` rows in its turn.
 pub fn simplify<R: Row>(alloc: Global, network: &Network<R>) -> Result<Network<R>, SimplifyFault>
     ensures simplified { HasSimplified network.now result }
     ensures bounds { HasBounds network.now → IfOk result HasBounds }

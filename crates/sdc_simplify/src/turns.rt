@@ -25,10 +25,8 @@ use cube_cover::{Cover, Row};
 use net_core::{Entry, Table, tidy};
 use net_work::Work;
 use sis_base::Copied;
+use sis_base::limits::MAX_ROWS;
 use std::alloc::{AllocError, Global};
-
-/// How many rows a list may have.
-const ROW_LIMIT: usize = 32_767;
 
 // The fault for a list that was not made for the table of a name.
 fn fault_of(alloc: Global, name: &Name, fault: ListFault) -> SimplifyFault
@@ -55,7 +53,7 @@ fn on_cover<R: Row>(alloc: Global, entry: &Entry<R>) -> Result<Cover<R>, Simplif
     if entry.table.phase {
         return Ok(cover.copy(alloc)?);
     }
-    match on_list(alloc, cover, false, ROW_LIMIT) {
+    match on_list(alloc, cover, false, MAX_ROWS) {
         Ok(list) => Ok(list),
         Err(fault) => Err(fault_of(alloc, &entry.output, fault)),
     }

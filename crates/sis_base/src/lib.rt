@@ -7,9 +7,10 @@
 //! it. `Copied` promises a copy that equals its source. A `Whole<T>` is let go in one call. The definitions of rows as lists of optional bits (`specs/Rows.antt`)
 //! stand here because circuits and covers both speak of them, and those of words and lines as a program
 //! writes them (`specs/Written.antt`, after the Berkeley Logic Interchange Format, appendix of the SIS
-//! report, UCB/ERL M92/41) because readers and writers do.
+//! report, UCB/ERL M92/41) because readers and writers do. `limits` has the name of each limit.
 #![tactic(auto)]
 
+pub mod limits;
 mod sequence;
 mod short;
 mod whole;

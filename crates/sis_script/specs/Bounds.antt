@@ -2,10 +2,11 @@
 -- Source: the SIS manual's `eliminate` and `tech_decomp` (UCB/ERL M92/41); the greatest numbers are
 -- this program's own.
 use Rattle.std.specs.Prelude.{ℕ}
+use Rattle.sis_base.specs.declared.limits.TheConstants.{MAX_ROWS, MAX_INPUTS}
 
 -- the most rows that `eliminate` can be told to allow in a table: as many as a table may have here
 abbrev pub most_rows : ℕ
-most_rows = 32767
+most_rows = MAX_ROWS
 
 -- the most rows that `eliminate` allows in a table where nothing is said
 abbrev pub usual_rows : ℕ
@@ -17,7 +18,7 @@ least_inputs = 2
 
 -- the most inputs to which `tech_decomp` can be told to keep a table: as many as one may have here
 abbrev pub most_inputs : ℕ
-most_inputs = 1000
+most_inputs = MAX_INPUTS
 
 -- the inputs to which `tech_decomp` keeps a table where nothing is said
 abbrev pub usual_inputs : ℕ

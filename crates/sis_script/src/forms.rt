@@ -12,15 +12,16 @@ ghost use Rattle.sis_script.specs.Verbs.{form_among, meaning};
 use crate::command::Change;
 use crate::grammar::{OptionForm, Slot};
 use crate::kinds::Kind;
+use sis_base::limits::{MAX_INPUTS, MAX_ROWS};
 
 /// The most rows that `eliminate` can be told to allow in a table.
-pub(crate) const MOST_ROWS: u64 = 32_767;
+pub(crate) const MOST_ROWS: u64 = MAX_ROWS as u64;
 /// The most rows that `eliminate` allows in a table where nothing is said.
 pub(crate) const USUAL_ROWS: u64 = 1_000;
 /// The fewest inputs to which `tech_decomp` can be told to keep a table.
 const LEAST_INPUTS: u64 = 2;
 /// The most inputs to which `tech_decomp` can be told to keep a table.
-pub(crate) const MOST_INPUTS: u64 = 1_000;
+pub(crate) const MOST_INPUTS: u64 = MAX_INPUTS as u64;
 /// The inputs to which `tech_decomp` keeps a table where nothing is said.
 pub(crate) const USUAL_INPUTS: u64 = 2;
 

@@ -8,6 +8,7 @@ use Rattle.net_core.specs.Tables.{places_of}
 use Rattle.alg_factor.specs.Forms.{Form, IsFactored}
 use Rattle.alg_factor.specs.Texts.{literal_text, row_text, sum_text, form_text}
 use Rattle.alg_kernel.specs.Kernels.{AreKernels, MoreKernels}
+use Rattle.sis_base.specs.declared.limits.TheConstants.{MAX_KERNELS}
 
 -- the rows of a table as cubes over its inputs
 abbrev pub cubes_of : Table → List (List (Option Bool))
@@ -39,4 +40,4 @@ AreKernelLines table text =
 
 -- a table has more kernels than are listed
 abbrev pub HasManyKernels : Table → Type 0
-HasManyKernels table = MoreKernels 10000 (length table.inputs) (cubes_of table)
+HasManyKernels table = MoreKernels MAX_KERNELS (length table.inputs) (cubes_of table)

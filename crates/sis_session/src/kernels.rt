@@ -53,7 +53,7 @@ fn kernels_of(alloc: Global, written: &Written) -> Result<Vec<Cover<PlainRow>>, 
 }
 
 /// The lines of a table's kernels, each of whose rows has a character for each input. More than
-/// 10,000 kernels are refused by `KernelLimit`; else an error only for want of memory.
+/// `MAX_KERNELS` kernels are refused by `KernelLimit`; else an error only for want of memory.
 pub fn kernel_lines(alloc: Global, written: &Written) -> Result<Vec<u8>, KernelFault>
     requires { HasCharacters (length written.now.inputs) written.now.rows }
     ensures lines { IfOk result (λ text. AreKernelLines written.now text.items) }

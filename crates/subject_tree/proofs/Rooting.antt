@@ -26,6 +26,7 @@ use Rattle.subject_tree.proofs.Listing.{mapped_get}
 use Rattle.subject_tree.proofs.Reading.{named_on, read-kept}
 use Rattle.subject_tree.proofs.Renaming.{size-renamed}
 use Rattle.subject_tree.proofs.TableValues.{table_tree-there}
+use Rattle.sis_base.specs.declared.limits.TheConstants.{MAX_VERTICES}
 
 pub roots-none : (vs : List Vertex) (names : List (List ℕ)) (tree : List ℕ → Tree (List ℕ)) → AreRoots vs names tree [] []
 roots-none vs names tree = record { named = refl; taken = tt; trees = λ more keeps. refl }
@@ -180,27 +181,27 @@ forest-total vs names tree tables roots are =
     ∙ (sum_mapped (λ (root : Root). Some (named_tree vs names root)) size_if roots
     ∙ (ap (sum_by size_if) (are.trees names (λ place name at. at)) ∙ sym (sum_mapped (tree_over tree) size_if tables)))
 
-too_large : (total size : ℕ) → total ≡ word_count size → 1048575 < total → 1048575 < size
+too_large : (total size : ℕ) → total ≡ word_count size → MAX_VERTICES < total → MAX_VERTICES < size
 too_large total size is lt = omega (arith, is, lt)
 
-not_too_large : (total size : ℕ) → total ≡ word_count size → total ≤ 1048575 → size ≤ 1048575
+not_too_large : (total size : ℕ) → total ≡ word_count size → total ≤ MAX_VERTICES → size ≤ MAX_VERTICES
 not_too_large total size is le = omega (arith, is, le)
 
 -- what the sum of the sizes tells of the forest
 pub forest_large : (vs ws : List Vertex) (sums roots : List Root) (names : List (List ℕ)) (tree : List ℕ → Tree (List ℕ)) (tables : List Table) (total : ℕ) → total ≡ word_count (sum_by (λ (root : Root). size_of (tree_at vs root.number)) sums)
-    → vs ≡ ws → sums ≡ roots → AreRoots ws names tree tables roots → 1048575 < total → 1048575 < sum_by (λ (table : Table). size_if (tree_over tree table)) tables
+    → vs ≡ ws → sums ≡ roots → AreRoots ws names tree tables roots → MAX_VERTICES < total → MAX_VERTICES < sum_by (λ (table : Table). size_if (tree_over tree table)) tables
 forest_large vs ws sums roots names tree tables total is same all are lt =
     too_large total _ (is ∙ (ap (λ (xs : List Vertex). word_count (sum_by (λ (root : Root). size_of (tree_at xs root.number)) sums)) same
     ∙ (ap (λ (rs : List Root). word_count (sum_by (λ (root : Root). size_of (tree_at ws root.number)) rs)) all ∙ ap word_count (forest-total ws names tree tables roots are)))) lt
 
 pub forest_small : (vs ws : List Vertex) (sums roots : List Root) (names : List (List ℕ)) (tree : List ℕ → Tree (List ℕ)) (tables : List Table) (total : ℕ) → total ≡ word_count (sum_by (λ (root : Root). size_of (tree_at vs root.number)) sums)
-    → vs ≡ ws → sums ≡ roots → AreRoots ws names tree tables roots → total ≤ 1048575 → sum_by (λ (table : Table). size_if (tree_over tree table)) tables ≤ 1048575
+    → vs ≡ ws → sums ≡ roots → AreRoots ws names tree tables roots → total ≤ MAX_VERTICES → sum_by (λ (table : Table). size_if (tree_over tree table)) tables ≤ MAX_VERTICES
 forest_small vs ws sums roots names tree tables total is same all are le =
     not_too_large total _ (is ∙ (ap (λ (xs : List Vertex). word_count (sum_by (λ (root : Root). size_of (tree_at xs root.number)) sums)) same
     ∙ (ap (λ (rs : List Root). word_count (sum_by (λ (root : Root). size_of (tree_at ws root.number)) rs)) all ∙ ap word_count (forest-total ws names tree tables roots are)))) le
 
-pub roots_small : (vs ws : List Vertex) (sums roots : List Root) (total : ℕ) → total ≡ word_count (sum_by (λ (root : Root). size_of (tree_at vs root.number)) sums) → vs ≡ ws → sums ≡ roots → total ≤ 1048575
-    → sum_by (λ (root : Root). size_of (tree_at ws root.number)) roots ≤ 1048575
+pub roots_small : (vs ws : List Vertex) (sums roots : List Root) (total : ℕ) → total ≡ word_count (sum_by (λ (root : Root). size_of (tree_at vs root.number)) sums) → vs ≡ ws → sums ≡ roots → total ≤ MAX_VERTICES
+    → sum_by (λ (root : Root). size_of (tree_at ws root.number)) roots ≤ MAX_VERTICES
 roots_small vs ws sums roots total is same all le =
     not_too_large total _ (is ∙ (ap (λ (xs : List Vertex). word_count (sum_by (λ (root : Root). size_of (tree_at xs root.number)) sums)) same
     ∙ ap (λ (rs : List Root). word_count (sum_by (λ (root : Root). size_of (tree_at ws root.number)) rs)) all)) le

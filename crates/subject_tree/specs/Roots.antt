@@ -16,6 +16,7 @@ use Rattle.subject_tree.specs.declared.arena.Vertex.{Vertex}
 use Rattle.subject_tree.specs.declared.forest.Root.{Root}
 use Rattle.subject_tree.specs.declared.judging.Fate.{Fate}
 use Rattle.subject_tree.specs.declared.judging.Fate.TheVariants.{Constant, Put, Unused, Root as RootFate}
+use Rattle.sis_base.specs.declared.limits.TheConstants.{MAX_VERTICES}
 
 -- whether a table of this fate is the root of a tree of its own
 abbrev pub is_root_fate : Fate → Bool
@@ -55,8 +56,8 @@ pub record AreRoots (vertices : List Vertex) (names : List (List ℕ)) (tree : L
 -- over the trees of signals, the roots stand for the tables that are roots, and are not too large together
 abbrev pub IsForest : Circuit → List Vertex → List (List ℕ) → List Root → Type 0
 IsForest circuit vertices names roots =
-    (tree : List ℕ → Tree (List ℕ)) × AreTrees circuit tree × AreRoots vertices names tree (roots_of circuit) roots × (forest_size circuit tree ≤ 1048575)
+    (tree : List ℕ → Tree (List ℕ)) × AreTrees circuit tree × AreRoots vertices names tree (roots_of circuit) roots × (forest_size circuit tree ≤ MAX_VERTICES)
 
 -- over the trees of signals, the trees of all roots are too large together
 abbrev pub IsTooLarge : Circuit → Type 0
-IsTooLarge circuit = (tree : List ℕ → Tree (List ℕ)) × AreTrees circuit tree × (1048575 < forest_size circuit tree)
+IsTooLarge circuit = (tree : List ℕ → Tree (List ℕ)) × AreTrees circuit tree × (MAX_VERTICES < forest_size circuit tree)

@@ -34,6 +34,7 @@ use circuit_order::laws::acyclic_tables_are_ordered;
 use circuit_order::order;
 use indexmap::IndexMap;
 use sis_base::Copied;
+use sis_base::limits::MAX_VERTICES;
 use std::alloc::{AllocError, Global};
 
 /// The root of a tree: the name of its table's output, and the number of the tree.
@@ -42,9 +43,6 @@ pub struct Root {
     pub name: Name,
     pub number: usize,
 }
-
-/// The most vertices that the trees of all roots may have together.
-pub const LIMIT: u64 = 1_048_575;
 
 /// The trees of a circuit's roots, which are numbers in the arena; their leaves are places in `leaves`.
 #[derive(Drop)]
@@ -451,14 +449,16 @@ fn total_size(alloc: Global, arena: &Arena, roots: &[Root]) -> Result<u64, Alloc
 }
 
 /// The forest of a circuit: its roots in the order of their tables, each with the number of its tree in the arena, whose
-/// leaves are places in `leaves`; no tree of the arena has more than 1,048,575 vertices. TreeLimit where the trees of all
-/// roots have more than 1,048,575 vertices together, each counted at every place where it stands.
+/// leaves are places in `leaves`; no tree of the arena has more than `MAX_VERTICES` vertices.
+/// TreeLimit where the trees of all
+/// roots have more than `MAX_VERTICES` vertices together, each counted at every place where it
+/// stands.
 pub fn forest_of(alloc: Global, circuit: &Circuit) -> Result<Forest, ForestFault>
     requires acyclic { IsAcyclic circuit.now.tables }
     requires different { all_different (outputs_of circuit.now.tables) ≡ true }
     requires shaped { AllByRecursion IsShaped circuit.now.tables }
     ensures ok { IfOk result (λ forest. IsForest circuit.now forest.arena forest.leaves forest.roots.items) }
-    ensures small { IfOk result (λ forest. (n : ℕ) → n < length forest.arena → size_of (tree_at forest.arena n) ≤ 1048575) }
+    ensures small { IfOk result (λ forest. (n : ℕ) → n < length forest.arena → size_of (tree_at forest.arena n) ≤ MAX_VERTICES) }
     ensures limit { result ≡ Err TooLarge → IsTooLarge circuit.now }
 {
     forest_trees_are_there();
@@ -466,7 +466,7 @@ pub fn forest_of(alloc: Global, circuit: &Circuit) -> Result<Forest, ForestFault
     let mut leaves = Leaves::new(alloc);
     let mut roots = plant(alloc, &mut arena, &mut leaves, circuit)?;
     let total = total_size(alloc, &arena, roots.as_slice())?;
-    if total > LIMIT {
+    if total > MAX_VERTICES {
         return Err(ForestFault::TreeLimit);
     }
     let arena = shrink(alloc, arena, &mut roots)?;

@@ -21,7 +21,7 @@ mod sizes;
 mod tables;
 
 pub use arena::{Arena, Vertex};
-pub use forest::{Forest, ForestFault, LIMIT, Root, forest_of};
+pub use forest::{Forest, ForestFault, Root, forest_of};
 pub use judging::{Fate, fates};
 pub use leaves::Leaves;
 pub use tables::table_number;

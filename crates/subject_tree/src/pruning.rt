@@ -11,8 +11,9 @@ ghost use Rattle.subject_tree.specs.Sizes.{word_size};
 ghost use Rattle.subject_tree.specs.Pruning.{number_in, renumbered_vertex, renumbered_root};
 
 use crate::arena::{Arena, Vertex};
-use crate::forest::{LIMIT, Root};
+use crate::forest::Root;
 use crate::sizes::size_at;
+use sis_base::limits::MAX_VERTICES;
 use std::alloc::{AllocError, Global};
 
 // The number that stands for a number; 0 past the last.
@@ -98,7 +99,8 @@ fn are_small(sizes: &[u64], limit: u64) -> bool
     sizes.iter().all(|size| *size <= limit)
 }
 
-// The trees that have at most LIMIT vertices, in an arena of their own; each root has its tree's number there.
+// The trees that have at most MAX_VERTICES vertices, in an arena of their own; each root has its
+// tree's number there.
 fn pruned(
     alloc: Global,
     arena: &Arena,
@@ -106,12 +108,12 @@ fn pruned(
     roots: &mut Vec<Root>,
 ) -> Result<Arena, AllocError>
     requires { sizes.now ≡ map word_size (trees arena.now) }
-    ensures small { IfOk result (λ kept. (n : ℕ) → n < length kept → size_of (tree_at kept n) ≤ LIMIT) }
+    ensures small { IfOk result (λ kept. (n : ℕ) → n < length kept → size_of (tree_at kept n) ≤ MAX_VERTICES) }
     ensures roots { IfOk result (λ kept. (names : List (List ℕ)) (tree : List ℕ → Tree (List ℕ)) (tables : List TheTable) → AreRoots arena.now names tree tables roots.old.items
-        → sum_by (λ (root : TheRoot). size_of (tree_at arena.now root.number)) roots.old.items ≤ LIMIT → AreRoots kept names tree tables roots.new.items) }
+        → sum_by (λ (root : TheRoot). size_of (tree_at arena.now root.number)) roots.old.items ≤ MAX_VERTICES → AreRoots kept names tree tables roots.new.items) }
 {
     let mut kept = Arena::new(alloc);
-    let numbers = keep_small(alloc, arena, sizes, LIMIT, &mut kept)?;
+    let numbers = keep_small(alloc, arena, sizes, MAX_VERTICES, &mut kept)?;
     renumber_roots(roots, numbers.as_slice());
     Ok(kept)
 }
@@ -119,12 +121,12 @@ fn pruned(
 /// The trees that are small enough for a forest; each root has its tree's number among them. Where all are, the arena is handed
 /// back as it is, and else they get an arena of their own.
 pub fn shrink(alloc: Global, arena: Arena, roots: &mut Vec<Root>) -> Result<Arena, AllocError>
-    ensures small { IfOk result (λ kept. (n : ℕ) → n < length kept → size_of (tree_at kept n) ≤ LIMIT) }
+    ensures small { IfOk result (λ kept. (n : ℕ) → n < length kept → size_of (tree_at kept n) ≤ MAX_VERTICES) }
     ensures roots { IfOk result (λ kept. (names : List (List ℕ)) (tree : List ℕ → Tree (List ℕ)) (tables : List TheTable) → AreRoots arena names tree tables roots.old.items
-        → sum_by (λ (root : TheRoot). size_of (tree_at arena root.number)) roots.old.items ≤ LIMIT → AreRoots kept names tree tables roots.new.items) }
+        → sum_by (λ (root : TheRoot). size_of (tree_at arena root.number)) roots.old.items ≤ MAX_VERTICES → AreRoots kept names tree tables roots.new.items) }
 {
     let sizes = arena.sizes(alloc)?;
-    if are_small(sizes.as_slice(), LIMIT) {
+    if are_small(sizes.as_slice(), MAX_VERTICES) {
         return Ok(arena);
     }
     pruned(alloc, &arena, sizes.as_slice(), roots)

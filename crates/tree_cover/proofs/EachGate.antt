@@ -23,6 +23,7 @@ use Rattle.tree_cover.proofs.Open.{get_all}
 use Rattle.tree_cover.specs.Written.{Describes}
 use Rattle.tree_cover.specs.Listed.{IsCellOf, AreCellsOf, HavePatterns, function_in}
 use Rattle.tree_cover.proofs.Mentioned.{pins_exact}
+use Rattle.sis_base.specs.declared.limits.TheConstants.{MAX_PINS}
 
 cells_push : (gates : List LibraryGate) (cells : List Cell) (g : LibraryGate) (c : Cell) → AreCellsOf gates cells → IsCellOf g c → AreCellsOf (gates ++ g ∷ []) (cells ++ c ∷ [])
 cells_push [] [] g c are is = (is, tt)
@@ -60,7 +61,7 @@ area_fits area lt = omega (arith, lt)
 cell_formed : (gate : LibraryGate) (cell : Cell) → IsCellOf gate cell → IsSoundGate gate → IsWellFormed cell
 cell_formed gate cell is sound = record {
   area = subst (λ (k : ℕ). k < 2 ^ 50) (sym is.area) (area_fits gate.area.0 sound.area);
-  few = subst (λ (k : ℕ). k ≤ 15) (sym is.pins) sound.few;
+  few = subst (λ (k : ℕ). k ≤ MAX_PINS) (sym is.pins) sound.few;
   pins = λ pin. (
     λ h. subst (λ (k : ℕ). pin < k) (sym is.pins) ((pins_exact gate sound pin).0 (subst (λ (nodes : List Node). HasPin pin (formula_of nodes)) is.expr h)),
     λ lt. subst (λ (nodes : List Node). HasPin pin (formula_of nodes)) (sym is.expr) ((pins_exact gate sound pin).1 (subst (λ (k : ℕ). pin < k) is.pins lt)),
@@ -93,7 +94,7 @@ gates_usable vertices (g ∷ gates) [] have sound = absurd have
 gates_usable vertices (g ∷ gates) (m ∷ made) have sound = (
   record {
     area = subst (λ (k : ℕ). k < 2 ^ 50) (sym have.0.area) (area_fits g.area.0 sound.0.area);
-    few = subst (λ (k : ℕ). k ≤ 15) (sym have.0.pins) sound.0.few;
+    few = subst (λ (k : ℕ). k ≤ MAX_PINS) (sym have.0.pins) sound.0.few;
     leaves = leaves_exact (trees_of vertices m.patterns) g m.pins have.0.pins sound.0 have.0.patterns.listed;
   },
   gates_usable vertices gates made have.1 sound.1,

@@ -21,6 +21,7 @@ use Rattle.tree_cover.proofs.Agreeing.{AreWide, grown_complete, grown_sound, not
 use Rattle.tree_cover.proofs.Choosing.{contains_get, get_contains}
 use Rattle.tree_cover.proofs.Valuing.{leasts-one}
 use Rattle.tree_cover.proofs.Open.{grown_binds, leaf_bound, get_map, from_get_map, get_some, same_gets, all_gets, get_all, listed_below, bound_is, is_bound}
+use Rattle.sis_base.specs.declared.limits.TheConstants.{MAX_PINS}
 
 pub pins_below : (width : ℕ) (p : Tree ℕ) → ((pin : ℕ) → HasLeaf pin p → pin < width) → PinsBelow width p
 unfolding PinsBelow HasLeaf
@@ -29,14 +30,14 @@ pins_below width (Inv p) f = pins_below width p f
 pins_below width (Nand p q) f = (pins_below width p (λ pin h. f pin (inl h)), pins_below width q (λ pin h. f pin (inr h)))
 
 abbrev start : Binding
-start = record { pins = replicate 15 None }
+start = record { pins = replicate MAX_PINS None }
 
-start_wide : AreWide 15 (start ∷ [])
-start_wide b (inl e) = ap (λ (c : Binding). length c.pins) (sym e) ∙ length_replicate 15 no_number
+start_wide : AreWide MAX_PINS (start ∷ [])
+start_wide b (inl e) = ap (λ (c : Binding). length c.pins) (sym e) ∙ length_replicate MAX_PINS no_number
 start_wide b (inr h) = elim h [ ]
 
 not_start : (b : Binding) (pin m : ℕ) → In b (start ∷ []) → slice_get b.pins pin ≡ Some (Some m) → ⊥
-not_start b pin m (inl e) at = nothing_bound 15 pin m (ap (λ (c : Binding). slice_get c.pins pin) e ∙ at)
+not_start b pin m (inl e) at = nothing_bound MAX_PINS pin m (ap (λ (c : Binding). slice_get c.pins pin) e ∙ at)
 not_start b pin m (inr h) at = elim h [ ]
 
 module _ (vs shapes : List Vertex) (gates : List Gate) (choices : List Choice) (n : ℕ) (arena : IsArena vs) (lt : n < length vs) (sound : AllByRecursion (IsUsable shapes) gates)
@@ -113,9 +114,9 @@ module _ (vs shapes : List Vertex) (gates : List Gate) (choices : List Choice) (
       let ok : IsUsable shapes gate = get_all (IsUsable shapes) gates q gate sound at_gate in
       let leaves : ((pin : ℕ) → HasLeaf pin (tree_at shapes pattern) ↔ (pin < gate.pins)) =
       get_all (λ (t : Tree ℕ). (pin : ℕ) → HasLeaf pin t ↔ (pin < gate.pins)) (trees_of shapes gate.patterns) k (tree_at shapes pattern) ok.leaves (get_map (tree_at shapes) gate.patterns k pattern at_pattern) in
-      let few : gate.pins ≤ 15 = ok.few in
-      let (b, inside, agrees) = grown_complete vs arena (tree_at shapes pattern) n 15 (start ∷ []) us lt (pins_below 15 (tree_at shapes pattern) (λ pin h. omega (arith, (leaves pin).0 h, few))) start_wide matches
-      (start, inl refl, λ pin m at. absurd (nothing_bound 15 pin m at)) in
+      let few : gate.pins ≤ MAX_PINS = ok.few in
+      let (b, inside, agrees) = grown_complete vs arena (tree_at shapes pattern) n MAX_PINS (start ∷ []) us lt (pins_below MAX_PINS (tree_at shapes pattern) (λ pin h. omega (arith, (leaves pin).0 h, few))) start_wide matches
+      (start, inl refl, λ pin m at. absurd (nothing_bound MAX_PINS pin m at)) in
       let (j, at_b) = contains_get b (matched vs (tree_at shapes pattern) n) (in_contains b (matched vs (tree_at shapes pattern) n) inside) in
       let (ns, len, gets) = listed_below gate.pins (bound_at b) (λ i i_lt. let (m, e) = leaf_bound vs arena (tree_at shapes pattern) n (start ∷ []) b i lt ((leaves i).1 i_lt) inside in (m, is_bound b i m e)) in
       let number_of : ((i m : ℕ) → slice_get ns i ≡ Some m → slice_get b.pins i ≡ Some (Some m)) = λ i m at. bound_is b i m (gets i (omega (arith, slice_get_within ns i m at, len)) ∙ at) in

@@ -17,6 +17,7 @@ use Rattle.tree_cover.specs.Candidates.{BestOf, cost_at, IsFrom, Below, FromBind
 use Rattle.tree_cover.proofs.Bests.{IsOrder, best_same}
 use Rattle.tree_cover.proofs.Open.{get_map, get_all, same_gets}
 use Rattle.tree_cover.proofs.Standing.{pins_below}
+use Rattle.sis_base.specs.declared.limits.TheConstants.{MAX_PINS}
 
 pub get_at : {A : Type 0} (xs : List A) (i : ℕ) (d : A) → i < length xs → slice_get xs i ≡ Some (get_or xs i d)
 get_at [] i d lt = absurd (omega (arith, lt))
@@ -83,9 +84,9 @@ gate_best order laws vs shapes choices gates gate n i best lt is h =
     there : slice_get gates i ≡ Some gate
     there = get_at gates i gate lt ∙ ap (λ (g : Gate). Some g) (sym is)
 
-pub pattern_below : (shapes : List Vertex) (gate : Gate) (slice : List ℕ) (i : ℕ) → slice ≡ gate.patterns → i < length slice → IsUsable shapes gate → PinsBelow 15 (tree_at shapes (get_or slice i 0))
+pub pattern_below : (shapes : List Vertex) (gate : Gate) (slice : List ℕ) (i : ℕ) → slice ≡ gate.patterns → i < length slice → IsUsable shapes gate → PinsBelow MAX_PINS (tree_at shapes (get_or slice i 0))
 pattern_below shapes gate slice i same lt usable =
     let there : slice_get gate.patterns i ≡ Some (get_or slice i 0) = ap (λ (ns : List ℕ). slice_get ns i) (sym same) ∙ get_at slice i 0 lt in
     let leaves : ((pin : ℕ) → HasLeaf pin (tree_at shapes (get_or slice i 0)) ↔ (pin < gate.pins)) =
     get_all (λ (p : Tree ℕ). (pin : ℕ) → HasLeaf pin p ↔ (pin < gate.pins)) (trees_of shapes gate.patterns) i (tree_at shapes (get_or slice i 0)) usable.leaves (get_map (tree_at shapes) gate.patterns i (get_or slice i 0) there) in
-    pins_below 15 (tree_at shapes (get_or slice i 0)) (λ pin h. omega (arith, (leaves pin).0 h, usable.few))
+    pins_below MAX_PINS (tree_at shapes (get_or slice i 0)) (λ pin h. omega (arith, (leaves pin).0 h, usable.few))

@@ -11,6 +11,7 @@ use Rattle.pattern_set.specs.declared.cells.Cell.{Cell}
 use Rattle.pattern_set.specs.declared.cells.Gate.{Gate}
 use Rattle.pattern_set.proofs.Pins.{pattern-pins}
 use Rattle.tree_cover.specs.Candidates.{IsUsable, IsWellFormed}
+use Rattle.sis_base.specs.declared.limits.TheConstants.{MAX_PINS}
 
 leaves_of_all : (ts : List (Tree ℕ)) (cell : Cell) (pins : ℕ) → pins ≡ cell.pins → IsWellFormed cell → AllByRecursion (IsUsedPattern (formula_of cell.expr.now)) ts
     → AllByRecursion (λ (t : Tree ℕ). (pin : ℕ) → HasLeaf pin t ↔ (pin < pins)) ts
@@ -30,7 +31,7 @@ gates-usable vertices (c ∷ cells) [] are well = absurd are
 gates-usable vertices (c ∷ cells) (g ∷ gates) are well = (
   record {
     area = subst (λ (k : ℕ). k < 2 ^ 50) (sym are.0.area) well.0.area;
-    few = subst (λ (k : ℕ). k ≤ 15) (sym are.0.pins) well.0.few;
+    few = subst (λ (k : ℕ). k ≤ MAX_PINS) (sym are.0.pins) well.0.few;
     leaves = leaves_of_all (trees_of vertices g.patterns) c g.pins are.0.pins well.0 are.0.patterns.listed;
   },
   gates-usable vertices cells gates are.1 well.1,

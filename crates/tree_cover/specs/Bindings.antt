@@ -8,6 +8,7 @@ use Rattle.subject_tree.specs.Arenas.{tree_at, vertex_at}
 use Rattle.subject_tree.specs.declared.arena.Vertex.{Vertex}
 use Rattle.subject_tree.specs.declared.arena.Vertex.TheVariants.{Leaf as AtLeaf, Inv as AtInv, Nand as AtNand}
 use Rattle.tree_cover.specs.declared.binding.Binding.{Binding}
+use Rattle.sis_base.specs.declared.limits.TheConstants.{MAX_PINS}
 
 -- each pin of a pattern is below a bound
 unfoldable pub PinsBelow : ℕ → Tree ℕ → Type 0
@@ -53,4 +54,4 @@ grown vertices (Nand p q) n bindings =
 
 -- the bindings with which a pattern matches the tree of a number
 abbrev pub matched : List Vertex → Tree ℕ → ℕ → List Binding
-matched vertices pattern n = grown vertices pattern n ((record { pins = replicate 15 None }) ∷ [])
+matched vertices pattern n = grown vertices pattern n ((record { pins = replicate MAX_PINS None }) ∷ [])

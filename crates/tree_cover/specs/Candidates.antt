@@ -20,6 +20,7 @@ use Rattle.tree_cover.specs.Covers.{IsProper, Tile, Least, IsGiven, choice_cmp}
 use Rattle.tree_cover.specs.Bindings.{matched}
 use Rattle.tree_cover.specs.declared.binding.Binding.{Binding}
 use Rattle.tree_cover.specs.declared.choice.Choice.{Choice}
+use Rattle.sis_base.specs.declared.limits.TheConstants.{MAX_PINS}
 
 -- how choices compare, by the numbers of the trees at their pins
 abbrev pub order_of : (Tree ℕ → Tree ℕ → Ordering) → List Vertex → Choice → Choice → Ordering
@@ -92,13 +93,13 @@ FromGates vertices shapes choices gates n place choice =
 -- most fifteen
 pub record IsUsable (shapes : List Vertex) (gate : Gate) : Type 0 where
   pub area : gate.area < 2 ^ 50
-  pub few : gate.pins ≤ 15
+  pub few : gate.pins ≤ MAX_PINS
   pub leaves : AllByRecursion (λ (pattern : Tree ℕ). (pin : ℕ) → HasLeaf pin pattern ↔ (pin < gate.pins)) (trees_of shapes gate.patterns)
 
 -- a cell of a library as its reader gives it: its area is below 2^50, and its pins, at most fifteen, are those of its formula
 pub record IsWellFormed (cell : Cell) : Type 0 where
   pub area : cell.area < 2 ^ 50
-  pub few : cell.pins ≤ 15
+  pub few : cell.pins ≤ MAX_PINS
   pub pins : (pin : ℕ) → HasPin pin (formula_of cell.expr.now) ↔ (pin < cell.pins)
 
 -- a library: its gates can be taken, and there are an inverter and a NAND of two pins

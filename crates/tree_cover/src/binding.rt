@@ -3,19 +3,22 @@
 ghost use Rattle.std.specs.Prelude.{◌≡◌, ◌++◌, None, replicate, slice_get, OnOk};
 ghost use Rattle.tree_cover.specs.Bindings.{bind as bindings_of};
 
+use sis_base::limits::MAX_PINS;
 use std::alloc::AllocError;
 
 /// The number of the tree that each of fifteen pins is bound to, if it is bound.
 #[derive(Clone, Copy)]
 pub struct Binding {
-    pub pins: [Option<usize>; 15],
+    pub pins: [Option<usize>; MAX_PINS],
 }
 
 /// No pin bound.
 pub(crate) fn unbound() -> Binding
-    ensures { result ≡ record { pins = replicate 15 None } }
+    ensures { result ≡ record { pins = replicate MAX_PINS None } }
 {
-    Binding { pins: [None; 15] }
+    Binding {
+        pins: [None; MAX_PINS],
+    }
 }
 
 // What a pin is bound to; none where there is no such pin.

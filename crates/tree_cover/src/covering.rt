@@ -20,6 +20,7 @@ use crate::matching::matches;
 use crate::outlines::{Outlines, is_open, marks_of, outlines_of};
 use pattern_set::{Gate, Patterns};
 use sis_base::Short;
+use sis_base::limits::MAX_PINS;
 use std::alloc::{AllocError, Global};
 use std::cmp::Ordering;
 use subject_tree::{Arena, Leaves, Vertex};
@@ -86,7 +87,7 @@ fn cost_at(choices: &Choices, number: usize) -> u128
 // What the trees at pins cost together.
 fn costs_of(choices: &Choices, pins: &[u32]) -> u128
     requires choices { AllByRecursion IsSmall choices.now }
-    requires pins { length pins.now ≤ 15 }
+    requires pins { length pins.now ≤ MAX_PINS }
     ensures sum { result ≡ sum_by (cost_there choices.now) pins.now }
     ensures small { result ≤ 15 * 2 ^ 70 }
 {
@@ -107,7 +108,7 @@ fn candidate(
 ) -> Result<Option<Candidate>, AllocError>
     requires choices { AllByRecursion IsSmall choices.now }
     requires area { gate.now.area < 2 ^ 50 }
-    requires pins { gate.now.pins ≤ 15 }
+    requires pins { gate.now.pins ≤ MAX_PINS }
     ensures some { IfOk result (λ made. (choice : TheChoice) → held made ≡ Some choice → IsFrom choices.now gate.now place binding.now choice) }
     ensures none { IfOk result (λ made. (choice : TheChoice) → held made ≡ None → IsFrom choices.now gate.now place binding.now choice → ⊥) }
 {
@@ -132,7 +133,7 @@ fn best_bound(
 ) -> Result<Option<Candidate>, AllocError>
     requires choices { AllByRecursion IsSmall choices.now }
     requires area { gate.now.area < 2 ^ 50 }
-    requires pins { gate.now.pins ≤ 15 }
+    requires pins { gate.now.pins ≤ MAX_PINS }
     ensures { IfOk result (λ best. BestOf (order_of (tree_cmp (place_cmp leaves.now)) nodes.now) (Below (length bindings.now) (FromBindings choices.now gate.now place bindings.now)) (held best)) }
 {
     let mut best = None;
@@ -157,10 +158,10 @@ fn best_match(
 ) -> Result<Option<Candidate>, AllocError>
     requires number { number < length nodes.now }
     requires proper { IsProper (tree_at shapes.now pattern) }
-    requires below { PinsBelow 15 (tree_at shapes.now pattern) }
+    requires below { PinsBelow MAX_PINS (tree_at shapes.now pattern) }
     requires choices { AllByRecursion IsSmall choices.now }
     requires area { gate.now.area < 2 ^ 50 }
-    requires pins { gate.now.pins ≤ 15 }
+    requires pins { gate.now.pins ≤ MAX_PINS }
     ensures { IfOk result (λ best. BestOf (order_of (tree_cmp (place_cmp leaves.now)) nodes.now) (FromPattern nodes.now choices.now gate.now place number (tree_at shapes.now pattern)) (held best)) }
 {
     let bindings = matches(alloc, nodes, shapes, pattern, number)?;
@@ -189,10 +190,10 @@ fn best_pattern(
     pattern: usize,
 ) -> Result<Option<Candidate>, AllocError>
     requires number { number < length nodes.now }
-    requires below { PinsBelow 15 (tree_at shapes.now pattern) }
+    requires below { PinsBelow MAX_PINS (tree_at shapes.now pattern) }
     requires choices { AllByRecursion IsSmall choices.now }
     requires area { gate.now.area < 2 ^ 50 }
-    requires pins { gate.now.pins ≤ 15 }
+    requires pins { gate.now.pins ≤ MAX_PINS }
     ensures { IfOk result (λ best. BestOf (order_of (tree_cmp (place_cmp leaves.now)) nodes.now) (FromPattern nodes.now choices.now gate.now place number (tree_at shapes.now pattern)) (held best)) }
 {
     nodes.sound();

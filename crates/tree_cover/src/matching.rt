@@ -9,6 +9,7 @@ ghost use Rattle.tree_cover.specs.Covers.{Matches};
 ghost use Rattle.tree_cover.specs.Bindings.{SomeAgrees, PinsBelow, bind as bindings_of, grown, matched};
 
 use crate::binding::{Binding, bind, unbound};
+use sis_base::limits::MAX_PINS;
 use std::alloc::{AllocError, Global};
 use subject_tree::{Arena, Vertex};
 
@@ -92,7 +93,7 @@ pub fn matches(
     number: usize,
 ) -> Result<Vec<Binding>, AllocError>
     requires number { number < length nodes.now }
-    requires pins { PinsBelow 15 (tree_at shapes.now pattern) }
+    requires pins { PinsBelow MAX_PINS (tree_at shapes.now pattern) }
     ensures exact { IfOk result (λ made. (bound : List (Tree ℕ)) → Matches (tree_at shapes.now pattern) (tree_at nodes.now number) bound ↔ SomeAgrees nodes.now made.items bound) }
     ensures grown { IfOk result (λ made. made.items ≡ matched nodes.now (tree_at shapes.now pattern) number) }
 {

@@ -10,6 +10,7 @@ use Rattle.alg_kernel.specs.Search.{kernels_in, AreSame, AreFound}
 use Rattle.alg_kernel.proofs.Bridge.{all-kernels, more-kernels, not-more, same-wide, found-wide, no-kernels, found-moved, more-moved}
 use Rattle.alg_kernel.proofs.Faults.{ok-no-fault, fault-as}
 use Rattle.alg_kernel.proofs.list.kernels.Goals as goal
+use Rattle.sis_base.specs.declared.limits.TheConstants.{MAX_KERNELS}
 
 pub search-requires : goal.search-requires
 search-requires g c =
@@ -45,12 +46,12 @@ returns-then-len-lt2 g c =
     let wide : HasWidth w r = same-wide w f r same c.rows.ensures.widths in
     let few : length r < 2 = omega (arith, c.len.ensures, c.if-len-lt2.true, length-map c.sort_rows-rows.result.items (λ v. v.items)) in
     let none : AreKernels w f (rows_in c.new.result.items) = subst (λ (l : List Shape). AreKernels w f (rows_in l)) (sym c.new.ensures.items) (all-kernels w f r [] same wide c.sort_rows-rows.ensures.order (no-kernels w r few)) in
-    let room : length c.new.result.items ≤ 10000 = omega (arith, ap (λ (l : List Shape). length l) c.new.ensures.items) in
+    let room : length c.new.result.items ≤ MAX_KERNELS = omega (arith, ap (λ (l : List Shape). length l) c.new.ensures.items) in
     record {
       kernels = none;
       widths = λ kernel m. absurd (subst (λ (l : List Shape). Has kernel l) c.new.ensures.items m);
       room = room;
-      refused = not-more 10000 w f (rows_in c.new.result.items) none (omega (arith, room, length-map c.new.result.items (λ (s : Shape). s.rows)));
+      refused = not-more MAX_KERNELS w f (rows_in c.new.result.items) none (omega (arith, room, length-map c.new.result.items (λ (s : Shape). s.rows)));
       over = λ e. absurd (ok-no-fault e);
     }
 
@@ -65,12 +66,12 @@ returns g c =
     let found : AreFound w r (kernels_in c.in_ok-found.found.items) = found-moved _ w _ r _ width (ap literals_in c.as_slice.ensures.value) c.in_ok-found.ensures.found in
     let rows : kernels_in c.in_ok-found.found.items ≡ rows_in c.in_ok-made.made.items = ap kernels_in (sym c.as_slice-2.ensures.value) ∙ sym c.in_ok-made.ensures.rows in
     let all : AreKernels w f (rows_in c.in_ok-made.made.items) = subst (AreKernels w f) rows (all-kernels w f r (kernels_in c.in_ok-found.found.items) same wide c.sort_rows-rows.ensures.order found) in
-    let count : length (rows_in c.in_ok-made.made.items) ≤ 10000 = subst (λ (l : List (List (List (Option Bool)))). length l ≤ 10000) rows c.in_ok-found.ensures.room in
+    let count : length (rows_in c.in_ok-made.made.items) ≤ MAX_KERNELS = subst (λ (l : List (List (List (Option Bool)))). length l ≤ MAX_KERNELS) rows c.in_ok-found.ensures.room in
     record {
       kernels = all;
       widths = λ kernel m. c.in_ok-made.ensures.widths kernel m ∙ width;
       room = omega (arith, count, length-map c.in_ok-made.made.items (λ (s : Shape). s.rows));
-      refused = not-more 10000 w f (rows_in c.in_ok-made.made.items) all count;
+      refused = not-more MAX_KERNELS w f (rows_in c.in_ok-made.made.items) all count;
       over = λ e. absurd (ok-no-fault e);
     }
 

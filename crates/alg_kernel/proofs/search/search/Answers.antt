@@ -4,11 +4,12 @@ use Rattle.std.proofs.lemmas.Result.{err_from_is_err_and}
 use Rattle.alg_div.specs.Cubes.{Has}
 use Rattle.alg_div.specs.Steps.{literals_in}
 use Rattle.alg_kernel.specs.Kernels.{rows_cmp, Ascends}
-use Rattle.alg_kernel.specs.Search.{kernels_in, over, common_cube, limit, IsMore, IsSearch, TooMany}
+use Rattle.alg_kernel.specs.Search.{kernels_in, over, common_cube, IsMore, IsSearch, TooMany}
 use Rattle.alg_kernel.proofs.Faults.{ok-no-fault, memory-no-limit, fault-as}
 use Rattle.alg_kernel.proofs.Parts.{start-rows}
 use Rattle.alg_kernel.proofs.Searches.{search-more, search-explored, search-popped, search-start, search-many, search-done, search-width, start-many, map-empty}
 use Rattle.alg_kernel.proofs.search.search.Goals as goal
+use Rattle.sis_base.specs.declared.limits.TheConstants.{MAX_KERNELS}
 
 pub make_cube_free-requires : goal.make_cube_free-requires
 make_cube_free-requires c = record { width = c.requires.width; some = omega (arith, c.requires.two) }
@@ -17,7 +18,7 @@ pub enter-requires : goal.enter-requires
 unfolding Ascends
 enter-requires c = record {
   order = subst (λ (l : List (Vec (Vec (Option Bool) Global) Global)). Ascends rows_cmp (kernels_in l)) (sym c.new-seen.ensures.items) tt;
-  room = subst (λ (l : List (Vec (Vec (Option Bool) Global) Global)). length (kernels_in l) ≤ limit) (sym c.new-seen.ensures.items) (omega arith);
+  room = subst (λ (l : List (Vec (Vec (Option Bool) Global) Global)). length (kernels_in l) ≤ MAX_KERNELS) (sym c.new-seen.ensures.items) (omega arith);
 }
 
 pub loop-kernel-init : goal.loop-kernel-init
@@ -59,7 +60,7 @@ loop-kernel-preserved c =
 pub loop-kernel-smaller : goal.loop-kernel-smaller
 loop-kernel-smaller c =
     let left : length (kernels_in c.loop-kernel.todo.items) ≡ length (kernels_in c.pop.new.self.items) + 1 = omega (arith, length-map c.loop-kernel.todo.items (λ k. literals_in k.items), length-map c.pop.new.self.items (λ k. literals_in k.items), ap (λ (l : List (Vec (Vec (Option Bool) Global) Global)). length l) c.in-Some.ensures.items, length-append c.pop.new.self.items (c.in-Some.kernel ∷ [])) in
-    let fewer : length (kernels_in c.explore.new.todo.items) + 2 * (limit - length (kernels_in c.explore.new.seen.items)) < length (kernels_in c.loop-kernel.todo.items) + 2 * (limit - length (kernels_in c.loop-kernel.seen.items)) =
+    let fewer : length (kernels_in c.explore.new.todo.items) + 2 * (MAX_KERNELS - length (kernels_in c.explore.new.seen.items)) < length (kernels_in c.loop-kernel.todo.items) + 2 * (MAX_KERNELS - length (kernels_in c.loop-kernel.seen.items)) =
     omega (arith, left, c.in_ok-explore.ensures.more.balance, c.in_ok-explore.ensures.more.grows, c.in_ok-explore.ensures.more.room) in
     fewer
 

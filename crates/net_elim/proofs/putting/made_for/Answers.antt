@@ -13,6 +13,7 @@ use Rattle.net_elim.specs.declared.putting.PutFault.TheVariants.{Refused, Memory
 use Rattle.net_elim.proofs.Places.{ok_both}
 use Rattle.net_elim.proofs.Readers.{own_apart, made_all, entry_takes, entry_refused}
 use Rattle.net_elim.proofs.putting.made_for.Goals as goal
+use Rattle.sis_base.specs.declared.limits.TheConstants.{MAX_ROWS}
 
 pub all_made-requires-clause-apart : goal.all_made-requires-clause-apart
 unfolding named
@@ -48,7 +49,7 @@ returns-clause-fault g c =
     IfErr-weaker c.all_made.result
     (λ fault. (fault ≡ Memory) ⊎ ((fault ≡ Refused)
     × ((place : ℕ) × ((outer : TheWritten) → table_at c.args.work.now.slots place ≡ Some outer
-    → is_some (take_refusal 32767 c.args.rows (written_of c.in-Some.inner.now) outer) ≡ true)
+    → is_some (take_refusal MAX_ROWS c.args.rows (written_of c.in-Some.inner.now) outer) ≡ true)
     × (is_some (table_at c.args.work.now.slots place) ≡ true))))
     (λ fault. (fault ≡ Memory) ⊎ ((fault ≡ Refused)
     × ((inner : TheWritten) → table_at c.args.work.now.slots c.args.place ≡ Some inner

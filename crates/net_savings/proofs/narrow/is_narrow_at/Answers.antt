@@ -10,10 +10,10 @@ pub loss_of-requires-clause-free : goal.loss_of-requires-clause-free
 loss_of-requires-clause-free g c =
     name_unread c.args.work.now c.args.name.now c.in-Some.entry.now c.args.place c.requires.sound c.requires.free c.in-Some.ensures.table
 
-pub returns-then-len-lt-INPUT_LIMIT : goal.returns-then-len-lt-INPUT_LIMIT
-returns-then-len-lt-INPUT_LIMIT g c = (
+pub returns-then-len-lt-MAX_INPUTS : goal.returns-then-len-lt-MAX_INPUTS
+returns-then-len-lt-MAX_INPUTS g c = (
   λ _. entry_narrow c.args.name.now c.args.cover.now c.args.work.now c.in-Some.entry.now c.args.place c.requires.sound c.requires.free c.in-Some.ensures.table c.in-Some.ensures.once
-      (omega (arith, c.len.ensures, c.if-len-lt-INPUT_LIMIT.true)),
+      (omega (arith, c.len.ensures, c.if-len-lt-MAX_INPUTS.true)),
   λ _. refl,
 )
 

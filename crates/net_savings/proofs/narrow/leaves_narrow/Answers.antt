@@ -10,11 +10,11 @@ use Rattle.net_savings.proofs.Summing.{rising_once}
 use Rattle.net_savings.proofs.Tabled.{cover_inputs}
 use Rattle.net_savings.proofs.narrow.leaves_narrow.Goals as goal
 
-pub returns-then-len-gt-INPUT_LIMIT : goal.returns-then-len-gt-INPUT_LIMIT
-returns-then-len-gt-INPUT_LIMIT g c =
+pub returns-then-len-gt-MAX_INPUTS : goal.returns-then-len-gt-MAX_INPUTS
+returns-then-len-gt-MAX_INPUTS g c =
     let same : length c.in_ok-table.table.inputs ≡ length (cover_table c.args.name.now c.args.cover.now).inputs =
     ap length (cover_inputs c.args.cover.now c.in_ok-table.table c.in_ok-table.ensures.table c.args.name.now) in
-    leaves_wide c.args.name.now c.args.cover.now c.args.work.now.slots (omega (arith, same, c.len.ensures, c.if-len-gt-INPUT_LIMIT.true))
+    leaves_wide c.args.name.now c.args.cover.now c.args.work.now.slots (omega (arith, same, c.len.ensures, c.if-len-gt-MAX_INPUTS.true))
 
 pub returns : goal.returns
 returns g c =
@@ -25,5 +25,5 @@ returns g c =
     (λ narrow. IsTrue narrow ↔ LeavesNarrow (standing c.args.work.now.slots) c.args.name.now c.args.cover.now)
     (λ narrow told. leaves_told c.args.name.now c.args.cover.now c.args.work.now.slots c.as_slice.result.now
     (subst (AreAll c.args.cover.now c.args.work.now.slots) (sym c.as_slice.ensures.value) (record { once = rising_once c.in_ok-places.places.items c.in_ok-places.ensures.rising; all = c.in_ok-places.ensures.all }))
-    (omega (arith, same, c.len.ensures, c.if-len-gt-INPUT_LIMIT.false)) narrow told)
+    (omega (arith, same, c.len.ensures, c.if-len-gt-MAX_INPUTS.false)) narrow told)
     c.are_narrow_at.ensures

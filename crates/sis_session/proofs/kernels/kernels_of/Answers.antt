@@ -6,6 +6,7 @@ use Rattle.alg_kernel.specs.Kernels.{MoreKernels}
 use Rattle.net_core.specs.Tables.{covered}
 use Rattle.sis_session.specs.Told.{cubes_of}
 use Rattle.sis_session.proofs.kernels.kernels_of.Goals as goal
+use Rattle.sis_base.specs.declared.limits.TheConstants.{MAX_KERNELS}
 
 pub returns-in-Ok-clause-widths : goal.returns-in-Ok-clause-widths
 unfolding covered
@@ -19,13 +20,13 @@ returns-in-Ok-clause-refused c =
     let width : c.in-Ok.table.cover.width ≡ length c.args.written.now.inputs = ap (λ table. table.cover.width) c.in-Ok.ensures in
     let rows : c.in-Ok.table.cover.rows ≡ cubes_of c.args.written.now = ap (λ table. table.cover.rows) c.in-Ok.ensures in
     λ many. c.kernels.ensures.refused
-    (subst (λ (n : ℕ). MoreKernels 10000 n c.in-Ok.table.cover.rows) (sym width)
-    (subst (λ (rs : List (List (Option Bool))). MoreKernels 10000 (length c.args.written.now.inputs) rs) (sym rows) many))
+    (subst (λ (n : ℕ). MoreKernels MAX_KERNELS n c.in-Ok.table.cover.rows) (sym width)
+    (subst (λ (rs : List (List (Option Bool))). MoreKernels MAX_KERNELS (length c.args.written.now.inputs) rs) (sym rows) many))
 
 pub returns-in-Ok-clause-over : goal.returns-in-Ok-clause-over
 unfolding covered
 returns-in-Ok-clause-over c =
     let width : c.in-Ok.table.cover.width ≡ length c.args.written.now.inputs = ap (λ table. table.cover.width) c.in-Ok.ensures in
     let rows : c.in-Ok.table.cover.rows ≡ cubes_of c.args.written.now = ap (λ table. table.cover.rows) c.in-Ok.ensures in
-    λ limit. subst (λ (rs : List (List (Option Bool))). MoreKernels 10000 (length c.args.written.now.inputs) rs) rows
-    (subst (λ (n : ℕ). MoreKernels 10000 n c.in-Ok.table.cover.rows) width (c.kernels.ensures.over limit))
+    λ limit. subst (λ (rs : List (List (Option Bool))). MoreKernels MAX_KERNELS (length c.args.written.now.inputs) rs) rows
+    (subst (λ (n : ℕ). MoreKernels MAX_KERNELS n c.in-Ok.table.cover.rows) width (c.kernels.ensures.over limit))

@@ -14,7 +14,7 @@ returns-clause-ok c =
       forest_small _ c.plant.new.arena _ c.in_ok-roots.roots.items c.plant.new.leaves tree (roots_of c.args.circuit.now) c.in_ok-total.total c.in_ok-total.ensures refl c.as_slice.ensures.value roots (omega arith),
     )
 
-pub returns-then-total-gt-LIMIT-clause-limit : goal.returns-then-total-gt-LIMIT-clause-limit
-returns-then-total-gt-LIMIT-clause-limit c is =
+pub returns-then-total-gt-MAX_VERTICES-clause-limit : goal.returns-then-total-gt-MAX_VERTICES-clause-limit
+returns-then-total-gt-MAX_VERTICES-clause-limit c is =
     let (tree, trees) = c.forest_trees_are_there.ensures c.args.circuit.now c.requires.acyclic c.requires.shaped in
     (tree, trees, forest_large _ c.plant.new.arena _ c.in_ok-roots.roots.items c.plant.new.leaves tree (roots_of c.args.circuit.now) c.in_ok-total.total c.in_ok-total.ensures refl c.as_slice.ensures.value (c.in_ok-roots.ensures tree trees) (omega arith))

@@ -6,6 +6,7 @@ use Rattle.net_core.specs.declared.places.Entry.{Entry}
 use Rattle.net_work.specs.Placed.{Placed, standing, circuit_of}
 use Rattle.net_work.proofs.Standing.{standing_present}
 use Rattle.net_work.proofs.work.Work.is_at_limit.Goals as goal
+use Rattle.sis_base.specs.declared.limits.TheConstants.{MAX_NODES}
 
 pub returns : goal.returns
 returns g c =
@@ -17,4 +18,4 @@ returns g c =
     let cares : c.len-2.result ≡ length c.args.self.now.frame.dont_care =
     c.len-2.ensures ∙ (ap (λ (circuit : Circuit). length circuit.dont_care) c.circuit-circuit.ensures ∙ ap (λ (p : Placed). length p.frame.dont_care) c.self.view_is) in
     let total : length (present c.as_slice.result.now) + c.len.result + c.len-2.result ≡ node_count (circuit_of c.args.self.now) = omega (arith, tables, latches, cares) in
-    subst (λ (n : ℕ). IsTrue c.is_full.result ↔ (65535 ≤ n)) total c.is_full.ensures
+    subst (λ (n : ℕ). IsTrue c.is_full.result ↔ (MAX_NODES ≤ n)) total c.is_full.ensures
