@@ -1,6 +1,6 @@
 -- What follows of functions that numbers mean: the laws, and the steps that callers of any object take.
-use Rattle.std.proofs.Common.{◌≡◌, ℕ, suc, ◌<◌, ◌≤◌, Bool, true, false, not, refl, ap, sym, ◌∙◌, subst, arith}
-use Rattle.func_core.specs.Trees.{BooleanFunction, Tree, Zero, One, Node, eval, IsReduced, IsTreeOf, constant, complement}
+use Rattle.std.proofs.Common.{◌≡◌, ℕ, suc, ◌<◌, ◌≤◌, Bool, true, false, not, if◌then◌else◌, refl, ap, sym, ◌∙◌, subst, arith}
+use Rattle.func_core.specs.Trees.{BooleanFunction, Tree, Zero, One, Node, eval, IsReduced, IsTreeOf, constant, variable, complement}
 use Rattle.func_core.specs.Sizes.{inner, size}
 use Rattle.func_core.specs.Points.{is_constant_zero}
 use Rattle.func_core.specs.Numbers.{Means, IsBig, Stays}
@@ -51,6 +51,34 @@ constant-size false t a =
     ap size (same-tree (constant false) (constant false) t Zero a tree-Zero (λ point. refl)) ∙ size-Zero
 constant-size true t a =
     ap size (same-tree (constant true) (constant true) t One a tree-One (λ point. refl)) ∙ size-One
+
+-- a variable has one inner subtree
+size-variable : (place : ℕ) → size (Node place Zero One) ≡ 1
+unfolding size inner
+size-variable place = refl
+
+tree-variable : (place : ℕ) → IsTreeOf (variable place) (Node place Zero One)
+unfolding eval IsReduced
+tree-variable place = record {
+  reduced = (omega arith, λ e. cc, tt, tt);
+  computes = λ point. test (point place);
+}
+  where
+    test : (b : Bool) → (if b then true else false) ≡ b
+    test true = refl
+    test false = refl
+
+pub variable-size : (place : ℕ) (t : Tree) → IsTreeOf (variable place) t → size t ≡ 1
+variable-size place t a =
+    ap size
+    (same-tree (variable place) (variable place) t (Node place Zero One) a (tree-variable place) (λ point. refl))
+    ∙ size-variable place
+
+-- a variable is too big for no limit of 1 or more
+pub variable-fits : (limit place : ℕ) (t : Tree) → 1 ≤ limit → IsTreeOf (variable place) t → limit < size t → ⊥
+variable-fits limit place t some a above =
+    let e : size t ≡ 1 = variable-size place t a in
+    omega arith
 
 -- a reduced tree that isn't Zero is true somewhere
 some-point : (least : ℕ) (t : Tree) → IsReduced least t → is_constant_zero t ≡ false →

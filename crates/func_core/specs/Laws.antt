@@ -13,6 +13,18 @@ OneTree =
     (f g : BooleanFunction) (t u : Tree) → IsTreeOf f t → IsTreeOf g u →
     ((point : ℕ → Bool) → f point ≡ g point) → t ≡ u
 
+-- a tree is that of each function that agrees at each valuation with one whose tree it is
+abbrev pub TreeGoesByPoints : Type 0
+TreeGoesByPoints =
+    (f g : BooleanFunction) (t : Tree) → IsTreeOf f t → ((point : ℕ → Bool) → f point ≡ g point) →
+    IsTreeOf g t
+
+-- functions that agree at each valuation are too big for the same limits
+abbrev pub BigGoesByPoints : Type 0
+BigGoesByPoints =
+    (limit : ℕ) (f g : BooleanFunction) → IsBig limit f → ((point : ℕ → Bool) → f point ≡ g point) →
+    IsBig limit g
+
 -- a function whose tree is within a limit isn't too big for it
 abbrev pub FittingIsNotBig : Type 0
 FittingIsNotBig = (limit : ℕ) (f : BooleanFunction) (t : Tree) → IsTreeOf f t → size t ≤ limit → IsBig limit f → ⊥

@@ -33,8 +33,9 @@ impl From<AllocError> for FuncFault {
     }
 }
 
-/// An object that names Boolean functions by numbers. Each number that stands is that of one tree, which is
-/// reduced and within the object's limit on the size of a tree.
+/// An object that names Boolean functions by numbers. Each number that stands is that of one tree,
+/// which is reduced and within the object's limit on the size of a tree. The limit is at least 1, the
+/// size of a variable.
 pub trait Functions: Drop {
     ghost holds: { Self → ℕ → Type 0 };
 
@@ -42,10 +43,10 @@ pub trait Functions: Drop {
 
     ghost limit: { Self → ℕ };
 
-    /// The function that is the bit of the variable at a place.
+    /// The function that is the bit of the variable at a place, whose size is 1: it is never too big.
     fn var(&mut self, place: usize) -> Result<Func, FuncFault>
         ensures ok { IfOk result (λ h. Means holds tree limit self.new h.0 (variable place)) }
-        ensures big { result ≡ Err FuncFault.TooBig → IsBig (limit self.old) (variable place) }
+        ensures fits { result ≡ Err FuncFault.TooBig → ⊥ }
         ensures stays { Stays holds tree limit self.old self.new };
 
     /// The function that is one bit everywhere, whose size is 0: it is never too big.
@@ -110,4 +111,6 @@ pub trait Functions: Drop {
     ghost reduced: { (state : Self) (n : ℕ) → holds state n → IsReduced 0 (tree state n) };
 
     ghost bounded: { (state : Self) (n : ℕ) → holds state n → size (tree state n) ≤ limit state };
+
+    ghost positive: { (state : Self) → 1 ≤ limit state };
 }

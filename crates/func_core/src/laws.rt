@@ -1,10 +1,17 @@
 //! Laws of Boolean functions and their trees, each proved as the contract of a function that does nothing.
 
-ghost use Rattle.func_core.specs.Laws.{OneTree, FittingIsNotBig, ComplementHasSize, NonzeroIsTrueSomewhere, NoPointIsZero, PointIsTrue, PointRises};
+ghost use Rattle.func_core.specs.Laws.{OneTree, TreeGoesByPoints, BigGoesByPoints, FittingIsNotBig, ComplementHasSize, NonzeroIsTrueSomewhere, NoPointIsZero, PointIsTrue, PointRises};
 
 /// Equal functions have one tree.
 pub fn equal_functions_have_one_tree()
     ensures { OneTree }
+{}
+
+/// What a number means, and what is too big, goes by the bits of a function alone: where two functions
+/// agree at each valuation, a tree of one is a tree of the other, and they are too big together.
+pub fn functions_go_by_points()
+    ensures tree { TreeGoesByPoints }
+    ensures big { BigGoesByPoints }
 {}
 
 /// No function is both within a limit and too big for it.

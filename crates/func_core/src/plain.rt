@@ -1,10 +1,6 @@
 //! Functions as plain trees, one for each number, without sharing.
 
-ghost use Rattle.std.specs.Prelude.{◌≡◌, ℕ, ◌<◌, IfOk};
-ghost use Rattle.func_core.specs.Trees.{eval, IsReduced};
-ghost use Rattle.func_core.specs.Sizes.{size};
-ghost use Rattle.func_core.specs.Numbers.{Means, IsBig, Stays, NoneStands};
-ghost use Rattle.func_core.specs.PlainTrees.{shape, bits, plain_tree, plain_limit, PlainHolds};
+ghost use Rattle.std.specs.Prelude.{◌≡◌, ℕ, ◌<◌, ◌≤◌, IfOk};
 
 use crate::diagram::{self, Diagram, Operation};
 use crate::functions::{Func, FuncFault, Functions};
@@ -18,11 +14,19 @@ pub struct PlainFunctions {
     alloc: Global,
     limit: usize,
     diagrams: Vec<Diagram>,
+    ghost positive: { 1 ≤ limit },
 }
 
 impl PlainFunctions {
-    /// An object without numbers, for trees of a size up to the limit; takes no memory.
+    ghost use Rattle.func_core.specs.Trees.{eval, IsReduced};
+    ghost use Rattle.func_core.specs.Sizes.{size};
+    ghost use Rattle.func_core.specs.Numbers.{Means, IsBig, Stays, NoneStands};
+    ghost use Rattle.func_core.specs.PlainTrees.{shape, bits, plain_tree, plain_limit, PlainHolds};
+
+    /// An object without numbers, for trees of a size up to the limit, which is at least 1; takes no
+    /// memory.
     pub fn new(alloc: Global, limit: usize) -> Self
+        requires { 1 ≤ limit }
         ensures limit { ⟦<PlainFunctions as Functions>⟧.limit result ≡ limit }
         ensures none { NoneStands ⟦<PlainFunctions as Functions>⟧.holds result }
     {
@@ -65,6 +69,8 @@ impl PlainFunctions {
 }
 
 impl Functions for PlainFunctions {
+    ghost use Rattle.func_core.specs.PlainTrees.{plain_tree, plain_limit, PlainHolds};
+
     ghost holds = { PlainHolds };
 
     ghost tree = { plain_tree };
@@ -121,4 +127,6 @@ impl Functions for PlainFunctions {
     ghost reduced = { λ s n h. h.1 };
 
     ghost bounded = { λ s n h. h.2 };
+
+    ghost positive = { λ s. s.positive };
 }

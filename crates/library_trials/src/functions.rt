@@ -7,11 +7,15 @@ use func_core::{Func, FuncFault, Functions, PlainFunctions};
 use std::alloc::Global;
 use trial_cases::{Case, CaseFault, number_of};
 
-/// Puts the answer to a case of functions: a limit, an operation, and the numbers of two variables.
+/// Puts the answer to a case of functions: a limit, which is at least 1, an operation, and the numbers
+/// of two variables.
 pub fn answer(alloc: Global, out: &mut Vec<u8>, case: &Case<'_>) -> Result<(), CaseFault> {
     let limit = number_of(case.word(1))?;
     let one = number_of(case.word(3))?;
     let other = number_of(case.word(4))?;
+    if limit == 0 {
+        return Err(CaseFault::Bad);
+    }
     let mut functions = PlainFunctions::new(alloc, limit);
     let made = combined(&mut functions, case.word(2), one, other);
     put_made(alloc, out, &functions, made)
