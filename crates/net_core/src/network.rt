@@ -392,6 +392,42 @@ impl<R: Row> Network<R> {
         &self.name
     }
 
+    /// The inputs, in order.
+    pub fn inputs(&self) -> &[Name]
+        ensures { result.now ≡ self.now.inputs }
+    {
+        self.inputs.as_slice()
+    }
+
+    /// The outputs, in order.
+    pub fn outputs(&self) -> &[Name]
+        ensures { result.now ≡ self.now.outputs }
+    {
+        self.outputs.as_slice()
+    }
+
+    /// The latches, in order.
+    pub fn latches(&self) -> &[Latch]
+        ensures { result.now ≡ self.now.latches }
+    {
+        self.latches.as_slice()
+    }
+
+    /// The tables of the don't-care part, in order.
+    pub fn dont_care(&self) -> &[Written]
+        ensures { result.now ≡ self.now.dont_care }
+    {
+        self.dont_care.as_slice()
+    }
+
+    /// The tables in order, each with its name; none at a place whose table is gone.
+    pub fn entries(&self) -> &[Option<Entry<R>>]
+        ensures tables { present result.now ≡ self.now.tables }
+        ensures over { AreOverInputs result.now }
+    {
+        self.tables.slots()
+    }
+
     /// How much of everything there is.
     #[tactic(auto, unfolding(crate::specs::Reads::sizes_of))]
     pub fn sizes(&self) -> Sizes
