@@ -1,13 +1,19 @@
 -- What holds while the rows of a cover are gone through, with one in hand.
-use Rattle.std.proofs.Common.{◌≡◌, ℕ, ◌<◌, ◌≤◌, ◌+◌, zero, suc, Bool, true, false, ◌||◌, Option, Some, None, List, [], ◌∷◌, ◌++◌, length, get_or, set, take, drop, map, option_map, refl, sym, ap, ◌∙◌, subst, arith}
-use Rattle.std.proofs.lemmas.List.{take_at, drop_at, take_more_set, drop-set-lt, at_drop_more, take-append-drop, length-set, length-append, length-take, length-map, map-append, map-set, get_or-map}
+use Rattle.std.proofs.Common.{◌≡◌, ℕ, ◌<◌, ◌≤◌, ◌+◌, zero, suc, Bool, true, false, ◌||◌, Option}
+use Rattle.std.proofs.Common.{Some, None, List, [], ◌∷◌, ◌++◌, length, get_or, set, take, drop, map}
+use Rattle.std.proofs.Common.{option_map, refl, sym, ap, ◌∙◌, subst, ◌↔◌, arith}
+use Rattle.std.proofs.lemmas.List.{take_at, drop_at, take_more_set, drop-set-lt, at_drop_more}
+use Rattle.std.proofs.lemmas.List.{take-append-drop, length-set, length-append, length-take}
+use Rattle.std.proofs.lemmas.List.{length-map, map-append, map-set, get_or-map}
 use Rattle.std.proofs.Math.Seq.{take-length, drop-length}
 use Rattle.std.specs.List.{take-map, drop-map}
 use Rattle.sis_base.specs.Rows.{HasWidth}
 use Rattle.cube_cover.specs.Covers.{Shape}
 use Rattle.cover_min.specs.Points.{has_own_point}
-use Rattle.cover_min.specs.Minimum.{Meaning, with_needed, needed_behind, refuses_behind}
-use Rattle.cover_min.specs.Trimming.{Holds, IsTrimming}
+use Rattle.cover_min.specs.Minimum.{Meaning, with_needed, needed_behind}
+use Rattle.cover_min.specs.Refusals.{Refusals, SameRefusals, RefusesRow}
+use Rattle.cover_min.specs.Trimming.{in_hand, Holds, IsTrimming}
+use Rattle.cover_min.proofs.Refusals.{row_first, row_later, row_cases, no_row}
 
 pub HasWidth-take : (w : ℕ) (rows : List (List (Option Bool))) (i : ℕ) → HasWidth w rows → HasWidth w (take i rows)
 unfolding HasWidth
@@ -91,54 +97,91 @@ holds_goes on all i row new place hand needed e t h =
     let kept : with_needed on (take i all) row (drop i all) ≡ take i all = rw test refl in
     subst (λ (x : List (List (Option Bool))). Holds x (drop i all) new place hand) (sym kept) h
 
-pub in_hand_is : {X : Type 0} (f : X → List (Option Bool)) (m : Meaning) (all : List (List (Option Bool))) (others : Shape) (i : ℕ) (hand : Option X) (row : X) → hand ≡ Some row → IsTrimming m all others i (option_map f hand) → IsTrimming m all others i (Some (f row))
-in_hand_is f m all others i hand row e t = subst (λ (h : Option (List (Option Bool))). IsTrimming m all others i h) (ap (option_map f) e) t
+pub in_hand_is : {X : Type 0} (f : X → List (Option Bool)) (m : Meaning) (r : Refusals)
+    (all : List (List (Option Bool))) (others : Shape) (i : ℕ) (hand : Option X) (row : X)
+    → hand ≡ Some row → IsTrimming m r all others i (option_map f hand)
+    → IsTrimming m r all others i (Some (f row))
+in_hand_is f m r all others i hand row e t = subst
+    (λ (h : Option (List (Option Bool))). IsTrimming m r all others i h) (ap (option_map f) e) t
 
 -- the row in hand has the width
-pub width_in_hand : (m : Meaning) (all : List (List (Option Bool))) (others : Shape) (i : ℕ) (row : List (Option Bool)) → IsTrimming m all others i (Some row) → length row ≡ m.width
+pub width_in_hand : (m : Meaning) (r : Refusals) (all : List (List (Option Bool))) (others : Shape)
+    (i : ℕ) (row : List (Option Bool)) → IsTrimming m r all others i (Some row)
+    → length row ≡ m.width
 unfolding HasWidth
-width_in_hand m all others i row t = t.widths.0
+width_in_hand m r all others i row t = t.widths.0
+
+-- where the tests that are refused of rows still to come are those of all rows
+refuses_same : (m : Meaning) (r : Refusals) (all kept made coming rest : List (List (Option Bool)))
+    → kept ≡ made → coming ≡ rest
+    → RefusesRow m r made rest ↔ RefusesRow m r [] all → RefusesRow m r kept coming
+    ↔ RefusesRow m r [] all
+refuses_same m r all kept made coming rest e d h =
+    subst (λ (x : List (List (Option Bool))). RefusesRow m r x coming ↔ RefusesRow m r [] all)
+    (sym e)
+    (subst (λ (x : List (List (Option Bool))). RefusesRow m r made x ↔ RefusesRow m r [] all)
+    (sym d) h)
 
 -- one row further
-pub trimming_more : (m n : Meaning) (all : List (List (Option Bool))) (others new : Shape) (i place : ℕ) (row : List (Option Bool)) (hand : Option (List (Option Bool)))
-    → n ≡ m → IsTrimming m all others i (Some row) → n.refuses_own row others.rows ≡ false → new.width ≡ others.width → Holds (with_needed n.on (take i others.rows) row (drop i others.rows)) (drop i others.rows) new place hand
-    → IsTrimming m all new place hand
-unfolding needed_behind refuses_behind HasWidth
-trimming_more m n all others new i place row hand alike t passed e held =
+pub trimming_more : (m n : Meaning) (r s : Refusals) (all : List (List (Option Bool)))
+    (others new : Shape) (i place : ℕ) (row : List (Option Bool))
+    (hand : Option (List (Option Bool)))
+    → n ≡ m → SameRefusals r s → IsTrimming m r all others i (Some row)
+    → (s.own row others.rows → ⊥) → new.width ≡ others.width
+    → Holds (with_needed n.on (take i others.rows) row (drop i others.rows)) (drop i others.rows)
+    new place hand
+    → IsTrimming m r all new place hand
+unfolding needed_behind HasWidth
+trimming_more m n r s all others new i place row hand alike same t passed e held =
     let h : Holds (with_needed m.on (take i others.rows) row (drop i others.rows)) (drop i others.rows) new place hand
     = subst (λ (k : Meaning). Holds (with_needed k.on (take i others.rows) row (drop i others.rows)) (drop i others.rows) new place hand) alike held in
-    let asked : m.refuses_own row (take i others.rows ++ drop i others.rows) ≡ false = ap (m.refuses_own row) (take-append-drop i others.rows) ∙ subst (λ (k : Meaning). k.refuses_own row others.rows ≡ false) alike passed in
-    let same : refuses_behind m (with_needed m.on (take i others.rows) row (drop i others.rows)) (drop i others.rows) ≡ refuses_behind m [] all
-    = sym (ap (λ (x : Bool). x || refuses_behind m (with_needed m.on (take i others.rows) row (drop i others.rows)) (drop i others.rows)) asked) ∙ t.refuses in record {
+    let free : r.own row (take i others.rows ++ drop i others.rows) → ⊥
+    = λ a. passed
+    ((same.own row others.rows).0 (subst (r.own row) (take-append-drop i others.rows) a)) in
+    let left : RefusesRow m r (with_needed m.on (take i others.rows) row (drop i others.rows))
+    (drop i others.rows) ↔ RefusesRow m r [] all
+    = (
+      λ a. t.refuses.0 (row_later m r (take i others.rows) (drop i others.rows) row a),
+      λ a. row_cases m r (take i others.rows) (drop i others.rows) row free (t.refuses.1 a),
+    ) in record {
       inside = h.inside;
       last = h.last;
       width = e ∙ t.width;
       widths = subst (HasWidth m.width) (sym h.behind) t.widths.1;
       needed = rw (h.before, h.behind) t.needed;
-      refuses = rw (h.before, h.behind) same;
+      refuses = refuses_same m r all (take place new.rows)
+          (with_needed m.on (take i others.rows) row (drop i others.rows))
+          (in_hand hand (drop place new.rows)) (drop i others.rows) h.before h.behind left;
     }
 
 -- a test that is refused
-pub trimming_refused : (m n : Meaning) (all : List (List (Option Bool))) (others : Shape) (i : ℕ) (row : List (Option Bool)) → n ≡ m → IsTrimming m all others i (Some row) → n.refuses_own row others.rows ≡ true → refuses_behind m [] all ≡ true
-unfolding refuses_behind
-trimming_refused m n all others i row alike t refused =
-    let asked : m.refuses_own row (take i others.rows ++ drop i others.rows) ≡ true = ap (m.refuses_own row) (take-append-drop i others.rows) ∙ subst (λ (k : Meaning). k.refuses_own row others.rows ≡ true) alike refused in
-    sym t.refuses ∙ rw asked refl
+pub trimming_refused : (m : Meaning) (r s : Refusals) (all : List (List (Option Bool)))
+    (others : Shape) (i : ℕ) (row : List (Option Bool)) → SameRefusals r s
+    → IsTrimming m r all others i (Some row)
+    → s.own row others.rows → RefusesRow m r [] all
+trimming_refused m r s all others i row same t refused =
+    t.refuses.0 (row_first m r (take i others.rows) (drop i others.rows) row
+    (subst (r.own row) (sym (take-append-drop i others.rows))
+    ((same.own row others.rows).1 refused)))
 
 -- at the end
-pub trimming_ends : (m : Meaning) (all : List (List (Option Bool))) (others : Shape) (i : ℕ) (w : ℕ) (hand : Option (List (Option Bool))) → w ≡ m.width → IsTrimming m all others i hand → hand ≡ None
+pub trimming_ends : (m : Meaning) (r : Refusals) (all : List (List (Option Bool))) (others : Shape)
+    (i : ℕ) (w : ℕ) (hand : Option (List (Option Bool))) → w ≡ m.width
+    → IsTrimming m r all others i hand → hand ≡ None
     → others ≡ record { width = w; rows = needed_behind m.on [] all }
 unfolding needed_behind
-trimming_ends m all others i w None e t n =
+trimming_ends m r all others i w None e t n =
     let all_kept : take i others.rows ≡ others.rows = ap (λ (k : ℕ). take k others.rows) (t.last refl) ∙ take-length others.rows in
     let none_left : drop i others.rows ≡ [] = ap (λ (k : ℕ). drop k others.rows) (t.last refl) ∙ drop-length others.rows in
     let rows : others.rows ≡ needed_behind m.on [] all = sym all_kept ∙ sym (ap (needed_behind m.on (take i others.rows)) none_left) ∙ t.needed in
     ap (λ (k : ℕ). record { width = k; rows = others.rows }) (t.width ∙ sym e) ∙ ap (λ (x : List (List (Option Bool))). record { width = w; rows = x }) rows
-trimming_ends m all others i w (Some row) e t n = cc
+trimming_ends m r all others i w (Some row) e t n = cc
 
-pub trimming_passed : (m : Meaning) (all : List (List (Option Bool))) (others : Shape) (i : ℕ) (hand : Option (List (Option Bool))) → IsTrimming m all others i hand → hand ≡ None → refuses_behind m [] all ≡ false
-unfolding refuses_behind
-trimming_passed m all others i None t n =
+pub trimming_passed : (m : Meaning) (r : Refusals) (all : List (List (Option Bool)))
+    (others : Shape) (i : ℕ) (hand : Option (List (Option Bool))) → IsTrimming m r all others i hand
+    → hand ≡ None → RefusesRow m r [] all → ⊥
+trimming_passed m r all others i None t n refused =
     let none_left : drop i others.rows ≡ [] = ap (λ (k : ℕ). drop k others.rows) (t.last refl) ∙ drop-length others.rows in
-    sym t.refuses ∙ ap (refuses_behind m (take i others.rows)) none_left
-trimming_passed m all others i (Some row) t n = cc
+    no_row m r (take i others.rows)
+    (subst (RefusesRow m r (take i others.rows)) none_left (t.refuses.1 refused))
+trimming_passed m r all others i (Some row) t n refused = cc

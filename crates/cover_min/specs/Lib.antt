@@ -1,4 +1,5 @@
 pub mod Points
 pub mod Minimum
+pub mod Refusals
 pub mod Primes
 pub mod Trimming

@@ -2,19 +2,16 @@
 -- Source: Brayton, Hachtel, McMullen, Sangiovanni-Vincentelli, "Logic Minimization Algorithms for VLSI Synthesis" (expand and
 -- irredundant); De Micheli, "Synthesis and Optimization of Digital Circuits", chapter 7 (prime and irredundant covers, don't-cares).
 -- Both choices are greedy: literals from the first place to the last, rows from the first to the last.
-use Rattle.std.specs.Prelude.{ℕ, zero, suc, Bool, false, ◌&&◌, ◌||◌, if◌then◌else◌, Option, None, List, [], ◌∷◌, ◌++◌, length, map, slice_index_or, slice_set}
-use Rattle.std.specs.List.{list_any}
-use Rattle.cube_cover.specs.Literals.{not_dash}
+use Rattle.std.specs.Prelude.{ℕ, zero, suc, Bool, if◌then◌else◌, Option, None, List, [], ◌∷◌, ◌++◌}
+use Rattle.std.specs.Prelude.{length, map, slice_set}
 use Rattle.cover_min.specs.Points.{has_point, has_own_point}
 
--- what an oracle knows: the points at which a function must be 1 and those at which it must be 0, all others being free (no function
--- fits where a point is of both); and of each test that it may be asked, whether it refuses it
+-- what an oracle knows: the points at which a function must be 1 and those at which it must be 0,
+-- all others being free (no function fits where a point is of both)
 pub record Meaning : Type 0 where
   pub width : ℕ
   pub on : List Bool → Bool
   pub off : List Bool → Bool
-  pub refuses_off : List (Option Bool) → Bool
-  pub refuses_own : List (Option Bool) → List (List (Option Bool)) → Bool
 
 -- a row without its literal at a place, where no point that it then has is one at which the function must be 0; else the row
 unfoldable pub widened_at : (List Bool → Bool) → List (Option Bool) → ℕ → List (Option Bool)
@@ -42,21 +39,3 @@ needed_behind on kept (row ∷ rest) = needed_behind on (with_needed on kept row
 -- the minimum of rows: each is widened, and then those are left that are needed; earlier rows are judged first
 unfoldable pub minimum_rows : Meaning → List (List (Option Bool)) → List (List (Option Bool))
 minimum_rows meaning rows = needed_behind meaning.on [] (map (widened meaning.off) rows)
-
--- whether a test is refused by which a literal at one of the first places of a row may go; a dash is not tested
-unfoldable pub refuses_to : Meaning → List (Option Bool) → ℕ → Bool
-refuses_to meaning row zero = false
-refuses_to meaning row (suc place) =
-    refuses_to meaning row place
-    || (not_dash (slice_index_or row place None) && meaning.refuses_off (slice_set (widened_to meaning.off row place) place None))
-
--- whether a test is refused by which a row may go
-unfoldable pub refuses_behind : Meaning → List (List (Option Bool)) → List (List (Option Bool)) → Bool
-refuses_behind meaning kept [] = false
-refuses_behind meaning kept (row ∷ rest) =
-    meaning.refuses_own row (kept ++ rest) || refuses_behind meaning (with_needed meaning.on kept row rest) rest
-
--- whether a test is refused by which the minimum of rows is found
-unfoldable pub refuses_minimum : Meaning → List (List (Option Bool)) → Bool
-refuses_minimum meaning rows =
-    list_any (λ row. refuses_to meaning row (length row)) rows || refuses_behind meaning [] (map (widened meaning.off) rows)

@@ -3,30 +3,35 @@
 //! Each literal and each row costs one test of the oracle. While rows go, one is in hand and the others stand in order in the cover
 //! that the oracle is shown; a row that stays changes places with the next one, in constant time.
 
-ghost use Rattle.std.specs.Prelude.{◌≡◌, ◌<◌, ◌≤◌, true, false, Err, ◌∷◌, ◌++◌, [], length, map, take, drop, option_map, IfOk, OnOk};
-ghost use Rattle.std.specs.List.{list_any};
+ghost use Rattle.std.specs.Prelude.{◌≡◌, ◌<◌, ◌≤◌, Err, ◌∷◌, ◌++◌, [], length, map, take, drop, option_map, IfOk, OnOk};
 ghost use Rattle.sis_base.specs.Rows.{HasWidth};
-ghost use Rattle.cover_min.specs.Minimum.{widened_at, widened, with_needed, needed_behind, minimum_rows, refuses_to, refuses_behind, refuses_minimum};
-ghost use Rattle.cover_min.specs.Trimming.{refuses_at, Holds};
+ghost use Rattle.cover_min.specs.Minimum.{widened_at, widened, with_needed, needed_behind, minimum_rows};
+ghost use Rattle.cover_min.specs.Refusals.{RefusesTo, RefusesLiteral, RefusesRow, RefusesMinimum};
+ghost use Rattle.cover_min.specs.Trimming.{RefusesAt, Holds};
 
 use crate::oracle::{Oracle, OracleFault};
 use cube_cover::{Cover, Row};
 use std::alloc::{AllocError, Global};
 use std::mem;
 
-/// The minimum of a cover of the oracle's width: all rows are widened as far as the points allow at which the function must be 0, and
-/// then rows go that no point needs at which it must be 1; what stands earlier is judged earlier. `Refused` just where the oracle
-/// refuses one of the questions; `Memory` only for want of memory. With an error the cover is lost.
+/// The minimum of a cover of the oracle's width: all rows are widened as far as the points allow at
+/// which the function must be 0, and then rows go that no point needs at which it must be 1; what
+/// stands earlier is judged earlier. `Refused` just where the oracle refuses one of the questions;
+/// `Memory` only for want of memory. With an error the cover is lost, and the oracle is still ready.
 pub fn prime_irredundant<R: Row, O: Oracle<R>>(
     alloc: Global,
     cover: Cover<R>,
     oracle: &mut O,
 ) -> Result<Cover<R>, OracleFault>
-    requires { cover.width ≡ (O.meaning oracle.old).width }
-    ensures kept { O.meaning oracle.new ≡ O.meaning oracle.old }
-    ensures minimum { IfOk result (λ least. least ≡ record cover { rows = minimum_rows (O.meaning oracle.old) cover.rows }) }
-    ensures passed { OnOk result (refuses_minimum (O.meaning oracle.old) cover.rows ≡ false) }
-    ensures refused { result ≡ Err OracleFault.Refused → refuses_minimum (O.meaning oracle.old) cover.rows ≡ true }
+    requires ready { O.IsReady oracle.old }
+    requires width { cover.width ≡ (O.meaning oracle.old).width }
+    ensures stays { O.Stays oracle.old oracle.new }
+    ensures minimum { IfOk result (λ least.
+        least ≡ record cover { rows = minimum_rows (O.meaning oracle.old) cover.rows }) }
+    ensures passed { OnOk result (
+        RefusesMinimum (O.meaning oracle.old) (O.refusals oracle.old) cover.rows → ⊥) }
+    ensures refused { result ≡ Err OracleFault.Refused
+        → RefusesMinimum (O.meaning oracle.old) (O.refusals oracle.old) cover.rows }
 {
     let primes = primes_of(alloc, cover, oracle)?;
     needed_of(alloc, primes, oracle)
@@ -39,12 +44,14 @@ fn widen_at<R: Row, O: Oracle<R>>(
     place: usize,
     oracle: &mut O,
 ) -> Result<(), OracleFault>
+    requires ready { O.IsReady oracle.old }
     requires width { length (R.literals row.old) ≡ (O.meaning oracle.old).width }
     requires place { place < length (R.literals row.old) }
-    ensures kept { O.meaning oracle.new ≡ O.meaning oracle.old }
+    ensures stays { O.Stays oracle.old oracle.new }
     ensures widened { OnOk result (R.literals row.new ≡ widened_at (O.meaning oracle.old).off (R.literals row.old) place) }
-    ensures passed { OnOk result (refuses_at (O.meaning oracle.old) (R.literals row.old) place ≡ false) }
-    ensures refused { result ≡ Err OracleFault.Refused → refuses_at (O.meaning oracle.old) (R.literals row.old) place ≡ true }
+    ensures passed { OnOk result (RefusesAt (O.refusals oracle.old) (R.literals row.old) place → ⊥) }
+    ensures refused { result ≡ Err OracleFault.Refused
+        → RefusesAt (O.refusals oracle.old) (R.literals row.old) place }
 {
     let literal = row.at(place);
     if literal.is_none() {
@@ -63,11 +70,16 @@ fn prime_of<R: Row, O: Oracle<R>>(
     mut row: R,
     oracle: &mut O,
 ) -> Result<R, OracleFault>
-    requires { length (R.literals row) ≡ (O.meaning oracle.old).width }
-    ensures kept { O.meaning oracle.new ≡ O.meaning oracle.old }
+    requires ready { O.IsReady oracle.old }
+    requires width { length (R.literals row) ≡ (O.meaning oracle.old).width }
+    ensures stays { O.Stays oracle.old oracle.new }
     ensures widened { IfOk result (λ prime. R.literals prime ≡ widened (O.meaning oracle.old).off (R.literals row)) }
-    ensures passed { OnOk result (refuses_to (O.meaning oracle.old) (R.literals row) (length (R.literals row)) ≡ false) }
-    ensures refused { result ≡ Err OracleFault.Refused → refuses_to (O.meaning oracle.old) (R.literals row) (length (R.literals row)) ≡ true }
+    ensures passed { OnOk result
+        (RefusesTo (O.meaning oracle.old) (O.refusals oracle.old) (R.literals row)
+        (length (R.literals row)) → ⊥) }
+    ensures refused { result ≡ Err OracleFault.Refused
+        → RefusesTo (O.meaning oracle.old) (O.refusals oracle.old) (R.literals row)
+        (length (R.literals row)) }
 {
     for place in 0..row.width() {
         widen_at(alloc, &mut row, place, oracle)?;
@@ -81,12 +93,15 @@ fn primes_of<R: Row, O: Oracle<R>>(
     cover: Cover<R>,
     oracle: &mut O,
 ) -> Result<Cover<R>, OracleFault>
-    requires { cover.width ≡ (O.meaning oracle.old).width }
-    ensures kept { O.meaning oracle.new ≡ O.meaning oracle.old }
+    requires ready { O.IsReady oracle.old }
+    requires width { cover.width ≡ (O.meaning oracle.old).width }
+    ensures stays { O.Stays oracle.old oracle.new }
     ensures widened { IfOk result (λ primes. primes ≡ record cover { rows = map (widened (O.meaning oracle.old).off) cover.rows }) }
     ensures widths { HasWidth cover.width cover.rows }
-    ensures passed { OnOk result (list_any (λ row. refuses_to (O.meaning oracle.old) row (length row)) cover.rows ≡ false) }
-    ensures refused { result ≡ Err OracleFault.Refused → list_any (λ row. refuses_to (O.meaning oracle.old) row (length row)) cover.rows ≡ true }
+    ensures passed { OnOk result (
+        RefusesLiteral (O.meaning oracle.old) (O.refusals oracle.old) cover.rows → ⊥) }
+    ensures refused { result ≡ Err OracleFault.Refused
+        → RefusesLiteral (O.meaning oracle.old) (O.refusals oracle.old) cover.rows }
 {
     let mut primes = Cover::new(alloc, cover.width());
     for row in cover.into_rows() {
@@ -160,14 +175,16 @@ fn judged<R: Row, O: Oracle<R>>(
     row: R,
     oracle: &mut O,
 ) -> Result<Held<R>, OracleFault>
+    requires ready { O.IsReady oracle.old }
     requires place { place ≤ length others.rows }
     requires width { others.width ≡ (O.meaning oracle.old).width }
     requires row { length (R.literals row) ≡ (O.meaning oracle.old).width }
-    ensures kept { O.meaning oracle.new ≡ O.meaning oracle.old }
+    ensures stays { O.Stays oracle.old oracle.new }
     ensures held { IfOk result (λ held. Holds (with_needed (O.meaning oracle.old).on (take place others.rows) (R.literals row) (drop place others.rows)) (drop place others.rows) held.others held.place (option_map R.literals held.hand)) }
     ensures width { IfOk result (λ held. held.others.width ≡ others.width) }
-    ensures passed { OnOk result ((O.meaning oracle.old).refuses_own (R.literals row) others.rows ≡ false) }
-    ensures refused { result ≡ Err OracleFault.Refused → (O.meaning oracle.old).refuses_own (R.literals row) others.rows ≡ true }
+    ensures passed { OnOk result ((O.refusals oracle.old).own (R.literals row) others.rows → ⊥) }
+    ensures refused { result ≡ Err OracleFault.Refused
+        → (O.refusals oracle.old).own (R.literals row) others.rows }
 {
     if oracle.has_own_point(alloc, &row, &others)? {
         Ok(put_in(others, place, row)?)
@@ -182,11 +199,14 @@ fn needed_of<R: Row, O: Oracle<R>>(
     cover: Cover<R>,
     oracle: &mut O,
 ) -> Result<Cover<R>, OracleFault>
-    requires { cover.width ≡ (O.meaning oracle.old).width }
-    ensures kept { O.meaning oracle.new ≡ O.meaning oracle.old }
+    requires ready { O.IsReady oracle.old }
+    requires width { cover.width ≡ (O.meaning oracle.old).width }
+    ensures stays { O.Stays oracle.old oracle.new }
     ensures needed { IfOk result (λ left. left ≡ record cover { rows = needed_behind (O.meaning oracle.old).on [] cover.rows }) }
-    ensures passed { OnOk result (refuses_behind (O.meaning oracle.old) [] cover.rows ≡ false) }
-    ensures refused { result ≡ Err OracleFault.Refused → refuses_behind (O.meaning oracle.old) [] cover.rows ≡ true }
+    ensures passed { OnOk result (
+        RefusesRow (O.meaning oracle.old) (O.refusals oracle.old) [] cover.rows → ⊥) }
+    ensures refused { result ≡ Err OracleFault.Refused
+        → RefusesRow (O.meaning oracle.old) (O.refusals oracle.old) [] cover.rows }
 {
     let mut held = taken_out(cover, 0);
     loop {

@@ -1,8 +1,9 @@
 //! What is asked of a function with free points.
 
-ghost use Rattle.std.specs.Prelude.{◌≡◌, true, false, length, IfOk, OnOk, Err};
+ghost use Rattle.std.specs.Prelude.{◌≡◌, length, IfOk, OnOk, Err};
 ghost use Rattle.cover_min.specs.Points.{has_point, has_own_point};
 ghost use Rattle.cover_min.specs.Minimum.{Meaning};
+ghost use Rattle.cover_min.specs.Refusals.{Refusals, SameRefusals};
 
 use cube_cover::{Cover, Row};
 use std::alloc::{AllocError, Global};
@@ -27,30 +28,61 @@ impl From<AllocError> for OracleFault {
     }
 }
 
-/// A function of which some points are free, seen by contracts as its meaning. To ask changes nothing of it, and a question is refused
-/// just where the meaning says so.
+/// A function of which some points are free, seen by contracts as its meaning.
+///
+/// An oracle that is ready answers. To ask it keeps what `Stays` says, also where there is no answer:
+/// the meaning, the refusals and the readiness at least, and more of an oracle that was lent what it
+/// asks. A question is refused just where the refusals say so.
 pub trait Oracle<R: Row> {
     ghost meaning: { Self → Meaning };
 
+    ghost refusals: { Self → Refusals };
+
+    ghost IsReady: { Self → Type 0 };
+
+    ghost Stays: { Self → Self → Type 0 };
+
     /// Whether the row, which has the function's width, has a point at which the function must be 0.
     fn meets_off(&mut self, alloc: Global, row: &R) -> Result<bool, OracleFault>
-        requires { length (R.literals row.now) ≡ (meaning self.old).width }
-        ensures kept { meaning self.new ≡ meaning self.old }
-        ensures answer { IfOk result (λ answer. answer ≡ has_point (meaning self.old).off (R.literals row.now)) }
-        ensures passed { OnOk result ((meaning self.old).refuses_off (R.literals row.now) ≡ false) }
-        ensures refused { result ≡ Err OracleFault.Refused → (meaning self.old).refuses_off (R.literals row.now) ≡ true };
+        requires ready { IsReady self.old }
+        requires width { length (R.literals row.now) ≡ (meaning self.old).width }
+        ensures stays { Stays self.old self.new }
+        ensures answer { IfOk result (λ answer.
+            answer ≡ has_point (meaning self.old).off (R.literals row.now)) }
+        ensures passed { OnOk result ((refusals self.old).off (R.literals row.now) → ⊥) }
+        ensures refused { result ≡ Err OracleFault.Refused
+            → (refusals self.old).off (R.literals row.now) };
 
-    /// Whether the row has a point at which the function must be 1 and that no row of the others has; all of the function's width.
+    /// Whether the row has a point at which the function must be 1 and that no row of the others has;
+    /// all of the function's width.
     fn has_own_point(
         &mut self,
         alloc: Global,
         row: &R,
         others: &Cover<R>,
     ) -> Result<bool, OracleFault>
+        requires ready { IsReady self.old }
         requires row { length (R.literals row.now) ≡ (meaning self.old).width }
         requires others { others.now.width ≡ (meaning self.old).width }
-        ensures kept { meaning self.new ≡ meaning self.old }
-        ensures answer { IfOk result (λ answer. answer ≡ has_own_point (meaning self.old).on (R.literals row.now) others.now.rows) }
-        ensures passed { OnOk result ((meaning self.old).refuses_own (R.literals row.now) others.now.rows ≡ false) }
-        ensures refused { result ≡ Err OracleFault.Refused → (meaning self.old).refuses_own (R.literals row.now) others.now.rows ≡ true };
+        ensures stays { Stays self.old self.new }
+        ensures answer { IfOk result (λ answer.
+            answer ≡ has_own_point (meaning self.old).on (R.literals row.now) others.now.rows) }
+        ensures passed { OnOk result (
+            (refusals self.old).own (R.literals row.now) others.now.rows → ⊥) }
+        ensures refused { result ≡ Err OracleFault.Refused
+            → (refusals self.old).own (R.literals row.now) others.now.rows };
+
+    ghost reflexive: { (state : Self) → Stays state state };
+
+    ghost transitive: { (first then last : Self)
+        → Stays first then → Stays then last → Stays first last };
+
+    ghost ready_stays: { (before after : Self)
+        → Stays before after → IsReady before → IsReady after };
+
+    ghost meaning_stays: { (before after : Self)
+        → Stays before after → meaning after ≡ meaning before };
+
+    ghost refusals_stay: { (before after : Self)
+        → Stays before after → SameRefusals (refusals before) (refusals after) };
 }

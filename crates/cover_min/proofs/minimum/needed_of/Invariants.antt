@@ -1,11 +1,13 @@
-use Rattle.std.proofs.Common.{◌≡◌, length, drop, option_map}
+use Rattle.std.proofs.Common.{length, drop, option_map}
 use Rattle.cover_min.specs.Trimming.{in_hand, IsTrimming}
 use Rattle.cover_min.proofs.minimum.needed_of.Given as goal
 
 abbrev pub invariant-loop-row : goal.invariant-loop-row
 invariant-loop-row g l = record {
-  kept : g.O.Oracle.meaning l.oracle ≡ g.O.Oracle.meaning l.fn.oracle;
-  trimming : IsTrimming (g.O.Oracle.meaning l.fn.oracle) l.fn.cover.rows l.held.others l.held.place (option_map g.R.Row.literals l.held.hand);
+  stays : g.O.Oracle.Stays l.fn.oracle l.oracle;
+  trimming :
+      IsTrimming (g.O.Oracle.meaning l.fn.oracle) (g.O.Oracle.refusals l.fn.oracle) l.fn.cover.rows
+      l.held.others l.held.place (option_map g.R.Row.literals l.held.hand);
 }
 
 abbrev pub decreases-loop-row : goal.decreases-loop-row

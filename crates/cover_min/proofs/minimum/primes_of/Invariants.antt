@@ -5,7 +5,9 @@ use Rattle.cover_min.proofs.minimum.primes_of.Given as goal
 
 abbrev pub invariant-loop-row : goal.invariant-loop-row
 invariant-loop-row g l = record {
-  kept : g.O.Oracle.meaning l.oracle ≡ g.O.Oracle.meaning l.fn.oracle;
-  spreading : IsSpreading (g.O.Oracle.meaning l.fn.oracle) l.fn.cover.rows l.primes (map g.R.Row.literals (into_iter_items l.row-iterator));
+  stays : g.O.Oracle.Stays l.fn.oracle l.oracle;
+  spreading :
+      IsSpreading (g.O.Oracle.meaning l.fn.oracle) (g.O.Oracle.refusals l.fn.oracle) l.fn.cover.rows
+      l.primes (map g.R.Row.literals (into_iter_items l.row-iterator));
   long : into_iter_len l.row-iterator ≡ length (into_iter_items l.row-iterator);
 }
