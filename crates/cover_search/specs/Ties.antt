@@ -26,14 +26,12 @@ pub record Tied : Type 0 where
   pub rows : List (List (Option Bool))
   pub ties : List Tie
 
--- the function of the rows at the points that keep all ties; all others are free, and no test is refused
+-- the function of the rows at the points that keep all ties; all others are free
 abbrev pub meaning_of : Tied → Meaning
 meaning_of tied = record {
   width = tied.width;
   on = λ point. some_matches tied.rows point && keeps_all tied.ties point;
   off = λ point. not (some_matches tied.rows point) && keeps_all tied.ties point;
-  refuses_off = λ row. false;
-  refuses_own = λ row others. false;
 }
 
 -- the rows of all ties have the width

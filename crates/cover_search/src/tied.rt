@@ -135,9 +135,28 @@ fn has_on_point<R: Row>(
 }
 
 impl<R: Row> Oracle<R> for TiedCover<R> {
+    ghost use Rattle.std.specs.Prelude.{◌≡◌, refl};
+    ghost use Rattle.std.proofs.Common.{ap, ◌∙◌};
+    ghost use Rattle.cover_min.specs.Refusals.{no_refusals};
     ghost use Rattle.cover_search.specs.Ties.{meaning_of};
 
     ghost meaning = { λ tied. meaning_of tied };
+
+    ghost refusals = { λ tied. no_refusals };
+
+    ghost IsReady = { λ tied. Unit {0} };
+
+    ghost Stays = { λ before after. after ≡ before };
+
+    ghost reflexive = { λ state. refl };
+
+    ghost transitive = { λ first then last earlier later. later ∙ earlier };
+
+    ghost ready_stays = { λ before after stays ready. ready };
+
+    ghost meaning_stays = { λ before after stays. ap meaning_of stays };
+
+    ghost refusals_stay = { λ before after stays. record { off = λ row. (λ h. h, λ h. h); own = λ row others. (λ h. h, λ h. h) } };
 
     /// Whether the row has a point at which the cover gives 0 and all ties are kept; an error only for want of memory.
     fn meets_off(&mut self, alloc: Global, row: &R) -> Result<bool, OracleFault> {

@@ -15,9 +15,30 @@ struct Refusing {
 }
 
 impl<R: Row> Oracle<R> for Refusing {
-    ghost use Rattle.std.specs.Prelude.{true, false};
+    ghost use Rattle.std.specs.Prelude.{◌≡◌, false, refl};
+    ghost use Rattle.std.proofs.Common.{ap, ◌∙◌};
+    ghost use Rattle.cover_min.specs.Minimum.{Meaning};
 
-    ghost meaning = { λ refusing. record { width = refusing.width; on = λ point. false; off = λ point. false; refuses_off = λ row. true; refuses_own = λ row others. true } };
+    ghost meaning = { λ refusing.
+        record { width = refusing.width; on = λ point. false; off = λ point. false } };
+
+    ghost refusals = { λ refusing.
+        record { off = λ row. Unit {0}; own = λ row others. Unit {0} } };
+
+    ghost IsReady = { λ refusing. Unit {0} };
+
+    ghost Stays = { λ before after. after ≡ before };
+
+    ghost reflexive = { λ state. refl };
+
+    ghost transitive = { λ first then last earlier later. later ∙ earlier };
+
+    ghost ready_stays = { λ before after stays ready. ready };
+
+    ghost meaning_stays = { λ before after stays. ap (λ refusing. ◌≡◌) stays };
+
+    ghost refusals_stay = { λ before after stays.
+        record { off = λ row. (λ h. h, λ h. h); own = λ row others. (λ h. h, λ h. h) } };
 
     fn meets_off(&mut self, _alloc: Global, _row: &R) -> Result<bool, OracleFault> {
         Err(OracleFault::Refused)

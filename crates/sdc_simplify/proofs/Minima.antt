@@ -1,17 +1,16 @@
 -- The minimum of a table: its rows of phase 1, and their minimum where ties stand for local don't-cares.
-use Rattle.std.proofs.Common.{◌≡◌, ℕ, ◌<◌, ◌≤◌, zero, suc, Bool, true, false, not, ◌&&◌, if◌then◌else◌, ltb, Option, Some, None, List, [], ◌∷◌, ◌++◌, map, length, get_or, set, refl, sym, ap, ap₂, ◌∙◌, subst}
-use Rattle.std.specs.List.{list_any}
-use Rattle.std.proofs.Math.Bool.{and-false}
-use Rattle.std.proofs.lemmas.Bool.{or_from, lt-ltb, le-ltb}
+use Rattle.std.proofs.Common.{◌≡◌, ℕ, ◌<◌, ◌≤◌, Bool, true, false, not, ◌&&◌, ltb, Option, Some, None}
+use Rattle.std.proofs.Common.{List, map, length, refl, sym, ap, ap₂, ◌∙◌, subst, if◌then◌else◌, inl, inr}
+use Rattle.std.proofs.lemmas.Bool.{lt-ltb, le-ltb}
 use Rattle.circuit_model.specs.Names.{all_different}
 use Rattle.circuit_model.specs.declared.circuit.Table.{Table as Written}
 use Rattle.circuit_model.specs.declared.circuit.Circuit.{Circuit}
 use Rattle.cube_cover.specs.Covers.{Shape}
-use Rattle.cube_cover.specs.Literals.{not_dash}
 use Rattle.cover_ops.specs.Shannon.{list_rows}
 use Rattle.cover_ops.specs.declared.list.ListFault.{ListFault}
 use Rattle.cover_ops.specs.declared.list.ListFault.TheVariants.{CubeLimit as LongList, Memory as NoMemory}
-use Rattle.cover_min.specs.Minimum.{Meaning, widened, widened_to, with_needed, minimum_rows, refuses_to, refuses_behind, refuses_minimum}
+use Rattle.cover_min.specs.Minimum.{Meaning, minimum_rows}
+use Rattle.cover_min.specs.Refusals.{RefusesMinimum, no_refusals}
 use Rattle.cover_min.proofs.Minima.{minimum_same}
 use Rattle.cover_search.specs.Ties.{meaning_of as meaning_of_tied}
 use Rattle.cover_search.specs.declared.tied.Tie.{Tie as Held}
@@ -31,32 +30,11 @@ use Rattle.sdc_simplify.specs.declared.fault.SimplifyFault.{SimplifyFault}
 use Rattle.sdc_simplify.specs.declared.fault.SimplifyFault.TheVariants.{Memory}
 use Rattle.sis_base.specs.declared.limits.TheConstants.{MAX_ROWS}
 
--- where no question is refused, no minimum is
-never_to : (meaning : Meaning) → ((row : List (Option Bool)) → meaning.refuses_off row ≡ false) → (row : List (Option Bool)) (place : ℕ) → refuses_to meaning row place ≡ false
-unfolding refuses_to
-never_to meaning never row zero = refl
-never_to meaning never row (suc place) =
-    or_from (refuses_to meaning row place) (not_dash (get_or row place None) && meaning.refuses_off (set (widened_to meaning.off row place) place None))
-    (never_to meaning never row place)
-    (ap (λ (b : Bool). not_dash (get_or row place None) && b) (never (set (widened_to meaning.off row place) place None)) ∙ and-false (not_dash (get_or row place None)))
-
-never_behind : (meaning : Meaning) → ((row : List (Option Bool)) (others : List (List (Option Bool))) → meaning.refuses_own row others ≡ false) → (kept rows : List (List (Option Bool))) → refuses_behind meaning kept rows ≡ false
-unfolding refuses_behind
-never_behind meaning never kept [] = refl
-never_behind meaning never kept (row ∷ rest) =
-    or_from (meaning.refuses_own row (kept ++ rest)) (refuses_behind meaning (with_needed meaning.on kept row rest) rest) (never row (kept ++ rest)) (never_behind meaning never (with_needed meaning.on kept row rest) rest)
-
-never_any : (test : List (Option Bool) → Bool) → ((row : List (Option Bool)) → test row ≡ false) → (rows : List (List (Option Bool))) → list_any test rows ≡ false
-never_any test never [] = refl
-never_any test never (row ∷ rows) = or_from (test row) (list_any test rows) (never row) (never_any test never rows)
-
-pub never_refused : (meaning : Meaning) (rows : List (List (Option Bool))) → ((row : List (Option Bool)) → meaning.refuses_off row ≡ false)
-    → ((row : List (Option Bool)) (others : List (List (Option Bool))) → meaning.refuses_own row others ≡ false) → refuses_minimum meaning rows ≡ false
-unfolding refuses_minimum
-never_refused meaning rows never_off never_own =
-    or_from (list_any (λ row. refuses_to meaning row (length row)) rows) (refuses_behind meaning [] (map (widened meaning.off) rows))
-    (never_any (λ row. refuses_to meaning row (length row)) (λ row. never_to meaning never_off row (length row)) rows)
-    (never_behind meaning never_own [] (map (widened meaning.off) rows))
+-- where no test is refused, no minimum is
+pub never_refused : (meaning : Meaning) (rows : List (List (Option Bool)))
+    → RefusesMinimum meaning no_refusals rows → ⊥
+never_refused meaning rows (inl literal) = literal.refused.refused
+never_refused meaning rows (inr row) = row.refused
 
 -- the minimum where ties are kept is that where no point is a local don't-care
 pub least_same : {R : Type 0} (circuit : Circuit) (table : Written) (ties : List (Held R)) → HasCharacters (length table.inputs) table.rows → AreLocal circuit table ties

@@ -22,8 +22,6 @@ meaning_of table is_free = record {
   width = length table.inputs;
   on = λ point. table_value table point && not (is_free point);
   off = λ point. not (table_value table point) && not (is_free point);
-  refuses_off = λ row. false;
-  refuses_own = λ row others. false;
 }
 
 -- the table of phase 1 whose rows are the minimum of its function, where the points that pass a test are free; nothing is tidied yet
