@@ -1,0 +1,3 @@
+pub mod Netlists
+pub mod Lines
+pub mod Figures
