@@ -1,7 +1,8 @@
 -- Pseudo-random draws by a linear congruential generator.
--- Source: Knuth, "The Art of Computer Programming", volume 2, section 3.2.1: each number is the one before times a
--- multiplier, plus an increment, to a modulus. Multiplier and increment are those of Knuth's MMIX, and the modulus is
--- 2^64. That a draw leaves out the low 33 bits of its number, which are the least random ones, is the project's own.
+-- Source: Knuth, "The Art of Computer Programming", volume 2, section 3.2.1: each number is the one
+-- before times a multiplier, plus an increment, to a modulus. Multiplier and increment are those of
+-- Knuth's MMIX, and the modulus is 2^64. That a draw leaves out the low 33 bits of its number,
+-- which are the least random ones, is the project's own.
 use Rattle.std.specs.Prelude.{ℕ, ◌+◌, ◌*◌, ◌/◌, ◌%◌, ◌^◌}
 
 abbrev pub multiplier : ℕ

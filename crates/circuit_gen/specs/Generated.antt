@@ -1,6 +1,8 @@
--- The circuit of a seed and a number of tables: tables of two inputs each, drawn one after the other, and eight latches.
--- Source: the parts are those of the BLIF appendix of the SIS report (UCB/ERL M92/41); the rule is the project's own, for
--- trials. Signals have numbers: the 16 inputs come first, then the outputs of the 8 latches, then those of the tables.
+-- The circuit of a seed and a number of tables: tables of two inputs each, drawn one after the
+-- other, and eight latches.
+-- Source: the parts are those of the BLIF appendix of the SIS report (UCB/ERL M92/41); the rule is
+-- the project's own, for trials. Signals have numbers: the 16 inputs come first, then the outputs
+-- of the 8 latches, then those of the tables.
 use Rattle.std.specs.Prelude.{ℕ, zero, suc, ◌+◌, ◌-◌, ◌%◌, ◌==◌, nat_lt, Bool, true, false, None, List, [], ◌∷◌, ◌++◌, map, decimal, codes, if◌then◌else◌}
 use Rattle.std.specs.List.{range_with_len}
 use Rattle.circuit_model.specs.declared.circuit.Tri.{Tri}
@@ -12,12 +14,14 @@ use Rattle.circuit_gen.specs.Draws.{next, drawn}
 use Rattle.circuit_gen.specs.declared.gates.Gate.{Gate}
 use Rattle.circuit_gen.specs.declared.gates.Gate.TheVariants.{And, Nand, Or, Xor}
 
--- the name of a signal: `i` and its number for an input, `l` for a latch, `t` for a table, each counted from 0
+-- the name of a signal: `i` and its number for an input, `l` for a latch, `t` for a table, each
+-- counted from 0
 unfoldable pub signal : ℕ → List ℕ
 signal number =
     if nat_lt number 16
     then codes "i" ++ decimal number
-    else if nat_lt number 24 then codes "l" ++ decimal (number - 16) else codes "t" ++ decimal (number - 24)
+    else if nat_lt number 24 then codes "l" ++ decimal (number - 16)
+    else codes "t" ++ decimal (number - 24)
 
 -- the names of so many signals from a number on
 abbrev pub signals : ℕ → ℕ → List (List ℕ)
@@ -25,7 +29,11 @@ signals first count = map signal (range_with_len first count)
 
 -- the four gates
 abbrev pub gate_of : ℕ → Gate
-gate_of number = if number == 0 then And else if number == 1 then Nand else if number == 2 then Or else Xor
+gate_of number =
+    if number == 0 then And
+    else if number == 1 then Nand
+    else if number == 2 then Or
+    else Xor
 
 -- the rows of a gate, and its phase
 abbrev pub rows_of : Gate → List (List Tri)
@@ -56,7 +64,8 @@ unfoldable pub table_behind : ℕ → ℕ → Table
 table_behind number place =
     let first = drawn (next number) (24 + place) in
     let second = drawn (next (next number)) (24 + place) in
-    gate_table place first (second_of (24 + place) first second) (gate_of (drawn (next (next (next number))) 4))
+    gate_table place first (second_of (24 + place) first second)
+    (gate_of (drawn (next (next (next number))) 4))
 
 -- the last number before those of a place, by the seed: each table takes three
 unfoldable pub number_at : ℕ → ℕ → ℕ
@@ -69,9 +78,11 @@ table_at seed place = table_behind (number_at seed place) place
 
 -- the latch of a place: its input is the signal of this place among the last eight
 abbrev pub latch_at : ℕ → ℕ → Latch
-latch_at tables place = record { input = signal (16 + tables + place); output = signal (16 + place); init = 0 }
+latch_at tables place =
+    record { input = signal (16 + tables + place); output = signal (16 + place); init = 0 }
 
--- the circuit: the outputs are the last eight signals, which are tables where there are eight of them
+-- the circuit: the outputs are the last eight signals, which are tables where there are eight of
+-- them
 unfoldable pub generated : ℕ → ℕ → Circuit
 generated seed tables = record {
   name = codes "gen";

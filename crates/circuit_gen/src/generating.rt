@@ -18,8 +18,8 @@ const LATCHES: usize = 8;
 /// How many gates there are.
 const GATES: usize = 4;
 
-/// The second input, by the number that was drawn for it: the signal behind the first input where that one was drawn
-/// again.
+/// The second input, by the number that was drawn for it: the signal behind the first input where
+/// that one was drawn again.
 fn second_of(bound: usize, first: usize, second: usize) -> usize
     requires first { first < bound }
     requires second { second < bound }

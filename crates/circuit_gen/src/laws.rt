@@ -10,7 +10,8 @@ pub fn generated_circuits_are_sound()
     ensures { (seed tables : ℕ) → tables < 2 ^ 32 → IsSound (generated seed tables) }
 {}
 
-/// The circuit of a seed keeps the limits of what is read, as long as there is room for its latches.
+/// The circuit of a seed keeps the limits of what is read, as long as there is room for its
+/// latches.
 pub fn generated_circuits_are_within_limits()
     ensures { (seed tables : ℕ) → tables + 8 ≤ 65535 → IsWithinLimits (generated seed tables) }
 {}

@@ -1,7 +1,9 @@
--- The minimum of a cover under free points: its rows are made as wide as they can be, and rows that are not needed go.
--- Source: Brayton, Hachtel, McMullen, Sangiovanni-Vincentelli, "Logic Minimization Algorithms for VLSI Synthesis" (expand and
--- irredundant); De Micheli, "Synthesis and Optimization of Digital Circuits", chapter 7 (prime and irredundant covers, don't-cares).
--- Both choices are greedy: literals from the first place to the last, rows from the first to the last.
+-- The minimum of a cover under free points: its rows are made as wide as they can be, and rows that
+-- are not needed go.
+-- Source: Brayton, Hachtel, McMullen, Sangiovanni-Vincentelli, "Logic Minimization Algorithms for
+-- VLSI Synthesis" (expand and irredundant); De Micheli, "Synthesis and Optimization of Digital
+-- Circuits", chapter 7 (prime and irredundant covers, don't-cares). Both choices are greedy:
+-- literals from the first place to the last, rows from the first to the last.
 use Rattle.std.specs.Prelude.{ℕ, zero, suc, Bool, if◌then◌else◌, Option, None, List, [], ◌∷◌, ◌++◌}
 use Rattle.std.specs.Prelude.{length, map, slice_set}
 use Rattle.cover_min.specs.Points.{has_point, has_own_point}
@@ -13,9 +15,11 @@ pub record Meaning : Type 0 where
   pub on : List Bool → Bool
   pub off : List Bool → Bool
 
--- a row without its literal at a place, where no point that it then has is one at which the function must be 0; else the row
+-- a row without its literal at a place, where no point that it then has is one at which the
+-- function must be 0; else the row
 unfoldable pub widened_at : (List Bool → Bool) → List (Option Bool) → ℕ → List (Option Bool)
-widened_at off row place = if has_point off (slice_set row place None) then row else slice_set row place None
+widened_at off row place = if has_point off (slice_set row place None) then row
+    else slice_set row place None
 
 -- a row after its literals at the first places went, one after the other, where they could
 unfoldable pub widened_to : (List Bool → Bool) → List (Option Bool) → ℕ → List (Option Bool)
@@ -26,16 +30,20 @@ widened_to off row (suc place) = widened_at off (widened_to off row place) place
 abbrev pub widened : (List Bool → Bool) → List (Option Bool) → List (Option Bool)
 widened off row = widened_to off row (length row)
 
--- the rows that were kept, and a row behind them where it has a point at which the function must be 1 that neither they nor the
--- rows still to come have
-unfoldable pub with_needed : (List Bool → Bool) → List (List (Option Bool)) → List (Option Bool) → List (List (Option Bool)) → List (List (Option Bool))
-with_needed on kept row rest = if has_own_point on row (kept ++ rest) then kept ++ row ∷ [] else kept
+-- the rows that were kept, and a row behind them where it has a point at which the function must be
+-- 1 that neither they nor the rows still to come have
+unfoldable pub with_needed : (List Bool → Bool) → List (List (Option Bool)) → List (Option Bool)
+    → List (List (Option Bool)) → List (List (Option Bool))
+with_needed on kept row rest = if has_own_point on row (kept ++ rest) then kept ++ row ∷ []
+    else kept
 
 -- the rows that were kept, and those that are needed of the ones still to come
-unfoldable pub needed_behind : (List Bool → Bool) → List (List (Option Bool)) → List (List (Option Bool)) → List (List (Option Bool))
+unfoldable pub needed_behind : (List Bool → Bool) → List (List (Option Bool))
+    → List (List (Option Bool)) → List (List (Option Bool))
 needed_behind on kept [] = kept
 needed_behind on kept (row ∷ rest) = needed_behind on (with_needed on kept row rest) rest
 
--- the minimum of rows: each is widened, and then those are left that are needed; earlier rows are judged first
+-- the minimum of rows: each is widened, and then those are left that are needed; earlier rows are
+-- judged first
 unfoldable pub minimum_rows : Meaning → List (List (Option Bool)) → List (List (Option Bool))
 minimum_rows meaning rows = needed_behind meaning.on [] (map (widened meaning.off) rows)

@@ -1,20 +1,24 @@
 -- Whether a test holds at some point, of a width or of a row.
--- Source: De Micheli, "Synthesis and Optimization of Digital Circuits", chapter 7 (a row is the set of the points that it has).
+-- Source: De Micheli, "Synthesis and Optimization of Digital Circuits", chapter 7 (a row is the set
+-- of the points that it has).
 use Rattle.std.specs.Prelude.{◌≡◌, ℕ, zero, suc, Bool, true, false, not, ◌&&◌, ◌||◌, Option, List, [], ◌∷◌, length}
 use Rattle.sis_base.specs.Rows.{matches, some_matches, IsPoint}
 
 -- whether a test holds at some point of a width
 unfoldable pub some_point : ℕ → (List Bool → Bool) → Bool
 some_point zero test = test []
-some_point (suc width) test = some_point width (λ point. test (false ∷ point)) || some_point width (λ point. test (true ∷ point))
+some_point (suc width) test = some_point width (λ point. test (false ∷ point))
+    || some_point width (λ point. test (true ∷ point))
 
 -- whether a test holds at some point that a row has
 unfoldable pub has_point : (List Bool → Bool) → List (Option Bool) → Bool
 has_point test row = some_point (length row) (λ point. matches row point && test point)
 
 -- whether a test holds at some point that a row has and no other row
-abbrev pub has_own_point : (List Bool → Bool) → List (Option Bool) → List (List (Option Bool)) → Bool
-has_own_point test row others = has_point (λ point. test point && not (some_matches others point)) row
+abbrev pub has_own_point : (List Bool → Bool) → List (Option Bool) → List (List (Option Bool))
+    → Bool
+has_own_point test row others = has_point (λ point. test point
+    && not (some_matches others point)) row
 
 -- a point that a row has, at which a test holds
 pub record PointOf (test : List Bool → Bool) (row : List (Option Bool)) : Type 0 where

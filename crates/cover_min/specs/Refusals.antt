@@ -8,7 +8,8 @@ use Rattle.cube_cover.specs.Literals.{not_dash}
 use Rattle.cover_min.specs.Minimum.{Meaning, widened_to, widened, with_needed}
 
 -- when an oracle refuses to tell whether a row has a point at which the function must be 0, and
--- when it refuses to tell whether a row has a point of its own, beside others, at which it must be 1
+-- when it refuses to tell whether a row has a point of its own, beside others, at which it must be
+-- 1
 pub record Refusals : Type 1 where
   pub off : List (Option Bool) → Type 0
   pub own : List (Option Bool) → List (List (Option Bool)) → Type 0

@@ -1,7 +1,8 @@
 -- The circuit that a netlist stands for, and when a netlist is sound.
--- Source: the BLIF appendix of the SIS report (UCB/ERL M92/41), `.gate`: an instance of a library gate, whose output is the gate's
--- function of the signals at its pins; its genlib format for the gates. That gates come before the other tables, and that a
--- signal at two pins is one input, are the project's own.
+-- Source: the BLIF appendix of the SIS report (UCB/ERL M92/41), `.gate`: an instance of a library
+-- gate, whose output is the gate's function of the signals at its pins; its genlib format for the
+-- gates. That gates come before the other tables, and that a signal at two pins is one input, are
+-- the project's own.
 use Rattle.std.specs.Prelude.{◌≡◌, ℕ, true, Option, Some, List, [], ◌∷◌, ◌++◌, map, take, length, slice_index_or}
 use Rattle.std.specs.List.{AllByRecursion, filter_map}
 use Rattle.std.specs.Option.{option_map}
@@ -23,7 +24,8 @@ pins_of placed = map (λ (connection : Connection). connection.pin) placed.pins
 abbrev pub signals_of : Placed → List (List ℕ)
 signals_of placed = map (λ (connection : Connection). connection.signal) placed.pins
 
--- a cell between signals: those at its pins, in their order, are its inputs, and the one behind them is its output
+-- a cell between signals: those at its pins, in their order, are its inputs, and the one behind
+-- them is its output
 unfoldable pub cell_table : Gate → List (List ℕ) → Table
 cell_table gate signals = record {
   inputs = take (length gate.pins) signals;
@@ -35,18 +37,21 @@ cell_table gate signals = record {
 -- the table of a placed gate, each input once; none where the library has no such cell
 unfoldable pub placed_table : List Gate → Placed → Option Table
 placed_table library placed =
-    option_map (λ gate. folded (cell_table gate (signals_of placed))) (gate_named library placed.cell)
+    option_map (λ gate. folded (cell_table gate (signals_of placed)))
+    (gate_named library placed.cell)
 
 -- the tables of placed gates, in order
 unfoldable pub placed_tables : List Gate → List Placed → List Table
 placed_tables library gates = filter_map (placed_table library) gates
 
--- the circuit of a netlist: all that stands beside the gates, with the tables of the gates before its own
+-- the circuit of a netlist: all that stands beside the gates, with the tables of the gates before
+-- its own
 unfoldable pub circuit_of : List Gate → Mapped → Circuit
 circuit_of library mapped =
     record mapped.base { tables = placed_tables library mapped.gates ++ mapped.base.tables }
 
--- a gate is placed by a library: its cell is there, and what it names are the cell's pins in order, and then the output
+-- a gate is placed by a library: its cell is there, and what it names are the cell's pins in order,
+-- and then the output
 pub record IsPlaced (library : List Gate) (placed : Placed) : Type 0 where
   pub gate : Gate
   pub known : gate_named library placed.cell ≡ Some gate

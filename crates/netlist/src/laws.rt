@@ -14,23 +14,33 @@ ghost use Rattle.netlist.specs.Lines.{netlist_text_of};
 ghost use Rattle.netlist.specs.declared.mapped.Placed.{Placed as ThePlaced};
 ghost use Rattle.netlist.specs.declared.mapped.Mapped.{Mapped as TheMapped};
 
-/// A cell between signals, one for each of its pins at least, is a table of a circuit; folded, it has the value of the cell's
-/// function at the values of the signals at its pins.
+/// A cell between signals, one for each of its pins at least, is a table of a circuit; folded, it
+/// has the value of the cell's function at the values of the signals at its pins.
 pub fn cells_have_tables()
-    ensures shaped { (gate : TheGate) (signals : List (List ℕ)) → length gate.pins ≤ length signals → IsShaped (cell_table gate signals) }
-    ensures value { (gate : TheGate) (signals : List (List ℕ)) (value : List ℕ → Bool) → length gate.pins ≤ length signals
-        → table_value (folded (cell_table gate signals)) (map value (folded (cell_table gate signals)).inputs) ≡ function_of (formula_of gate.expr) (map value (take (length gate.pins) signals)) }
+    ensures shaped { (gate : TheGate) (signals : List (List ℕ)) → length gate.pins ≤ length signals
+        → IsShaped (cell_table gate signals) }
+    ensures value { (gate : TheGate) (signals : List (List ℕ)) (value : List ℕ → Bool)
+        → length gate.pins ≤ length signals
+        → table_value (folded (cell_table gate signals))
+        (map value (folded (cell_table gate signals)).inputs)
+        ≡ function_of (formula_of gate.expr) (map value (take (length gate.pins) signals)) }
 {}
 
-/// A placed gate has the table of its cell between its signals, one more than the cell has pins; the last is what it drives.
+/// A placed gate has the table of its cell between its signals, one more than the cell has pins;
+/// the last is what it drives.
 pub fn placed_gates_have_tables()
-    ensures table { (library : List TheGate) (placed : ThePlaced) (by : IsPlaced library placed) → placed_table library placed ≡ Some (folded (cell_table by.gate (signals_of placed))) }
-    ensures signals { (library : List TheGate) (placed : ThePlaced) (by : IsPlaced library placed) → length (signals_of placed) ≡ length by.gate.pins + 1 }
-    ensures driven { (library : List TheGate) (placed : ThePlaced) (by : IsPlaced library placed) → (folded (cell_table by.gate (signals_of placed))).output ≡ driven_by placed }
+    ensures table { (library : List TheGate) (placed : ThePlaced) (by : IsPlaced library placed)
+        → placed_table library placed ≡ Some (folded (cell_table by.gate (signals_of placed))) }
+    ensures signals { (library : List TheGate) (placed : ThePlaced) (by : IsPlaced library placed)
+        → length (signals_of placed) ≡ length by.gate.pins + 1 }
+    ensures driven { (library : List TheGate) (placed : ThePlaced) (by : IsPlaced library placed)
+        → (folded (cell_table by.gate (signals_of placed))).output ≡ driven_by placed }
 {}
 
 /// A netlist without gates is its circuit, and is written as that.
 pub fn netlists_without_gates_are_circuits()
-    ensures circuit { (library : List TheGate) (mapped : TheMapped) → mapped.gates ≡ [] → circuit_of library mapped ≡ mapped.base }
-    ensures text { (mapped : TheMapped) → mapped.gates ≡ [] → netlist_text_of mapped ≡ text_of mapped.base }
+    ensures circuit { (library : List TheGate) (mapped : TheMapped) → mapped.gates ≡ []
+        → circuit_of library mapped ≡ mapped.base }
+    ensures text { (mapped : TheMapped) → mapped.gates ≡ []
+        → netlist_text_of mapped ≡ text_of mapped.base }
 {}

@@ -17,15 +17,16 @@ pub type Gates = Sequence<Placed>;
 /// The figures of trees, in order.
 pub type TreeFigures = Sequence<TreeFigure>;
 
-/// A gate of a netlist: the name of its cell, and what its pins stand at, in the order of the cell, its output last.
+/// A gate of a netlist: the name of its cell, and what its pins stand at, in the order of the cell,
+/// its output last.
 #[derive(Debug, Drop, PartialEq)]
 pub struct Placed {
     pub cell: Name,
     pub pins: Connections,
 }
 
-/// What was found for a subject tree: the name of its root, what its cover costs in millionths, and how many gates of the
-/// netlist are its own.
+/// What was found for a subject tree: the name of its root, what its cover costs in millionths, and
+/// how many gates of the netlist are its own.
 #[derive(Debug, Drop, PartialEq)]
 pub struct TreeFigure {
     pub name: Name,
@@ -33,7 +34,8 @@ pub struct TreeFigure {
     pub gates: usize,
 }
 
-/// A mapped netlist: gates of a library, and beside them the circuit of all that is no gate. The gates stand tree by tree.
+/// A mapped netlist: gates of a library, and beside them the circuit of all that is no gate. The
+/// gates stand tree by tree.
 #[derive(Debug, Drop, PartialEq)]
 pub struct Mapped {
     pub base: Circuit,
