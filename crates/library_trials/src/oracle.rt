@@ -15,9 +15,8 @@ struct Refusing {
 }
 
 impl<R: Row> Oracle<R> for Refusing {
-    ghost use Rattle.std.specs.Prelude.{◌≡◌, false, refl};
+    ghost use Rattle.std.specs.Prelude.{◌≡◌, ℕ, false, refl};
     ghost use Rattle.std.proofs.Common.{ap, ◌∙◌};
-    ghost use Rattle.cover_min.specs.Minimum.{Meaning};
 
     ghost meaning = { λ refusing.
         record { width = refusing.width; on = λ point. false; off = λ point. false } };
@@ -27,7 +26,7 @@ impl<R: Row> Oracle<R> for Refusing {
 
     ghost IsReady = { λ refusing. Unit {0} };
 
-    ghost Stays = { λ before after. after ≡ before };
+    ghost Stays = { λ before after. after.width ≡ before.width };
 
     ghost reflexive = { λ state. refl };
 
@@ -35,7 +34,8 @@ impl<R: Row> Oracle<R> for Refusing {
 
     ghost ready_stays = { λ before after stays ready. ready };
 
-    ghost meaning_stays = { λ before after stays. ap (λ refusing. ◌≡◌) stays };
+    ghost meaning_stays = { λ before after stays. ap (λ (places : ℕ).
+        record { width = places; on = λ point. false; off = λ point. false }) stays };
 
     ghost refusals_stay = { λ before after stays.
         record { off = λ row. (λ h. h, λ h. h); own = λ row others. (λ h. h, λ h. h) } };
