@@ -1,4 +1,5 @@
-//! The text of a circuit, as it is written: each line as words with one blank between, put behind what is there.
+//! The text of a circuit or a netlist, as it is written: each line as words with one blank between,
+//! put behind what is there.
 
 ghost use Rattle.std.specs.Prelude.{◌≡◌, ◌≤◌, ◌++◌, ◌∷◌, [], map, flat_map, drop, length, codes, IfOk, OnOk, OnErr};
 ghost use Rattle.sis_base.specs.Written.{ends_open, line_end, line_text, lines_text, spaced, joined_words};
@@ -17,8 +18,10 @@ ghost use Rattle.circuit_model.specs.Text.{
   text_of,
   timing_words,
 };
+ghost use Rattle.netlist.specs.Lines.{pair_word, gate_line, lines_with_gates, netlist_text_of};
 
 use circuit_model::{Circuit, Kind, Latch, Name, Row, Table, Timing, Tri};
+use netlist::{Connection, Mapped, Placed};
 use std::alloc::{AllocError, Global};
 
 /// Whether the last byte is `\`, which would join the next line.
@@ -65,7 +68,8 @@ fn put_words(out: &mut Vec<u8>, words: &[Name]) -> Result<(), AllocError>
 /// Puts a line: a first word and others.
 #[tactic(auto, unfolding(sis_base::specs::Written::line_text, sis_base::specs::Written::joined_words))]
 fn put_line(out: &mut Vec<u8>, first: &[u8], others: &[Name]) -> Result<(), AllocError>
-    ensures { OnOk result (out.new.items ≡ out.old.items ++ line_text (dotted first.now others.now)) }
+    ensures { OnOk result
+        (out.new.items ≡ out.old.items ++ line_text (dotted first.now others.now)) }
 {
     let start = out.len();
     out.extend_from_slice(first)?;
@@ -82,7 +86,9 @@ fn put_line_to(
     others: &[Name],
     last: &[u8],
 ) -> Result<(), AllocError>
-    ensures { OnOk result (out.new.items ≡ out.old.items ++ line_text (dotted first.now (others.now ++ last.now ∷ []))) }
+    ensures { OnOk result
+        (out.new.items ≡ out.old.items
+        ++ line_text (dotted first.now (others.now ++ last.now ∷ []))) }
 {
     let start = out.len();
     out.extend_from_slice(first)?;
@@ -139,7 +145,8 @@ fn put_row(out: &mut Vec<u8>, phase: bool, row: &[Tri]) -> Result<(), AllocError
 /// Puts rows of one phase.
 #[tactic(auto, unfolding(sis_base::specs::Written::lines_text), using(std::proofs::lemmas::Grind::common_steps))]
 fn put_rows(out: &mut Vec<u8>, phase: bool, rows: &[Row]) -> Result<(), AllocError>
-    ensures { OnOk result (out.new.items ≡ out.old.items ++ lines_text (map (row_line phase) rows.now)) }
+    ensures { OnOk result
+        (out.new.items ≡ out.old.items ++ lines_text (map (row_line phase) rows.now)) }
 {
     for row in rows {
         put_row(out, phase, row.as_slice())?;
@@ -165,7 +172,8 @@ fn put_table(out: &mut Vec<u8>, table: &Table) -> Result<(), AllocError>
 /// Puts tables.
 #[tactic(auto, unfolding(sis_base::specs::Written::lines_text), using(std::proofs::lemmas::Grind::common_steps))]
 fn put_tables(out: &mut Vec<u8>, tables: &[Table]) -> Result<(), AllocError>
-    ensures { OnOk result (out.new.items ≡ out.old.items ++ lines_text (flat_map table_lines tables.now)) }
+    ensures { OnOk result
+        (out.new.items ≡ out.old.items ++ lines_text (flat_map table_lines tables.now)) }
 {
     for table in tables {
         put_table(out, table)?;
@@ -206,7 +214,8 @@ fn init_digit(init: u8) -> u8
 /// Puts the words of a timing, if there is one, each with a blank before it.
 #[tactic(auto, unfolding(circuit_model::specs::Text::timing_words), using(std::proofs::lemmas::Grind::common_steps))]
 fn put_timing(out: &mut Vec<u8>, timing: &Option<Timing>) -> Result<(), AllocError>
-    ensures { OnOk result (out.new.items ≡ out.old.items ++ flat_map spaced (timing_words timing.now)) }
+    ensures { OnOk result
+        (out.new.items ≡ out.old.items ++ flat_map spaced (timing_words timing.now)) }
 {
     if let Some(known) = timing {
         put_word(out, kind_word(known.kind))?;
@@ -218,7 +227,8 @@ fn put_timing(out: &mut Vec<u8>, timing: &Option<Timing>) -> Result<(), AllocErr
 /// Puts a latch's input and output.
 #[tactic(auto, using(std::proofs::lemmas::Grind::common_steps))]
 fn put_latch_ends(out: &mut Vec<u8>, latch: &Latch) -> Result<(), AllocError>
-    ensures { OnOk result (out.new.items ≡ out.old.items ++ (spaced latch.now.input ++ spaced latch.now.output)) }
+    ensures { OnOk result
+        (out.new.items ≡ out.old.items ++ (spaced latch.now.input ++ spaced latch.now.output)) }
 {
     put_word(out, latch.input.as_slice())?;
     put_word(out, latch.output.as_slice())?;
@@ -242,7 +252,8 @@ fn put_latch_words(
     timing: &Option<Timing>,
     latch: &Latch,
 ) -> Result<(), AllocError>
-    ensures { OnOk result (out.new.items ≡ out.old.items ++ joined_words (latch_line timing.now latch.now)) }
+    ensures { OnOk result
+        (out.new.items ≡ out.old.items ++ joined_words (latch_line timing.now latch.now)) }
 {
     out.extend_from_slice(b".latch".as_slice())?;
     put_latch_ends(out, latch)?;
@@ -254,7 +265,8 @@ fn put_latch_words(
 /// Puts a latch's line.
 #[tactic(auto, unfolding(sis_base::specs::Written::line_text), using(std::proofs::lemmas::Grind::common_steps))]
 fn put_latch(out: &mut Vec<u8>, timing: &Option<Timing>, latch: &Latch) -> Result<(), AllocError>
-    ensures { OnOk result (out.new.items ≡ out.old.items ++ line_text (latch_line timing.now latch.now)) }
+    ensures { OnOk result
+        (out.new.items ≡ out.old.items ++ line_text (latch_line timing.now latch.now)) }
 {
     let start = out.len();
     put_latch_words(out, timing, latch)?;
@@ -269,10 +281,67 @@ fn put_latches(
     timing: &Option<Timing>,
     latches: &[Latch],
 ) -> Result<(), AllocError>
-    ensures { OnOk result (out.new.items ≡ out.old.items ++ lines_text (map (latch_line timing.now) latches.now)) }
+    ensures { OnOk result
+        (out.new.items ≡ out.old.items ++ lines_text (map (latch_line timing.now) latches.now)) }
 {
     for latch in latches {
         put_latch(out, timing, latch)?;
+    }
+    Ok(())
+}
+
+/// Puts a pin and its signal as one word, with a blank before it.
+#[tactic(auto, using(std::proofs::lemmas::Grind::common_steps))]
+fn put_pair(out: &mut Vec<u8>, connection: &Connection) -> Result<(), AllocError>
+    ensures { OnOk result (out.new.items ≡ out.old.items ++ spaced (pair_word connection.now)) }
+{
+    put_word(out, connection.pin.as_slice())?;
+    out.push(61)?;
+    out.extend_from_slice(connection.signal.as_slice())?;
+    Ok(())
+}
+
+/// Puts pins and their signals, each pair with a blank before it.
+#[tactic(auto, using(std::proofs::lemmas::Grind::common_steps))]
+fn put_pairs(out: &mut Vec<u8>, pins: &[Connection]) -> Result<(), AllocError>
+    ensures { OnOk result
+        (out.new.items ≡ out.old.items ++ flat_map spaced (map pair_word pins.now)) }
+{
+    for connection in pins {
+        put_pair(out, connection)?;
+    }
+    Ok(())
+}
+
+/// Puts a gate's line without its end.
+#[tactic(auto, unfolding(netlist::specs::Lines::gate_line, sis_base::specs::Written::joined_words), using(std::proofs::lemmas::Grind::common_steps))]
+fn put_gate_words(out: &mut Vec<u8>, gate: &Placed) -> Result<(), AllocError>
+    ensures { OnOk result (out.new.items ≡ out.old.items ++ joined_words (gate_line gate.now)) }
+{
+    out.extend_from_slice(b".gate".as_slice())?;
+    put_word(out, gate.cell.as_slice())?;
+    put_pairs(out, gate.pins.as_slice())?;
+    Ok(())
+}
+
+/// Puts a gate's line.
+#[tactic(auto, unfolding(sis_base::specs::Written::line_text), using(std::proofs::lemmas::Grind::common_steps))]
+fn put_gate(out: &mut Vec<u8>, gate: &Placed) -> Result<(), AllocError>
+    ensures { OnOk result (out.new.items ≡ out.old.items ++ line_text (gate_line gate.now)) }
+{
+    let start = out.len();
+    put_gate_words(out, gate)?;
+    end_line(out, start)?;
+    Ok(())
+}
+
+/// Puts gates.
+#[tactic(auto, unfolding(sis_base::specs::Written::lines_text), using(std::proofs::lemmas::Grind::common_steps))]
+fn put_gates(out: &mut Vec<u8>, gates: &[Placed]) -> Result<(), AllocError>
+    ensures { OnOk result (out.new.items ≡ out.old.items ++ lines_text (map gate_line gates.now)) }
+{
+    for gate in gates {
+        put_gate(out, gate)?;
     }
     Ok(())
 }
@@ -291,7 +360,8 @@ fn put_clocks(out: &mut Vec<u8>, clocks: &[Name]) -> Result<(), AllocError>
 /// Puts the don't-care part, if there is one.
 #[tactic(auto, unfolding(circuit_model::specs::Text::dont_care_lines, sis_base::specs::Written::lines_text), using(crate::proofs::WriterLines::dont_care_text, std::proofs::lemmas::Grind::common_steps))]
 fn put_dont_care(out: &mut Vec<u8>, tables: &[Table]) -> Result<(), AllocError>
-    ensures { OnOk result (out.new.items ≡ out.old.items ++ lines_text (dont_care_lines tables.now)) }
+    ensures { OnOk result
+        (out.new.items ≡ out.old.items ++ lines_text (dont_care_lines tables.now)) }
 {
     if !tables.is_empty() {
         put_line(out, b".exdc".as_slice(), &[])?;
@@ -303,7 +373,11 @@ fn put_dont_care(out: &mut Vec<u8>, tables: &[Table]) -> Result<(), AllocError>
 /// Puts the ports: the name of the model, the inputs and the outputs.
 #[tactic(auto, unfolding(sis_base::specs::Written::lines_text), using(std::proofs::lemmas::Grind::common_steps))]
 fn put_ports(out: &mut Vec<u8>, circuit: &Circuit) -> Result<(), AllocError>
-    ensures { OnOk result (out.new.items ≡ out.old.items ++ lines_text (dotted (codes ".model") (circuit.now.name ∷ []) ∷ dotted (codes ".inputs") circuit.now.inputs ∷ dotted (codes ".outputs") circuit.now.outputs ∷ [])) }
+    ensures { OnOk result
+        (out.new.items ≡ out.old.items
+        ++ lines_text (dotted (codes ".model") (circuit.now.name ∷ [])
+        ∷ dotted (codes ".inputs") circuit.now.inputs
+        ∷ dotted (codes ".outputs") circuit.now.outputs ∷ [])) }
 {
     put_line_to(out, b".model".as_slice(), &[], circuit.name.as_slice())?;
     put_line(out, b".inputs".as_slice(), circuit.inputs.as_slice())?;
@@ -311,42 +385,86 @@ fn put_ports(out: &mut Vec<u8>, circuit: &Circuit) -> Result<(), AllocError>
     Ok(())
 }
 
-/// Puts what stands between the ports and the end.
+/// Puts what stands between the ports and the tables: clocks, latches and gates.
 #[tactic(auto, unfolding(sis_base::specs::Written::lines_text), using(std::proofs::lemmas::Grind::common_steps))]
-fn put_body(out: &mut Vec<u8>, circuit: &Circuit) -> Result<(), AllocError>
-    ensures { OnOk result (out.new.items ≡ out.old.items ++ lines_text (clock_lines circuit.now.clocks ++ (map (latch_line circuit.now.timing) circuit.now.latches ++ (flat_map table_lines circuit.now.tables ++ dont_care_lines circuit.now.dont_care)))) }
+fn put_cells(out: &mut Vec<u8>, gates: &[Placed], circuit: &Circuit) -> Result<(), AllocError>
+    ensures { OnOk result
+        (out.new.items ≡ out.old.items
+        ++ lines_text (clock_lines circuit.now.clocks
+        ++ (map (latch_line circuit.now.timing) circuit.now.latches ++ map gate_line gates.now))) }
 {
     put_clocks(out, circuit.clocks.as_slice())?;
     put_latches(out, &circuit.timing, circuit.latches.as_slice())?;
-    put_tables(out, circuit.tables.as_slice())?;
-    put_dont_care(out, circuit.dont_care.as_slice())?;
+    put_gates(out, gates)?;
     Ok(())
 }
 
-/// Puts a circuit's text.
-#[tactic(auto, unfolding(circuit_model::specs::Text::text_of, circuit_model::specs::Text::circuit_lines, sis_base::specs::Written::lines_text), using(std::proofs::lemmas::Grind::common_steps))]
-fn put_circuit(out: &mut Vec<u8>, circuit: &Circuit) -> Result<(), AllocError>
-    ensures { OnOk result (out.new.items ≡ out.old.items ++ text_of circuit.now) }
+/// Puts the tables and what stands behind them: the don't-care part and the end.
+#[tactic(auto, unfolding(sis_base::specs::Written::lines_text), using(std::proofs::lemmas::Grind::common_steps))]
+fn put_rest(out: &mut Vec<u8>, circuit: &Circuit) -> Result<(), AllocError>
+    ensures { OnOk result
+        (out.new.items ≡ out.old.items
+        ++ lines_text (flat_map table_lines circuit.now.tables
+        ++ (dont_care_lines circuit.now.dont_care ++ dotted (codes ".end") [] ∷ []))) }
 {
-    put_ports(out, circuit)?;
-    put_body(out, circuit)?;
+    put_tables(out, circuit.tables.as_slice())?;
+    put_dont_care(out, circuit.dont_care.as_slice())?;
     put_line(out, b".end".as_slice(), &[])?;
     Ok(())
 }
 
-/// Puts the text of a circuit behind what is there: ports, clocks, latches, tables, the don't-care part, each
-/// word as it is and each line unwrapped. An error only for want of memory; then nothing is put.
-pub fn circuit_text(alloc: Global, circuit: &Circuit, out: &mut Vec<u8>) -> Result<(), AllocError>
-    ensures ok { OnOk result (out.new.items ≡ out.old.items ++ text_of circuit.now) }
+/// Puts the lines of a circuit, with gates before its tables.
+#[tactic(auto, unfolding(netlist::specs::Lines::lines_with_gates, sis_base::specs::Written::lines_text), using(std::proofs::lemmas::Grind::common_steps))]
+fn put_lines(out: &mut Vec<u8>, gates: &[Placed], circuit: &Circuit) -> Result<(), AllocError>
+    ensures { OnOk result
+        (out.new.items ≡ out.old.items ++ lines_text (lines_with_gates gates.now circuit.now)) }
+{
+    put_ports(out, circuit)?;
+    put_cells(out, gates, circuit)?;
+    put_rest(out, circuit)?;
+    Ok(())
+}
+
+/// Puts the lines of a circuit, with gates before its tables, behind what is there; for want of
+/// memory nothing is put.
+fn append_lines(
+    alloc: Global,
+    gates: &[Placed],
+    circuit: &Circuit,
+    out: &mut Vec<u8>,
+) -> Result<(), AllocError>
+    ensures ok { OnOk result
+        (out.new.items ≡ out.old.items ++ lines_text (lines_with_gates gates.now circuit.now)) }
     ensures err { OnErr result (out.new.items ≡ out.old.items) }
 {
     let mut text = Vec::new(alloc);
-    put_circuit(&mut text, circuit)?;
+    put_lines(&mut text, gates, circuit)?;
     if out.is_empty() {
         *out = text;
         return Ok(());
     }
     out.append(&mut text)
+}
+
+/// Puts the text of a circuit behind what is there: ports, clocks, latches, tables, the don't-care
+/// part, each word as it is and each line unwrapped. An error only for want of memory; then nothing
+/// is put.
+#[tactic(auto, unfolding(circuit_model::specs::Text::text_of, circuit_model::specs::Text::circuit_lines, netlist::specs::Lines::lines_with_gates))]
+pub fn circuit_text(alloc: Global, circuit: &Circuit, out: &mut Vec<u8>) -> Result<(), AllocError>
+    ensures ok { OnOk result (out.new.items ≡ out.old.items ++ text_of circuit.now) }
+    ensures err { OnErr result (out.new.items ≡ out.old.items) }
+{
+    append_lines(alloc, &[], circuit, out)
+}
+
+/// Puts the text of a netlist behind what is there: as that of its circuit, with a line for each
+/// gate between latches and tables. An error only for want of memory; then nothing is put.
+#[tactic(auto, unfolding(netlist::specs::Lines::netlist_text_of))]
+pub fn netlist_text(alloc: Global, mapped: &Mapped, out: &mut Vec<u8>) -> Result<(), AllocError>
+    ensures ok { OnOk result (out.new.items ≡ out.old.items ++ netlist_text_of mapped.now) }
+    ensures err { OnErr result (out.new.items ≡ out.old.items) }
+{
+    append_lines(alloc, mapped.gates.as_slice(), &mapped.base, out)
 }
 
 /// The text of a table: its heading and its rows; an error only for want of memory.
@@ -373,7 +491,8 @@ pub fn latches_text(
     timing: &Option<Timing>,
     latches: &[Latch],
 ) -> Result<Vec<u8>, AllocError>
-    ensures { IfOk result (λ text. text.items ≡ lines_text (map (latch_line timing.now) latches.now)) }
+    ensures { IfOk result
+        (λ text. text.items ≡ lines_text (map (latch_line timing.now) latches.now)) }
 {
     let mut text = Vec::new(alloc);
     put_latches(&mut text, timing, latches)?;
