@@ -6,5 +6,8 @@ pub mod Backs
 pub mod NoFaults
 pub mod Said
 pub mod NoKiss
+pub mod GateTables
 pub mod ReadAgain
+pub mod Pairs
+pub mod Netlists
 pub mod Again

@@ -1,4 +1,4 @@
--- No line of a circuit that is written has a fault.
+-- No line of a circuit that is written has a fault, nor has one of a gate where a library knows it.
 use Rattle.std.proofs.Common.{◌≡◌, ℕ, zero, suc, ◌+◌, ◌≤◌, ◌<◌, Bool, true, false, cond, not, Option, Some, None, List, [], ◌∷◌, ◌++◌, length, refl, sym, ap, ◌∙◌, subst, arith, map, flat_map, find, option_map, codes, ltb, leb, if◌then◌else◌}
 use Rattle.std.specs.Prelude.{option_to_list}
 use Rattle.std.specs.List.{AllByRecursion}
@@ -16,21 +16,24 @@ use Rattle.circuit_model.specs.declared.circuit.Timing.{Timing}
 use Rattle.circuit_model.specs.declared.circuit.Table.{Table}
 use Rattle.circuit_model.specs.declared.circuit.Latch.{Latch as TheLatch}
 use Rattle.circuit_model.specs.declared.circuit.Circuit.{Circuit}
-use Rattle.circuit_model.specs.Text.{dotted, init_word, kind_word, control_word, timing_words, latch_line, clock_lines, dont_care_lines, circuit_lines, row_line, table_lines}
+use Rattle.circuit_model.specs.Text.{dotted, init_word, kind_word, control_word, timing_words, latch_line, clock_lines, dont_care_lines, row_line, table_lines}
 use Rattle.circuit_model.specs.Soundness.{IsShaped, control_of}
 use Rattle.circuit_model.specs.Counts.{IsSmallTable}
 use Rattle.line_words.specs.LineWords.{long_name}
+use Rattle.netlist.specs.Lines.{pair_word, gate_line, lines_with_gates}
+use Rattle.netlist.specs.declared.mapped.Placed.{Placed}
+use Rattle.blif_gates.specs.GateLines.{signals_of}
 use Rattle.blif_lines.specs.Keyword.{keyword_of, kind_of}
-use Rattle.blif_lines.specs.Lines.{when, is_none, one_too_many, many_inputs, first_of, input_words, is_ended, has_part, part_behind, is_behind, nodes_in, long_fault, is_init, is_latch_kind, is_latch, latch_names, joined, heading, rows_behind, is_row_of, has_phase_of, model_fault, ports_fault, clock_fault, names_fault, latch_fault, place_fault, table_row_fault, row_fault, fault_as, line_fault}
+use Rattle.blif_lines.specs.Lines.{when, is_none, one_too_many, many_inputs, first_of, input_words, is_ended, has_part, part_behind, is_behind, nodes_in, long_fault, is_init, is_latch_kind, is_latch, latch_names, joined, heading, rows_behind, is_row_of, has_phase_of, model_fault, ports_fault, clock_fault, names_fault, latch_fault, library_fault, gate_fault, place_fault, table_row_fault, row_fault, fault_as, line_fault}
 use Rattle.blif_lines.specs.Reader.{first_line_fault}
 use Rattle.blif_lines.specs.declared.keyword.Keyword.{Keyword}
-use Rattle.blif_lines.specs.declared.keyword.Keyword.TheVariants.{Model, Inputs, Outputs, Clock, Names, Latch, DontCare, Row}
+use Rattle.blif_lines.specs.declared.keyword.Keyword.TheVariants.{Model, Inputs, Outputs, Clock, Names, Latch, Gate, DontCare, Row}
 use Rattle.blif_lines.specs.declared.part.Part.TheVariants as part
 use Rattle.blif_lines.specs.declared.fault.LimitKind.TheVariants as limit
 use Rattle.blif_lines.specs.declared.fault.BlifFault.{BlifFault}
 use Rattle.blif_lines.specs.declared.fault.BlifFault.TheVariants.{UnknownWord, BadArity, BadRow, MixedPhase, BadLatch, SecondModel, Limit}
 use Rattle.blif_lines.proofs.NameLists.{all_append}
-use Rattle.blif_write.proofs.Words.{OfLatch, OfTable, OfNames, end_lines}
+use Rattle.blif_write.proofs.Words.{OfLatch, OfTable, OfNames, end_lines, gate_words, HasGateWords}
 use Rattle.blif_write.proofs.LineKinds.{entry, row_kind}
 use Rattle.blif_write.proofs.RowTexts.{row_text, row_joined, row_taken, phase_taken, names_words, names_width, inputs_back}
 use Rattle.blif_write.proofs.Backs.{Goes, place_goes, goes_on, goes_node, heading_names, rows_names, heading_row, rows_row}
@@ -130,6 +133,27 @@ latch_taken library number room back timing latch goes t h =
       (
         not_unless (is_latch (signals timing latch)) (BadLatch number) (latch_right timing latch),
         (not_long (latch_names (signals timing latch)) (latch_short timing latch t h), (not_many false back room goes, tt)),
+      ),
+    )
+
+-- a library knows a placed gate: it finds no fault with the words of its line, they are words, and its signals are short
+pub record IsKnown (library : Option (List TheGate)) (placed : Placed) : Type 0 where
+  pub right : (number : ℕ) → library_fault library number (gate_words placed) ≡ None
+  pub words : HasGateWords placed
+  pub short : AllByRecursion IsShort (signals_of (map pair_word placed.pins))
+
+gate_taken : (library : Option (List TheGate)) (number room : ℕ) (back : List Entry) (placed : Placed) → Goes false (suc room) back → IsKnown library placed → line_fault library back (entry number (gate_line placed)) ≡ None
+unfolding line_fault kind_of keyword_of gate_line gate_fault
+gate_taken library number room back placed goes known =
+    ap (λ place. gate_fault library place (nodes_in back) number (gate_words placed)) (place_goes false (suc room) back goes)
+    ∙ none_of (when false (UnknownWord number) ∷ when false (BadArity number) ∷ library_fault library number (gate_words placed) ∷ long_fault (signals_of (map pair_word placed.pins)) ∷ when (leb MAX_NODES (nodes_in back)) (Limit limit.Tables (MAX_NODES + 1)) ∷ []) (
+      refl,
+      (
+        refl,
+        (
+          known.right number,
+          (not_long (signals_of (map pair_word placed.pins)) known.short, (not_many false back room goes, tt)),
+        ),
       ),
     )
 
@@ -270,6 +294,19 @@ latches_pass library timing (latch ∷ latches) room number back rest goes t h p
     no_fault library back (numbered (number + 1) (map (latch_line timing) latches ++ rest)) line (latch_taken library number (length latches + room) back timing latch one t h.0)
     (latches_pass library timing latches room (number + 1) (line ∷ back) rest (goes_latch number (length latches + room) timing latch back one) t h.1 pass)
 
+goes_gate : (number room : ℕ) (placed : Placed) (back : List Entry) → Goes false (suc room) back → Goes false room (entry number (gate_line placed) ∷ back)
+unfolding gate_line kind_of keyword_of
+goes_gate number room placed back goes = goes_node Gate false room (entry number (gate_line placed)) back refl refl refl goes
+
+gates_pass : (library : Option (List TheGate)) (gates : List Placed) (room number : ℕ) (back : List Entry) (rest : List Written) → Goes false (length gates + room) back → AllByRecursion (IsKnown library) gates → Passes library false room rest → first_line_fault library back (numbered number (map gate_line gates ++ rest)) ≡ None
+unfolding numbered
+gates_pass library [] room number back rest goes known pass = pass back number (subst (λ (n : ℕ). Goes false n back) (omega arith) goes)
+gates_pass library (placed ∷ gates) room number back rest goes known pass =
+    let line = entry number (gate_line placed) in
+    let one : Goes false (suc (length gates + room)) back = subst (λ (n : ℕ). Goes false n back) (omega arith) goes in
+    no_fault library back (numbered (number + 1) (map gate_line gates ++ rest)) line (gate_taken library number (length gates + room) back placed one known.0)
+    (gates_pass library gates room (number + 1) (line ∷ back) rest (goes_gate number (length gates + room) placed back one) known.1 pass)
+
 clocks_pass : (library : Option (List TheGate)) (clocks : List (List ℕ)) (room number : ℕ) (back : List Entry) (rest : List Written) → Goes false room back → AllByRecursion IsShort clocks → Passes library false room rest → first_line_fault library back (numbered number (clock_lines clocks ++ rest)) ≡ None
 unfolding clock_lines numbered kind_of keyword_of
 clocks_pass library [] room number back rest goes h pass = pass back number goes
@@ -293,16 +330,17 @@ goes_first : (room : ℕ) → room ≤ MAX_NODES → Goes false room []
 unfolding is_ended has_part nodes_in
 goes_first room h = record { going = refl; part = refl; few = omega (arith, h) }
 
-pub no_line_fault : (library : Option (List TheGate)) (circuit : Circuit) → OfNames IsShort circuit → AllByRecursion IsSmallTable circuit.tables → AllByRecursion IsSmallTable circuit.dont_care → AllByRecursion IsShaped circuit.tables → AllByRecursion IsShaped circuit.dont_care
-    → length circuit.tables + length circuit.latches + length circuit.dont_care ≤ MAX_NODES → first_line_fault library [] (numbered 1 (circuit_lines circuit)) ≡ None
-unfolding circuit_lines numbered kind_of keyword_of
-no_line_fault library circuit h small small_part shaped shaped_part few =
-    let room = length circuit.latches + (length circuit.tables + (length circuit.dont_care + 0)) in
+pub no_line_fault : (library : Option (List TheGate)) (gates : List Placed) (circuit : Circuit) → AllByRecursion (IsKnown library) gates → OfNames IsShort circuit → AllByRecursion IsSmallTable circuit.tables → AllByRecursion IsSmallTable circuit.dont_care → AllByRecursion IsShaped circuit.tables → AllByRecursion IsShaped circuit.dont_care
+    → length gates + length circuit.tables + length circuit.latches + length circuit.dont_care ≤ MAX_NODES → first_line_fault library [] (numbered 1 (lines_with_gates gates circuit)) ≡ None
+unfolding lines_with_gates numbered kind_of keyword_of
+no_line_fault library gates circuit known h small small_part shaped shaped_part few =
+    let room = length circuit.latches + (length gates + (length circuit.tables + (length circuit.dont_care + 0))) in
     let model = entry 1 (dotted (codes ".model") (circuit.name ∷ [])) in
     let inputs = entry 2 (dotted (codes ".inputs") circuit.inputs) in
     let outputs = entry 3 (dotted (codes ".outputs") circuit.outputs) in
     let part = dont_care_lines circuit.dont_care ++ end_lines in
-    let latches = map (latch_line circuit.timing) circuit.latches ++ (flat_map table_lines circuit.tables ++ part) in
+    let tables = flat_map table_lines circuit.tables ++ part in
+    let latches = map (latch_line circuit.timing) circuit.latches ++ (map gate_line gates ++ tables) in
     let rest = clock_lines circuit.clocks ++ latches in
     let after_model : Goes false room (model ∷ []) = goes_on Model false room model [] refl refl refl (goes_first room (omega (arith, few))) in
     let after_inputs : Goes false room (inputs ∷ model ∷ []) = goes_on Inputs false room inputs (model ∷ []) refl refl refl after_model in
@@ -311,6 +349,7 @@ no_line_fault library circuit h small small_part shaped shaped_part few =
     (no_fault library (model ∷ []) (outputs ∷ numbered 4 rest) inputs (inputs_taken library 2 room (model ∷ []) circuit.inputs after_model h.inputs)
     (no_fault library (inputs ∷ model ∷ []) (numbered 4 rest) outputs (outputs_taken library 3 room (inputs ∷ model ∷ []) circuit.outputs after_inputs h.outputs)
     (clocks_pass library circuit.clocks room 4 (outputs ∷ inputs ∷ model ∷ []) latches after_outputs h.clocks
-    (λ back number goes. latches_pass library circuit.timing circuit.latches (length circuit.tables + (length circuit.dont_care + 0)) number back (flat_map table_lines circuit.tables ++ part) goes h.timing h.latches
-    (λ behind place going. tables_pass library circuit.tables false (length circuit.dont_care + 0) place behind part going h.tables small shaped
-    (part_passes library circuit.dont_care h.dont_care small_part shaped_part))))))
+    (λ back number goes. latches_pass library circuit.timing circuit.latches (length gates + (length circuit.tables + (length circuit.dont_care + 0))) number back (map gate_line gates ++ tables) goes h.timing h.latches
+    (λ after place going. gates_pass library gates (length circuit.tables + (length circuit.dont_care + 0)) place after tables going known
+    (λ behind there gone. tables_pass library circuit.tables false (length circuit.dont_care + 0) there behind part gone h.tables small shaped
+    (part_passes library circuit.dont_care h.dont_care small_part shaped_part)))))))

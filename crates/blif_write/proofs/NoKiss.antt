@@ -1,5 +1,5 @@
--- No KISS2 part is written: all lines of a circuit are lines of its model.
-use Rattle.std.proofs.Common.{◌≡◌, ℕ, ◌+◌, Bool, arith, true, false, not, ◌||◌, cond, List, [], ◌∷◌, ◌++◌, length, take, drop, refl, sym, ap, ◌∙◌, subst, flat_map}
+-- No KISS2 part is written: all lines of a circuit, and of gates beside it, are lines of its model.
+use Rattle.std.proofs.Common.{◌≡◌, ℕ, ◌+◌, arith, false, not, ◌||◌, cond, List, [], ◌∷◌, length, refl, sym, ap, ◌∙◌, subst, flat_map}
 use Rattle.std.specs.Prelude.{take_while}
 use Rattle.std.specs.List.{AllByRecursion}
 use Rattle.std.proofs.lemmas.List.{append-nil, take_all, drop_all}
@@ -9,10 +9,11 @@ use Rattle.sis_text.specs.Entries.{Entry}
 use Rattle.sis_text.specs.Written.{numbered}
 use Rattle.circuit_model.specs.declared.circuit.Table.{Table}
 use Rattle.circuit_model.specs.declared.circuit.Circuit.{Circuit}
-use Rattle.circuit_model.specs.Text.{circuit_lines, table_lines}
+use Rattle.circuit_model.specs.Text.{table_lines}
+use Rattle.netlist.specs.Lines.{lines_with_gates}
+use Rattle.netlist.specs.declared.mapped.Placed.{Placed}
 use Rattle.blif_lines.specs.Keyword.{keyword_of, kind_of}
 use Rattle.blif_lines.specs.Lines.{begins_kiss, has_kiss}
-use Rattle.blif_lines.specs.declared.keyword.Keyword.{Keyword}
 use Rattle.blif_lines.specs.declared.keyword.Keyword.TheVariants.{Model, Inputs, Outputs, Clock, Names, Latch, Gate, StartKiss, DontCare, End, Skipped, Row, Other}
 use Rattle.blif_lines.proofs.NameLists.{all_append}
 use Rattle.blif_read.specs.Parts.{front_count, front_lines, kiss_lines, rest_lines, lines_beside}
@@ -40,10 +41,10 @@ part_plain [] = tt
 part_plain (table ∷ part) =
     (refl, all_append (IsNot begins_kiss) (flat_map table_lines (table ∷ part)) end_lines (own_tables begins_kiss kiss_none (table ∷ part)) (refl, tt))
 
-all_plain : (circuit : Circuit) → AllByRecursion (IsNot begins_kiss) (circuit_lines circuit)
-all_plain circuit =
-    subst (AllByRecursion (IsNot begins_kiss)) (sym (lines_split circuit))
-    (all_append (IsNot begins_kiss) (own_lines circuit) (part_written circuit.dont_care) (all_own begins_kiss kiss_none circuit) (part_plain circuit.dont_care))
+all_plain : (gates : List Placed) (circuit : Circuit) → AllByRecursion (IsNot begins_kiss) (lines_with_gates gates circuit)
+all_plain gates circuit =
+    subst (AllByRecursion (IsNot begins_kiss)) (sym (lines_split gates circuit))
+    (all_append (IsNot begins_kiss) (own_lines gates circuit) (part_written circuit.dont_care) (all_own begins_kiss kiss_none gates circuit) (part_plain circuit.dont_care))
 
 abbrev IsPlain : Entry → Type 0
 IsPlain line = begins_kiss (kind_of line) ≡ false
@@ -58,8 +59,8 @@ unfolding has_kiss
 no_kiss_among [] h = refl
 no_kiss_among (line ∷ lines) h = ap (λ b. b || has_kiss lines) h.0 ∙ no_kiss_among lines h.1
 
-pub no_kiss : (circuit : Circuit) → has_kiss (lines_of circuit) ≡ false
-no_kiss circuit = no_kiss_among (lines_of circuit) (plain_numbered 1 (circuit_lines circuit) (all_plain circuit))
+pub no_kiss : (gates : List Placed) (circuit : Circuit) → has_kiss (lines_of gates circuit) ≡ false
+no_kiss gates circuit = no_kiss_among (lines_of gates circuit) (plain_numbered 1 (lines_with_gates gates circuit) (all_plain gates circuit))
 
 before_all : (lines : List Entry) → AllByRecursion IsPlain lines → take_while (λ (line : Entry). not (begins_kiss (kind_of line))) lines ≡ lines
 before_all [] h = refl
@@ -74,5 +75,5 @@ model_is_all lines h =
     let count : front_count lines ≡ length lines + 1 = ap (λ (before : List Entry). length before + 1) (before_all lines h) in
     rw (count, take_all (length lines + 1) lines (omega arith), drop_all (length lines + 1) lines (omega arith)) (append-nil lines)
 
-pub no_part : (circuit : Circuit) → lines_beside (lines_of circuit) ≡ lines_of circuit
-no_part circuit = model_is_all (lines_of circuit) (plain_numbered 1 (circuit_lines circuit) (all_plain circuit))
+pub no_part : (gates : List Placed) (circuit : Circuit) → lines_beside (lines_of gates circuit) ≡ lines_of gates circuit
+no_part gates circuit = model_is_all (lines_of gates circuit) (plain_numbered 1 (lines_with_gates gates circuit) (all_plain gates circuit))

@@ -1,8 +1,10 @@
--- The text of a circuit is read as that circuit.
-use Rattle.std.proofs.Common.{◌≡◌, ℕ, Bool, true, false, not, ◌&&◌, cond, Option, Some, None, Ok, List, [], ◌∷◌, ◌++◌, refl, ap, ◌∙◌, map, find, option_map}
+-- The text of a circuit, and of gates beside it that a library knows, is read as the circuit whose tables are those of the gates,
+-- folded, and then its own.
+use Rattle.std.proofs.Common.{◌≡◌, ℕ, Bool, true, false, not, ◌&&◌, ◌+◌, ◌≤◌, cond, Option, Some, None, Ok, List, [], ◌∷◌, ◌++◌, refl, sym, ap, subst, arith, ◌∙◌, length, map, find, option_map}
 use Rattle.std.specs.List.{AllByRecursion}
-use Rattle.std.specs.Option.{option_or}
-use Rattle.sis_base.specs.Written.{is_word}
+use Rattle.std.proofs.lemmas.Grind.{flat_map-append}
+use Rattle.std.proofs.lemmas.List.{length-append, length-map, map-append}
+use Rattle.sis_base.specs.Written.{lines_text}
 use Rattle.genlib_format.specs.declared.gate.Gate.{Gate as TheGate}
 use Rattle.sis_text.specs.Entries.{Entry, entries_of}
 use Rattle.sis_text.proofs.Readback.{read_back}
@@ -12,116 +14,155 @@ use Rattle.circuit_model.specs.declared.circuit.Timing.{Timing}
 use Rattle.circuit_model.specs.declared.circuit.Circuit.{Circuit}
 use Rattle.circuit_model.specs.Names.{has, all_different}
 use Rattle.circuit_model.specs.Runs.{latch_outputs}
-use Rattle.circuit_model.specs.Soundness.{IsSound, given, taken, control_of, leaf_names, outputs_of, latch_inputs, table_inputs}
-use Rattle.circuit_model.specs.Counts.{IsWithinLimits}
+use Rattle.circuit_model.specs.Soundness.{IsSound, given, taken, control_of, leaf_names, outputs_of, latch_inputs, table_inputs, IsShaped, IsAcyclic}
+use Rattle.circuit_model.specs.Counts.{IsSmallTable, IsWithinLimits}
 use Rattle.circuit_model.specs.Text.{text_of, circuit_lines}
+use Rattle.netlist.specs.Lines.{lines_with_gates}
+use Rattle.netlist.specs.declared.mapped.Placed.{Placed}
 use Rattle.circuit_checks.specs.NameChecks.{first_again, first_missing, first_listed_twice}
 use Rattle.circuit_checks.specs.Cycles.{first_on_cycle}
 use Rattle.circuit_checks.specs.PartChecks.{first_bad_part_name}
 use Rattle.circuit_checks.proofs.Bridges.{again_from_different, missing_from_known, listed_from_different, none_from_acyclic}
 use Rattle.circuit_checks.proofs.Parts.{part_passes}
 use Rattle.circuit_tables.specs.Folding.{folded}
-use Rattle.circuit_tables.proofs.Folded.{folded_same}
+use Rattle.circuit_tables.proofs.Folded.{folded_same, folded_outputs}
 use Rattle.blif_lines.specs.Lines.{first_of}
 use Rattle.blif_lines.specs.Reader.{first_line_fault, of_lines, model_lines, part_lines, listed_inputs, listed_outputs, inputs_in, outputs_in, ports_in, clocks_in, timing_in, mixed_clock, gated_clock, drives_in, reads_in, latches_in, tables_in, model_name, circuit_of, model_names_fault, leaves_in, whole_fault, unless, has_nodes, is_machine, first_fault, read_whole, read_lines as read_model}
 use Rattle.blif_lines.specs.declared.fault.BlifFault.{BlifFault}
 use Rattle.blif_lines.specs.declared.fault.BlifFault.TheVariants.{NameTwice, MixedClock, GatedClock, TwoDrivers, Undriven, BadExdc, Cycle}
 use Rattle.blif_lines.specs.Limits.{HasShortNames}
-use Rattle.blif_lines.proofs.NameLists.{all_front, all_back, all_append}
+use Rattle.blif_lines.proofs.NameLists.{all_front, all_back, all_append, all_kept}
 use Rattle.blif_lines.specs.declared.content.Content.TheVariants as content
 use Rattle.circuit_model.specs.declared.machine.Spec.TheVariants as spec
 use Rattle.blif_read.specs.Parts.{kiss_lines}
 use Rattle.blif_read.specs.Reader.{spec_with, read_lines}
+use Rattle.sis_base.specs.declared.limits.TheConstants.{MAX_NODES}
 use Rattle.blif_write.proofs.NoKiss.{no_kiss, no_part}
-use Rattle.blif_write.proofs.Words.{of_names, lines_written}
-use Rattle.blif_write.proofs.NoFaults.{IsShort, none_of, no_line_fault}
-use Rattle.blif_write.proofs.Said.{lines_of, own_of, listed_inputs_said, listed_outputs_said, inputs_said, outputs_said, ports_said, clocks_said, drives_said, reads_said, latches_said_back, timing_said, unmixed, name_said, tables_said_back, model_said, part_said}
+use Rattle.blif_write.proofs.Words.{OfTable, OfNames, IsName, HasGateWords, of_names, lines_written}
+use Rattle.blif_write.proofs.NoFaults.{IsShort, IsKnown, none_of, no_line_fault}
+use Rattle.blif_write.proofs.GateTables.{KeepsReads, keeps_reads, acyclic_before, tables_keep, said_count, read_known}
+use Rattle.blif_write.proofs.Said.{lines_of, own_of, listed_inputs_said, listed_outputs_said, inputs_said, outputs_said, ports_said, clocks_said, drives_said, reads_said, latches_said_back, timing_said, unmixed, name_said, tables_said_back, model_said, part_said, said_tables, said_reads}
+
+-- the circuit with the tables of gates before its own
+abbrev pub whole : Option (List TheGate) → List Placed → Circuit → Circuit
+whole library gates base = record base { tables = map folded (said_tables library gates) ++ base.tables }
 
 -- the checks on the whole
-all_read : (circuit : Circuit) → IsSound circuit → AllByRecursion (λ (name : List ℕ). has (given circuit) name ≡ true) (circuit.outputs ++ (latch_inputs circuit ++ table_inputs circuit.tables))
+all_read : (library : Option (List TheGate)) (gates : List Placed) (base : Circuit) → IsSound (whole library gates base)
+    → AllByRecursion (λ (name : List ℕ). has (given (whole library gates base)) name ≡ true) (base.outputs ++ (latch_inputs base ++ (said_reads library gates ++ table_inputs base.tables)))
 unfolding taken
-all_read circuit sound =
+all_read library gates base sound =
+    let circuit = whole library gates base in
     let P = λ (name : List ℕ). has (given circuit) name ≡ true in
-    let tables = all_front P (table_inputs circuit.tables) (latch_inputs circuit ++ circuit.outputs) sound.driven in
-    let others = all_back P (table_inputs circuit.tables) (latch_inputs circuit ++ circuit.outputs) sound.driven in
-    all_append P circuit.outputs (latch_inputs circuit ++ table_inputs circuit.tables) (all_back P (latch_inputs circuit) circuit.outputs others)
-    (all_append P (latch_inputs circuit) (table_inputs circuit.tables) (all_front P (latch_inputs circuit) circuit.outputs others) tables)
+    let folds = map folded (said_tables library gates) in
+    let tables = subst (AllByRecursion P) (flat_map-append (λ (table : Table). table.inputs) folds base.tables) (all_front P (table_inputs circuit.tables) (latch_inputs base ++ base.outputs) sound.driven) in
+    let others = all_back P (table_inputs circuit.tables) (latch_inputs base ++ base.outputs) sound.driven in
+    all_append P base.outputs (latch_inputs base ++ (said_reads library gates ++ table_inputs base.tables)) (all_back P (latch_inputs base) base.outputs others)
+    (all_append P (latch_inputs base) (said_reads library gates ++ table_inputs base.tables) (all_front P (latch_inputs base) base.outputs others)
+    (all_append P (said_reads library gates) (table_inputs base.tables) (read_known P library gates (all_front P (table_inputs folds) (table_inputs base.tables) tables)) (all_back P (table_inputs folds) (table_inputs base.tables) tables)))
 
-twice_of : (circuit : Circuit) → IsSound circuit → first_listed_twice (of_lines listed_inputs (own_of circuit)) (of_lines listed_outputs (own_of circuit)) (ports_in (own_of circuit)) ≡ None
-twice_of circuit sound =
-    rw (listed_inputs_said circuit, listed_outputs_said circuit, ports_said circuit) (listed_from_different circuit.inputs circuit.outputs (circuit.inputs ++ circuit.outputs) sound.inputs_once sound.outputs_once)
+-- what lines drive is what the circuit's latches and tables do
+drives_whole : (library : Option (List TheGate)) (gates : List Placed) (base : Circuit) → drives_in library (own_of gates base) ≡ latch_outputs base ++ outputs_of (whole library gates base).tables
+drives_whole library gates base =
+    drives_said library gates base
+    ∙ ap (λ names. latch_outputs base ++ (names ++ outputs_of base.tables)) (sym (folded_outputs (said_tables library gates)))
+    ∙ ap (λ names. latch_outputs base ++ names) (sym (map-append (λ (table : Table). table.output) (map folded (said_tables library gates)) base.tables))
 
-timing_of : (circuit : Circuit) → IsSound circuit → timing_in (own_of circuit) ≡ circuit.timing
-timing_of circuit sound = timing_said circuit sound.control_not_nil sound.inits sound.untimed_without_latches
+twice_of : (library : Option (List TheGate)) (gates : List Placed) (base : Circuit) → IsSound (whole library gates base) → first_listed_twice (of_lines listed_inputs (own_of gates base)) (of_lines listed_outputs (own_of gates base)) (ports_in (own_of gates base)) ≡ None
+twice_of library gates base sound =
+    rw (listed_inputs_said gates base, listed_outputs_said gates base, ports_said gates base) (listed_from_different base.inputs base.outputs (base.inputs ++ base.outputs) sound.inputs_once sound.outputs_once)
+
+timing_of : (library : Option (List TheGate)) (gates : List Placed) (base : Circuit) → IsSound (whole library gates base) → timing_in (own_of gates base) ≡ base.timing
+timing_of library gates base sound = timing_said gates base sound.control_not_nil sound.inits sound.untimed_without_latches
 
 none_has : (names controls : List (List ℕ)) → AllByRecursion (λ name. has names name ≡ false) controls → find (has names) controls ≡ None
 none_has names [] h = refl
 none_has names (control ∷ controls) h = ap (λ (b : Bool). cond b (Some control) (find (has names) controls)) h.0 ∙ none_has names controls h.1
 
-gated_of : (library : Option (List TheGate)) (circuit : Circuit) → IsSound circuit → gated_clock library (own_of circuit) ≡ None
+gated_of : (library : Option (List TheGate)) (gates : List Placed) (base : Circuit) → IsSound (whole library gates base) → gated_clock library (own_of gates base) ≡ None
 unfolding gated_clock
-gated_of library circuit sound =
-    ap (λ (drives : List (List ℕ)). find (has drives) (control_of (timing_in (own_of circuit)))) (drives_said library circuit)
-    ∙ ap (λ (timing : Option Timing). find (has (latch_outputs circuit ++ outputs_of circuit.tables)) (control_of timing)) (timing_of circuit sound)
-    ∙ none_has (latch_outputs circuit ++ outputs_of circuit.tables) (control_of circuit.timing) sound.control_undriven
+gated_of library gates base sound =
+    ap (λ (drives : List (List ℕ)). find (has drives) (control_of (timing_in (own_of gates base)))) (drives_whole library gates base)
+    ∙ ap (λ (timing : Option Timing). find (has (latch_outputs base ++ outputs_of (whole library gates base).tables)) (control_of timing)) (timing_of library gates base sound)
+    ∙ none_has (latch_outputs base ++ outputs_of (whole library gates base).tables) (control_of base.timing) sound.control_undriven
 
-again_of : (library : Option (List TheGate)) (circuit : Circuit) → IsSound circuit → first_again (inputs_in library (own_of circuit)) (drives_in library (own_of circuit)) ≡ None
+again_of : (library : Option (List TheGate)) (gates : List Placed) (base : Circuit) → IsSound (whole library gates base) → first_again (inputs_in library (own_of gates base)) (drives_in library (own_of gates base)) ≡ None
 unfolding given
-again_of library circuit sound =
-    rw (inputs_said library circuit, drives_said library circuit) (again_from_different circuit.inputs (latch_outputs circuit ++ outputs_of circuit.tables) sound.one_driver)
+again_of library gates base sound =
+    rw (inputs_said library gates base, drives_whole library gates base) (again_from_different base.inputs (latch_outputs base ++ outputs_of (whole library gates base).tables) sound.one_driver)
 
-missing_of : (library : Option (List TheGate)) (circuit : Circuit) → IsSound circuit → first_missing (inputs_in library (own_of circuit) ++ drives_in library (own_of circuit)) (reads_in library (own_of circuit)) ≡ None
+missing_of : (library : Option (List TheGate)) (gates : List Placed) (base : Circuit) → IsSound (whole library gates base) → first_missing (inputs_in library (own_of gates base) ++ drives_in library (own_of gates base)) (reads_in library (own_of gates base)) ≡ None
 unfolding given
-missing_of library circuit sound =
-    rw (inputs_said library circuit, drives_said library circuit, reads_said library circuit) (missing_from_known (circuit.inputs ++ (latch_outputs circuit ++ outputs_of circuit.tables)) (circuit.outputs ++ (latch_inputs circuit ++ table_inputs circuit.tables)) (all_read circuit sound))
+missing_of library gates base sound =
+    rw (inputs_said library gates base, drives_whole library gates base, reads_said library gates base)
+    (missing_from_known (base.inputs ++ (latch_outputs base ++ outputs_of (whole library gates base).tables)) (base.outputs ++ (latch_inputs base ++ (said_reads library gates ++ table_inputs base.tables))) (all_read library gates base sound))
 
-part_of : (library : Option (List TheGate)) (circuit : Circuit) → IsSound circuit → first_bad_part_name (leaves_in library (own_of circuit)) (tables_in library (part_lines (lines_of circuit))) ≡ None
-part_of library circuit sound =
-    rw (inputs_said library circuit, latches_said_back circuit sound.inits, part_said library circuit sound.dont_care_shaped)
-    (part_passes (leaf_names circuit) circuit.dont_care sound.dont_care_once sound.dont_care_known sound.dont_care_acyclic)
+part_of : (library : Option (List TheGate)) (gates : List Placed) (base : Circuit) → IsSound (whole library gates base) → first_bad_part_name (leaves_in library (own_of gates base)) (tables_in library (part_lines (lines_of gates base))) ≡ None
+part_of library gates base sound =
+    rw (inputs_said library gates base, latches_said_back gates base sound.inits, part_said library gates base sound.dont_care_shaped)
+    (part_passes (leaf_names base) base.dont_care sound.dont_care_once sound.dont_care_known sound.dont_care_acyclic)
 
-cycle_of : (library : Option (List TheGate)) (circuit : Circuit) → IsSound circuit → first_on_cycle (tables_in library (own_of circuit)) ≡ None
-cycle_of library circuit sound = ap first_on_cycle (tables_said_back library circuit sound.shaped) ∙ none_from_acyclic circuit.tables sound.acyclic
+-- the circuit's own tables
+shaped_of : (library : Option (List TheGate)) (gates : List Placed) (base : Circuit) → IsSound (whole library gates base) → AllByRecursion IsShaped base.tables
+shaped_of library gates base sound = all_back IsShaped (map folded (said_tables library gates)) base.tables sound.shaped
 
-no_names_fault : (library : Option (List TheGate)) (circuit : Circuit) → IsSound circuit → model_names_fault library (own_of circuit) ≡ None
-unfolding model_names_fault
-no_names_fault library circuit sound =
-    let lines = own_of circuit in
-    none_of (option_map (λ (name : List ℕ). NameTwice name) (first_listed_twice (of_lines listed_inputs lines) (of_lines listed_outputs lines) (ports_in lines))
-    ∷ option_map (λ (number : ℕ). MixedClock number) (mixed_clock lines)
-    ∷ option_map (λ (name : List ℕ). GatedClock name) (gated_clock library lines)
-    ∷ option_map (λ (name : List ℕ). TwoDrivers name) (first_again (inputs_in library lines) (drives_in library lines))
-    ∷ option_map (λ (name : List ℕ). Undriven name) (first_missing (inputs_in library lines ++ drives_in library lines) (reads_in library lines)) ∷ []) (
-      ap (option_map (λ (name : List ℕ). NameTwice name)) (twice_of circuit sound),
-      (
-        ap (option_map (λ (number : ℕ). MixedClock number)) (unmixed circuit sound.control_not_nil (timing_of circuit sound)),
-        (
-          ap (option_map (λ (name : List ℕ). GatedClock name)) (gated_of library circuit sound),
-          (ap (option_map (λ (name : List ℕ). TwoDrivers name)) (again_of library circuit sound), (ap (option_map (λ (name : List ℕ). Undriven name)) (missing_of library circuit sound), tt)),
-        ),
-      ),
-    )
+once_of : (library : Option (List TheGate)) (gates : List Placed) (base : Circuit) → IsSound (whole library gates base) → AllByRecursion (λ (table : Table). all_different table.inputs ≡ true) base.tables
+once_of library gates base sound = all_back (λ (table : Table). all_different table.inputs ≡ true) (map folded (said_tables library gates)) base.tables sound.table_inputs_once
 
-no_whole_fault : (library : Option (List TheGate)) (circuit : Circuit) → IsSound circuit → whole_fault library (lines_of circuit) ≡ None
-unfolding whole_fault
-no_whole_fault library circuit sound =
-    let own = own_of circuit in
-    let part = tables_in library (part_lines (lines_of circuit)) in
-    ap (λ (lines : List Entry). first_of (model_names_fault library lines ∷ option_map (λ (name : List ℕ). BadExdc name) (first_bad_part_name (leaves_in library lines) part) ∷ option_map (λ (name : List ℕ). Cycle name) (first_on_cycle (tables_in library lines)) ∷ [])) (model_said circuit)
-    ∙ none_of (model_names_fault library own ∷ option_map (λ (name : List ℕ). BadExdc name) (first_bad_part_name (leaves_in library own) part) ∷ option_map (λ (name : List ℕ). Cycle name) (first_on_cycle (tables_in library own)) ∷ []) (
-      no_names_fault library circuit sound,
-      (ap (option_map (λ (name : List ℕ). BadExdc name)) (part_of library circuit sound), (ap (option_map (λ (name : List ℕ). Cycle name)) (cycle_of library circuit sound), tt)),
-    )
-
--- the circuit that the lines say
 all_folded_same : (tables : List Table) → AllByRecursion (λ (table : Table). all_different table.inputs ≡ true) tables → map folded tables ≡ tables
 all_folded_same [] e = refl
 all_folded_same (table ∷ tables) e =
     ap (λ (first : Table). first ∷ map folded tables) (folded_same table e.0) ∙ ap (λ (more : List Table). table ∷ more) (all_folded_same tables e.1)
 
-tables_of : (library : Option (List TheGate)) (circuit : Circuit) → IsSound circuit → map folded (tables_in library (own_of circuit)) ≡ circuit.tables
-tables_of library circuit sound = ap (map folded) (tables_said_back library circuit sound.shaped) ∙ all_folded_same circuit.tables sound.table_inputs_once
+folded_whole : (library : Option (List TheGate)) (gates : List Placed) (base : Circuit) → IsSound (whole library gates base) → map folded (said_tables library gates ++ base.tables) ≡ (whole library gates base).tables
+folded_whole library gates base sound =
+    map-append folded (said_tables library gates) base.tables
+    ∙ ap (λ (tables : List Table). map folded (said_tables library gates) ++ tables) (all_folded_same base.tables (once_of library gates base sound))
 
+cycle_of : (library : Option (List TheGate)) (gates : List Placed) (base : Circuit) → IsSound (whole library gates base) → first_on_cycle (tables_in library (own_of gates base)) ≡ None
+cycle_of library gates base sound =
+    let tables = said_tables library gates ++ base.tables in
+    let keep : AllByRecursion KeepsReads tables = all_append KeepsReads (said_tables library gates) base.tables (tables_keep library gates) (keeps_reads base.tables (once_of library gates base sound)) in
+    ap first_on_cycle (tables_said_back library gates base (shaped_of library gates base sound))
+    ∙ none_from_acyclic tables (acyclic_before tables keep (subst IsAcyclic (sym (folded_whole library gates base sound)) sound.acyclic))
+
+no_names_fault : (library : Option (List TheGate)) (gates : List Placed) (base : Circuit) → IsSound (whole library gates base) → model_names_fault library (own_of gates base) ≡ None
+unfolding model_names_fault
+no_names_fault library gates base sound =
+    let lines = own_of gates base in
+    none_of (option_map (λ (name : List ℕ). NameTwice name) (first_listed_twice (of_lines listed_inputs lines) (of_lines listed_outputs lines) (ports_in lines))
+    ∷ option_map (λ (number : ℕ). MixedClock number) (mixed_clock lines)
+    ∷ option_map (λ (name : List ℕ). GatedClock name) (gated_clock library lines)
+    ∷ option_map (λ (name : List ℕ). TwoDrivers name) (first_again (inputs_in library lines) (drives_in library lines))
+    ∷ option_map (λ (name : List ℕ). Undriven name) (first_missing (inputs_in library lines ++ drives_in library lines) (reads_in library lines)) ∷ []) (
+      ap (option_map (λ (name : List ℕ). NameTwice name)) (twice_of library gates base sound),
+      (
+        ap (option_map (λ (number : ℕ). MixedClock number)) (unmixed gates base sound.control_not_nil (timing_of library gates base sound)),
+        (
+          ap (option_map (λ (name : List ℕ). GatedClock name)) (gated_of library gates base sound),
+          (
+            ap (option_map (λ (name : List ℕ). TwoDrivers name)) (again_of library gates base sound),
+            (ap (option_map (λ (name : List ℕ). Undriven name)) (missing_of library gates base sound), tt),
+          ),
+        ),
+      ),
+    )
+
+no_whole_fault : (library : Option (List TheGate)) (gates : List Placed) (base : Circuit) → IsSound (whole library gates base) → whole_fault library (lines_of gates base) ≡ None
+unfolding whole_fault
+no_whole_fault library gates base sound =
+    let own = own_of gates base in
+    let part = tables_in library (part_lines (lines_of gates base)) in
+    ap (λ (lines : List Entry). first_of (model_names_fault library lines ∷ option_map (λ (name : List ℕ). BadExdc name) (first_bad_part_name (leaves_in library lines) part) ∷ option_map (λ (name : List ℕ). Cycle name) (first_on_cycle (tables_in library lines)) ∷ [])) (model_said gates base)
+    ∙ none_of (model_names_fault library own ∷ option_map (λ (name : List ℕ). BadExdc name) (first_bad_part_name (leaves_in library own) part) ∷ option_map (λ (name : List ℕ). Cycle name) (first_on_cycle (tables_in library own)) ∷ []) (
+      no_names_fault library gates base sound,
+      (
+        ap (option_map (λ (name : List ℕ). BadExdc name)) (part_of library gates base sound),
+        (ap (option_map (λ (name : List ℕ). Cycle name)) (cycle_of library gates base sound), tt),
+      ),
+    )
+
+-- the circuit that the lines say
 abbrev circuit_with : List ℕ → List (List ℕ) → List (List ℕ) → List (List ℕ) → Option Timing → List TheLatch → List Table → List Table → Circuit
 circuit_with name inputs outputs clocks timing latches tables dont_care =
     record { name = name; inputs = inputs; outputs = outputs; clocks = clocks; timing = timing; latches = latches; tables = tables; dont_care = dont_care }
@@ -131,36 +172,73 @@ circuit_same : (name : List ℕ) (inputs outputs clocks : List (List ℕ)) (timi
     → circuit_with name inputs outputs clocks timing latches tables dont_care ≡ circuit
 circuit_same name inputs outputs clocks timing latches tables dont_care circuit a b c d e f g h = rw (a, b, c, d, e, f, g, h) refl
 
-circuit_back : (library : Option (List TheGate)) (circuit : Circuit) → IsSound circuit → circuit_of library (lines_of circuit) ≡ circuit
+circuit_back : (library : Option (List TheGate)) (gates : List Placed) (base : Circuit) → IsSound (whole library gates base) → circuit_of library (lines_of gates base) ≡ whole library gates base
 unfolding circuit_of
-circuit_back library circuit sound =
-    let lines = model_lines (lines_of circuit) in
-    circuit_same (model_name (lines_of circuit)) (inputs_in library lines) (outputs_in library lines) (clocks_in lines) (timing_in lines) (latches_in lines) (map folded (tables_in library lines)) (tables_in library (part_lines (lines_of circuit))) circuit
-    (name_said circuit) (ap (inputs_in library) (model_said circuit) ∙ inputs_said library circuit) (ap (outputs_in library) (model_said circuit) ∙ outputs_said library circuit) (ap clocks_in (model_said circuit) ∙ clocks_said circuit)
-    (ap timing_in (model_said circuit) ∙ timing_of circuit sound) (ap latches_in (model_said circuit) ∙ latches_said_back circuit sound.inits)
-    (ap (λ (own : List Entry). map folded (tables_in library own)) (model_said circuit) ∙ tables_of library circuit sound) (part_said library circuit sound.dont_care_shaped)
+circuit_back library gates base sound =
+    let lines = model_lines (lines_of gates base) in
+    circuit_same (model_name (lines_of gates base)) (inputs_in library lines) (outputs_in library lines) (clocks_in lines) (timing_in lines) (latches_in lines) (map folded (tables_in library lines)) (tables_in library (part_lines (lines_of gates base))) (whole library gates base)
+    (name_said gates base) (ap (inputs_in library) (model_said gates base) ∙ inputs_said library gates base) (ap (outputs_in library) (model_said gates base) ∙ outputs_said library gates base)
+    (ap clocks_in (model_said gates base) ∙ clocks_said gates base) (ap timing_in (model_said gates base) ∙ timing_of library gates base sound)
+    (ap latches_in (model_said gates base) ∙ latches_said_back gates base sound.inits)
+    (ap (λ (own : List Entry). map folded (tables_in library own)) (model_said gates base)
+    ∙ ap (map folded) (tables_said_back library gates base (shaped_of library gates base sound)) ∙ folded_whole library gates base sound)
+    (part_said library gates base sound.dont_care_shaped)
 
 -- both
-no_line_fault_of : (library : Option (List TheGate)) (circuit : Circuit) → IsSound circuit → IsWithinLimits circuit → HasShortNames circuit → first_line_fault library [] (lines_of circuit) ≡ None
-no_line_fault_of library circuit sound limits short =
-    (no_line_fault library) circuit (of_names IsShort circuit short.names) limits.tables limits.dont_care sound.shaped sound.dont_care_shaped limits.nodes
+names_of_base : (P : List ℕ → Type 0) (library : Option (List TheGate)) (gates : List Placed) (base : Circuit) → OfNames P (whole library gates base) → OfNames P base
+names_of_base P library gates base h = record {
+  name = h.name;
+  inputs = h.inputs;
+  outputs = h.outputs;
+  clocks = h.clocks;
+  timing = h.timing;
+  latches = h.latches;
+  tables = all_back (OfTable P) (map folded (said_tables library gates)) base.tables h.tables;
+  dont_care = h.dont_care;
+}
 
-lines_read : (library : Option (List TheGate)) (circuit : Circuit) → IsSound circuit → IsWithinLimits circuit → HasShortNames circuit → read_model library (lines_of circuit) ≡ Ok (content.Circuit circuit)
+few_nodes : (library : Option (List TheGate)) (gates : List Placed) (base : Circuit) → AllByRecursion (IsKnown library) gates → IsWithinLimits (whole library gates base)
+    → length gates + length base.tables + length base.latches + length base.dont_care ≤ MAX_NODES
+few_nodes library gates base known limits =
+    let count : length (map folded (said_tables library gates) ++ base.tables) ≡ length (map folded (said_tables library gates)) + length base.tables = length-append (map folded (said_tables library gates)) base.tables in
+    let same : length (map folded (said_tables library gates)) ≡ length (said_tables library gates) = length-map (said_tables library gates) folded in
+    let each : length (said_tables library gates) ≡ length gates = said_count library gates known in
+    omega (arith, limits.nodes, count, same, each)
+
+no_line_fault_of : (library : Option (List TheGate)) (gates : List Placed) (base : Circuit) → AllByRecursion (IsKnown library) gates → IsSound (whole library gates base) → IsWithinLimits (whole library gates base) → HasShortNames (whole library gates base)
+    → first_line_fault library [] (lines_of gates base) ≡ None
+no_line_fault_of library gates base known sound limits short =
+    no_line_fault library gates base known (names_of_base IsShort library gates base (of_names IsShort (whole library gates base) short.names))
+    (all_back IsSmallTable (map folded (said_tables library gates)) base.tables limits.tables) limits.dont_care
+    (shaped_of library gates base sound) sound.dont_care_shaped (few_nodes library gates base known limits)
+
+lines_read : (library : Option (List TheGate)) (gates : List Placed) (base : Circuit) → AllByRecursion (IsKnown library) gates → IsSound (whole library gates base) → IsWithinLimits (whole library gates base) → HasShortNames (whole library gates base)
+    → read_model library (lines_of gates base) ≡ Ok (content.Circuit (whole library gates base))
 unfolding read_model is_machine
-lines_read library circuit sound limits short =
-    let lines = lines_of circuit in
-    ap (λ (fault : Option BlifFault). first_fault fault (read_whole library (is_machine lines) lines)) (no_line_fault_of library circuit sound limits short)
-    ∙ ap (λ (b : Bool). read_whole library (b && not (has_nodes (model_lines lines))) lines) (no_kiss circuit)
-    ∙ ap (λ (fault : Option BlifFault). unless fault (content.Circuit (circuit_of library lines))) (no_whole_fault library circuit sound)
-    ∙ ap (λ (read : Circuit). Ok (content.Circuit read)) (circuit_back library circuit sound)
+lines_read library gates base known sound limits short =
+    let lines = lines_of gates base in
+    ap (λ (fault : Option BlifFault). first_fault fault (read_whole library (is_machine lines) lines)) (no_line_fault_of library gates base known sound limits short)
+    ∙ ap (λ (b : Bool). read_whole library (b && not (has_nodes (model_lines lines))) lines) (no_kiss gates base)
+    ∙ ap (λ (fault : Option BlifFault). unless fault (content.Circuit (circuit_of library lines))) (no_whole_fault library gates base sound)
+    ∙ ap (λ (read : Circuit). Ok (content.Circuit read)) (circuit_back library gates base sound)
 
-text_lines : (circuit : Circuit) → IsSound circuit → entries_of (text_of circuit) ≡ lines_of circuit
-unfolding text_of
-text_lines circuit sound = read_back (circuit_lines circuit) (lines_written circuit (of_names (λ (name : List ℕ). is_word name ≡ true) circuit sound.words))
+gates_have_words : (library : Option (List TheGate)) (gates : List Placed) → AllByRecursion (IsKnown library) gates → AllByRecursion HasGateWords gates
+gates_have_words library gates known = all_kept (IsKnown library) HasGateWords gates (λ placed one. one.words) known
 
-pub text_read : (library : Option (List TheGate)) (circuit : Circuit) → IsSound circuit → IsWithinLimits circuit → HasShortNames circuit → read_lines library (entries_of (text_of circuit)) ≡ Ok (spec.Circuit circuit)
+text_lines : (library : Option (List TheGate)) (gates : List Placed) (base : Circuit) → AllByRecursion (IsKnown library) gates → IsSound (whole library gates base) → entries_of (lines_text (lines_with_gates gates base)) ≡ lines_of gates base
+text_lines library gates base known sound =
+    read_back (lines_with_gates gates base)
+    (lines_written gates base (gates_have_words library gates known) (names_of_base IsName library gates base (of_names IsName (whole library gates base) sound.words)))
+
+pub whole_read : (library : Option (List TheGate)) (gates : List Placed) (base : Circuit) → AllByRecursion (IsKnown library) gates → IsSound (whole library gates base) → IsWithinLimits (whole library gates base) → HasShortNames (whole library gates base)
+    → read_lines library (entries_of (lines_text (lines_with_gates gates base))) ≡ Ok (spec.Circuit (whole library gates base))
 unfolding read_lines
-text_read library circuit sound limits short =
-    ap (read_lines library) (text_lines circuit sound)
-    ∙ ap (λ (lines : List Entry). spec_with (kiss_lines (lines_of circuit)) (read_model library lines)) (no_part circuit)
-    ∙ ap (spec_with (kiss_lines (lines_of circuit))) (lines_read library circuit sound limits short)
+whole_read library gates base known sound limits short =
+    ap (read_lines library) (text_lines library gates base known sound)
+    ∙ ap (λ (lines : List Entry). spec_with (kiss_lines (lines_of gates base)) (read_model library lines)) (no_part gates base)
+    ∙ ap (spec_with (kiss_lines (lines_of gates base))) (lines_read library gates base known sound limits short)
+
+-- a circuit is one without gates
+pub text_read : (library : Option (List TheGate)) (circuit : Circuit) → IsSound circuit → IsWithinLimits circuit → HasShortNames circuit → read_lines library (entries_of (text_of circuit)) ≡ Ok (spec.Circuit circuit)
+unfolding text_of circuit_lines lines_with_gates
+text_read library circuit sound limits short = whole_read library [] circuit tt sound limits short

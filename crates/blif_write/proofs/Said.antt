@@ -1,9 +1,9 @@
--- What the lines of a circuit say, part by part.
+-- What the lines of a circuit and of gates beside it say, part by part.
 use Rattle.std.proofs.Common.{◌≡◌, ℕ, zero, suc, ◌+◌, ◌-◌, ◌≤◌, Bool, true, false, not, ◌||◌, cond, if◌then◌else◌, Option, Some, None, option_map, List, [], ◌∷◌, ◌++◌, refl, sym, ap, subst, ◌∙◌, arith, map, flat_map, find, take_while, codes, slice_index}
 use Rattle.std.specs.Prelude.{bytes_eq, option_to_list}
 use Rattle.std.specs.List.{AllByRecursion}
 use Rattle.std.proofs.lemmas.Grind.{flat_map-append}
-use Rattle.std.proofs.lemmas.List.{append_assoc, append-nil}
+use Rattle.std.proofs.lemmas.List.{append_assoc, append-nil, map-append}
 use Rattle.std.proofs.lemmas.List.Sums.{take_while-cons}
 use Rattle.sis_base.specs.Written.{Written}
 use Rattle.genlib_format.specs.declared.gate.Gate.{Gate as TheGate}
@@ -17,19 +17,21 @@ use Rattle.circuit_model.specs.declared.circuit.Table.{Table}
 use Rattle.circuit_model.specs.declared.circuit.Latch.{Latch as TheLatch}
 use Rattle.circuit_model.specs.declared.circuit.Circuit.{Circuit}
 use Rattle.circuit_model.specs.Names.{has}
-use Rattle.circuit_model.specs.Text.{dotted, kind_word, control_word, timing_words, init_word, latch_line, clock_lines, row_line, table_lines, circuit_lines}
+use Rattle.circuit_model.specs.Text.{dotted, kind_word, control_word, timing_words, init_word, latch_line, clock_lines, row_line, table_lines}
+use Rattle.netlist.specs.Lines.{gate_line, lines_with_gates}
+use Rattle.netlist.specs.declared.mapped.Placed.{Placed}
 use Rattle.circuit_model.specs.Runs.{latch_outputs}
 use Rattle.circuit_model.specs.Soundness.{IsShaped, control_of, outputs_of, latch_inputs, table_inputs}
 use Rattle.circuit_tables.proofs.Once.{itself, bytes_eq-sym}
 use Rattle.line_words.specs.LineWords.{other_words}
 use Rattle.blif_lines.specs.Keyword.{keyword_of, kind_of, is_row, is_row_kind}
 use Rattle.blif_lines.specs.Lines.{joined, begins_part}
-use Rattle.blif_lines.specs.Reader.{of_lines, model_lines, part_lines, listed_inputs, listed_outputs, listed_ports, listed_clocks, lists_inputs, lists_outputs, names_beside, driven_by, read_by, latches_by, init_of, inputs_in, outputs_in, ports_in, clocks_in, drives_in, reads_within, reads_in, latches_in, kind_by, control_by, timing_of, is_latch_line, latch_lines, timing_at, first_timing, timing_in, same_kind, same_control, same_timing, mixed_clock, tables_by, tables_in, table_of, model_name}
+use Rattle.blif_lines.specs.Reader.{of_lines, model_lines, part_lines, listed_inputs, listed_outputs, listed_ports, listed_clocks, lists_inputs, lists_outputs, names_beside, driven_by, read_by, latches_by, init_of, inputs_in, outputs_in, ports_in, clocks_in, drives_in, reads_within, reads_in, latches_in, kind_by, control_by, timing_of, is_latch_line, latch_lines, timing_at, first_timing, timing_in, same_kind, same_control, same_timing, mixed_clock, tables_by, tables_in, table_of, model_name, gate_tables, gate_inputs}
 use Rattle.blif_lines.specs.declared.keyword.Keyword.{Keyword}
 use Rattle.blif_lines.specs.declared.keyword.Keyword.TheVariants.{Model, Inputs, Outputs, Clock, Names, Latch, Gate, StartKiss, DontCare, End, Skipped, Row, Other}
 use Rattle.blif_lines.proofs.NameLists.{all_append}
 use Rattle.blif_lines.proofs.Agreement.{own_more, own_ends, part_later, part_here}
-use Rattle.blif_write.proofs.Words.{end_lines, stop_lines, part_written, own_lines, lines_split}
+use Rattle.blif_write.proofs.Words.{end_lines, stop_lines, part_written, gate_words, own_lines, lines_split}
 use Rattle.blif_write.proofs.LineKinds.{entry, row_kind}
 use Rattle.blif_write.proofs.RowTexts.{row_text, row_joined, names_words, inputs_back, output_back, table_back}
 
@@ -71,29 +73,38 @@ unfolding keyword_of latch_line
 latches_said f timing [] = refl
 latches_said f timing (latch ∷ latches) = ap (λ more. f Latch (latch_words timing latch) ++ more) (latches_said f timing latches)
 
+gates_said : {A : Type 0} (f : Keyword → List (List ℕ) → List A) (gates : List Placed) → said f (map gate_line gates) ≡ flat_map (λ (placed : Placed). f Gate (gate_words placed)) gates
+unfolding keyword_of gate_line
+gates_said f [] = refl
+gates_said f (placed ∷ gates) = ap (λ more. f Gate (gate_words placed) ++ more) (gates_said f gates)
+
 -- what all lines of the model say
-abbrev parts : {A : Type 0} → (Keyword → List (List ℕ) → List A) → Circuit → List A
-parts f circuit =
+abbrev parts : {A : Type 0} → (Keyword → List (List ℕ) → List A) → List Placed → Circuit → List A
+parts f gates circuit =
     f Model (circuit.name ∷ []) ++ (f Inputs circuit.inputs ++ (f Outputs circuit.outputs ++ (said f (clock_lines circuit.clocks)
     ++ (flat_map (λ (latch : TheLatch). f Latch (latch_words circuit.timing latch)) circuit.latches
-    ++ (flat_map (λ (table : Table). f Names (names_words table)) circuit.tables ++ said f (stop_lines circuit.dont_care))))))
+    ++ (flat_map (λ (placed : Placed). f Gate (gate_words placed)) gates
+    ++ (flat_map (λ (table : Table). f Names (names_words table)) circuit.tables ++ said f (stop_lines circuit.dont_care)))))))
 
-lines_say : {A : Type 0} (f : Keyword → List (List ℕ) → List A) (circuit : Circuit) → IsOfNoRow f → of_lines f (numbered 1 (own_lines circuit)) ≡ parts f circuit
+lines_say : {A : Type 0} (f : Keyword → List (List ℕ) → List A) (gates : List Placed) (circuit : Circuit) → IsOfNoRow f → of_lines f (numbered 1 (own_lines gates circuit)) ≡ parts f gates circuit
 unfolding own_lines keyword_of
-lines_say f circuit none =
+lines_say f gates circuit none =
     let g = λ (line : Written). f (keyword_of line.first) line.others in
     let stop = stop_lines circuit.dont_care in
     let rest = flat_map table_lines circuit.tables ++ stop in
     let latches = flat_map (λ (latch : TheLatch). f Latch (latch_words circuit.timing latch)) circuit.latches in
+    let cells = flat_map (λ (placed : Placed). f Gate (gate_words placed)) gates in
     let tables = flat_map (λ (table : Table). f Names (names_words table)) circuit.tables in
     let of_tables : said f rest ≡ tables ++ said f stop =
     flat_map-append g (flat_map table_lines circuit.tables) stop ∙ ap (λ first. first ++ said f stop) (tables_said f circuit.tables none) in
-    let of_latches : said f (map (latch_line circuit.timing) circuit.latches ++ rest) ≡ latches ++ (tables ++ said f stop) =
-    flat_map-append g (map (latch_line circuit.timing) circuit.latches) rest ∙ ap (λ first. first ++ said f rest) (latches_said f circuit.timing circuit.latches)
-    ∙ ap (λ more. latches ++ more) of_tables in
-    let of_all : said f (clock_lines circuit.clocks ++ (map (latch_line circuit.timing) circuit.latches ++ rest)) ≡ said f (clock_lines circuit.clocks) ++ (latches ++ (tables ++ said f stop)) =
-    flat_map-append g (clock_lines circuit.clocks) (map (latch_line circuit.timing) circuit.latches ++ rest) ∙ ap (λ more. said f (clock_lines circuit.clocks) ++ more) of_latches in
-    of_numbered f 1 (own_lines circuit) ∙ ap (λ more. f Model (circuit.name ∷ []) ++ (f Inputs circuit.inputs ++ (f Outputs circuit.outputs ++ more))) of_all
+    let of_gates : said f (map gate_line gates ++ rest) ≡ cells ++ (tables ++ said f stop) =
+    flat_map-append g (map gate_line gates) rest ∙ ap (λ first. first ++ said f rest) (gates_said f gates) ∙ ap (λ more. cells ++ more) of_tables in
+    let of_latches : said f (map (latch_line circuit.timing) circuit.latches ++ (map gate_line gates ++ rest)) ≡ latches ++ (cells ++ (tables ++ said f stop)) =
+    flat_map-append g (map (latch_line circuit.timing) circuit.latches) (map gate_line gates ++ rest)
+    ∙ ap (λ first. first ++ said f (map gate_line gates ++ rest)) (latches_said f circuit.timing circuit.latches) ∙ ap (λ more. latches ++ more) of_gates in
+    let of_all : said f (clock_lines circuit.clocks ++ (map (latch_line circuit.timing) circuit.latches ++ (map gate_line gates ++ rest))) ≡ said f (clock_lines circuit.clocks) ++ (latches ++ (cells ++ (tables ++ said f stop))) =
+    flat_map-append g (clock_lines circuit.clocks) (map (latch_line circuit.timing) circuit.latches ++ (map gate_line gates ++ rest)) ∙ ap (λ more. said f (clock_lines circuit.clocks) ++ more) of_latches in
+    of_numbered f 1 (own_lines gates circuit) ∙ ap (λ more. f Model (circuit.name ∷ []) ++ (f Inputs circuit.inputs ++ (f Outputs circuit.outputs ++ more))) of_all
 
 -- the end says nothing
 stop_said : {A : Type 0} (f : Keyword → List (List ℕ) → List A) (part : List Table) → f End [] ≡ [] → said f (stop_lines part) ≡ []
@@ -106,12 +117,13 @@ unfolding keyword_of clock_lines
 no_clocks f [] h = refl
 no_clocks f (clock ∷ clocks) h = ap (λ first. first ++ []) (h (clock ∷ clocks))
 
--- where clocks, latches and tables say these lists, and the end nothing
-parts_are : {A : Type 0} (f : Keyword → List (List ℕ) → List A) (circuit : Circuit) (of_clocks of_latches of_tables : List A) → IsOfNoRow f → said f (clock_lines circuit.clocks) ≡ of_clocks
-    → flat_map (λ (latch : TheLatch). f Latch (latch_words circuit.timing latch)) circuit.latches ≡ of_latches → flat_map (λ (table : Table). f Names (names_words table)) circuit.tables ≡ of_tables → f End [] ≡ []
-    → of_lines f (numbered 1 (own_lines circuit)) ≡ f Model (circuit.name ∷ []) ++ (f Inputs circuit.inputs ++ (f Outputs circuit.outputs ++ (of_clocks ++ (of_latches ++ of_tables))))
-parts_are f circuit of_clocks of_latches of_tables none k a b c =
-    lines_say f circuit none ∙ rw (k, a, b, stop_said f circuit.dont_care c, append-nil of_tables) refl
+-- where clocks, latches, gates and tables say these lists, and the end nothing
+parts_are : {A : Type 0} (f : Keyword → List (List ℕ) → List A) (gates : List Placed) (circuit : Circuit) (of_clocks of_latches of_gates of_tables : List A) → IsOfNoRow f → said f (clock_lines circuit.clocks) ≡ of_clocks
+    → flat_map (λ (latch : TheLatch). f Latch (latch_words circuit.timing latch)) circuit.latches ≡ of_latches → flat_map (λ (placed : Placed). f Gate (gate_words placed)) gates ≡ of_gates
+    → flat_map (λ (table : Table). f Names (names_words table)) circuit.tables ≡ of_tables → f End [] ≡ []
+    → of_lines f (numbered 1 (own_lines gates circuit)) ≡ f Model (circuit.name ∷ []) ++ (f Inputs circuit.inputs ++ (f Outputs circuit.outputs ++ (of_clocks ++ (of_latches ++ (of_gates ++ of_tables)))))
+parts_are f gates circuit of_clocks of_latches of_gates of_tables none k a g b c =
+    lines_say f gates circuit none ∙ rw (k, a, g, b, stop_said f circuit.dont_care c, append-nil of_tables) refl
 
 none_said : {A B : Type 0} (f : A → List B) (xs : List A) → ((x : A) → f x ≡ []) → flat_map f xs ≡ []
 none_said f [] h = refl
@@ -120,48 +132,51 @@ none_said f (x ∷ xs) h = ap (λ ys. ys ++ flat_map f xs) (h x) ∙ none_said f
 no_latches : {A : Type 0} (f : List (List ℕ) → List A) (timing : Option Timing) (latches : List TheLatch) → ((latch : TheLatch) → f (latch_words timing latch) ≡ []) → flat_map (λ (latch : TheLatch). f (latch_words timing latch)) latches ≡ []
 no_latches f timing latches h = none_said (λ (latch : TheLatch). f (latch_words timing latch)) latches h
 
+no_gates : {A : Type 0} (f : List (List ℕ) → List A) (gates : List Placed) → ((words : List (List ℕ)) → f words ≡ []) → flat_map (λ (placed : Placed). f (gate_words placed)) gates ≡ []
+no_gates f gates h = none_said (λ (placed : Placed). f (gate_words placed)) gates (λ placed. h (gate_words placed))
+
 no_tables : {A : Type 0} (f : List (List ℕ) → List A) (tables : List Table) → ((table : Table) → f (names_words table) ≡ []) → flat_map (λ (table : Table). f (names_words table)) tables ≡ []
 no_tables f tables h = none_said (λ (table : Table). f (names_words table)) tables h
 
 -- all lines, and those of the model
-abbrev pub lines_of : Circuit → List Entry
-lines_of circuit = numbered 1 (circuit_lines circuit)
+abbrev pub lines_of : List Placed → Circuit → List Entry
+lines_of gates circuit = numbered 1 (lines_with_gates gates circuit)
 
-abbrev pub own_of : Circuit → List Entry
-own_of circuit = numbered 1 (own_lines circuit)
+abbrev pub own_of : List Placed → Circuit → List Entry
+own_of gates circuit = numbered 1 (own_lines gates circuit)
 
-pub listed_inputs_said : (circuit : Circuit) → of_lines listed_inputs (own_of circuit) ≡ circuit.inputs
-listed_inputs_said circuit =
-    parts_are listed_inputs circuit [] [] [] (λ words. refl) (no_clocks listed_inputs circuit.clocks (λ words. refl)) (no_latches (listed_inputs Latch) circuit.timing circuit.latches (λ latch. refl)) (no_tables (listed_inputs Names) circuit.tables (λ table. refl)) refl
+pub listed_inputs_said : (gates : List Placed) (circuit : Circuit) → of_lines listed_inputs (own_of gates circuit) ≡ circuit.inputs
+listed_inputs_said gates circuit =
+    parts_are listed_inputs gates circuit [] [] [] [] (λ words. refl) (no_clocks listed_inputs circuit.clocks (λ words. refl)) (no_latches (listed_inputs Latch) circuit.timing circuit.latches (λ latch. refl)) (no_gates (listed_inputs Gate) gates (λ words. refl)) (no_tables (listed_inputs Names) circuit.tables (λ table. refl)) refl
     ∙ append-nil circuit.inputs
 
-pub listed_outputs_said : (circuit : Circuit) → of_lines listed_outputs (own_of circuit) ≡ circuit.outputs
-listed_outputs_said circuit =
-    parts_are listed_outputs circuit [] [] [] (λ words. refl) (no_clocks listed_outputs circuit.clocks (λ words. refl)) (no_latches (listed_outputs Latch) circuit.timing circuit.latches (λ latch. refl)) (no_tables (listed_outputs Names) circuit.tables (λ table. refl)) refl
+pub listed_outputs_said : (gates : List Placed) (circuit : Circuit) → of_lines listed_outputs (own_of gates circuit) ≡ circuit.outputs
+listed_outputs_said gates circuit =
+    parts_are listed_outputs gates circuit [] [] [] [] (λ words. refl) (no_clocks listed_outputs circuit.clocks (λ words. refl)) (no_latches (listed_outputs Latch) circuit.timing circuit.latches (λ latch. refl)) (no_gates (listed_outputs Gate) gates (λ words. refl)) (no_tables (listed_outputs Names) circuit.tables (λ table. refl)) refl
     ∙ append-nil circuit.outputs
 
-inputs_listed : (circuit : Circuit) → lists_inputs (own_of circuit) ≡ true
+inputs_listed : (gates : List Placed) (circuit : Circuit) → lists_inputs (own_of gates circuit) ≡ true
 unfolding lists_inputs own_lines numbered kind_of keyword_of
-inputs_listed circuit = refl
+inputs_listed gates circuit = refl
 
-outputs_listed : (circuit : Circuit) → lists_outputs (own_of circuit) ≡ true
+outputs_listed : (gates : List Placed) (circuit : Circuit) → lists_outputs (own_of gates circuit) ≡ true
 unfolding lists_outputs own_lines numbered kind_of keyword_of
-outputs_listed circuit = refl
+outputs_listed gates circuit = refl
 
-pub inputs_said : (library : Option (List TheGate)) (circuit : Circuit) → inputs_in library (own_of circuit) ≡ circuit.inputs
+pub inputs_said : (library : Option (List TheGate)) (gates : List Placed) (circuit : Circuit) → inputs_in library (own_of gates circuit) ≡ circuit.inputs
 unfolding inputs_in
-inputs_said library circuit =
-    ap (λ (b : Bool). if b then of_lines listed_inputs (own_of circuit) else names_beside (drives_in library (own_of circuit)) (reads_within library (own_of circuit))) (inputs_listed circuit) ∙ listed_inputs_said circuit
+inputs_said library gates circuit =
+    ap (λ (b : Bool). if b then of_lines listed_inputs (own_of gates circuit) else names_beside (drives_in library (own_of gates circuit)) (reads_within library (own_of gates circuit))) (inputs_listed gates circuit) ∙ listed_inputs_said gates circuit
 
-pub outputs_said : (library : Option (List TheGate)) (circuit : Circuit) → outputs_in library (own_of circuit) ≡ circuit.outputs
+pub outputs_said : (library : Option (List TheGate)) (gates : List Placed) (circuit : Circuit) → outputs_in library (own_of gates circuit) ≡ circuit.outputs
 unfolding outputs_in
-outputs_said library circuit =
-    ap (λ (b : Bool). if b then of_lines listed_outputs (own_of circuit) else names_beside (reads_within library (own_of circuit)) (drives_in library (own_of circuit))) (outputs_listed circuit) ∙ listed_outputs_said circuit
+outputs_said library gates circuit =
+    ap (λ (b : Bool). if b then of_lines listed_outputs (own_of gates circuit) else names_beside (reads_within library (own_of gates circuit)) (drives_in library (own_of gates circuit))) (outputs_listed gates circuit) ∙ listed_outputs_said gates circuit
 
-pub ports_said : (circuit : Circuit) → ports_in (own_of circuit) ≡ circuit.inputs ++ circuit.outputs
+pub ports_said : (gates : List Placed) (circuit : Circuit) → ports_in (own_of gates circuit) ≡ circuit.inputs ++ circuit.outputs
 unfolding ports_in
-ports_said circuit =
-    parts_are listed_ports circuit [] [] [] (λ words. refl) (no_clocks listed_ports circuit.clocks (λ words. refl)) (no_latches (listed_ports Latch) circuit.timing circuit.latches (λ latch. refl)) (no_tables (listed_ports Names) circuit.tables (λ table. refl)) refl
+ports_said gates circuit =
+    parts_are listed_ports gates circuit [] [] [] [] (λ words. refl) (no_clocks listed_ports circuit.clocks (λ words. refl)) (no_latches (listed_ports Latch) circuit.timing circuit.latches (λ latch. refl)) (no_gates (listed_ports Gate) gates (λ words. refl)) (no_tables (listed_ports Names) circuit.tables (λ table. refl)) refl
     ∙ ap (λ more. circuit.inputs ++ more) (append-nil circuit.outputs)
 
 clocks_back : (clocks : List (List ℕ)) → said listed_clocks (clock_lines clocks) ≡ clocks
@@ -169,10 +184,10 @@ unfolding keyword_of clock_lines
 clocks_back [] = refl
 clocks_back (clock ∷ clocks) = append-nil (clock ∷ clocks)
 
-pub clocks_said : (circuit : Circuit) → clocks_in (own_of circuit) ≡ circuit.clocks
+pub clocks_said : (gates : List Placed) (circuit : Circuit) → clocks_in (own_of gates circuit) ≡ circuit.clocks
 unfolding clocks_in
-clocks_said circuit =
-    parts_are listed_clocks circuit circuit.clocks [] [] (λ words. refl) (clocks_back circuit.clocks) (no_latches (listed_clocks Latch) circuit.timing circuit.latches (λ latch. refl)) (no_tables (listed_clocks Names) circuit.tables (λ table. refl)) refl
+clocks_said gates circuit =
+    parts_are listed_clocks gates circuit circuit.clocks [] [] [] (λ words. refl) (clocks_back circuit.clocks) (no_latches (listed_clocks Latch) circuit.timing circuit.latches (λ latch. refl)) (no_gates (listed_clocks Gate) gates (λ words. refl)) (no_tables (listed_clocks Names) circuit.tables (λ table. refl)) refl
     ∙ append-nil circuit.clocks
 
 latches_drive : (library : Option (List TheGate)) (timing : Option Timing) (latches : List TheLatch) → flat_map (λ (latch : TheLatch). driven_by library Latch (latch_words timing latch)) latches ≡ map (λ (latch : TheLatch). latch.output) latches
@@ -184,10 +199,21 @@ tables_drive library [] = refl
 tables_drive library (table ∷ tables) =
     ap (λ name. name ∷ flat_map (λ (table : Table). driven_by library Names (names_words table)) tables) (output_back table) ∙ ap (λ more. table.output ∷ more) (tables_drive library tables)
 
-pub drives_said : (library : Option (List TheGate)) (circuit : Circuit) → drives_in library (own_of circuit) ≡ latch_outputs circuit ++ outputs_of circuit.tables
+-- the tables that the lines of gates say
+abbrev pub said_tables : Option (List TheGate) → List Placed → List Table
+said_tables library gates = flat_map (λ (placed : Placed). gate_tables library (gate_words placed)) gates
+
+gates_drive : (library : Option (List TheGate)) (gates : List Placed) → flat_map (λ (placed : Placed). driven_by library Gate (gate_words placed)) gates ≡ outputs_of (said_tables library gates)
+gates_drive library [] = refl
+gates_drive library (placed ∷ gates) =
+    ap (λ more. outputs_of (gate_tables library (gate_words placed)) ++ more) (gates_drive library gates)
+    ∙ sym (map-append (λ (table : Table). table.output) (gate_tables library (gate_words placed)) (said_tables library gates))
+
+pub drives_said : (library : Option (List TheGate)) (gates : List Placed) (circuit : Circuit) → drives_in library (own_of gates circuit) ≡ latch_outputs circuit ++ (outputs_of (said_tables library gates) ++ outputs_of circuit.tables)
 unfolding drives_in
-drives_said library circuit =
-    parts_are (driven_by library) circuit [] (latch_outputs circuit) (outputs_of circuit.tables) (λ words. refl) (no_clocks (driven_by library) circuit.clocks (λ words. refl)) (latches_drive library circuit.timing circuit.latches) (tables_drive library circuit.tables) refl
+drives_said library gates circuit =
+    parts_are (driven_by library) gates circuit [] (latch_outputs circuit) (outputs_of (said_tables library gates)) (outputs_of circuit.tables) (λ words. refl) (no_clocks (driven_by library) circuit.clocks (λ words. refl))
+    (latches_drive library circuit.timing circuit.latches) (gates_drive library gates) (tables_drive library circuit.tables) refl
 
 latches_read : (library : Option (List TheGate)) (timing : Option Timing) (latches : List TheLatch) → flat_map (λ (latch : TheLatch). read_by library Latch (latch_words timing latch)) latches ≡ map (λ (latch : TheLatch). latch.input) latches
 latches_read library timing [] = refl
@@ -198,10 +224,15 @@ tables_read library [] = refl
 tables_read library (table ∷ tables) =
     ap (λ names. names ++ flat_map (λ (table : Table). read_by library Names (names_words table)) tables) (inputs_back table) ∙ ap (λ more. table.inputs ++ more) (tables_read library tables)
 
-pub reads_said : (library : Option (List TheGate)) (circuit : Circuit) → reads_in library (own_of circuit) ≡ circuit.outputs ++ (latch_inputs circuit ++ table_inputs circuit.tables)
+-- the signals that the lines of gates read
+abbrev pub said_reads : Option (List TheGate) → List Placed → List (List ℕ)
+said_reads library gates = flat_map (λ (placed : Placed). gate_inputs library (gate_words placed)) gates
+
+pub reads_said : (library : Option (List TheGate)) (gates : List Placed) (circuit : Circuit) → reads_in library (own_of gates circuit) ≡ circuit.outputs ++ (latch_inputs circuit ++ (said_reads library gates ++ table_inputs circuit.tables))
 unfolding reads_in
-reads_said library circuit =
-    parts_are (read_by library) circuit [] (latch_inputs circuit) (table_inputs circuit.tables) (λ words. refl) (no_clocks (read_by library) circuit.clocks (λ words. refl)) (latches_read library circuit.timing circuit.latches) (tables_read library circuit.tables) refl
+reads_said library gates circuit =
+    parts_are (read_by library) gates circuit [] (latch_inputs circuit) (said_reads library gates) (table_inputs circuit.tables) (λ words. refl) (no_clocks (read_by library) circuit.clocks (λ words. refl))
+    (latches_read library circuit.timing circuit.latches) refl (tables_read library circuit.tables) refl
 
 init_back : (init : ℕ) → init ≤ 3 → slice_index (init_word init) 0 - 48 ≡ init
 init_back zero h = refl
@@ -220,10 +251,10 @@ latches_back timing (latch ∷ latches) h =
     ap (λ (init : ℕ). record latch { init = init } ∷ flat_map (λ (latch : TheLatch). latches_by Latch (latch_words timing latch)) latches) (init_last timing latch.init h.0)
     ∙ ap (λ more. latch ∷ more) (latches_back timing latches h.1)
 
-pub latches_said_back : (circuit : Circuit) → AllByRecursion (λ (latch : TheLatch). latch.init ≤ 3) circuit.latches → latches_in (own_of circuit) ≡ circuit.latches
+pub latches_said_back : (gates : List Placed) (circuit : Circuit) → AllByRecursion (λ (latch : TheLatch). latch.init ≤ 3) circuit.latches → latches_in (own_of gates circuit) ≡ circuit.latches
 unfolding latches_in
-latches_said_back circuit h =
-    parts_are latches_by circuit [] circuit.latches [] (λ words. refl) (no_clocks latches_by circuit.clocks (λ words. refl)) (latches_back circuit.timing circuit.latches h) (no_tables (latches_by Names) circuit.tables (λ table. refl)) refl
+latches_said_back gates circuit h =
+    parts_are latches_by gates circuit [] circuit.latches [] [] (λ words. refl) (no_clocks latches_by circuit.clocks (λ words. refl)) (latches_back circuit.timing circuit.latches h) (no_gates (latches_by Gate) gates (λ words. refl)) (no_tables (latches_by Names) circuit.tables (λ table. refl)) refl
     ∙ append-nil circuit.latches
 
 abbrev timing_with : Kind → Option (List ℕ) → Timing
@@ -279,6 +310,11 @@ timed_tables timing (table ∷ tables) rest h number =
     (timed_other timing Names (dotted (codes ".names") (names_words table)) (map (row_line table.phase) table.rows ++ (flat_map table_lines tables ++ rest)) refl refl
     (timed_rows timing table.phase table.rows (flat_map table_lines tables ++ rest) (timed_tables timing tables rest h)) number)
 
+timed_gates : (timing : Option Timing) (gates : List Placed) (rest : List Written) → ((number : ℕ) → SaysTiming timing (numbered number rest)) → (number : ℕ) → SaysTiming timing (numbered number (map gate_line gates ++ rest))
+unfolding gate_line keyword_of
+timed_gates timing [] rest h = h
+timed_gates timing (placed ∷ gates) rest h = timed_other timing Gate (gate_line placed) (map gate_line gates ++ rest) refl refl (timed_gates timing gates rest h)
+
 timed_stop : (timing : Option Timing) (part : List Table) (number : ℕ) → SaysTiming timing (numbered number (stop_lines part))
 unfolding numbered kind_of keyword_of
 timed_stop timing [] number = tt
@@ -289,16 +325,18 @@ unfolding clock_lines keyword_of
 timed_clocks timing [] rest h = h
 timed_clocks timing (clock ∷ clocks) rest h = timed_other timing Clock (dotted (codes ".clock") (clock ∷ clocks)) rest refl refl h
 
-pub timing_each : (circuit : Circuit) → has (control_of circuit.timing) (codes "NIL") ≡ false → SaysTiming circuit.timing (own_of circuit)
+pub timing_each : (gates : List Placed) (circuit : Circuit) → has (control_of circuit.timing) (codes "NIL") ≡ false → SaysTiming circuit.timing (own_of gates circuit)
 unfolding own_lines keyword_of
-timing_each circuit nil =
-    let latches = map (latch_line circuit.timing) circuit.latches ++ (flat_map table_lines circuit.tables ++ stop_lines circuit.dont_care) in
+timing_each gates circuit nil =
+    let tables = flat_map table_lines circuit.tables ++ stop_lines circuit.dont_care in
+    let latches = map (latch_line circuit.timing) circuit.latches ++ (map gate_line gates ++ tables) in
     let rest = clock_lines circuit.clocks ++ latches in
     timed_other circuit.timing Model (dotted (codes ".model") (circuit.name ∷ [])) (dotted (codes ".inputs") circuit.inputs ∷ dotted (codes ".outputs") circuit.outputs ∷ rest) refl refl
     (timed_other circuit.timing Inputs (dotted (codes ".inputs") circuit.inputs) (dotted (codes ".outputs") circuit.outputs ∷ rest) refl refl
     (timed_other circuit.timing Outputs (dotted (codes ".outputs") circuit.outputs) rest refl refl
-    (timed_clocks circuit.timing circuit.clocks latches (timed_latches circuit.timing circuit.latches (flat_map table_lines circuit.tables ++ stop_lines circuit.dont_care) nil
-    (timed_tables circuit.timing circuit.tables (stop_lines circuit.dont_care) (timed_stop circuit.timing circuit.dont_care)))))) 1
+    (timed_clocks circuit.timing circuit.clocks latches (timed_latches circuit.timing circuit.latches (map gate_line gates ++ tables) nil
+    (timed_gates circuit.timing gates tables
+    (timed_tables circuit.timing circuit.tables (stop_lines circuit.dont_care) (timed_stop circuit.timing circuit.dont_care))))))) 1
 
 -- without lines of latches no latches are said
 untimed : (lines : List Entry) → latch_lines lines ≡ [] → latches_in lines ≡ []
@@ -325,10 +363,10 @@ first_said : (timing : Option Timing) (lines : List Entry) → AllByRecursion (�
 first_said timing [] all none = sym (none refl)
 first_said timing (line ∷ lines) all none = all.0
 
-pub timing_said : (circuit : Circuit) → has (control_of circuit.timing) (codes "NIL") ≡ false → AllByRecursion (λ (latch : TheLatch). latch.init ≤ 3) circuit.latches → (circuit.latches ≡ [] → circuit.timing ≡ None) → timing_in (own_of circuit) ≡ circuit.timing
+pub timing_said : (gates : List Placed) (circuit : Circuit) → has (control_of circuit.timing) (codes "NIL") ≡ false → AllByRecursion (λ (latch : TheLatch). latch.init ≤ 3) circuit.latches → (circuit.latches ≡ [] → circuit.timing ≡ None) → timing_in (own_of gates circuit) ≡ circuit.timing
 unfolding timing_in
-timing_said circuit nil inits none =
-    first_said circuit.timing (latch_lines (own_of circuit)) (timing_each circuit nil) (λ e. none (sym (latches_said_back circuit inits) ∙ untimed (own_of circuit) e))
+timing_said gates circuit nil inits none =
+    first_said circuit.timing (latch_lines (own_of gates circuit)) (timing_each gates circuit nil) (λ e. none (sym (latches_said_back gates circuit inits) ∙ untimed (own_of gates circuit) e))
 
 same_kind_self : (kind : Kind) → same_kind kind kind ≡ true
 same_kind_self Fe = refl
@@ -350,15 +388,15 @@ none_mixed timing (line ∷ lines) all =
     ap (λ (b : Bool). cond (not b) (Some line) (find (λ line. not (same_timing timing (timing_at line))) lines)) (ap (same_timing timing) all.0 ∙ same_self timing)
     ∙ none_mixed timing lines all.1
 
-pub unmixed : (circuit : Circuit) → has (control_of circuit.timing) (codes "NIL") ≡ false → timing_in (own_of circuit) ≡ circuit.timing → mixed_clock (own_of circuit) ≡ None
+pub unmixed : (gates : List Placed) (circuit : Circuit) → has (control_of circuit.timing) (codes "NIL") ≡ false → timing_in (own_of gates circuit) ≡ circuit.timing → mixed_clock (own_of gates circuit) ≡ None
 unfolding mixed_clock
-unmixed circuit nil timing =
-    ap (λ (one : Option Timing). option_map (λ (line : Entry). line.number) (find (λ line. not (same_timing one (timing_at line))) (latch_lines (own_of circuit)))) timing
-    ∙ ap (option_map (λ (line : Entry). line.number)) (none_mixed circuit.timing (latch_lines (own_of circuit)) (timing_each circuit nil))
+unmixed gates circuit nil timing =
+    ap (λ (one : Option Timing). option_map (λ (line : Entry). line.number) (find (λ line. not (same_timing one (timing_at line))) (latch_lines (own_of gates circuit)))) timing
+    ∙ ap (option_map (λ (line : Entry). line.number)) (none_mixed circuit.timing (latch_lines (own_of gates circuit)) (timing_each gates circuit nil))
 
-pub name_said : (circuit : Circuit) → model_name (lines_of circuit) ≡ circuit.name
-unfolding circuit_lines numbered kind_of keyword_of model_name
-name_said circuit = refl
+pub name_said : (gates : List Placed) (circuit : Circuit) → model_name (lines_of gates circuit) ≡ circuit.name
+unfolding lines_with_gates numbered kind_of keyword_of model_name
+name_said gates circuit = refl
 
 -- lines that have these tables, whatever their numbers; and lines that begin with no row
 abbrev HasTables : (library : Option (List TheGate)) → List Written → List Table → Type 0
@@ -437,16 +475,27 @@ unfolding numbered tables_in
 stop_has library [] = end_has library
 stop_has library (table ∷ part) = λ number. refl
 
-pub tables_said_back : (library : Option (List TheGate)) (circuit : Circuit) → AllByRecursion IsShaped circuit.tables → tables_in library (own_of circuit) ≡ circuit.tables
+gates_have : (library : Option (List TheGate)) (gates : List Placed) (rest : List Written) (tables : List Table) → HasTables library rest tables → HasTables library (map gate_line gates ++ rest) (said_tables library gates ++ tables)
+unfolding gate_line tables_in numbered kind_of keyword_of
+gates_have library [] rest tables h number = h number
+gates_have library (placed ∷ gates) rest tables h number =
+    ap (λ more. gate_tables library (gate_words placed) ++ more) (gates_have library gates rest tables h (number + 1))
+    ∙ sym (append_assoc (gate_tables library (gate_words placed)) (said_tables library gates) tables)
+
+pub tables_said_back : (library : Option (List TheGate)) (gates : List Placed) (circuit : Circuit) → AllByRecursion IsShaped circuit.tables → tables_in library (own_of gates circuit) ≡ said_tables library gates ++ circuit.tables
 unfolding own_lines keyword_of
-tables_said_back library circuit h =
+tables_said_back library gates circuit h =
     let stop = stop_lines circuit.dont_care in
-    let rest = clock_lines circuit.clocks ++ (map (latch_line circuit.timing) circuit.latches ++ (flat_map table_lines circuit.tables ++ stop)) in
-    let of_rest : HasTables library rest circuit.tables = clocks_passed library circuit.clocks (map (latch_line circuit.timing) circuit.latches ++ (flat_map table_lines circuit.tables ++ stop)) circuit.tables
-    (latches_passed library circuit.timing circuit.latches (flat_map table_lines circuit.tables ++ stop) circuit.tables (tables_have library circuit.tables stop h (stop_anew circuit.dont_care) (stop_has library circuit.dont_care))) in
-    other_line library Model (dotted (codes ".model") (circuit.name ∷ [])) (dotted (codes ".inputs") circuit.inputs ∷ dotted (codes ".outputs") circuit.outputs ∷ rest) circuit.tables refl (λ words rows. refl)
-    (other_line library Inputs (dotted (codes ".inputs") circuit.inputs) (dotted (codes ".outputs") circuit.outputs ∷ rest) circuit.tables refl (λ words rows. refl)
-    (other_line library Outputs (dotted (codes ".outputs") circuit.outputs) rest circuit.tables refl (λ words rows. refl) of_rest)) 1
+    let all = said_tables library gates ++ circuit.tables in
+    let tables = flat_map table_lines circuit.tables ++ stop in
+    let latches = map (latch_line circuit.timing) circuit.latches ++ (map gate_line gates ++ tables) in
+    let rest = clock_lines circuit.clocks ++ latches in
+    let of_rest : HasTables library rest all = clocks_passed library circuit.clocks latches all
+    (latches_passed library circuit.timing circuit.latches (map gate_line gates ++ tables) all
+    (gates_have library gates tables circuit.tables (tables_have library circuit.tables stop h (stop_anew circuit.dont_care) (stop_has library circuit.dont_care)))) in
+    other_line library Model (dotted (codes ".model") (circuit.name ∷ [])) (dotted (codes ".inputs") circuit.inputs ∷ dotted (codes ".outputs") circuit.outputs ∷ rest) all refl (λ words rows. refl)
+    (other_line library Inputs (dotted (codes ".inputs") circuit.inputs) (dotted (codes ".outputs") circuit.outputs ∷ rest) all refl (λ words rows. refl)
+    (other_line library Outputs (dotted (codes ".outputs") circuit.outputs) rest all refl (λ words rows. refl) of_rest)) 1
 
 -- the lines of the model are these, and those of the part are the others
 abbrev pub IsNot : (Keyword → Bool) → Written → Type 0
@@ -463,6 +512,7 @@ is_own_kind Outputs = true
 is_own_kind Clock = true
 is_own_kind Names = true
 is_own_kind Latch = true
+is_own_kind Gate = true
 is_own_kind End = true
 is_own_kind Row = true
 is_own_kind kind = false
@@ -498,6 +548,11 @@ unfolding latch_line keyword_of
 own_latches test none timing [] = tt
 own_latches test none timing (latch ∷ latches) = (none Latch refl, own_latches test none timing latches)
 
+own_gates : (test : Keyword → Bool) → OnNone test → (gates : List Placed) → AllByRecursion (IsNot test) (map gate_line gates)
+unfolding gate_line keyword_of
+own_gates test none [] = tt
+own_gates test none (placed ∷ gates) = (none Gate refl, own_gates test none gates)
+
 own_clocks : (test : Keyword → Bool) → OnNone test → (clocks : List (List ℕ)) → AllByRecursion (IsNot test) (clock_lines clocks)
 unfolding clock_lines keyword_of
 own_clocks test none [] = tt
@@ -508,19 +563,22 @@ unfolding keyword_of
 own_stop test none [] = (none End refl, tt)
 own_stop test none (table ∷ part) = tt
 
-pub all_own : (test : Keyword → Bool) → OnNone test → (circuit : Circuit) → AllByRecursion (IsNot test) (own_lines circuit)
+pub all_own : (test : Keyword → Bool) → OnNone test → (gates : List Placed) (circuit : Circuit) → AllByRecursion (IsNot test) (own_lines gates circuit)
 unfolding own_lines keyword_of
-all_own test none circuit =
+all_own test none gates circuit =
     let stop = stop_lines circuit.dont_care in
     let tables = flat_map table_lines circuit.tables in
+    let cells = map gate_line gates in
     let latches = map (latch_line circuit.timing) circuit.latches in (
       none Model refl,
       (
         none Inputs refl,
         (
           none Outputs refl,
-          all_append (IsNot test) (clock_lines circuit.clocks) (latches ++ (tables ++ stop)) (own_clocks test none circuit.clocks)
-              (all_append (IsNot test) latches (tables ++ stop) (own_latches test none circuit.timing circuit.latches) (all_append (IsNot test) tables stop (own_tables test none circuit.tables) (own_stop test none circuit.dont_care))),
+          all_append (IsNot test) (clock_lines circuit.clocks) (latches ++ (cells ++ (tables ++ stop))) (own_clocks test none circuit.clocks)
+              (all_append (IsNot test) latches (cells ++ (tables ++ stop)) (own_latches test none circuit.timing circuit.latches)
+              (all_append (IsNot test) cells (tables ++ stop) (own_gates test none gates)
+              (all_append (IsNot test) tables stop (own_tables test none circuit.tables) (own_stop test none circuit.dont_care)))),
         ),
       ),
     )
@@ -552,12 +610,12 @@ part_back library (table ∷ part) h number =
     ap (tables_in library) (part_here (entry number (dotted (codes ".exdc") [])) (numbered (number + 1) (flat_map table_lines (table ∷ part) ++ end_lines)) refl)
     ∙ other_line library DontCare (dotted (codes ".exdc") []) (flat_map table_lines (table ∷ part) ++ end_lines) (table ∷ part) refl (λ words rows. refl) (tables_have library (table ∷ part) end_lines h end_anew (end_has library)) number
 
-pub model_said : (circuit : Circuit) → model_lines (lines_of circuit) ≡ own_of circuit
-model_said circuit =
-    ap (λ (lines : List Written). model_lines (numbered 1 lines)) (lines_split circuit)
-    ∙ own_read (own_lines circuit) (part_written circuit.dont_care) (all_own begins_part begins_none circuit) (stops circuit.dont_care) 1
+pub model_said : (gates : List Placed) (circuit : Circuit) → model_lines (lines_of gates circuit) ≡ own_of gates circuit
+model_said gates circuit =
+    ap (λ (lines : List Written). model_lines (numbered 1 lines)) (lines_split gates circuit)
+    ∙ own_read (own_lines gates circuit) (part_written circuit.dont_care) (all_own begins_part begins_none gates circuit) (stops circuit.dont_care) 1
 
-pub part_said : (library : Option (List TheGate)) (circuit : Circuit) → AllByRecursion IsShaped circuit.dont_care → tables_in library (part_lines (lines_of circuit)) ≡ circuit.dont_care
-part_said library circuit h =
-    ap (λ (lines : List Written). tables_in library (part_lines (numbered 1 lines))) (lines_split circuit)
-    ∙ part_read library (own_lines circuit) (part_written circuit.dont_care) circuit.dont_care (all_own begins_part begins_none circuit) (part_back library circuit.dont_care h) 1
+pub part_said : (library : Option (List TheGate)) (gates : List Placed) (circuit : Circuit) → AllByRecursion IsShaped circuit.dont_care → tables_in library (part_lines (lines_of gates circuit)) ≡ circuit.dont_care
+part_said library gates circuit h =
+    ap (λ (lines : List Written). tables_in library (part_lines (numbered 1 lines))) (lines_split gates circuit)
+    ∙ part_read library (own_lines gates circuit) (part_written circuit.dont_care) circuit.dont_care (all_own begins_part begins_none gates circuit) (part_back library circuit.dont_care h) 1

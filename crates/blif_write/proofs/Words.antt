@@ -1,4 +1,4 @@
--- The names of a circuit part by part, and that its lines are made of words.
+-- The names of a circuit part by part, and that its lines are made of words, with gates before its tables.
 use Rattle.std.proofs.Common.{◌≡◌, ℕ, zero, suc, Bool, true, false, Option, Some, None, List, [], ◌∷◌, ◌++◌, refl, sym, ap, ◌∙◌, map, flat_map, codes}
 use Rattle.std.specs.Prelude.{option_to_list}
 use Rattle.std.proofs.lemmas.List.{append_assoc, append-nil}
@@ -16,7 +16,9 @@ use Rattle.circuit_model.specs.declared.circuit.Latch.{Latch}
 use Rattle.circuit_model.specs.declared.circuit.Circuit.{Circuit}
 use Rattle.circuit_model.specs.Runs.{latch_outputs}
 use Rattle.circuit_model.specs.Soundness.{all_names, control_of, latch_inputs, names_of}
-use Rattle.circuit_model.specs.Text.{dotted, character, digit_of_phase, row_line, table_lines, init_word, kind_word, control_word, timing_words, latch_line, clock_lines, dont_care_lines, circuit_lines}
+use Rattle.circuit_model.specs.Text.{dotted, character, digit_of_phase, row_line, table_lines, init_word, kind_word, control_word, timing_words, latch_line, clock_lines, dont_care_lines}
+use Rattle.netlist.specs.Lines.{pair_word, gate_line, lines_with_gates}
+use Rattle.netlist.specs.declared.mapped.Placed.{Placed}
 use Rattle.blif_lines.proofs.NameLists.{all_front, all_back, all_append}
 
 -- a fact of each name of a circuit, part by part
@@ -77,28 +79,33 @@ abbrev pub part_written : List Table → List Written
 part_written [] = []
 part_written (table ∷ tables) = dotted (codes ".exdc") [] ∷ flat_map table_lines (table ∷ tables) ++ end_lines
 
--- the lines of the model itself
-unfoldable pub own_lines : Circuit → List Written
-own_lines circuit =
+-- the words of a gate's line behind the first
+abbrev pub gate_words : Placed → List (List ℕ)
+gate_words placed = placed.cell ∷ map pair_word placed.pins
+
+-- the lines of the model itself, with gates before its tables
+unfoldable pub own_lines : List Placed → Circuit → List Written
+own_lines gates circuit =
     dotted (codes ".model") (circuit.name ∷ []) ∷ dotted (codes ".inputs") circuit.inputs ∷ dotted (codes ".outputs") circuit.outputs
-    ∷ clock_lines circuit.clocks ++ (map (latch_line circuit.timing) circuit.latches ++ (flat_map table_lines circuit.tables ++ stop_lines circuit.dont_care))
+    ∷ clock_lines circuit.clocks ++ (map (latch_line circuit.timing) circuit.latches ++ (map gate_line gates ++ (flat_map table_lines circuit.tables ++ stop_lines circuit.dont_care)))
 
-split : (clocks latches tables : List Written) (part : List Table) → clocks ++ (latches ++ (tables ++ (dont_care_lines part ++ end_lines))) ≡ (clocks ++ (latches ++ (tables ++ stop_lines part))) ++ part_written part
+split : (clocks latches gates tables : List Written) (part : List Table) → clocks ++ (latches ++ (gates ++ (tables ++ (dont_care_lines part ++ end_lines)))) ≡ (clocks ++ (latches ++ (gates ++ (tables ++ stop_lines part)))) ++ part_written part
 unfolding dont_care_lines
-split clocks latches tables [] = sym (append-nil (clocks ++ (latches ++ (tables ++ end_lines))))
-split clocks latches tables (table ∷ part) =
+split clocks latches gates tables [] = sym (append-nil (clocks ++ (latches ++ (gates ++ (tables ++ end_lines)))))
+split clocks latches gates tables (table ∷ part) =
     let rest = part_written (table ∷ part) in
-    sym (append_assoc clocks (latches ++ (tables ++ [])) rest
-    ∙ ap (λ more. clocks ++ more) (append_assoc latches (tables ++ []) rest ∙ ap (λ more. latches ++ more) (append_assoc tables [] rest)))
+    sym (append_assoc clocks (latches ++ (gates ++ (tables ++ []))) rest
+    ∙ ap (λ more. clocks ++ more) (append_assoc latches (gates ++ (tables ++ [])) rest
+    ∙ ap (λ more. latches ++ more) (append_assoc gates (tables ++ []) rest ∙ ap (λ more. gates ++ more) (append_assoc tables [] rest))))
 
-pub lines_split : (circuit : Circuit) → circuit_lines circuit ≡ own_lines circuit ++ part_written circuit.dont_care
-unfolding circuit_lines own_lines
-lines_split circuit =
+pub lines_split : (gates : List Placed) (circuit : Circuit) → lines_with_gates gates circuit ≡ own_lines gates circuit ++ part_written circuit.dont_care
+unfolding lines_with_gates own_lines
+lines_split gates circuit =
     ap (λ (more : List Written). dotted (codes ".model") (circuit.name ∷ []) ∷ dotted (codes ".inputs") circuit.inputs ∷ dotted (codes ".outputs") circuit.outputs ∷ more)
-    (split (clock_lines circuit.clocks) (map (latch_line circuit.timing) circuit.latches) (flat_map table_lines circuit.tables) circuit.dont_care)
+    (split (clock_lines circuit.clocks) (map (latch_line circuit.timing) circuit.latches) (map gate_line gates) (flat_map table_lines circuit.tables) circuit.dont_care)
 
 -- each line is made of words
-abbrev IsName : List ℕ → Type 0
+abbrev pub IsName : List ℕ → Type 0
 IsName name = is_word name ≡ true
 
 init_is_word : (init : ℕ) → is_word (init_word init) ≡ true
@@ -176,10 +183,19 @@ unfolding is_word dont_care_lines
 part_words [] h = tt
 part_words (table ∷ tables) h = ((refl, tt), tables_words (table ∷ tables) h)
 
-all_words : (circuit : Circuit) → OfNames IsName circuit → AllByRecursion HasWords (circuit_lines circuit)
-unfolding circuit_lines is_word
-all_words circuit h =
+abbrev pub HasGateWords : Placed → Type 0
+HasGateWords placed = AllByRecursion IsName (gate_words placed)
+
+gates_words : (gates : List Placed) → AllByRecursion HasGateWords gates → AllByRecursion HasWords (map gate_line gates)
+unfolding is_word gate_line
+gates_words [] h = tt
+gates_words (placed ∷ gates) h = ((refl, h.0), gates_words gates h.1)
+
+all_words : (gates : List Placed) (circuit : Circuit) → AllByRecursion HasGateWords gates → OfNames IsName circuit → AllByRecursion HasWords (lines_with_gates gates circuit)
+unfolding lines_with_gates is_word
+all_words gates circuit of_gates h =
     let latches = map (latch_line circuit.timing) circuit.latches in
+    let cells = map gate_line gates in
     let tables = flat_map table_lines circuit.tables in
     let part = dont_care_lines circuit.dont_care in (
       (refl, (h.name, tt)),
@@ -187,10 +203,11 @@ all_words circuit h =
         (refl, h.inputs),
         (
           (refl, h.outputs),
-          all_append HasWords (clock_lines circuit.clocks) (latches ++ (tables ++ (part ++ end_lines))) (clocks_words circuit.clocks h.clocks)
-              (all_append HasWords latches (tables ++ (part ++ end_lines)) (latches_words circuit.timing circuit.latches h.timing h.latches)
+          all_append HasWords (clock_lines circuit.clocks) (latches ++ (cells ++ (tables ++ (part ++ end_lines)))) (clocks_words circuit.clocks h.clocks)
+              (all_append HasWords latches (cells ++ (tables ++ (part ++ end_lines))) (latches_words circuit.timing circuit.latches h.timing h.latches)
+              (all_append HasWords cells (tables ++ (part ++ end_lines)) (gates_words gates of_gates)
               (all_append HasWords tables (part ++ end_lines) (tables_words circuit.tables h.tables)
-              (all_append HasWords part end_lines (part_words circuit.dont_care h.dont_care) ((refl, tt), tt)))),
+              (all_append HasWords part end_lines (part_words circuit.dont_care h.dont_care) ((refl, tt), tt))))),
         ),
       ),
     )
@@ -199,5 +216,5 @@ written : (lines : List Written) → AllByRecursion HasWords lines → AllByRecu
 written [] h = tt
 written (line ∷ lines) h = (All-from_recursion (λ (word : List ℕ). is_word word ≡ true) (line.first ∷ line.others) h.0, written lines h.1)
 
-pub lines_written : (circuit : Circuit) → OfNames IsName circuit → All IsLineOfWords (circuit_lines circuit)
-lines_written circuit h = All-from_recursion IsLineOfWords (circuit_lines circuit) (written (circuit_lines circuit) (all_words circuit h))
+pub lines_written : (gates : List Placed) (circuit : Circuit) → AllByRecursion HasGateWords gates → OfNames IsName circuit → All IsLineOfWords (lines_with_gates gates circuit)
+lines_written gates circuit of_gates h = All-from_recursion IsLineOfWords (lines_with_gates gates circuit) (written (lines_with_gates gates circuit) (all_words gates circuit of_gates h))
