@@ -14,6 +14,7 @@
 //!   `table_number`, `place_of`, and an arena's other vertices: `forest`; `Choices`: `cover`;
 //! - `take_in`, `places_of`: `eliminate`; `divided_table`, `cover_table`: `resub`;
 //! - `Work`'s and `Links`' `set`, `add` and `remove`, `UseCounts`: `eliminate` and `decomp`;
+//! - `generate` of circuit_gen: `gen`;
 //! - `cube_over`, `row_over`, `cover_over`, and what net_candidates gives: `fx`, `gkx` and `gcx`;
 //! - `KeptGains`, `Totals`, `Codes`, divisors: `fx`; `KeptSavings`, `RankedCovers`, `best_saved`,
 //!   `leaves_narrow`, `places_for`: `gkx` and `gcx`;
@@ -27,6 +28,7 @@ mod covers;
 mod files;
 mod functions;
 mod needed;
+mod netlists;
 mod networks;
 mod oracle;
 mod outside;
@@ -76,6 +78,7 @@ fn answer_of_text(alloc: Global, out: &mut Vec<u8>, case: &Case<'_>) -> Result<(
         "aliases" => wires::put_aliases(alloc, out, case, text.as_slice()),
         "network" => networks::answer(alloc, out, case, text.as_slice()),
         "work" => networks::put_work(alloc, out, case, text.as_slice()),
+        "netlist" => netlists::put_netlist(alloc, out, case, text.as_slice()),
         "command" => networks::put_command(alloc, out, case, text.as_slice()),
         _ => covers::answer::<PlainRow>(alloc, out, case),
     }
