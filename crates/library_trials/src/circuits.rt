@@ -7,12 +7,13 @@ use crate::reads::{circuit, names};
 use circuit_checks::{
     first_again, first_bad_part_name, first_listed_twice, first_missing, first_on_cycle,
 };
+use circuit_gen::generate;
 use circuit_model::{Bits, Circuit, Name, timing_copied};
 use circuit_order::order;
 use net_wires::{dangling_step, driven_names, is_among, leaves_read};
 use sis_base::{Copied, Sequence, Whole};
 use std::alloc::{AllocError, Global};
-use trial_cases::{Case, CaseFault};
+use trial_cases::{Case, CaseFault, number_of};
 
 /// Puts the answer to a case of a circuit.
 pub fn answer(
@@ -23,6 +24,16 @@ pub fn answer(
 ) -> Result<(), CaseFault> {
     let circuit = circuit(alloc, text)?;
     put_about(alloc, out, case, &circuit)
+}
+
+/// Puts the circuit of a seed and a number of tables, a thousand at most.
+pub fn put_generated(alloc: Global, out: &mut Vec<u8>, case: &Case<'_>) -> Result<(), CaseFault> {
+    let seed = number_of(case.word(1))?;
+    let tables = number_of(case.word(2))?;
+    if tables > 1_000 {
+        return Err(CaseFault::Bad);
+    }
+    put_circuit(alloc, out, &generate(alloc, seed as u64, tables as u16)?)
 }
 
 /// Puts the answer about a circuit. What is copied is a whole, so that letting it go is one call.

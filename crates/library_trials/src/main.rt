@@ -14,7 +14,6 @@
 //!   `table_number`, `place_of`, and an arena's other vertices: `forest`; `Choices`: `cover`;
 //! - `take_in`, `places_of`: `eliminate`; `divided_table`, `cover_table`: `resub`;
 //! - `Work`'s and `Links`' `set`, `add` and `remove`, `UseCounts`: `eliminate` and `decomp`;
-//! - `generate` of circuit_gen: `gen`;
 //! - `cube_over`, `row_over`, `cover_over`, and what net_candidates gives: `fx`, `gkx` and `gcx`;
 //! - `KeptGains`, `Totals`, `Codes`, divisors: `fx`; `KeptSavings`, `RankedCovers`, `best_saved`,
 //!   `leaves_narrow`, `places_for`: `gkx` and `gcx`;
@@ -57,6 +56,7 @@ impl Trial for Calls {
             "source" => outside::put_source(alloc, out),
             "sink" => outside::put_sink(alloc, out),
             "functions" => functions::answer(alloc, out, case),
+            "generate" => circuits::put_generated(alloc, out, case),
             "checks" => circuits::put_checks(alloc, out, case),
             "readers" => wires::put_readers(alloc, out, case),
             "patterns" | "matches" | "forest" | "vertices" | "cover" | "totals" => {
