@@ -4,11 +4,11 @@ use Rattle.std.specs.Prelude.{codes}
 use Rattle.std.specs.Str.{is_utf8, chars}
 use Rattle.std.proofs.Math.Utf8.{encode}
 use Rattle.sis_text.specs.Decimals.{number_of}
-use Rattle.sis_script.specs.Bounds.{most_rows, usual_rows, least_inputs, most_inputs, usual_inputs}
+use Rattle.sis_script.specs.Bounds.{most_rows, usual_rows, least_inputs, most_inputs, usual_inputs, most_seed, least_tables, most_tables}
 use Rattle.sis_script.specs.Kinds.{number_within, integer_of, value_of}
 use Rattle.sis_script.specs.Grammar.{fill, parse_at, parse}
 use Rattle.sis_script.specs.Script.{form_named, number_given, op_by, op_of}
-use Rattle.sis_script.specs.declared.command.Op.TheVariants.{Echo, Quit, ReadBlif, ReadKiss, ReadLibrary, WriteBlif, WriteKiss, PrintStats, Print, PrintLatch, PrintFactor, PrintKernel, Change, Undo, Source, Bad}
+use Rattle.sis_script.specs.declared.command.Op.TheVariants.{Echo, Quit, ReadBlif, ReadKiss, ReadLibrary, Generate, WriteBlif, WriteKiss, PrintStats, Print, PrintLatch, PrintFactor, PrintKernel, Change, Undo, Source, Bad}
 use Rattle.sis_script.specs.declared.command.Change.TheVariants.{Sweep, Eliminate, Collapse, Simplify, Fx, Gkx, Gcx, Resub, Decomp, TechDecomp}
 use Rattle.sis_script.specs.declared.command.ScriptFault.TheVariants.{BadCommand, BadOption, MissingWord}
 
@@ -303,3 +303,43 @@ letter_twice = refl
 other_letter : op_of (codes "resub" ∷ codes "-d" ∷ []) ≡ Bad BadOption
 unfolding op_of op_by form_named parse fill parse_at
 other_letter = refl
+
+-- `gen SEED TABLES`
+
+least_circuit : op_of (codes "gen" ∷ codes "0" ∷ codes "8" ∷ []) ≡ Generate 0 least_tables
+unfolding op_of op_by form_named parse fill value_of number_within number_of
+least_circuit = refl
+
+greatest_circuit :
+    op_of (codes "gen" ∷ codes "18446744073709551615" ∷ codes "20000" ∷ []) ≡
+    Generate most_seed most_tables
+unfolding op_of op_by form_named parse fill value_of number_within number_of
+greatest_circuit = refl
+
+past_seeds : op_of (codes "gen" ∷ codes "18446744073709551616" ∷ codes "8" ∷ []) ≡ Bad BadOption
+unfolding op_of op_by form_named parse fill value_of number_within number_of
+past_seeds = refl
+
+negative_seed : op_of (codes "gen" ∷ codes "-1" ∷ codes "8" ∷ []) ≡ Bad BadOption
+unfolding op_of op_by form_named parse fill value_of number_within number_of
+negative_seed = refl
+
+too_few_tables : op_of (codes "gen" ∷ codes "1" ∷ codes "7" ∷ []) ≡ Bad BadOption
+unfolding op_of op_by form_named parse fill value_of number_within number_of
+too_few_tables = refl
+
+past_tables : op_of (codes "gen" ∷ codes "1" ∷ codes "20001" ∷ []) ≡ Bad BadOption
+unfolding op_of op_by form_named parse fill value_of number_within number_of
+past_tables = refl
+
+no_tables : op_of (codes "gen" ∷ codes "5" ∷ []) ≡ Bad MissingWord
+unfolding op_of op_by form_named parse fill value_of number_within number_of
+no_tables = refl
+
+no_seed : op_of (codes "gen" ∷ []) ≡ Bad MissingWord
+unfolding op_of op_by form_named parse fill
+no_seed = refl
+
+third_word : op_of (codes "gen" ∷ codes "1" ∷ codes "8" ∷ codes "9" ∷ []) ≡ Bad BadOption
+unfolding op_of op_by form_named parse fill value_of number_within number_of
+third_word = refl

@@ -4,10 +4,10 @@
 -- says how words are judged by the options and slots of their command.
 use Rattle.std.specs.Prelude.{ℕ, ◌==◌, Option, Some, None, Result, Ok, Err, List, [], ◌∷◌, bytes_eq, codes, find, min, option_map, unwrap_or, if◌then◌else◌}
 use Rattle.sis_text.specs.Entries.{Entry}
-use Rattle.sis_script.specs.Bounds.{most_rows, usual_rows, least_inputs, most_inputs, usual_inputs}
+use Rattle.sis_script.specs.Bounds.{most_rows, usual_rows, least_inputs, most_inputs, usual_inputs, most_seed, least_tables, most_tables}
 use Rattle.sis_script.specs.Grammar.{parse}
 use Rattle.sis_script.specs.declared.command.Op.{Op}
-use Rattle.sis_script.specs.declared.command.Op.TheVariants.{Echo, Quit, ReadBlif, ReadKiss, ReadLibrary, WriteBlif, WriteKiss, PrintStats, Print, PrintLatch, PrintFactor, PrintKernel, Change, Undo, Source, Bad}
+use Rattle.sis_script.specs.declared.command.Op.TheVariants.{Echo, Quit, ReadBlif, ReadKiss, ReadLibrary, Generate, WriteBlif, WriteKiss, PrintStats, Print, PrintLatch, PrintFactor, PrintKernel, Change, Undo, Source, Bad}
 use Rattle.sis_script.specs.declared.command.Change.TheVariants as change
 use Rattle.sis_script.specs.declared.command.ScriptFault.{ScriptFault}
 use Rattle.sis_script.specs.declared.command.ScriptFault.TheVariants.{BadCommand, MissingWord}
@@ -118,6 +118,14 @@ tech_decomp_op given =
     Change (change.TechDecomp (inputs_given letter_a given.options)
     (inputs_given letter_o given.options))
 
+-- `gen`: the circuit of a seed and a number of tables, which are the first two words
+abbrev pub generate_by : List Value → Op
+generate_by (value.Number seed ∷ value.Number tables ∷ values) = Generate seed tables
+generate_by other = Bad MissingWord
+
+abbrev pub generate_op : Given → Op
+generate_op given = generate_by given.words
+
 -- a command of its word alone
 abbrev pub plain : List ℕ → Op → Form
 plain word op = record { word = word; options = []; slots = []; becomes = λ given. op }
@@ -171,6 +179,16 @@ tech_decomp = record {
   becomes = tech_decomp_op;
 }
 
+-- `gen SEED TABLES`
+abbrev pub gen : Form
+gen = record {
+  word = codes "gen";
+  options = [];
+  slots =
+      Needed (kind.Number 0 most_seed) ∷ Needed (kind.Number least_tables most_tables) ∷ [];
+  becomes = generate_op;
+}
+
 -- the commands of the shell, but for `echo`, which takes any words
 abbrev pub forms : List Form
 forms =
@@ -178,6 +196,7 @@ forms =
     ∷ of_file (codes "read_blif") ReadBlif
     ∷ of_file (codes "read_kiss") ReadKiss
     ∷ of_file (codes "read_library") ReadLibrary
+    ∷ gen
     ∷ to_file (codes "write_blif") WriteBlif
     ∷ to_file (codes "write_kiss") WriteKiss
     ∷ plain (codes "print_stats") PrintStats

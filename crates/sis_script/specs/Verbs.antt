@@ -2,7 +2,7 @@
 -- table; no public clause cites it.
 -- Source: the definition's list (Script.antt), whose words these are.
 use Rattle.std.specs.Prelude.{ℕ, Option, List, bytes_eq, find, option_map}
-use Rattle.sis_script.specs.Script.{Form, needed, file_in, name_in, eliminate_op, tech_decomp_op}
+use Rattle.sis_script.specs.Script.{Form, needed, file_in, name_in, generate_op, eliminate_op, tech_decomp_op}
 use Rattle.sis_script.specs.declared.command.Op.{Op}
 use Rattle.sis_script.specs.declared.command.Op.TheVariants.{Quit, ReadBlif, ReadKiss, ReadLibrary, WriteBlif, WriteKiss, PrintStats, Print, PrintLatch, PrintFactor, PrintKernel, Change, Undo, Source}
 use Rattle.sis_script.specs.declared.grammar.Given.{Given}
@@ -16,6 +16,7 @@ op_made verb.Quit = λ given. Quit
 op_made verb.ReadBlif = λ given. needed (option_map ReadBlif (file_in given))
 op_made verb.ReadKiss = λ given. needed (option_map ReadKiss (file_in given))
 op_made verb.ReadLibrary = λ given. needed (option_map ReadLibrary (file_in given))
+op_made verb.Generate = generate_op
 op_made verb.WriteBlif = λ given. WriteBlif (file_in given)
 op_made verb.WriteKiss = λ given. WriteKiss (file_in given)
 op_made verb.PrintStats = λ given. PrintStats

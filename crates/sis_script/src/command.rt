@@ -21,6 +21,8 @@ pub enum Op {
     ReadKiss(Word),
     /// Reads a file as a library of gates.
     ReadLibrary(Word),
+    /// Makes the circuit of a seed and a number of tables.
+    Generate(u64, u64),
     /// Writes the network to a file, or to the output where no file is named.
     WriteBlif(Option<Word>),
     /// Writes the machine to a file, or to the output where no file is named.

@@ -25,6 +25,11 @@ pub(crate) const MOST_INPUTS: u64 = MAX_INPUTS as u64;
 /// The inputs to which `tech_decomp` keeps a table where nothing is said.
 pub(crate) const USUAL_INPUTS: u64 = 2;
 
+/// The fewest tables of the circuit that `gen` makes.
+const LEAST_TABLES: u64 = 8;
+/// The most tables of the circuit that `gen` makes.
+pub const MOST_TABLES: u64 = 20_000;
+
 /// What a command becomes by what its words give.
 #[derive(Clone, Copy)]
 pub(crate) enum Verb {
@@ -32,6 +37,7 @@ pub(crate) enum Verb {
     ReadBlif,
     ReadKiss,
     ReadLibrary,
+    Generate,
     WriteBlif,
     WriteKiss,
     PrintStats,
@@ -65,6 +71,10 @@ const NAME: Slot = Slot::Needed(Kind::Name);
 const ANY_NAME: Slot = Slot::Optional(Kind::Name);
 
 const INTEGER: Slot = Slot::Needed(Kind::Integer);
+
+const SEED: Slot = Slot::Needed(Kind::Number(0, u64::MAX));
+
+const TABLES: Slot = Slot::Needed(Kind::Number(LEAST_TABLES, MOST_TABLES));
 
 /// `-l ROWS`.
 const ROWS: OptionForm = OptionForm {
@@ -114,6 +124,7 @@ const FORMS: &[CommandForm] = &[
     form!(b"read_blif", &[], &[FILE], Verb::ReadBlif),
     form!(b"read_kiss", &[], &[FILE], Verb::ReadKiss),
     form!(b"read_library", &[], &[FILE], Verb::ReadLibrary),
+    form!(b"gen", &[], &[SEED, TABLES], Verb::Generate),
     form!(b"write_blif", &[], &[ANY_FILE], Verb::WriteBlif),
     form!(b"write_kiss", &[], &[ANY_FILE], Verb::WriteKiss),
     form!(b"print_stats", &[], &[], Verb::PrintStats),

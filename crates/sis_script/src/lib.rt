@@ -14,5 +14,6 @@ mod laws;
 mod script;
 
 pub use command::{Change, Command, Commands, Op, RawWord, RawWords, ScriptFault};
+pub use forms::MOST_TABLES;
 pub use laws::{bad_stays_bad, options_come_once, words_fit_slots};
 pub use script::commands;

@@ -8,6 +8,7 @@ ghost use Rattle.sis_script.specs.Script.{
   eliminate_op,
   file_in,
   first_word,
+  generate_op,
   inputs_given,
   name_in,
   needed,
@@ -142,6 +143,16 @@ fn tech_decomp_op(given: Given) -> Op
     Op::Change(Change::TechDecomp(products, sums))
 }
 
+/// `gen`, by its seed and its number of tables.
+fn generate_op(given: Given) -> Op
+    ensures { result ≡ generate_op given }
+{
+    match given.words.as_slice() {
+        [Value::Number(seed), Value::Number(tables), ..] => Op::Generate(*seed, *tables),
+        _ => Op::Bad(ScriptFault::MissingWord),
+    }
+}
+
 /// What a verb makes of a command's words.
 fn op_made(verb: Verb, given: Given) -> Op
     ensures { result ≡ op_made verb given }
@@ -151,6 +162,7 @@ fn op_made(verb: Verb, given: Given) -> Op
         Verb::ReadBlif => needed(file_in(given).map(Op::ReadBlif)),
         Verb::ReadKiss => needed(file_in(given).map(Op::ReadKiss)),
         Verb::ReadLibrary => needed(file_in(given).map(Op::ReadLibrary)),
+        Verb::Generate => generate_op(given),
         Verb::WriteBlif => Op::WriteBlif(file_in(given)),
         Verb::WriteKiss => Op::WriteKiss(file_in(given)),
         Verb::PrintStats => Op::PrintStats,
