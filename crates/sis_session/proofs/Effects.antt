@@ -51,7 +51,7 @@ use Rattle.std.proofs.lemmas.Option.{same_Some}
 use Rattle.sis_script.specs.declared.command.Change.{Change}
 use Rattle.sis_script.specs.declared.command.Change.TheVariants as changing
 use Rattle.sis_script.specs.declared.command.Op.{Op}
-use Rattle.sis_session.specs.Commands.{Blif, ChangedBy, Changes, ChangesNetwork, Ends, Form, Format, FormPlans, IsWrong, Kiss, Plans, Reads, ReadsLibrary, Replies, Sources, StaysTold, TakesBack, Tells, TheMachine, TheNetwork, Writes, blif_read, commands_in, form_of, kiss_read, last_read, library_held, machine_of, network_of, part_of, read_by, reply_with, spec_held, spec_in, undo_outcome, written_text}
+use Rattle.sis_session.specs.Commands.{Blif, ChangedBy, Changes, ChangesNetwork, Ends, Form, Format, FormPlans, Generates, IsWrong, Kiss, Plans, Reads, ReadsLibrary, Replies, Sources, StaysTold, TakesBack, Tells, TheMachine, TheNetwork, Writes, blif_read, circuit_of, commands_in, form_of, kiss_read, last_read, library_held, machine_of, network_of, part_of, read_by, reply_with, spec_held, spec_in, undo_outcome, written_text}
 use Rattle.sis_session.specs.Keeping.{RefinesSpec, MachineRefines, IsRefined, IsTextOf, IsWriting, WritesTo}
 use Rattle.sis_session.specs.Plan.{MAX_DEPTH, Asked, Nothing, OnStore, OnOut, OnInput, Comes, ComesLoaded, ComesSaved, ComesPut, Done, Ending, Goes, Loads, Outcome, Does, Refuses, Plan, Quiet, Puts, Reply, Saves, Takes, Steps, by_plan, no_memory, replies, sends}
 use Rattle.sis_session.specs.State.{Held, Library, held_spec, nothing_held, with_read, with_spec, with_machine, with_library, with_exchanged}
@@ -60,6 +60,7 @@ use Rattle.sis_session.specs.declared.refusal.Next.TheVariants.{Go, Script}
 use Rattle.sis_session.specs.declared.refusal.Next.TheVariants as onward
 use Rattle.sis_session.specs.declared.refusal.Refusal.{Refusal}
 use Rattle.sis_session.specs.declared.refusal.Refusal.TheVariants as refusal
+use Rattle.sis_session.proofs.GeneratedCircuits.{circuit_sound}
 
 -- what is held has a property where an outcome is to do something, and behind a plan that ends done
 abbrev Leaves : (Held → Type 0) → Outcome → Type 0
@@ -309,6 +310,11 @@ form_leads depth spec held (Reads format name) plan refined is =
 form_leads depth spec held (ReadsLibrary name) plan refined is =
     subst (Leads (λ h. IsRefined spec h)) (sym is) (loads_leads (λ h. IsRefined spec h) name (λ bytes. library_held held name (library_of bytes))
     (λ bytes. library_leaves held name spec (library_of bytes) refined))
+form_leads depth spec held (Generates seed tables) plan refined is =
+    subst (Leads (λ h. IsRefined (held_spec h.network h.machine) h)) (sym is)
+    (quiet_leads (λ h. IsRefined (held_spec h.network h.machine) h)
+    (Does (with_read held (circuit_of seed tables)) Go)
+    (circuit_held held (circuit_of seed tables) (circuit_sound seed tables)))
 form_leads depth spec held (ChangesNetwork change) plan refined is =
     replied_leads (λ h. IsRefined spec h) (ChangedBy held change held.network) plan (λ reply. changed_ok spec held change held.network reply refl refined) is
 form_leads depth spec held TakesBack plan refined is = subst (Leads (λ h. IsRefined spec h)) (sym is) (undo_leads spec held held.previous refined)
@@ -394,6 +400,8 @@ form_saves depth held (Writes TheNetwork file) plan name bytes is saves = networ
 form_saves depth held (Writes TheMachine file) plan name bytes is saves = machine_saves held file held.machine name bytes refl (subst (IsSave name bytes) is saves)
 form_saves depth held (Reads format from) plan name bytes is saves = absurd (subst (IsSave name bytes) is saves)
 form_saves depth held (ReadsLibrary from) plan name bytes is saves = absurd (subst (IsSave name bytes) is saves)
+form_saves depth held (Generates seed tables) plan name bytes is saves =
+    absurd (subst (IsSave name bytes) is saves)
 form_saves depth held (ChangesNetwork change) plan name bytes is saves = absurd (replied_saves_nothing (ChangedBy held change held.network) plan name bytes is saves)
 form_saves depth held TakesBack plan name bytes is saves = absurd (subst (IsSave name bytes) is saves)
 form_saves depth held (Sources from) plan name bytes is saves =
@@ -432,6 +440,7 @@ form_puts depth held (Writes TheMachine file) plan piece writing is puts = machi
 form_puts depth held (Tells tells) plan piece writing is puts = absurd writing
 form_puts depth held (Reads format name) plan piece writing is puts = absurd writing
 form_puts depth held (ReadsLibrary name) plan piece writing is puts = absurd writing
+form_puts depth held (Generates seed tables) plan piece writing is puts = absurd writing
 form_puts depth held (ChangesNetwork change) plan piece writing is puts = absurd writing
 form_puts depth held TakesBack plan piece writing is puts = absurd writing
 form_puts depth held (Sources name) plan piece writing is puts = absurd writing

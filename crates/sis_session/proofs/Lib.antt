@@ -1,3 +1,4 @@
+pub mod GeneratedCircuits
 pub mod Going
 pub mod Stepping
 pub mod Scripts

@@ -14,11 +14,11 @@ use Rattle.circuit_model.specs.declared.machine.Spec.{Spec}
 use Rattle.circuit_model.specs.declared.machine.Spec.TheVariants as spec
 use Rattle.sis_script.specs.declared.command.Op.{Op}
 use Rattle.sis_script.specs.declared.command.Op.TheVariants as command
-use Rattle.sis_session.specs.Commands.{Blif, ChangedBy, Changes, ChangesNetwork, Ends, FactorsTold, FactorTold, Form, Format, FormPlans, IsWrong, Just, KernelsOf, KernelsTold, KernelTold, Kiss, Plans, Reads, ReadsLibrary, Replies, Sources, StaysTold, TakesBack, TheMachine, TheNetwork, ToldBy, Writes, commands_in, form_of, latches_told, library_held, machine_of, named_told, network_of, reply_with, source_plan, spec_held, spec_in, stats_told, tables_told, text_of_spec, undo_outcome, written_text}
+use Rattle.sis_session.specs.Commands.{Blif, ChangedBy, Changes, ChangesNetwork, Ends, FactorsTold, FactorTold, Form, Format, FormPlans, Generates, IsWrong, Just, KernelsOf, KernelsTold, KernelTold, Kiss, Plans, Reads, ReadsLibrary, Replies, Sources, StaysTold, TakesBack, TheMachine, TheNetwork, ToldBy, Writes, circuit_of, commands_in, form_of, latches_told, library_held, machine_of, named_told, network_of, reply_with, source_plan, spec_held, spec_in, stats_told, tables_told, text_of_spec, undo_outcome, written_text}
 use Rattle.sis_session.specs.Replies.{echo_line}
 use Rattle.sis_session.specs.Keeping.{Allows, HasBytes, HasNeeds, HasNetwork, IsAnswered, IsServed}
 use Rattle.sis_session.specs.Plan.{MAX_DEPTH, Asked, Nothing, OnStore, OnOut, OnInput, Comes, ComesPut, Cut, Done, Ending, Goes, Loads, Outcome, Does, Refuses, Plan, Quiet, Puts, Reply, Saves, Steps, by_plan, no_memory, replies, sends}
-use Rattle.sis_session.specs.State.{Held, Library, with_spec, with_library, with_changed, with_exchanged}
+use Rattle.sis_session.specs.State.{Held, Library, with_read, with_spec, with_library, with_changed, with_exchanged}
 use Rattle.sis_session.specs.declared.refusal.Failed.TheVariants as failed
 use Rattle.sis_session.specs.declared.refusal.Next.{Next}
 use Rattle.sis_session.specs.declared.refusal.Next.TheVariants.{Go, Quit as QuitNext, Script}
@@ -174,6 +174,9 @@ plan_works depth held command.Quit plan needs is = subst (Works held Ends) (sym 
 plan_works depth held (command.ReadBlif name) plan needs is = reads_work depth held Blif name plan is
 plan_works depth held (command.ReadKiss name) plan needs is = reads_work depth held Kiss name plan is
 plan_works depth held (command.ReadLibrary name) plan needs is = library_works depth held name plan is
+plan_works depth held (command.Generate seed tables) plan needs is =
+    subst (Works held (Generates seed tables)) (sym is)
+    (quiet_works (Generates seed tables) held (with_read held (circuit_of seed tables)) Go)
 plan_works depth held (command.WriteBlif file) plan (circuit, there) is =
     subst (Works held (Writes TheNetwork file)) (sym is) (written_works (Writes TheNetwork file) held file (network_of held.network) (spec.Circuit circuit) (ap network_of there))
 plan_works depth held (command.WriteKiss file) plan (machine, there) is =

@@ -2,7 +2,7 @@
 -- Source: the SIS manual (UCB/ERL M92/41), the commands; the order of refusals is the project's own: a
 -- command's words, then how deep scripts are nested, then the parts that it needs, then names, then the
 -- file that it loads, then what is read of it, then the command's own limits.
-use Rattle.std.specs.Prelude.{◌≡◌, ◌⊎◌, ℕ, Option, Some, None, Result, Ok, Err, List, [], nat_lt, flat_map, map, if◌then◌else◌}
+use Rattle.std.specs.Prelude.{◌≡◌, ◌⊎◌, ℕ, Option, Some, None, Result, Ok, Err, List, [], nat_lt, min, flat_map, map, if◌then◌else◌}
 use Rattle.sis_base.specs.Written.{lines_text}
 use Rattle.sis_text.specs.Entries.{entries_of, script_entries_of}
 use Rattle.circuit_model.specs.Text.{text_of, table_lines, latch_line}
@@ -10,6 +10,7 @@ use Rattle.circuit_model.specs.Values.{driver}
 use Rattle.circuit_model.specs.declared.circuit.Circuit.{Circuit}
 use Rattle.circuit_model.specs.declared.circuit.Table.{Table}
 use Rattle.circuit_model.specs.MachineText.{text_of as machine_text_of}
+use Rattle.circuit_gen.specs.Generated.{generated}
 use Rattle.circuit_model.specs.declared.machine.Machine.{Machine}
 use Rattle.circuit_model.specs.declared.machine.Spec.{Spec}
 use Rattle.circuit_model.specs.declared.machine.Spec.TheVariants as spec
@@ -34,6 +35,7 @@ use Rattle.net_decomp.specs.Decomposed.{IsDecomposed, IsFull}
 use Rattle.net_decomp.specs.declared.rule.Rule.{Rule}
 use Rattle.net_decomp.specs.declared.rule.Rule.TheVariants.{Shared, Gates}
 use Rattle.net_elim.specs.Collapsing.{collapsed, collapse_refusal}
+use Rattle.sis_script.specs.Bounds.{most_tables}
 use Rattle.sis_script.specs.Script.{command_of}
 use Rattle.sis_script.specs.declared.command.Command.{Command}
 use Rattle.sis_script.specs.declared.command.Change.{Change}
@@ -43,7 +45,7 @@ use Rattle.sis_script.specs.declared.command.Op.TheVariants as command
 use Rattle.sis_script.specs.declared.command.ScriptFault.{ScriptFault}
 use Rattle.sis_session.specs.Plan.{MAX_DEPTH, Outcome, Does, Refuses, Plan, Quiet, Loads, Reply, sends}
 use Rattle.sis_session.specs.Replies.{stats_line, echo_line}
-use Rattle.sis_session.specs.State.{Held, Library, with_spec, held_spec, with_library, with_changed, with_exchanged}
+use Rattle.sis_session.specs.State.{Held, Library, with_read, with_spec, held_spec, with_library, with_changed, with_exchanged}
 use Rattle.sis_session.specs.declared.refusal.Next.TheVariants as next
 use Rattle.sis_session.specs.declared.refusal.Refusal.{Refusal}
 use Rattle.sis_session.specs.declared.refusal.Refusal.TheVariants as refusal
@@ -80,6 +82,11 @@ spec_held held (Err why) = Refuses why
 abbrev pub library_held : Held → List ℕ → Result Library LibFault → Outcome
 library_held held name (Ok library) = Does (with_library held library) next.Go
 library_held held name (Err fault) = Refuses (refusal.Lib name fault)
+
+-- `gen`: the circuit of a seed and a number of tables. The cap changes nothing, since the grammar lets
+-- no greater number pass; it says that the circuit keeps the limits.
+abbrev pub circuit_of : ℕ → ℕ → Circuit
+circuit_of seed tables = generated seed (min tables most_tables)
 
 -- what a command writes: the network or the machine
 pub data Part : Type 0 where
@@ -240,13 +247,14 @@ source_plan depth held name =
     else Quiet (Refuses refusal.Nested)
 
 -- What a command does, by its form: it tells something of what is held; it writes a part of it to a file
--- or to the output; it reads a file as a circuit or a machine, or as a library; it changes the network; it
--- takes a change back; it has a script done next; it ends the script; or its words are wrong.
+-- or to the output; it reads a file as a circuit or a machine, or as a library; it makes the circuit of a
+-- seed, which is held as one that was read; it changes the network; it takes a change back; it has a script done next; it ends the script; or its words are wrong.
 pub data Form : Type 1 where
   Tells : (tells : Held → Result (List ℕ) Refusal → Type 0) → Form
   Writes : (part : Part) (file : Option (List ℕ)) → Form
   Reads : (format : Format) (file : List ℕ) → Form
   ReadsLibrary : (file : List ℕ) → Form
+  Generates : (seed tables : ℕ) → Form
   ChangesNetwork : (change : Change) → Form
   TakesBack : Form
   Sources : (file : List ℕ) → Form
@@ -260,6 +268,7 @@ form_of command.Quit = Ends
 form_of (command.ReadBlif name) = Reads Blif name
 form_of (command.ReadKiss name) = Reads Kiss name
 form_of (command.ReadLibrary name) = ReadsLibrary name
+form_of (command.Generate seed tables) = Generates seed tables
 form_of (command.WriteBlif file) = Writes TheNetwork file
 form_of (command.WriteKiss file) = Writes TheMachine file
 form_of command.PrintStats = Tells (λ held. ToldBy (Just stats_told) held.network)
@@ -290,6 +299,8 @@ FormPlans depth held (Reads format name) plan =
     plan ≡ Loads name (λ bytes. spec_held held (spec_in format held name bytes))
 FormPlans depth held (ReadsLibrary name) plan =
     plan ≡ Loads name (λ bytes. library_held held name (library_of bytes))
+FormPlans depth held (Generates seed tables) plan =
+    plan ≡ Quiet (Does (with_read held (circuit_of seed tables)) next.Go)
 FormPlans depth held (ChangesNetwork change) plan = Replies (ChangedBy held change held.network) plan
 FormPlans depth held TakesBack plan = plan ≡ Quiet (undo_outcome held held.previous)
 FormPlans depth held (Sources name) plan = plan ≡ source_plan depth held name
@@ -303,6 +314,7 @@ Plans depth held op plan = FormPlans depth held (form_of op) plan
 -- what was read last, behind a command that is done and after which this is held
 abbrev pub read_by : Form → Held → Option Spec → Option Spec
 read_by (Reads format name) held read = held_spec held.network held.machine
+read_by (Generates seed tables) held read = held_spec held.network held.machine
 read_by other held read = read
 
 abbrev pub last_read : Op → Held → Option Spec → Option Spec

@@ -19,6 +19,7 @@ mod algebra;
 mod blif;
 mod changing;
 mod factors;
+mod generating;
 mod kernels;
 mod kiss;
 mod laws;

@@ -9,10 +9,11 @@
 
 ghost use Rattle.std.specs.Prelude.{◌≡◌, ◌<◌, IfOk, IfSome, OnOk, OnErr, option_map};
 ghost use Rattle.sis_outside.specs.Calls.{Follows};
-ghost use Rattle.sis_session.specs.Commands.{Blif, ChangedBy, Kiss, Plans, Replies, library_held, spec_held, spec_in, undo_outcome};
+ghost use Rattle.sis_session.specs.Commands.{Blif, ChangedBy, Kiss, Plans, Replies, circuit_of, library_held, spec_held, spec_in, undo_outcome};
 ghost use Rattle.sis_session.specs.Methods.{AskedNone, HasRead, Undoes};
-ghost use Rattle.sis_session.specs.Plan.{Comes, Did, Loads, NestsBelow, Quiet, ended};
+ghost use Rattle.sis_session.specs.Plan.{Comes, Did, Does, Loads, NestsBelow, Quiet, ended};
 ghost use Rattle.sis_session.specs.Replies.{stats_of};
+ghost use Rattle.sis_session.specs.declared.refusal.Next.TheVariants.{Go};
 ghost use Rattle.sis_session.specs.State.{nothing_held, with_read, with_machine};
 ghost use Rattle.genlib_format.specs.Reader.{library_of};
 ghost use Rattle.circuit_model.specs.Counts.{IsWithinLimits};
@@ -20,6 +21,7 @@ ghost use Rattle.circuit_model.specs.Soundness.{IsSound};
 
 use crate::algebra::{print_factor, print_kernel};
 use crate::changing::change_network;
+use crate::generating::circuit_of;
 use crate::outside::{load, put_told, send_told, source};
 use crate::printing::{
     echo, machine_told, network_text, print, print_latch, print_stats, stats_of,
@@ -93,6 +95,15 @@ impl Session {
         self.previous = None;
         self.machine = None;
         Ok(())
+    }
+
+    /// Holds the circuit of a seed and a number of tables as one that was read.
+    fn hold_generated(&mut self, alloc: Global, seed: u64, tables: u64) -> Result<(), AllocError>
+        ensures ok { OnOk result (self.new ≡ with_read self.old (circuit_of seed tables)) }
+        ensures err { OnErr result (self.new ≡ self.old) }
+    {
+        let circuit = circuit_of(alloc, seed, tables)?;
+        self.hold_circuit(alloc, circuit)
     }
 
     /// Holds a machine that was read.
@@ -240,6 +251,16 @@ impl Session {
         self.take_library(alloc, name, bytes.as_slice())
     }
 
+    /// Makes the circuit of a seed and a number of tables the network.
+    fn generate(&mut self, alloc: Global, seed: u64, tables: u64) -> Result<Next, StepFault>
+        ensures did { Did (λ plan. plan ≡ Quiet (Does (with_read self.old
+            (circuit_of seed tables)) Go)) AskedNone AskedNone (ended result self.new) }
+        ensures err { OnErr result (self.new ≡ self.old) }
+    {
+        self.hold_generated(alloc, seed, tables)?;
+        Ok(Next::Go)
+    }
+
     /// Changes the network, and keeps the one before as the previous one.
     fn change(&mut self, alloc: Global, change: Change) -> Result<Next, StepFault>
         ensures did { Did (Replies
@@ -290,6 +311,7 @@ impl Session {
             Op::ReadBlif(name) => self.read_blif(alloc, name, store),
             Op::ReadKiss(name) => self.read_kiss(alloc, name, store),
             Op::ReadLibrary(name) => self.read_library(alloc, name, store),
+            Op::Generate(seed, tables) => self.generate(alloc, *seed, *tables),
             Op::WriteBlif(file) => send_told(network_text(alloc, &self.network), file, store, out),
             Op::WriteKiss(file) => send_told(machine_told(alloc, &self.machine), file, store, out),
             Op::PrintStats => put_told(print_stats(alloc, &self.network), out),

@@ -29,6 +29,11 @@ pub returns-in-ReadLibrary-clause-did : goal.returns-in-ReadLibrary-clause-did
 returns-in-ReadLibrary-clause-did g c =
     rw c.in-ReadLibrary.is (store_alone g.O.Sink.calls _ _ c.args.out.now _ c.read_library.ensures.did)
 
+pub returns-in-Generate-clause-did : goal.returns-in-Generate-clause-did
+returns-in-Generate-clause-did g c =
+    rw c.in-Generate.is
+    (both_alone g.S.Store.calls g.O.Sink.calls _ c.args.store.now c.args.out.now _ c.generate.ensures.did)
+
 pub returns-in-WriteBlif-clause-did : goal.returns-in-WriteBlif-clause-did
 returns-in-WriteBlif-clause-did g c =
     rw (c.in-WriteBlif.is, ← c.self.view_is) (c.send_told.ensures.did _ _ c.network_text.ensures)
