@@ -83,8 +83,8 @@ abbrev pub library_held : Held → List ℕ → Result Library LibFault → Outc
 library_held held name (Ok library) = Does (with_library held library) next.Go
 library_held held name (Err fault) = Refuses (refusal.Lib name fault)
 
--- `gen`: the circuit of a seed and a number of tables. The cap changes nothing, since the grammar lets
--- no greater number pass; it says that the circuit keeps the limits.
+-- `gen`: the circuit of a seed and a number of tables. The cap changes nothing, since the grammar
+-- lets no greater number pass; it says that the circuit keeps the limits.
 abbrev pub circuit_of : ℕ → ℕ → Circuit
 circuit_of seed tables = generated seed (min tables most_tables)
 
@@ -248,7 +248,8 @@ source_plan depth held name =
 
 -- What a command does, by its form: it tells something of what is held; it writes a part of it to a file
 -- or to the output; it reads a file as a circuit or a machine, or as a library; it makes the circuit of a
--- seed, which is held as one that was read; it changes the network; it takes a change back; it has a script done next; it ends the script; or its words are wrong.
+-- seed, which is held as one that was read; it changes the network; it takes a change back; it has a
+-- script done next; it ends the script; or its words are wrong.
 pub data Form : Type 1 where
   Tells : (tells : Held → Result (List ℕ) Refusal → Type 0) → Form
   Writes : (part : Part) (file : Option (List ℕ)) → Form

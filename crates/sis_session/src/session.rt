@@ -7,7 +7,7 @@
 //! (`Did`). The methods below it promise a computing form, by cases on the plan and the ending, so
 //! that no witness has to be found in them.
 
-ghost use Rattle.std.specs.Prelude.{◌≡◌, ◌<◌, IfOk, IfSome, OnOk, OnErr, option_map};
+ghost use Rattle.std.specs.Prelude.{◌≡◌, ◌<◌, ℕ, IfOk, IfSome, OnOk, OnErr, option_map};
 ghost use Rattle.sis_outside.specs.Calls.{Follows};
 ghost use Rattle.sis_session.specs.Commands.{Blif, ChangedBy, Kiss, Plans, Replies, circuit_of, library_held, spec_held, spec_in, undo_outcome};
 ghost use Rattle.sis_session.specs.Methods.{AskedNone, HasRead, Undoes};
@@ -256,6 +256,7 @@ impl Session {
         ensures did { Did (λ plan. plan ≡ Quiet (Does (with_read self.old
             (circuit_of seed tables)) Go)) AskedNone AskedNone (ended result self.new) }
         ensures err { OnErr result (self.new ≡ self.old) }
+        ensures nests { (depth : ℕ) → IfOk result (NestsBelow depth) }
     {
         self.hold_generated(alloc, seed, tables)?;
         Ok(Next::Go)

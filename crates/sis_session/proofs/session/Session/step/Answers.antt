@@ -32,7 +32,8 @@ returns-in-ReadLibrary-clause-did g c =
 pub returns-in-Generate-clause-did : goal.returns-in-Generate-clause-did
 returns-in-Generate-clause-did g c =
     rw c.in-Generate.is
-    (both_alone g.S.Store.calls g.O.Sink.calls _ c.args.store.now c.args.out.now _ c.generate.ensures.did)
+    (both_alone g.S.Store.calls g.O.Sink.calls _ c.args.store.now c.args.out.now _
+    c.generate.ensures.did)
 
 pub returns-in-WriteBlif-clause-did : goal.returns-in-WriteBlif-clause-did
 returns-in-WriteBlif-clause-did g c =
@@ -82,6 +83,9 @@ returns-in-Bad-clause-did g c =
 
 pub returns-in-Echo-clause-nests : goal.returns-in-Echo-clause-nests
 returns-in-Echo-clause-nests g c = c.put_told.ensures.nests c.args.depth
+
+pub returns-in-Generate-clause-nests : goal.returns-in-Generate-clause-nests
+returns-in-Generate-clause-nests g c = c.generate.ensures.nests c.args.depth
 
 pub returns-in-WriteBlif-clause-nests : goal.returns-in-WriteBlif-clause-nests
 returns-in-WriteBlif-clause-nests g c = c.send_told.ensures.nests c.args.depth
