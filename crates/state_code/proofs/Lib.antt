@@ -1,0 +1,9 @@
+pub mod CodesApart
+pub mod FreeNames
+pub mod Taken
+pub mod Parts
+pub mod Simulated
+pub mod CircuitSound
+pub mod CircuitValues
+pub mod Steps
+pub mod CircuitBounds

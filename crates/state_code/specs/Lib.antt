@@ -1,0 +1,4 @@
+pub mod Codes
+pub mod Naming
+pub mod Encoded
+pub mod Assigned
