@@ -6,12 +6,13 @@ use Rattle.std.proofs.lemmas.Bool.Decides.{nat_tests}
 use Rattle.std.proofs.lemmas.Int.{ints}
 use Rattle.sis_text.specs.Words.{begins_with}
 use Rattle.sis_text.specs.Decimals.{number_of}
-use Rattle.sis_script.specs.Kinds.{are_digits, number_within, integer_of, value_of}
+use Rattle.sis_script.specs.Kinds.{are_digits, number_within, integer_of, style_of, value_of}
 use Rattle.sis_script.specs.Grammar.{Place, with_word, lacks_word, kind_of, fill, without_options, parse_at, parse, Front}
 use Rattle.sis_script.specs.Laws.{Fits, FitSlots, WordsFitSlots}
 use Rattle.sis_script.proofs.Lawful.{parse_holds}
 use Rattle.sis_script.specs.declared.command.ScriptFault.{ScriptFault}
 use Rattle.sis_script.specs.declared.command.ScriptFault.TheVariants.{MissingWord}
+use Rattle.sis_script.specs.declared.command.Style.{Style}
 use Rattle.sis_script.specs.declared.kinds.Kind.{Kind}
 use Rattle.sis_script.specs.declared.kinds.Kind.TheVariants as kind
 use Rattle.sis_script.specs.declared.kinds.Value.{Value}
@@ -65,6 +66,13 @@ unfolding Fits
 no_complement_fits value true found = let same : value ≡ made.NoComplement = cc in subst (λ v. Fits kind.NoComplement v) (sym same) tt
 no_complement_fits value false found = cc
 
+style_fits : (value : Value) (found : Option Style)
+    → Some value ≡ option_map (λ named. made.Style named) found → Fits kind.Style value
+unfolding Fits
+style_fits value None found = cc
+style_fits value (Some named) found =
+    let same : value ≡ made.Style named = cc in subst (λ v. Fits kind.Style v) (sym same) tt
+
 kind_fits : (asked : Kind) (word : List ℕ) (value : Value) → Some value ≡ value_of asked word → Fits asked value
 unfolding value_of Fits integer_of
 kind_fits kind.File word value found = file_fits word value (is_utf8 word) (begins_with 45 word) refl refl found
@@ -73,6 +81,7 @@ kind_fits (kind.Number least most) word value found = number_fits least most wor
 kind_fits kind.Integer word value found =
     integer_fits word value (begins_with 45 word) (number_within 0 (2 ^ 31) (drop 1 word)) (number_within 0 (2 ^ 31 - 1) word) refl refl found
 kind_fits kind.NoComplement word value found = no_complement_fits value (bytes_eq word (codes "nocomp")) found
+kind_fits kind.Style word value found = style_fits value (style_of word) found
 
 end_fits : (slots : List Slot) (values : List Value) (lacks : Bool) → lacks ≡ lacks_word slots → Ok values ≡ (if lacks then Err MissingWord else Ok []) → FitSlots slots values
 unfolding FitSlots

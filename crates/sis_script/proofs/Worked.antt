@@ -8,8 +8,9 @@ use Rattle.sis_script.specs.Bounds.{most_rows, usual_rows, least_inputs, most_in
 use Rattle.sis_script.specs.Kinds.{number_within, integer_of, value_of}
 use Rattle.sis_script.specs.Grammar.{fill, parse_at, parse}
 use Rattle.sis_script.specs.Script.{form_named, number_given, op_by, op_of}
-use Rattle.sis_script.specs.declared.command.Op.TheVariants.{Echo, Quit, ReadBlif, ReadKiss, ReadLibrary, Generate, WriteBlif, WriteKiss, PrintStats, Print, PrintLatch, PrintFactor, PrintKernel, Change, Undo, Source, Bad}
+use Rattle.sis_script.specs.declared.command.Op.TheVariants.{Echo, Quit, ReadBlif, ReadKiss, ReadLibrary, Generate, WriteBlif, WriteKiss, PrintStats, Print, PrintLatch, PrintFactor, PrintKernel, Change, StateAssign, Undo, Source, Bad}
 use Rattle.sis_script.specs.declared.command.Change.TheVariants.{Sweep, Eliminate, Collapse, Simplify, Fx, Gkx, Gcx, Resub, Decomp, TechDecomp}
+use Rattle.sis_script.specs.declared.command.Style.TheVariants.{Natural, OneHot}
 use Rattle.sis_script.specs.declared.command.ScriptFault.TheVariants.{BadCommand, BadOption, MissingWord}
 
 -- each word of the list is its command
@@ -343,3 +344,25 @@ no_seed = refl
 third_word : op_of (codes "gen" ∷ codes "1" ∷ codes "8" ∷ codes "9" ∷ []) ≡ Bad BadOption
 unfolding op_of op_by form_named parse fill value_of number_within number_of
 third_word = refl
+
+-- `state_assign [natural or onehot]`
+
+usual_codes : op_of (codes "state_assign" ∷ []) ≡ StateAssign Natural
+unfolding op_of op_by form_named parse fill
+usual_codes = refl
+
+natural_codes : op_of (codes "state_assign" ∷ codes "natural" ∷ []) ≡ StateAssign Natural
+unfolding op_of op_by form_named parse fill value_of
+natural_codes = refl
+
+one_hot_codes : op_of (codes "state_assign" ∷ codes "onehot" ∷ []) ≡ StateAssign OneHot
+unfolding op_of op_by form_named parse fill value_of
+one_hot_codes = refl
+
+other_codes : op_of (codes "state_assign" ∷ codes "gray" ∷ []) ≡ Bad BadOption
+unfolding op_of op_by form_named parse fill value_of
+other_codes = refl
+
+second_style : op_of (codes "state_assign" ∷ codes "onehot" ∷ codes "onehot" ∷ []) ≡ Bad BadOption
+unfolding op_of op_by form_named parse fill value_of
+second_style = refl

@@ -6,6 +6,8 @@ use Rattle.std.specs.Str.{is_utf8}
 use Rattle.std.specs.List.{list_all}
 use Rattle.sis_text.specs.Words.{begins_with}
 use Rattle.sis_text.specs.Decimals.{is_digit, number_of}
+use Rattle.sis_script.specs.declared.command.Style.{Style}
+use Rattle.sis_script.specs.declared.command.Style.TheVariants as style
 use Rattle.sis_script.specs.declared.kinds.Kind.{Kind}
 use Rattle.sis_script.specs.declared.kinds.Kind.TheVariants as kind
 use Rattle.sis_script.specs.declared.kinds.Value.{Value}
@@ -31,6 +33,13 @@ integer_of word =
     then option_map (λ number. neg_ℤ (pos number)) (number_within 0 (2 ^ 31) (drop 1 word))
     else option_map pos (number_within 0 (2 ^ 31 - 1) word)
 
+-- the style of state codes that a word names
+abbrev pub style_of : List ℕ → Option Style
+style_of word =
+    if bytes_eq word (codes "natural") then Some style.Natural
+    else if bytes_eq word (codes "onehot") then Some style.OneHot
+    else None
+
 -- what a word gives where a word of this kind is asked for; nothing where it is of another kind
 unfoldable pub value_of : Kind → List ℕ → Option Value
 value_of kind.File word = if is_file_word word then Some (value.File word) else None
@@ -38,3 +47,4 @@ value_of kind.Name word = Some (value.Name word)
 value_of (kind.Number least most) word = option_map (λ number. value.Number number) (number_within least most word)
 value_of kind.Integer word = option_map (λ number. value.Integer number) (integer_of word)
 value_of kind.NoComplement word = if bytes_eq word (codes "nocomp") then Some value.NoComplement else None
+value_of kind.Style word = option_map (λ named. value.Style named) (style_of word)

@@ -31,6 +31,7 @@ Fits kind.Name (value.Name name) = Unit {0}
 Fits (kind.Number least most) (value.Number number) = (least ≤ number) × (number ≤ most)
 Fits kind.Integer (value.Integer number) = (neg_ℤ (pos (2 ^ 31)) ≤ℤ number) × (number <ℤ pos (2 ^ 31))
 Fits kind.NoComplement value.NoComplement = Unit {0}
+Fits kind.Style (value.Style named) = Unit {0}
 Fits kind value = ⊥
 
 -- values fill slots: each is of its slot's kind, there are no more of them than slots, and no needed slot stays empty

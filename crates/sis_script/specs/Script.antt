@@ -7,8 +7,10 @@ use Rattle.sis_text.specs.Entries.{Entry}
 use Rattle.sis_script.specs.Bounds.{most_rows, usual_rows, least_inputs, most_inputs, usual_inputs, most_seed, least_tables, most_tables}
 use Rattle.sis_script.specs.Grammar.{parse}
 use Rattle.sis_script.specs.declared.command.Op.{Op}
-use Rattle.sis_script.specs.declared.command.Op.TheVariants.{Echo, Quit, ReadBlif, ReadKiss, ReadLibrary, Generate, WriteBlif, WriteKiss, PrintStats, Print, PrintLatch, PrintFactor, PrintKernel, Change, Undo, Source, Bad}
+use Rattle.sis_script.specs.declared.command.Op.TheVariants.{Echo, Quit, ReadBlif, ReadKiss, ReadLibrary, Generate, WriteBlif, WriteKiss, PrintStats, Print, PrintLatch, PrintFactor, PrintKernel, Change, StateAssign, Undo, Source, Bad}
 use Rattle.sis_script.specs.declared.command.Change.TheVariants as change
+use Rattle.sis_script.specs.declared.command.Style.{Style}
+use Rattle.sis_script.specs.declared.command.Style.TheVariants as style
 use Rattle.sis_script.specs.declared.command.ScriptFault.{ScriptFault}
 use Rattle.sis_script.specs.declared.command.ScriptFault.TheVariants.{BadCommand, MissingWord}
 use Rattle.sis_script.specs.declared.command.Command.{Command}
@@ -126,6 +128,15 @@ generate_by other = Bad MissingWord
 abbrev pub generate_op : Given → Op
 generate_op given = generate_by given.words
 
+-- the style of state codes that a value names; the usual one where there is none
+abbrev pub style_in : Option Value → Style
+style_in (Some (value.Style named)) = named
+style_in other = style.Natural
+
+-- `state_assign`: the machine's network, its states coded in the style that the first word names
+abbrev pub state_assign_op : Given → Op
+state_assign_op given = StateAssign (style_in (first_word given))
+
 -- a command of its word alone
 abbrev pub plain : List ℕ → Op → Form
 plain word op = record { word = word; options = []; slots = []; becomes = λ given. op }
@@ -216,6 +227,7 @@ forms =
     ∷ plain_with (codes "resub") (bare letter_a) (Change change.Resub)
     ∷ plain (codes "decomp") (Change change.Decomp)
     ∷ tech_decomp
+    ∷ taking (codes "state_assign") (Optional kind.Style) state_assign_op
     ∷ []
 
 -- the command of a word

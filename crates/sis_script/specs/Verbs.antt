@@ -2,7 +2,7 @@
 -- table; no public clause cites it.
 -- Source: the definition's list (Script.antt), whose words these are.
 use Rattle.std.specs.Prelude.{ℕ, Option, List, bytes_eq, find, option_map}
-use Rattle.sis_script.specs.Script.{Form, needed, file_in, name_in, generate_op, eliminate_op, tech_decomp_op}
+use Rattle.sis_script.specs.Script.{Form, needed, file_in, name_in, generate_op, eliminate_op, state_assign_op, tech_decomp_op}
 use Rattle.sis_script.specs.declared.command.Op.{Op}
 use Rattle.sis_script.specs.declared.command.Op.TheVariants.{Quit, ReadBlif, ReadKiss, ReadLibrary, WriteBlif, WriteKiss, PrintStats, Print, PrintLatch, PrintFactor, PrintKernel, Change, Undo, Source}
 use Rattle.sis_script.specs.declared.grammar.Given.{Given}
@@ -29,6 +29,7 @@ op_made verb.Source = λ given. needed (option_map Source (file_in given))
 op_made (verb.Plain change) = λ given. Change change
 op_made verb.Eliminate = eliminate_op
 op_made verb.TechDecomp = tech_decomp_op
+op_made verb.StateAssign = state_assign_op
 
 -- a row of the code's table as the definition has it
 abbrev pub meaning : CommandForm → Form

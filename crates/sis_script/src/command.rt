@@ -39,6 +39,8 @@ pub enum Op {
     PrintKernel(RawWord),
     /// Changes the network.
     Change(Change),
+    /// Makes the network of the machine, its states coded in this style.
+    StateAssign(Style),
     /// Takes the last change of the network back.
     Undo,
     /// Runs the commands of a file.
@@ -74,6 +76,15 @@ pub enum Change {
     /// Makes each table a product of at most so many literals, or a sum of at most so many of one
     /// literal each.
     TechDecomp(u16, u16),
+}
+
+/// How the states of a machine are coded.
+#[derive(Clone, Copy, Debug, PartialEq, Eq)]
+pub enum Style {
+    /// By the binary digits of their numbers.
+    Natural,
+    /// By one bit for each state.
+    OneHot,
 }
 
 /// Why a command is refused for its words alone.

@@ -51,6 +51,7 @@ pub(crate) enum Verb {
     Plain(Change),
     Eliminate,
     TechDecomp,
+    StateAssign,
 }
 
 /// A command: its word, its options, the slots for its other words, and what these make of it.
@@ -71,6 +72,8 @@ const NAME: Slot = Slot::Needed(Kind::Name);
 const ANY_NAME: Slot = Slot::Optional(Kind::Name);
 
 const INTEGER: Slot = Slot::Needed(Kind::Integer);
+
+const ANY_STYLE: Slot = Slot::Optional(Kind::Style);
 
 const SEED: Slot = Slot::Needed(Kind::Number(0, u64::MAX));
 
@@ -144,6 +147,7 @@ const FORMS: &[CommandForm] = &[
     form!(b"resub", &[ALGEBRAIC], &[], Verb::Plain(Change::Resub)),
     form!(b"decomp", &[], &[], Verb::Plain(Change::Decomp)),
     form!(b"tech_decomp", &[PRODUCTS, SUMS], &[], Verb::TechDecomp),
+    form!(b"state_assign", &[], &[ANY_STYLE], Verb::StateAssign),
 ];
 
 /// The row of a table of commands with this word.

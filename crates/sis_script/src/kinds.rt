@@ -7,9 +7,9 @@ ghost use Rattle.std.specs.Prelude.{◌≡◌, ◌+◌, ◌-◌, ◌*◌, ◌^�
 ghost use Rattle.std.specs.List.{list_all};
 ghost use Rattle.sis_text.specs.Decimals.{is_digit, number_of};
 ghost use Rattle.sis_text.specs.Words.{begins_with};
-ghost use Rattle.sis_script.specs.Kinds.{are_digits, integer_of, is_file_word, number_within, value_of};
+ghost use Rattle.sis_script.specs.Kinds.{are_digits, integer_of, is_file_word, number_within, style_of, value_of};
 
-use crate::command::RawWord;
+use crate::command::{RawWord, Style};
 use sis_text::Word;
 use std::alloc::{AllocError, Global};
 
@@ -26,6 +26,8 @@ pub(crate) enum Kind {
     Integer,
     /// The word `nocomp`, by which no complement is to be made.
     NoComplement,
+    /// The word `natural` or `onehot`, a style of state codes.
+    Style,
 }
 
 /// What a word gives, by its kind.
@@ -36,6 +38,7 @@ pub(crate) enum Value {
     Number(u64),
     Integer(i32),
     NoComplement,
+    Style(Style),
 }
 
 /// Whether the first byte is `-`.
@@ -134,6 +137,19 @@ fn integer_of(word: &[u8]) -> Option<i32>
     }
 }
 
+/// The style of state codes that a word names, if it names one.
+fn style_of(word: &[u8]) -> Option<Style>
+    ensures { result ≡ style_of word.now }
+{
+    if word == b"natural".as_slice() {
+        Some(Style::Natural)
+    } else if word == b"onehot".as_slice() {
+        Some(Style::OneHot)
+    } else {
+        None
+    }
+}
+
 /// What a word gives where a word of this kind is asked for.
 #[tactic(auto, unfolding(crate::specs::Kinds::value_of))]
 pub(crate) fn value_of(alloc: Global, kind: Kind, word: &[u8]) -> Result<Option<Value>, AllocError>
@@ -160,5 +176,9 @@ pub(crate) fn value_of(alloc: Global, kind: Kind, word: &[u8]) -> Result<Option<
                 Ok(None)
             }
         }
+        Kind::Style => match style_of(word) {
+            Some(style) => Ok(Some(Value::Style(style))),
+            None => Ok(None),
+        },
     }
 }

@@ -13,7 +13,7 @@ mod kinds;
 mod laws;
 mod script;
 
-pub use command::{Change, Command, Commands, Op, RawWord, RawWords, ScriptFault};
+pub use command::{Change, Command, Commands, Op, RawWord, RawWords, ScriptFault, Style};
 pub use forms::MOST_TABLES;
 pub use laws::{bad_stays_bad, options_come_once, words_fit_slots};
 pub use script::commands;

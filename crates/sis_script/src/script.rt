@@ -18,11 +18,13 @@ ghost use Rattle.sis_script.specs.Script.{
   op_by_form,
   op_of,
   option_given,
+  state_assign_op,
+  style_in,
   tech_decomp_op,
 };
 ghost use Rattle.sis_script.specs.Verbs.{meaning, op_made};
 
-use crate::command::{Change, Command, Commands, Op, RawWord, RawWords, ScriptFault};
+use crate::command::{Change, Command, Commands, Op, RawWord, RawWords, ScriptFault, Style};
 use crate::forms::{
     CommandForm, MOST_INPUTS, MOST_ROWS, USUAL_INPUTS, USUAL_ROWS, Verb, form_named,
 };
@@ -153,6 +155,23 @@ fn generate_op(given: Given) -> Op
     }
 }
 
+/// The style of state codes that a value names; the usual one where there is none.
+fn style_in(value: Option<Value>) -> Style
+    ensures { result ≡ style_in value }
+{
+    match value {
+        Some(Value::Style(style)) => style,
+        _ => Style::Natural,
+    }
+}
+
+/// `state_assign`, by the style of its codes.
+fn state_assign_op(given: Given) -> Op
+    ensures { result ≡ state_assign_op given }
+{
+    Op::StateAssign(style_in(first_word(given)))
+}
+
 /// What a verb makes of a command's words.
 fn op_made(verb: Verb, given: Given) -> Op
     ensures { result ≡ op_made verb given }
@@ -175,6 +194,7 @@ fn op_made(verb: Verb, given: Given) -> Op
         Verb::Plain(change) => Op::Change(change),
         Verb::Eliminate => eliminate_op(given),
         Verb::TechDecomp => tech_decomp_op(given),
+        Verb::StateAssign => state_assign_op(given),
     }
 }
 
