@@ -1,6 +1,7 @@
 -- What is held behind a command that is done, and what a command saves or puts.
-use Rattle.std.proofs.Common.{◌≡◌, ℕ, Bool, true, false, List, [], ◌∷◌, refl, sym, ap, subst, ◌∙◌, inl, inr}
-use Rattle.std.specs.Prelude.{Option, Some, None, Result, Ok, Err, nat_lt, if◌then◌else◌}
+use Rattle.std.proofs.Common.{◌≡◌, ℕ, ◌≤◌, Bool, true, false, List, [], ◌∷◌, refl, sym, ap, subst, ◌∙◌, inl, inr, arith}
+use Rattle.std.proofs.lemmas.Bool.Decides.{nat_tests}
+use Rattle.std.specs.Prelude.{Option, Some, None, Result, Ok, Err, nat_le, nat_lt, if◌then◌else◌}
 use Rattle.sis_text.specs.Entries.{entries_of}
 use Rattle.sis_outside.specs.Calls.{Load, Save, PutCall}
 use Rattle.sis_outside.specs.declared.store.LoadFault.{LoadFault}
@@ -51,10 +52,18 @@ use Rattle.std.proofs.lemmas.Option.{same_Some}
 use Rattle.sis_script.specs.declared.command.Change.{Change}
 use Rattle.sis_script.specs.declared.command.Change.TheVariants as changing
 use Rattle.sis_script.specs.declared.command.Op.{Op}
-use Rattle.sis_session.specs.Commands.{Blif, ChangedBy, Changes, ChangesNetwork, Ends, Form, Format, FormPlans, Generates, IsWrong, Kiss, Plans, Reads, ReadsLibrary, Replies, Sources, StaysTold, TakesBack, Tells, TheMachine, TheNetwork, Writes, blif_read, circuit_of, commands_in, form_of, kiss_read, last_read, library_held, machine_of, network_of, part_of, read_by, reply_with, spec_held, spec_in, undo_outcome, written_text}
+use Rattle.sis_base.specs.declared.limits.TheConstants.{MAX_INPUTS}
+use Rattle.state_code.specs.Codes.{leaf_count}
+use Rattle.state_code.specs.Codes.{codes_of}
+use Rattle.state_code.specs.Encoded.{encoded}
+use Rattle.sis_session.specs.Replies.{codes_text}
+use Rattle.state_code.specs.declared.codes.Style.{Style as Coding}
+use Rattle.state_code.proofs.CircuitSound.{encoded_sound}
+use Rattle.state_code.proofs.CircuitValues.{encoded_refines}
+use Rattle.sis_session.specs.Commands.{Blif, ChangedBy, Changes, ChangesNetwork, EncodesMachine, Ends, coding_of, encoded_reply, Form, Format, FormPlans, Generates, IsWrong, Kiss, Plans, Reads, ReadsLibrary, Replies, Sources, StaysTold, TakesBack, Tells, TheMachine, TheNetwork, Writes, blif_read, circuit_of, commands_in, form_of, kiss_read, last_read, library_held, machine_of, network_of, part_of, read_by, reply_with, spec_held, spec_in, undo_outcome, written_text}
 use Rattle.sis_session.specs.Keeping.{RefinesSpec, MachineRefines, IsRefined, IsTextOf, IsWriting, WritesTo}
 use Rattle.sis_session.specs.Plan.{MAX_DEPTH, Asked, Nothing, OnStore, OnOut, OnInput, Comes, ComesLoaded, ComesSaved, ComesPut, Done, Ending, Goes, Loads, Outcome, Does, Refuses, Plan, Quiet, Puts, Reply, Saves, Takes, Steps, by_plan, no_memory, replies, sends}
-use Rattle.sis_session.specs.State.{Held, Library, held_spec, nothing_held, with_read, with_spec, with_machine, with_library, with_exchanged}
+use Rattle.sis_session.specs.State.{Held, Library, held_spec, nothing_held, with_read, with_machine, with_encoded, with_exchanged}
 use Rattle.sis_session.specs.declared.refusal.Next.{Next}
 use Rattle.sis_session.specs.declared.refusal.Next.TheVariants.{Go, Script}
 use Rattle.sis_session.specs.declared.refusal.Next.TheVariants as onward
@@ -280,6 +289,49 @@ changed_ok spec held change (Some old) reply there refined (Ok new, changes, is)
     })
 changed_ok spec held change (Some old) reply there refined (Err why, changes, is) = subst (OnOkReply (λ h. IsRefined spec h)) (sym is) tt
 
+-- the network of a machine that is held refines what that refines
+encoded_leads : (spec : Option Spec) (coding : Coding) (machine : Machine)
+    → leaf_count coding machine ≤ MAX_INPUTS → MachineRefines spec (Some machine)
+    → RefinesSpec spec (Some (encoded coding machine))
+encoded_leads spec coding machine narrow before circuit same =
+    let (read, is, sound, refines) = before machine refl in
+    let equal : encoded coding machine ≡ circuit = same_Some (encoded coding machine) circuit same in (
+      read,
+      is,
+      subst IsSound equal (encoded_sound coding machine sound narrow),
+      subst (λ (c : Circuit). RefinesAs (of_spec read) (of_circuit c)) equal
+          (behaves-through (of_spec read) (of_machine machine) (of_circuit (encoded coding machine))
+          refines (encoded_refines coding machine sound narrow)),
+    )
+
+encoded_held : (spec : Option Spec) (held : Held) (old : Option Circuit) (new : Circuit)
+    → held.network ≡ old → IsRefined spec held → RefinesSpec spec (Some new)
+    → IsRefined spec (with_encoded held old new)
+encoded_held spec held None new there refined is =
+    record { network = is; previous = refined.previous; machine = refined.machine }
+encoded_held spec held (Some old) new there refined is =
+    record { network = is; previous = refined.network; machine = refined.machine }
+
+encoded_by_ok : (spec : Option Spec) (held : Held) (coding : Coding) (machine : Machine)
+    (small : Bool) → nat_le (leaf_count coding machine) MAX_INPUTS ≡ small
+    → IsRefined spec held → MachineRefines spec (Some machine)
+    → OnOkReply (λ h. IsRefined spec h) (if small then Ok (record {
+      text = codes_text (codes_of coding machine);
+      held = with_encoded held held.network (encoded coding machine);
+    }) else Err (refusal.TooWide machine.name (leaf_count coding machine)))
+encoded_by_ok spec held coding machine true narrow refined refines =
+    encoded_held spec held held.network (encoded coding machine) refl refined
+    (encoded_leads spec coding machine (grind (arith, nat_tests)) refines)
+encoded_by_ok spec held coding machine false wide refined refines = tt
+
+encoded_ok : (spec : Option Spec) (held : Held) (coding : Coding) (there : Option Machine)
+    → held.machine ≡ there → IsRefined spec held
+    → OnOkReply (λ h. IsRefined spec h) (encoded_reply coding held there)
+encoded_ok spec held coding None is refined = tt
+encoded_ok spec held coding (Some machine) is refined =
+    encoded_by_ok spec held coding machine (nat_le (leaf_count coding machine) MAX_INPUTS) refl
+    refined (subst (MachineRefines spec) is refined.machine)
+
 undo_leads : (spec : Option Spec) (held : Held) (previous : Option Circuit) → IsRefined spec held → Leads (λ h. IsRefined spec h) (Quiet (undo_outcome held previous))
 undo_leads spec held None refined = quiet_leads (λ h. IsRefined spec h) (Refuses refusal.NothingToUndo) tt
 undo_leads spec held (Some circuit) refined = quiet_leads (λ h. IsRefined spec h) (Does (with_exchanged held) Go) (record { network = refined.previous; previous = refined.network; machine = refined.machine })
@@ -317,6 +369,10 @@ form_leads depth spec held (Generates seed tables) plan refined is =
     (circuit_held held (circuit_of seed tables) (circuit_sound seed tables)))
 form_leads depth spec held (ChangesNetwork change) plan refined is =
     replied_leads (λ h. IsRefined spec h) (ChangedBy held change held.network) plan (λ reply. changed_ok spec held change held.network reply refl refined) is
+form_leads depth spec held (EncodesMachine style) plan refined is =
+    subst (Leads (λ h. IsRefined spec h)) (sym is)
+    (sends_leads (λ h. IsRefined spec h) None (encoded_reply (coding_of style) held held.machine)
+    (encoded_ok spec held (coding_of style) held.machine refl refined))
 form_leads depth spec held TakesBack plan refined is = subst (Leads (λ h. IsRefined spec h)) (sym is) (undo_leads spec held held.previous refined)
 form_leads depth spec held (Sources name) plan refined is =
     subst (Leads (λ h. IsRefined spec h)) (sym is) (source_leads (λ h. IsRefined spec h) (nat_lt depth MAX_DEPTH) held name refined)
@@ -403,6 +459,9 @@ form_saves depth held (ReadsLibrary from) plan name bytes is saves = absurd (sub
 form_saves depth held (Generates seed tables) plan name bytes is saves =
     absurd (subst (IsSave name bytes) is saves)
 form_saves depth held (ChangesNetwork change) plan name bytes is saves = absurd (replied_saves_nothing (ChangedBy held change held.network) plan name bytes is saves)
+form_saves depth held (EncodesMachine style) plan name bytes is saves =
+    absurd (puts_save_nothing (encoded_reply (coding_of style) held held.machine) name bytes
+    (subst (IsSave name bytes) is saves))
 form_saves depth held TakesBack plan name bytes is saves = absurd (subst (IsSave name bytes) is saves)
 form_saves depth held (Sources from) plan name bytes is saves =
     absurd (source_saves_nothing (nat_lt depth MAX_DEPTH) held from name bytes (subst (IsSave name bytes) is saves))
@@ -442,6 +501,7 @@ form_puts depth held (Reads format name) plan piece writing is puts = absurd wri
 form_puts depth held (ReadsLibrary name) plan piece writing is puts = absurd writing
 form_puts depth held (Generates seed tables) plan piece writing is puts = absurd writing
 form_puts depth held (ChangesNetwork change) plan piece writing is puts = absurd writing
+form_puts depth held (EncodesMachine style) plan piece writing is puts = absurd writing
 form_puts depth held TakesBack plan piece writing is puts = absurd writing
 form_puts depth held (Sources name) plan piece writing is puts = absurd writing
 form_puts depth held Ends plan piece writing is puts = absurd writing

@@ -9,7 +9,7 @@ use Rattle.sis_outside.specs.declared.store.SaveFault.TheVariants as save
 use Rattle.sis_outside.specs.declared.sink.PutFault.TheVariants as put
 use Rattle.sis_session.specs.Commands.{Replies, StaysTold, reply_with}
 use Rattle.sis_session.specs.Methods.{AskedNone, HasLoaded, HasSaved, HasPut, HasToldPut, IsTold, IsToldBy}
-use Rattle.sis_session.specs.Plan.{MAX_BYTES, Outcome, Does, Refuses, Plan, Quiet, Loads, Saves, Puts, Asked, Nothing, OnStore, OnOut, Ending, Done, Refused, Cut, Comes, ComesLoaded, Steps, by_plan, no_memory, Did, NestsBelow, Reply, faulted, ended, sends}
+use Rattle.sis_session.specs.Plan.{MAX_BYTES, Outcome, Does, Refuses, Plan, Quiet, Loads, Saves, Puts, Asked, Nothing, OnStore, OnOut, Ending, Done, Refused, Cut, Comes, ComesLoaded, Steps, by_plan, no_memory, Did, NestsBelow, faulted, ended, sends}
 use Rattle.sis_session.specs.State.{Held}
 use Rattle.sis_session.specs.declared.refusal.Failed.TheVariants as failed
 use Rattle.sis_session.specs.declared.refusal.Next.{Next}
@@ -107,7 +107,7 @@ unloaded_did goes name used old new fault.Memory h =
     by_load goes name used old new h.0 _ h.2 (wanting_loaded name used h.0 h.1)
 
 -- what is told was put
-put_sent : {O : Type 0} (puts : O → PutCall → O → Type 0) (held : Held) (text : List ℕ) (old new : O) (answer : Result Next StepFault)
+pub put_sent : {O : Type 0} (puts : O → PutCall → O → Type 0) (held : Held) (text : List ℕ) (old new : O) (answer : Result Next StepFault)
     → HasPut puts text old answer new → Did (λ plan. plan ≡ sends None (reply_with held (Ok text))) AskedNone (Follows puts old new) (ended answer held)
 put_sent puts held [] old new answer h = record {
   asked = Nothing;

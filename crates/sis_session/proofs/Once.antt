@@ -33,7 +33,7 @@ use Rattle.sis_script.specs.declared.command.Change.{Change}
 use Rattle.sis_script.specs.declared.command.Change.TheVariants as changing
 use Rattle.sis_script.specs.declared.command.Op.{Op}
 use Rattle.sis_script.specs.declared.command.Op.TheVariants as command
-use Rattle.sis_session.specs.Commands.{ChangedBy, ChangesNetwork, Ends, Form, FormPlans, Generates, IsCollapseRefusal, IsSimplifyRefusal, IsWrong, Just, Decomposes, Extracts, IsExtractionRefusal, FactorsTold, FactorTold, KernelsOf, KernelsTold, KernelTold, Plans, Reads, ReadsLibrary, Replies, Sources, StaysTold, TakesBack, Tells, ToldBy, Writes, form_of, latches_told, reply_changed, reply_with, stats_told, tables_told}
+use Rattle.sis_session.specs.Commands.{ChangedBy, ChangesNetwork, EncodesMachine, Ends, Form, FormPlans, Generates, IsCollapseRefusal, IsSimplifyRefusal, IsWrong, Just, Decomposes, Extracts, IsExtractionRefusal, FactorsTold, FactorTold, KernelsOf, KernelsTold, KernelTold, Plans, Reads, ReadsLibrary, Replies, Sources, StaysTold, TakesBack, Tells, ToldBy, Writes, form_of, latches_told, reply_changed, reply_with, stats_told, tables_told}
 use Rattle.sis_session.specs.Replies.{echo_line}
 use Rattle.sis_session.specs.Keeping.{ChangesOnce}
 use Rattle.sis_session.specs.Plan.{Asked, Nothing, OnStore, OnOut, OnInput, Comes, ComesLoaded, ComesSaved, ComesPut, ComesTaken, ComesPiece, Cut, Done, Ending, Goes, Loads, Outcome, Does, Refuses, Plan, Quiet, Puts, Refused, Reply, Saves, Takes, Steps, by_plan, no_memory, sends}
@@ -278,6 +278,7 @@ form_once depth held (Reads format name) plan plan' one h k = h ∙ sym k
 form_once depth held (ReadsLibrary name) plan plan' one h k = h ∙ sym k
 form_once depth held (Generates seed tables) plan plan' one h k = h ∙ sym k
 form_once depth held (ChangesNetwork change) plan plan' one h k = replied_once (ChangedBy held change held.network) plan plan' (change_once held change held.network) h k
+form_once depth held (EncodesMachine style) plan plan' one h k = h ∙ sym k
 form_once depth held TakesBack plan plan' one h k = h ∙ sym k
 form_once depth held (Sources name) plan plan' one h k = h ∙ sym k
 form_once depth held Ends plan plan' one h k = h ∙ sym k

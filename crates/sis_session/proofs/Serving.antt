@@ -1,5 +1,5 @@
 -- A command that is served is done, but for want of memory.
-use Rattle.std.proofs.Common.{◌≡◌, ◌∙◌, ℕ, ◌<◌, List, [], ◌∷◌, true, refl, sym, ap, subst, inl, inr, arith}
+use Rattle.std.proofs.Common.{◌≡◌, ◌∙◌, ℕ, ◌<◌, ◌≤◌, List, [], ◌∷◌, true, refl, sym, ap, subst, inl, inr, arith}
 use Rattle.std.proofs.lemmas.Bool.Decides.{nat_tests}
 use Rattle.std.specs.Prelude.{◌⊎◌, Bool, Option, Some, None, Result, Ok, Err, nat_lt, if◌then◌else◌}
 use Rattle.sis_outside.specs.Calls.{Load, Save}
@@ -14,11 +14,18 @@ use Rattle.circuit_model.specs.declared.machine.Spec.{Spec}
 use Rattle.circuit_model.specs.declared.machine.Spec.TheVariants as spec
 use Rattle.sis_script.specs.declared.command.Op.{Op}
 use Rattle.sis_script.specs.declared.command.Op.TheVariants as command
-use Rattle.sis_session.specs.Commands.{Blif, ChangedBy, Changes, ChangesNetwork, Ends, FactorsTold, FactorTold, Form, Format, FormPlans, Generates, IsWrong, Just, KernelsOf, KernelsTold, KernelTold, Kiss, Plans, Reads, ReadsLibrary, Replies, Sources, StaysTold, TakesBack, TheMachine, TheNetwork, ToldBy, Writes, circuit_of, commands_in, form_of, latches_told, library_held, machine_of, named_told, network_of, reply_with, source_plan, spec_held, spec_in, stats_told, tables_told, text_of_spec, undo_outcome, written_text}
-use Rattle.sis_session.specs.Replies.{echo_line}
+use Rattle.state_code.specs.Codes.{codes_of}
+use Rattle.state_code.specs.Encoded.{encoded}
+use Rattle.sis_session.specs.Replies.{codes_text, echo_line}
+use Rattle.sis_session.proofs.Stepping.{narrow_reply}
+use Rattle.sis_base.specs.declared.limits.TheConstants.{MAX_INPUTS}
+use Rattle.state_code.specs.Codes.{leaf_count}
+use Rattle.circuit_model.specs.declared.machine.Machine.{Machine}
+use Rattle.state_code.specs.declared.codes.Style.{Style as Coding}
+use Rattle.sis_session.specs.Commands.{Blif, ChangedBy, Changes, ChangesNetwork, EncodesMachine, Ends, coding_of, encoded_reply, FactorsTold, FactorTold, Form, Format, FormPlans, Generates, Just, KernelsOf, KernelsTold, KernelTold, Kiss, Plans, Reads, ReadsLibrary, Replies, Sources, StaysTold, TakesBack, TheMachine, TheNetwork, ToldBy, Writes, circuit_of, commands_in, form_of, latches_told, library_held, machine_of, named_told, network_of, reply_with, source_plan, spec_held, spec_in, stats_told, tables_told, text_of_spec, undo_outcome, written_text}
 use Rattle.sis_session.specs.Keeping.{Allows, HasBytes, HasNeeds, HasNetwork, IsAnswered, IsServed}
 use Rattle.sis_session.specs.Plan.{MAX_DEPTH, Asked, Nothing, OnStore, OnOut, OnInput, Comes, ComesPut, Cut, Done, Ending, Goes, Loads, Outcome, Does, Refuses, Plan, Quiet, Puts, Reply, Saves, Steps, by_plan, no_memory, replies, sends}
-use Rattle.sis_session.specs.State.{Held, Library, with_read, with_spec, with_library, with_changed, with_exchanged}
+use Rattle.sis_session.specs.State.{Held, with_read, with_spec, with_library, with_changed, with_encoded, with_exchanged}
 use Rattle.sis_session.specs.declared.refusal.Failed.TheVariants as failed
 use Rattle.sis_session.specs.declared.refusal.Next.{Next}
 use Rattle.sis_session.specs.declared.refusal.Next.TheVariants.{Go, Quit as QuitNext, Script}
@@ -137,6 +144,18 @@ change_gives held change (Some circuit) old there allows reply (Ok new, changes,
 change_gives held change (Some circuit) old there allows reply (Err why, changes, is) =
     let same : old ≡ circuit = cc in absurd (allows why (subst (λ (c : Circuit). Changes change c (Err why)) (sym same) changes))
 
+-- a machine's network that is not too wide is made
+encoding_works : (form : Form) (held : Held) (coding : Coding) (there : Option Machine)
+    (machine : Machine) → there ≡ Some machine → leaf_count coding machine ≤ MAX_INPUTS
+    → Works held form (sends None (encoded_reply coding held there))
+encoding_works form held coding there machine is narrow =
+    subst (λ (r : Result Reply Refusal). Works held form (sends None r))
+    (sym (ap (encoded_reply coding held) is ∙ narrow_reply coding held machine narrow))
+    (sends_works form held None (record {
+      text = codes_text (codes_of coding machine);
+      held = with_encoded held held.network (encoded coding machine);
+    }))
+
 undo_works : (form : Form) (held : Held) (previous : Option Circuit) → HasNetwork previous → Works held form (Quiet (undo_outcome held previous))
 undo_works form held None (circuit, there) = cc
 undo_works form held (Some other) there = quiet_works form held (with_exchanged held) Go
@@ -194,6 +213,9 @@ plan_works depth held (command.PrintKernel name) plan (circuit, there, table, fo
     told_of_network (form_of (command.PrintKernel name)) held (KernelsTold name) circuit plan there (kernels_give name circuit table found few) is
 plan_works depth held (command.Change change) plan (old, there, allows) is =
     replied_works (ChangesNetwork change) held (ChangedBy held change held.network) plan (change_gives held change held.network old there allows) is
+plan_works depth held (command.StateAssign style) plan (machine, there, narrow) is =
+    subst (Works held (EncodesMachine style)) (sym is)
+    (encoding_works (EncodesMachine style) held (coding_of style) held.machine machine there narrow)
 plan_works depth held command.Undo plan needs is = subst (Works held TakesBack) (sym is) (undo_works TakesBack held held.previous needs)
 plan_works depth held (command.Source name) plan needs is = subst (Works held (Sources name)) (sym is) (source_works depth held name needs)
 plan_works depth held (command.Bad fault) plan needs is = absurd needs

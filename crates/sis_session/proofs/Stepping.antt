@@ -1,24 +1,32 @@
 -- What the methods below a step did, command by command.
 use Rattle.std.proofs.Common.{◌≡◌, ℕ, ◌<◌, ◌≤◌, List, refl, sym, ap, subst, ◌∙◌, inl, true, false, arith}
 use Rattle.std.proofs.lemmas.Bool.Decides.{nat_tests}
-use Rattle.std.specs.Prelude.{Bool, Option, Some, None, Result, Ok, Err, nat_lt, if◌then◌else◌}
+use Rattle.std.specs.Prelude.{Bool, Option, Some, None, Result, Ok, Err, nat_le, nat_lt, if◌then◌else◌}
 use Rattle.std.specs.Global.{Vec}
 use Rattle.sis_outside.specs.Calls.{StoreCall, Follows}
 use Rattle.circuit_model.specs.declared.circuit.Circuit.{Circuit}
 use Rattle.circuit_model.specs.declared.machine.Spec.{Spec}
 use Rattle.genlib_format.specs.declared.fault.LibFault.{LibFault}
 use Rattle.sis_script.specs.declared.command.Change.{Change}
-use Rattle.sis_session.specs.Commands.{Blif, ChangedBy, Replies, blif_read, commands_in, library_held, reply_changed, source_plan, spec_held, spec_in, undo_outcome}
-use Rattle.sis_session.specs.Methods.{AskedNone, HasLoaded, HasRead, IsChanged, Undoes}
-use Rattle.sis_session.specs.Plan.{MAX_DEPTH, Outcome, Does, Refuses, Quiet, Loads, Ending, Done, Refused, Cut, Comes, Did, faulted}
-use Rattle.sis_session.specs.State.{Held, Library, with_spec, with_library, with_changed, with_exchanged}
-use Rattle.sis_session.specs.declared.refusal.Failed.TheVariants as failed
+use Rattle.sis_outside.specs.Calls.{PutCall}
+use Rattle.circuit_model.specs.declared.machine.Machine.{Machine}
+use Rattle.sis_base.specs.declared.limits.TheConstants.{MAX_INPUTS}
+use Rattle.state_code.specs.Codes.{leaf_count}
+use Rattle.state_code.specs.Codes.{codes_of}
+use Rattle.state_code.specs.Encoded.{encoded}
+use Rattle.state_code.specs.declared.codes.Style.{Style as Coding}
+use Rattle.sis_session.specs.Replies.{codes_text}
+use Rattle.sis_session.specs.Commands.{Blif, ChangedBy, Replies, encoded_by, encoded_reply, blif_read, commands_in, library_held, reply_changed, source_plan, spec_held, spec_in, undo_outcome}
+use Rattle.sis_session.specs.Methods.{AskedNone, HasLoaded, HasPut, HasRead, IsChanged, IsEncoded, Undoes}
+use Rattle.sis_session.specs.Plan.{MAX_DEPTH, Outcome, Does, Refuses, Plan, Reply, Quiet, Loads, Ending, Done, Refused, Comes, Did, ended, faulted, sends}
+use Rattle.sis_session.specs.State.{Held, Library, with_spec, with_library, with_changed, with_encoded, with_exchanged}
+use Rattle.sis_session.specs.declared.refusal.Next.{Next}
 use Rattle.sis_session.specs.declared.refusal.Next.TheVariants.{Go, Script}
 use Rattle.sis_session.specs.declared.refusal.Refusal.{Refusal}
 use Rattle.sis_session.specs.declared.refusal.Refusal.TheVariants as refusal
 use Rattle.sis_session.specs.declared.refusal.StepFault.{StepFault}
 use Rattle.sis_session.specs.declared.refusal.StepFault.TheVariants as fault
-use Rattle.sis_session.proofs.Going.{loaded_did, unloaded_did, out_alone, quiet_did, wanting_did}
+use Rattle.sis_session.proofs.Going.{loaded_did, unloaded_did, out_alone, put_sent, quiet_did, store_alone, wanting_did}
 
 -- `source`: by whether the scripts are nested too deep
 nested_plan : (depth : ℕ) (held : Held) (name : List ℕ) → MAX_DEPTH ≤ depth → Quiet (Refuses refusal.Nested) ≡ source_plan depth held name
@@ -98,6 +106,78 @@ pub no_network_did : (held : Held) (change : Change) (network : Option Circuit) 
 no_network_did held change network none =
     subst (λ n. Did (Replies (ChangedBy held change n)) AskedNone AskedNone (Refused refusal.NoNetwork)) (sym none)
     (quiet_did (Replies (ChangedBy held change None)) (Refuses refusal.NoNetwork) (Refused refusal.NoNetwork) (Err refusal.NoNetwork, refl, refl) (inl refl))
+
+-- the machine's network was made, and its codes were put
+pub narrow_reply : (coding : Coding) (held : Held) (machine : Machine)
+    → leaf_count coding machine ≤ MAX_INPUTS
+    → encoded_by coding held machine
+    ≡ Ok (record {
+      text = codes_text (codes_of coding machine);
+      held = with_encoded held held.network (encoded coding machine);
+    })
+narrow_reply coding held machine narrow =
+    let yes : nat_le (leaf_count coding machine) MAX_INPUTS ≡ true = grind (arith, nat_tests) in
+    rw yes refl
+
+wide_reply : (coding : Coding) (held : Held) (machine : Machine)
+    → MAX_INPUTS < leaf_count coding machine
+    → encoded_by coding held machine
+    ≡ Err (refusal.TooWide machine.name (leaf_count coding machine))
+wide_reply coding held machine wide =
+    let no : nat_le (leaf_count coding machine) MAX_INPUTS ≡ false = grind (arith, nat_tests) in
+    rw no refl
+
+pub encoded_did : {O : Type 0} (puts : O → PutCall → O → Type 0) (coding : Coding) (held : Held)
+    (there : Option Machine) (machine : Machine) (text : List ℕ) (old new : O)
+    (answer : Result Next StepFault) → there ≡ Some machine
+    → leaf_count coding machine ≤ MAX_INPUTS → text ≡ codes_text (codes_of coding machine)
+    → HasPut puts text old answer new
+    → Did (λ plan. plan ≡ sends None (encoded_reply coding held there)) AskedNone
+    (Follows puts old new) (ended answer (with_encoded held held.network (encoded coding machine)))
+encoded_did {O} puts coding held there machine text old new answer is narrow same h =
+    subst (λ (r : Result Reply Refusal). Did (λ plan. plan ≡ sends None r) AskedNone
+    (Follows puts old new) (ended answer left))
+    (sym (ap (encoded_reply coding held) is ∙ narrow_reply coding held machine narrow))
+    (put_sent puts left told old new answer (subst (λ t. HasPut puts t old answer new) same h))
+  where
+    told : List ℕ
+    told = codes_text (codes_of coding machine)
+
+    left : Held
+    left = with_encoded held held.network (encoded coding machine)
+
+-- it was not made, and nothing was put
+pub unencoded_did : {O : Type 0} (puts : O → PutCall → O → Type 0) (coding : Coding) (held : Held)
+    (there : Option Machine) (machine : Machine) (out : O) (why : StepFault) → there ≡ Some machine
+    → IsEncoded coding machine (Err why)
+    → Did (λ plan. plan ≡ sends None (encoded_reply coding held there)) AskedNone
+    (Follows puts out out) (faulted why)
+unencoded_did {O} puts coding held there machine out why is h =
+    store_alone puts plans AskedNone out (faulted why) (by why h)
+  where
+    plans : Plan → Type 0
+    plans = λ plan. plan ≡ sends None (encoded_reply coding held there)
+
+    by : (w : StepFault) → IsEncoded coding machine (Err w)
+        → Did plans AskedNone AskedNone (faulted w)
+    by (fault.Refused reason) k =
+        quiet_did plans (Refuses reason) (Refused reason)
+        (sym (ap (sends None) (ap (encoded_reply coding held) is
+        ∙ wide_reply coding held machine k.0 ∙ ap (λ (r : Refusal). Err r) (sym k.1)))) (inl refl)
+    by fault.StoreFault k = absurd k
+    by fault.SinkFault k = absurd k
+    by fault.Memory k = wanting_did plans
+
+pub no_machine_did : {O : Type 0} (puts : O → PutCall → O → Type 0) (coding : Coding) (held : Held)
+    (there : Option Machine) (out : O) → there ≡ None
+    → Did (λ plan. plan ≡ sends None (encoded_reply coding held there)) AskedNone
+    (Follows puts out out) (Refused refusal.NoMachine)
+no_machine_did puts coding held there out none =
+    store_alone puts (λ plan. plan ≡ sends None (encoded_reply coding held there)) AskedNone out
+    (Refused refusal.NoMachine)
+    (quiet_did (λ plan. plan ≡ sends None (encoded_reply coding held there))
+    (Refuses refusal.NoMachine) (Refused refusal.NoMachine)
+    (sym (ap (λ m. sends None (encoded_reply coding held m)) none)) (inl refl))
 
 -- `undo`
 pub undone_did : (held held' : Held) (previous : Option Circuit) (undone : Bool) → Undoes previous held undone held' → undone ≡ true

@@ -2,7 +2,7 @@
 -- Source: the SIS manual (UCB/ERL M92/41), the commands; the order of refusals is the project's own: a
 -- command's words, then how deep scripts are nested, then the parts that it needs, then names, then the
 -- file that it loads, then what is read of it, then the command's own limits.
-use Rattle.std.specs.Prelude.{◌≡◌, ◌⊎◌, ℕ, Option, Some, None, Result, Ok, Err, List, [], nat_lt, min, flat_map, map, if◌then◌else◌}
+use Rattle.std.specs.Prelude.{◌≡◌, ◌⊎◌, ℕ, Option, Some, None, Result, Ok, Err, List, [], nat_le, nat_lt, min, flat_map, map, if◌then◌else◌}
 use Rattle.sis_base.specs.Written.{lines_text}
 use Rattle.sis_text.specs.Entries.{entries_of, script_entries_of}
 use Rattle.circuit_model.specs.Text.{text_of, table_lines, latch_line}
@@ -35,17 +35,25 @@ use Rattle.net_decomp.specs.Decomposed.{IsDecomposed, IsFull}
 use Rattle.net_decomp.specs.declared.rule.Rule.{Rule}
 use Rattle.net_decomp.specs.declared.rule.Rule.TheVariants.{Shared, Gates}
 use Rattle.net_elim.specs.Collapsing.{collapsed, collapse_refusal}
+use Rattle.sis_base.specs.declared.limits.TheConstants.{MAX_INPUTS}
+use Rattle.state_code.specs.Codes.{leaf_count}
+use Rattle.state_code.specs.Codes.{codes_of}
+use Rattle.state_code.specs.Encoded.{encoded}
+use Rattle.state_code.specs.declared.codes.Style.{Style as Coding}
+use Rattle.state_code.specs.declared.codes.Style.TheVariants as coded
 use Rattle.sis_script.specs.Bounds.{most_tables}
 use Rattle.sis_script.specs.Script.{command_of}
 use Rattle.sis_script.specs.declared.command.Command.{Command}
 use Rattle.sis_script.specs.declared.command.Change.{Change}
 use Rattle.sis_script.specs.declared.command.Change.TheVariants as changing
+use Rattle.sis_script.specs.declared.command.Style.{Style}
+use Rattle.sis_script.specs.declared.command.Style.TheVariants as style
 use Rattle.sis_script.specs.declared.command.Op.{Op}
 use Rattle.sis_script.specs.declared.command.Op.TheVariants as command
 use Rattle.sis_script.specs.declared.command.ScriptFault.{ScriptFault}
 use Rattle.sis_session.specs.Plan.{MAX_DEPTH, Outcome, Does, Refuses, Plan, Quiet, Loads, Reply, sends}
-use Rattle.sis_session.specs.Replies.{stats_line, echo_line}
-use Rattle.sis_session.specs.State.{Held, Library, with_read, with_spec, held_spec, with_library, with_changed, with_exchanged}
+use Rattle.sis_session.specs.Replies.{stats_line, echo_line, codes_text}
+use Rattle.sis_session.specs.State.{Held, Library, with_read, with_spec, held_spec, with_library, with_changed, with_encoded, with_exchanged}
 use Rattle.sis_session.specs.declared.refusal.Next.TheVariants as next
 use Rattle.sis_session.specs.declared.refusal.Refusal.{Refusal}
 use Rattle.sis_session.specs.declared.refusal.Refusal.TheVariants as refusal
@@ -234,6 +242,27 @@ ChangedBy held change None reply = reply ≡ Err refusal.NoNetwork
 ChangedBy held change (Some old) reply =
     (answer : Result Circuit Refusal) × Changes change old answer × (reply ≡ reply_changed held answer)
 
+-- the coding that a style names
+abbrev pub coding_of : Style → Coding
+coding_of style.Natural = coded.Natural
+coding_of style.OneHot = coded.OneHot
+
+-- `state_assign`: the codes are told, and then the machine's network is held; or its inputs and
+-- state bits are too many
+abbrev pub encoded_by : Coding → Held → Machine → Result Reply Refusal
+encoded_by coding held machine =
+    if nat_le (leaf_count coding machine) MAX_INPUTS
+    then Ok (record {
+      text = codes_text (codes_of coding machine);
+      held = with_encoded held held.network (encoded coding machine);
+    })
+    else Err (refusal.TooWide machine.name (leaf_count coding machine))
+
+-- the same of the machine that is held, or the refusal where there is none
+abbrev pub encoded_reply : Coding → Held → Option Machine → Result Reply Refusal
+encoded_reply coding held None = Err refusal.NoMachine
+encoded_reply coding held (Some machine) = encoded_by coding held machine
+
 -- `undo`: the network and the previous one change places
 abbrev pub undo_outcome : Held → Option Circuit → Outcome
 undo_outcome held None = Refuses refusal.NothingToUndo
@@ -248,8 +277,9 @@ source_plan depth held name =
 
 -- What a command does, by its form: it tells something of what is held; it writes a part of it to a file
 -- or to the output; it reads a file as a circuit or a machine, or as a library; it makes the circuit of a
--- seed, which is held as one that was read; it changes the network; it takes a change back; it has a
--- script done next; it ends the script; or its words are wrong.
+-- seed, which is held as one that was read; it changes the network; it makes a network of the machine by
+-- codes of its states; it takes a change back; it has a script done next; it ends the script; or its words are
+-- wrong.
 pub data Form : Type 1 where
   Tells : (tells : Held → Result (List ℕ) Refusal → Type 0) → Form
   Writes : (part : Part) (file : Option (List ℕ)) → Form
@@ -257,6 +287,7 @@ pub data Form : Type 1 where
   ReadsLibrary : (file : List ℕ) → Form
   Generates : (seed tables : ℕ) → Form
   ChangesNetwork : (change : Change) → Form
+  EncodesMachine : (style : Style) → Form
   TakesBack : Form
   Sources : (file : List ℕ) → Form
   Ends : Form
@@ -278,6 +309,7 @@ form_of command.PrintLatch = Tells (λ held. ToldBy (Just latches_told) held.net
 form_of (command.PrintFactor name) = Tells (λ held. ToldBy (FactorsTold name) held.network)
 form_of (command.PrintKernel name) = Tells (λ held. ToldBy (KernelsTold name) held.network)
 form_of (command.Change change) = ChangesNetwork change
+form_of (command.StateAssign style) = EncodesMachine style
 form_of command.Undo = TakesBack
 form_of (command.Source name) = Sources name
 form_of (command.Bad fault) = IsWrong fault
@@ -303,6 +335,8 @@ FormPlans depth held (ReadsLibrary name) plan =
 FormPlans depth held (Generates seed tables) plan =
     plan ≡ Quiet (Does (with_read held (circuit_of seed tables)) next.Go)
 FormPlans depth held (ChangesNetwork change) plan = Replies (ChangedBy held change held.network) plan
+FormPlans depth held (EncodesMachine style) plan =
+    plan ≡ sends None (encoded_reply (coding_of style) held held.machine)
 FormPlans depth held TakesBack plan = plan ≡ Quiet (undo_outcome held held.previous)
 FormPlans depth held (Sources name) plan = plan ≡ source_plan depth held name
 FormPlans depth held Ends plan = plan ≡ Quiet (Does held next.Quit)

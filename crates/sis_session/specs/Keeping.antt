@@ -2,7 +2,7 @@
 -- done, and when it has one outcome.
 -- Source: the SIS manual (UCB/ERL M92/41), the commands one by one; that each network refines what was read
 -- last is the project's own promise.
-use Rattle.std.specs.Prelude.{◌≡◌, ℕ, ◌<◌, Option, Some, None, Result, Ok, Err, List}
+use Rattle.std.specs.Prelude.{◌≡◌, ℕ, ◌<◌, ◌≤◌, Option, Some, None, Result, Ok, Err, List}
 use Rattle.sis_outside.specs.Calls.{Load, Save}
 use Rattle.circuit_model.specs.Behaviors.{RefinesAs}
 use Rattle.circuit_model.specs.Runs.{of_circuit}
@@ -22,7 +22,9 @@ use Rattle.genlib_format.specs.Reader.{library_of}
 use Rattle.sis_script.specs.declared.command.Op.{Op}
 use Rattle.sis_script.specs.declared.command.Op.TheVariants as command
 use Rattle.sis_script.specs.declared.command.Change.{Change}
-use Rattle.sis_session.specs.Commands.{Changes, Form, Reads, ReadsLibrary, Writes, TheMachine, TheNetwork, form_of, spec_in}
+use Rattle.sis_base.specs.declared.limits.TheConstants.{MAX_INPUTS}
+use Rattle.state_code.specs.Codes.{leaf_count}
+use Rattle.sis_session.specs.Commands.{Changes, coding_of, Form, Reads, ReadsLibrary, Writes, TheMachine, TheNetwork, form_of, spec_in}
 use Rattle.sis_session.specs.Plan.{MAX_DEPTH, Asked, Nothing, OnStore, OnOut, OnInput}
 use Rattle.sis_session.specs.State.{Held, Library}
 use Rattle.sis_session.specs.declared.refusal.Refusal.{Refusal}
@@ -86,7 +88,7 @@ Allows change circuit = (why : Refusal) → Changes change circuit (Err why) →
 
 -- what a command needs of what is held: its words fit, its scripts are not nested too deep; the network,
 -- the previous one or the machine and the table that it names are there, with no more kernels than are
--- listed; and nothing refuses the change
+-- listed; the machine's network is not too wide; and nothing refuses the change
 abbrev pub HasNeeds : ℕ → Held → Op → Type 0
 HasNeeds depth held (command.WriteBlif file) = HasNetwork held.network
 HasNeeds depth held (command.WriteKiss file) = HasMachine held.machine
@@ -99,6 +101,9 @@ HasNeeds depth held (command.PrintFactor (Some name)) = HasTable held.network na
 HasNeeds depth held (command.PrintKernel name) = HasKernels held.network name
 HasNeeds depth held (command.Change change) =
     (circuit : Circuit) × (held.network ≡ Some circuit) × Allows change circuit
+HasNeeds depth held (command.StateAssign style) =
+    (machine : Machine) × (held.machine ≡ Some machine)
+    × (leaf_count (coding_of style) machine ≤ MAX_INPUTS)
 HasNeeds depth held command.Undo = HasNetwork held.previous
 HasNeeds depth held (command.Source name) = depth < MAX_DEPTH
 HasNeeds depth held (command.Bad fault) = ⊥

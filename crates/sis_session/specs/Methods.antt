@@ -1,7 +1,7 @@
 -- What the calls below a step promise, each by cases on its answer. No public clause stands on these
 -- definitions but that of `load` and of the session's `read` and `undo`.
 -- Source: the project's own rule: an answer names what failed, and only a command that is done changes what is held.
-use Rattle.std.specs.Prelude.{◌≡◌, ℕ, Bool, true, false, List, [], ◌∷◌, Option, Some, None, Result, Ok, Err}
+use Rattle.std.specs.Prelude.{◌≡◌, ℕ, ◌<◌, ◌≤◌, Bool, true, false, List, [], ◌∷◌, Option, Some, None, Result, Ok, Err}
 use Rattle.std.specs.Global.{Vec}
 use Rattle.sis_text.specs.Entries.{entries_of}
 use Rattle.sis_outside.specs.Calls.{StoreCall, Load, Save, PutCall, load_failed}
@@ -15,7 +15,15 @@ use Rattle.blif_read.specs.Reader.{read_lines}
 use Rattle.blif_lines.specs.declared.fault.ReadFault.{ReadFault}
 use Rattle.blif_lines.specs.declared.fault.ReadFault.TheVariants as reading
 use Rattle.sis_script.specs.declared.command.Change.{Change}
+use Rattle.circuit_model.specs.declared.machine.Machine.{Machine}
+use Rattle.state_code.specs.Codes.{codes_of}
+use Rattle.state_code.specs.Encoded.{encoded}
+use Rattle.state_code.specs.declared.codes.Style.{Style as Coding}
+use Rattle.sis_base.specs.declared.limits.TheConstants.{MAX_INPUTS}
+use Rattle.state_code.specs.Codes.{leaf_count}
 use Rattle.sis_session.specs.Commands.{Changes}
+use Rattle.sis_session.specs.Replies.{codes_text}
+use Rattle.sis_session.specs.declared.encoding.CodedNetwork.{CodedNetwork}
 use Rattle.sis_session.specs.Plan.{MAX_BYTES}
 use Rattle.sis_session.specs.State.{Held, with_spec, with_exchanged}
 use Rattle.sis_session.specs.declared.refusal.Next.{Next}
@@ -87,6 +95,18 @@ IsMadeBy makes (Err other) = ⊥
 -- what a change makes of a network
 abbrev pub IsChanged : Change → Circuit → Result Circuit StepFault → Type 0
 IsChanged change old = IsMadeBy (Changes change old)
+
+-- the network of a machine was made, with the text that tells its codes; or its inputs and state
+-- bits are too many; or memory was wanting
+abbrev pub IsEncoded : Coding → Machine → Result CodedNetwork StepFault → Type 0
+IsEncoded coding machine (Ok made) =
+    (leaf_count coding machine ≤ MAX_INPUTS) × (made.network ≡ encoded coding machine)
+    × (made.text.items ≡ codes_text (codes_of coding machine))
+IsEncoded coding machine (Err (fault.Refused why)) =
+    (MAX_INPUTS < leaf_count coding machine)
+    × (why ≡ refusal.TooWide machine.name (leaf_count coding machine))
+IsEncoded coding machine (Err fault.Memory) = Unit {0}
+IsEncoded coding machine (Err other) = ⊥
 
 -- what an undo leaves: whether there was a previous network, and then the exchange
 abbrev pub Undoes : Option Circuit → Held → Bool → Held → Type 0

@@ -1,11 +1,14 @@
 -- The texts that the program prints: replies, lines of refusals and of faults.
 -- Source: the SIS manual (UCB/ERL M92/41), `print_stats`; the wording of refusals is the project's own.
-use Rattle.std.specs.Prelude.{ℕ, List, [], ◌∷◌, ◌++◌, flat_map, codes, decimal}
+use Rattle.std.specs.Prelude.{ℕ, Bool, List, [], ◌∷◌, ◌++◌, flat_map, map, codes, decimal}
 use Rattle.sis_base.specs.Written.{spaced}
 use Rattle.circuit_model.specs.Counts.{literals_of}
+use Rattle.circuit_model.specs.Runs.{tri_of}
+use Rattle.circuit_model.specs.Text.{character}
 use Rattle.circuit_model.specs.declared.circuit.Circuit.{Circuit}
 use Rattle.sis_session.specs.Texts.{blif_text, kiss_text, library_text}
 use Rattle.net_core.specs.Reads.{sizes_of}
+use Rattle.state_code.specs.declared.codes.Code.{Code}
 use Rattle.sis_script.specs.declared.command.ScriptFault.{ScriptFault}
 use Rattle.sis_script.specs.declared.command.ScriptFault.TheVariants.{BadCommand, BadOption, MissingWord}
 use Rattle.sis_session.specs.declared.refusal.Refusal.{Refusal}
@@ -31,6 +34,19 @@ numbers_line name stats =
 -- how large a circuit is, behind its name
 abbrev pub stats_line : Circuit → List ℕ
 stats_line circuit = numbers_line circuit.name (stats_of circuit)
+
+-- the bits of a code, with a blank before them; nothing where there are none
+abbrev pub code_bits : List Bool → List ℕ
+code_bits [] = []
+code_bits (bit ∷ bits) = spaced (map (λ each. character (tri_of each)) (bit ∷ bits))
+
+-- a state and its code
+unfoldable pub code_line : Code → List ℕ
+code_line code = codes "code " ++ (code.state ++ (code_bits code.bits ++ codes "\n"))
+
+-- all codes, a line for each
+abbrev pub codes_text : List Code → List ℕ
+codes_text each = flat_map code_line each
 
 -- why the words of a command are refused
 abbrev pub script_fault_text : ScriptFault → List ℕ

@@ -60,6 +60,12 @@ with_library held library = record held { library = Some library; netlist = None
 abbrev pub with_changed : Held → Circuit → Held
 with_changed held new = record held { network = Some new; previous = held.network; netlist = None; previous_netlist = held.netlist }
 
+-- the network of a machine in place of the one that is held: as any new network, where one is; else
+-- the previous one stays as it was
+abbrev pub with_encoded : Held → Option Circuit → Circuit → Held
+with_encoded held None new = record held { network = Some new; netlist = None }
+with_encoded held (Some old) new = with_changed held new
+
 -- the network and its netlist change places with the previous ones
 abbrev pub with_exchanged : Held → Held
 with_exchanged held =

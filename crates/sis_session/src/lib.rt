@@ -10,7 +10,7 @@
 //!
 //! Rooms: `session` (what is held, and the step), `printing` (what commands tell), `algebra` (what
 //! they tell of tables as algebra, by the lines of `factors` and `kernels`, `specs/Told`),
-//! `changing` (what they make of the network), `outside` (the calls on files and output), `texts`
+//! `changing` (what they make of the network), `encoding` (what they make of the machine), `outside` (the calls on files and output), `texts`
 //! (what is printed), `refusal`. What is wrong with a file is told by `blif`, `kiss` and `library`:
 //! just the one text of the fault (`specs/Texts`), in the project's own words.
 #![tactic(auto)]
@@ -18,6 +18,7 @@
 mod algebra;
 mod blif;
 mod changing;
+mod encoding;
 mod factors;
 mod generating;
 mod kernels;

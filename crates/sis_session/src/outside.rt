@@ -49,7 +49,7 @@ fn save<S: Store>(store: &mut S, name: &str, bytes: &[u8]) -> Result<Next, StepF
 }
 
 /// Puts a reply, unless it is empty.
-fn put<O: Sink>(out: &mut O, reply: &[u8]) -> Result<Next, StepFault>
+pub fn put<O: Sink>(out: &mut O, reply: &[u8]) -> Result<Next, StepFault>
     ensures { HasPut O.calls reply.now out.old result out.new }
 {
     match reply {

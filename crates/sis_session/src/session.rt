@@ -9,20 +9,23 @@
 
 ghost use Rattle.std.specs.Prelude.{◌≡◌, ◌<◌, ℕ, IfOk, IfSome, OnOk, OnErr, option_map};
 ghost use Rattle.sis_outside.specs.Calls.{Follows};
-ghost use Rattle.sis_session.specs.Commands.{Blif, ChangedBy, Kiss, Plans, Replies, circuit_of, library_held, spec_held, spec_in, undo_outcome};
+ghost use Rattle.sis_session.specs.Commands.{Blif, ChangedBy, Kiss, Plans, Replies, circuit_of, coding_of, encoded_reply, library_held, spec_held, spec_in, undo_outcome};
 ghost use Rattle.sis_session.specs.Methods.{AskedNone, HasRead, Undoes};
-ghost use Rattle.sis_session.specs.Plan.{Comes, Did, Does, Loads, NestsBelow, Quiet, ended};
+ghost use Rattle.sis_session.specs.Plan.{Comes, Did, Does, Loads, NestsBelow, Quiet, ended, sends};
 ghost use Rattle.sis_session.specs.Replies.{stats_of};
 ghost use Rattle.sis_session.specs.declared.refusal.Next.TheVariants.{Go};
-ghost use Rattle.sis_session.specs.State.{nothing_held, with_read, with_machine};
+ghost use Rattle.sis_session.specs.State.{nothing_held, with_encoded, with_read, with_machine};
 ghost use Rattle.genlib_format.specs.Reader.{library_of};
 ghost use Rattle.circuit_model.specs.Counts.{IsWithinLimits};
+ghost use Rattle.net_core.specs.Reads.{HasBounds};
 ghost use Rattle.circuit_model.specs.Soundness.{IsSound};
+ghost use Rattle.circuit_model.specs.MachineSoundness.{IsSound as IsSoundMachine};
 
 use crate::algebra::{print_factor, print_kernel};
 use crate::changing::change_network;
+use crate::encoding::{CodedNetwork, encoded};
 use crate::generating::circuit_of;
-use crate::outside::{load, put_told, send_told, source};
+use crate::outside::{load, put, put_told, send_told, source};
 use crate::printing::{
     echo, machine_told, network_text, print, print_latch, print_stats, stats_of,
 };
@@ -34,7 +37,7 @@ use cube_cover::PlainRow;
 use genlib_format::Library;
 use net_core::Network;
 use sis_outside::{Sink, Store};
-use sis_script::{Change, Command, Op};
+use sis_script::{Change, Command, Op, Style};
 use sis_text::Word;
 use std::alloc::{AllocError, Global};
 use std::marker::Model;
@@ -47,7 +50,7 @@ pub const MAX_BYTES: usize = 67_108_864;
 pub const MAX_DEPTH: u32 = 16;
 
 /// What is held between two commands: the network, and the one before its last change, which both
-/// keep the bounds in which literals are counted; the machine and the library, which is sound.
+/// keep the bounds in which literals are counted; the machine and the library, which are sound.
 #[derive(Drop)]
 pub struct Session {
     network: Option<Network<PlainRow>>,
@@ -59,6 +62,7 @@ pub struct Session {
 impl Model for Session {
     ghost use Rattle.std.specs.Prelude.{IfSome};
     ghost use Rattle.blif_lines.specs.Libraries.{IsSoundLibrary};
+    ghost use Rattle.circuit_model.specs.MachineSoundness.{IsSound as IsSoundMachine};
     ghost use Rattle.net_core.specs.Reads.{HasBounds};
     ghost use Rattle.sis_session.specs.State.{Held, parts_held};
 
@@ -67,7 +71,7 @@ impl Model for Session {
     ghost view = { λ s. parts_held s.network s.previous s.machine s.library };
 
     ghost invariant = { λ s. IfSome s.network HasBounds × (IfSome s.previous HasBounds
-        × IsSoundLibrary s.library) };
+        × (IsSoundLibrary s.library × IfSome s.machine IsSoundMachine)) };
 }
 
 impl Session {
@@ -108,6 +112,7 @@ impl Session {
 
     /// Holds a machine that was read.
     fn hold_machine(&mut self, machine: Machine)
+        requires { IsSoundMachine machine }
         ensures { self.new ≡ with_machine self.old machine }
     {
         self.network = None;
@@ -277,6 +282,42 @@ impl Session {
         Ok(Next::Go)
     }
 
+    /// Holds the network of the machine, and the one before as the previous one, where there was one.
+    fn hold_encoded(&mut self, network: Network<PlainRow>)
+        requires { HasBounds network }
+        ensures { self.new ≡ with_encoded self.old self.old.network network }
+    {
+        let old = mem::replace(&mut self.network, Some(network));
+        if old.is_some() {
+            self.previous = old;
+        }
+    }
+
+    /// Makes the network of the machine, tells its codes, and then holds it.
+    fn state_assign<O: Sink>(
+        &mut self,
+        alloc: Global,
+        style: Style,
+        out: &mut O,
+    ) -> Result<Next, StepFault>
+        ensures did { Did (λ plan. plan ≡ sends None (encoded_reply (coding_of style) self.old
+            self.old.machine)) AskedNone (Follows O.calls out.old out.new) (ended result self.new) }
+        ensures err { OnErr result (self.new ≡ self.old) }
+        ensures nests { (depth : ℕ) → IfOk result (NestsBelow depth) }
+    {
+        let Some(machine) = &self.machine else {
+            return Err(StepFault::Refused(Refusal::NoMachine));
+        };
+        let CodedNetwork { network, text } = encoded(alloc, machine, style)?;
+        match put(out, text.as_slice()) {
+            Ok(next) => {
+                self.hold_encoded(network);
+                Ok(next)
+            }
+            Err(fault) => Err(fault),
+        }
+    }
+
     /// Takes the last change back, or is refused where there is none.
     fn undo_or_refuse(&mut self) -> Result<Next, StepFault>
         ensures did { Did (λ plan. plan ≡ Quiet
@@ -321,6 +362,7 @@ impl Session {
             Op::PrintFactor(name) => put_told(print_factor(alloc, &self.network, name), out),
             Op::PrintKernel(name) => put_told(print_kernel(alloc, &self.network, name), out),
             Op::Change(change) => self.change(alloc, *change),
+            Op::StateAssign(style) => self.state_assign(alloc, *style, out),
             Op::Undo => self.undo_or_refuse(),
             Op::Source(name) => source(alloc, name, depth, store),
             Op::Bad(fault) => Err(StepFault::Refused(Refusal::Script(*fault))),

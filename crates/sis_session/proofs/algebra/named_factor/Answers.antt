@@ -1,4 +1,4 @@
-use Rattle.std.proofs.Common.{◌≡◌, ◌∙◌, Option, Some, length, sym, ap, subst}
+use Rattle.std.proofs.Common.{◌≡◌, ◌∙◌, Some, length, sym, ap, subst}
 use Rattle.std.specs.Option.{option_map}
 use Rattle.circuit_model.specs.Soundness.{IsShaped}
 use Rattle.circuit_model.specs.Values.{driver}

@@ -1,5 +1,5 @@
-use Rattle.std.proofs.Common.{◌≡◌, ◌∙◌, ℕ, List, Option, Some, length, sym, ap, subst, refl}
-use Rattle.std.specs.Prelude.{Result, Ok, Err}
+use Rattle.std.proofs.Common.{◌≡◌, ◌∙◌, ℕ, List, Option, Some, length, sym, ap, subst}
+use Rattle.std.specs.Prelude.{Ok, Err}
 use Rattle.std.specs.Option.{option_map}
 use Rattle.circuit_model.specs.Soundness.{IsShaped}
 use Rattle.circuit_model.specs.Values.{driver}

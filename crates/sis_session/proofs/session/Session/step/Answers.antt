@@ -67,6 +67,11 @@ pub returns-in-Change-clause-did : goal.returns-in-Change-clause-did
 returns-in-Change-clause-did g c =
     rw c.in-Change.is (both_alone g.S.Store.calls g.O.Sink.calls _ c.args.store.now c.args.out.now _ c.change.ensures.did)
 
+pub returns-in-StateAssign-clause-did : goal.returns-in-StateAssign-clause-did
+returns-in-StateAssign-clause-did g c =
+    rw c.in-StateAssign.is
+    (out_alone g.S.Store.calls _ _ c.args.store.now _ c.state_assign.ensures.did)
+
 pub returns-in-Undo-clause-did : goal.returns-in-Undo-clause-did
 returns-in-Undo-clause-did g c =
     rw c.in-Undo.is (both_alone g.S.Store.calls g.O.Sink.calls _ c.args.store.now c.args.out.now _ c.undo_or_refuse.ensures.did)
@@ -86,6 +91,9 @@ returns-in-Echo-clause-nests g c = c.put_told.ensures.nests c.args.depth
 
 pub returns-in-Generate-clause-nests : goal.returns-in-Generate-clause-nests
 returns-in-Generate-clause-nests g c = c.generate.ensures.nests c.args.depth
+
+pub returns-in-StateAssign-clause-nests : goal.returns-in-StateAssign-clause-nests
+returns-in-StateAssign-clause-nests g c = c.state_assign.ensures.nests c.args.depth
 
 pub returns-in-WriteBlif-clause-nests : goal.returns-in-WriteBlif-clause-nests
 returns-in-WriteBlif-clause-nests g c = c.send_told.ensures.nests c.args.depth
