@@ -17,6 +17,7 @@
 //! - `cube_over`, `row_over`, `cover_over`, and what net_candidates gives: `fx`, `gkx` and `gcx`;
 //! - `KeptGains`, `Totals`, `Codes`, divisors: `fx`; `KeptSavings`, `RankedCovers`, `best_saved`,
 //!   `leaves_narrow`, `places_for`: `gkx` and `gcx`;
+//! - `assign`: `state_assign`;
 //! - `factor_line`, `factor_lines`, `kernel_lines`, `load`, `error_text`, `refusal_text`,
 //!   `put_two`, `put_three`, `read_words`, `run_sis`: `print_factor`, `print_kernel`, `read_blif`,
 //!   refusals.
