@@ -40,8 +40,13 @@ chain() {
 
 # A random circuit: inputs i0..i15, latches l0..l7 of init 0, and tables over any two different signals before them; the
 # outputs are the last eight tables, which are the latches' inputs too. The draws are those of a 64-bit linear
-# congruential generator: x = x * 6364136223846793005 + 1442695040888963407, of which x / 2^33 is taken.
+# congruential generator: x = x * 6364136223846793005 + 1442695040888963407, of which x / 2^33 is taken. Up to 20,000 tables
+# `gen` makes the same circuit.
 random() {
+  if [ "$1" -ge 8 ] && [ "$1" -le 20000 ]; then
+    "$top/out/sis" -c "gen 1 $1; write_blif"
+    return
+  fi
   python3 - "$1" <<'PY'
 import sys
 tables, x = int(sys.argv[1]), 1
