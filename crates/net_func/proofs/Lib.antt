@@ -1,0 +1,10 @@
+pub mod RowParts
+pub mod Making
+pub mod Lists
+pub mod Adding
+pub mod Finding
+pub mod LeafBits
+pub mod Circuits
+pub mod Seeing
+pub mod Turning
+pub mod Listed

@@ -1,0 +1,48 @@
+use Rattle.std.proofs.Common.{◌≡◌, ℕ, List, true, sym, ◌∙◌, subst}
+use Rattle.std.proofs.lemmas.Result.{err_from_is_err_and}
+use Rattle.circuit_model.specs.Names.{all_different}
+use Rattle.circuit_model.specs.Soundness.{leaf_names}
+use Rattle.net_func.specs.Numbering.{number_in, AreOver, IsBlamed, FitsOver}
+use Rattle.net_func.proofs.Adding.{blames_weaker}
+use Rattle.net_func.proofs.LeafBits.{empty_stands}
+use Rattle.net_func.proofs.Circuits.{over_none, blamed_none}
+use Rattle.net_func.proofs.signals.numbers_over.Goals as goal
+
+pub add_over-requires-clause-once : goal.add_over-requires-clause-once
+add_over-requires-clause-once g c =
+    subst (λ (names : List (List ℕ)). all_different names ≡ true)
+    (sym (c.as_slice.ensures ∙ c.in_ok-leaves.ensures)) c.requires.once
+
+pub add_over-requires-clause-over : goal.add_over-requires-clause-over
+add_over-requires-clause-over g c =
+    subst (λ (names : List (List ℕ)). AreOver names c.args.tables.now)
+    (sym (c.as_slice.ensures ∙ c.in_ok-leaves.ensures)) c.requires.over
+
+pub add_over-requires-clause-stand : goal.add_over-requires-clause-stand
+add_over-requires-clause-stand g c =
+    empty_stands g.F.Functions.holds g.F.Functions.tree g.F.Functions.limit c.args.functions.now
+    (number_in c.new-numbers.result) c.new-numbers.ensures
+
+pub returns-in_err-add_over-clause-big : goal.returns-in_err-add_over-clause-big
+returns-in_err-add_over-clause-big g c =
+    let p = err_from_is_err_and c.from_residual-in_err-add_over.result
+    c.from_residual-in_err-add_over.ensures.1 in
+    rw (p.1, p.2)
+    (blames_weaker
+    (IsBlamed g.F.Functions.holds g.F.Functions.tree g.F.Functions.limit c.args.functions.now
+    c.args.tables.now (number_in c.new-numbers.result)
+    (FitsOver c.as_slice.result.now c.args.tables.now (number_in c.new-numbers.result))) _
+    c.in_err-add_over.field-0.0
+    (blamed_none g.F.Functions.holds g.F.Functions.tree g.F.Functions.limit c.args.functions.now
+    (number_in c.new-numbers.result) c.as_slice.result.now
+    (leaf_names c.args.circuit.now) c.args.tables.now c.new-numbers.ensures
+    (c.as_slice.ensures ∙ c.in_ok-leaves.ensures))
+    c.in_err-add_over.ensures.big)
+
+pub returns-clause-ok : goal.returns-clause-ok
+returns-clause-ok g c =
+    over_none g.F.Functions.holds g.F.Functions.tree g.F.Functions.limit c.args.functions.now
+    c.add_over.new.functions (number_in c.new-numbers.result)
+    (number_in c.add_over.new.numbers) c.as_slice.result.now (leaf_names c.args.circuit.now)
+    c.args.tables.now c.new-numbers.ensures (c.as_slice.ensures ∙ c.in_ok-leaves.ensures)
+    c.in_ok-add_over.ensures.ok

@@ -1,0 +1,5 @@
+pub mod Changes
+pub mod Locals
+pub mod Numbered
+pub mod Numbering
+pub mod Signals

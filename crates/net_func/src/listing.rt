@@ -1,0 +1,104 @@
+//! Functions of signals, listed in order.
+
+ghost use Rattle.std.specs.Prelude.{◌≡◌, ℕ, true, false, ◌||◌, List, ◌++◌, bytes_eq, IfOk, IfErr};
+ghost use Rattle.circuit_model.specs.Names.{has};
+ghost use Rattle.circuit_model.specs.Soundness.{outputs_of, leaf_names as leaves_of, IsSound};
+ghost use Rattle.circuit_order.specs.Order.{order_of};
+ghost use Rattle.func_core.specs.Numbers.{Stays};
+ghost use Rattle.net_func.specs.Numbering.{number_in, has_number, IsListing};
+ghost use Rattle.net_func.specs.Signals.{own_function, free_function, forced_function, AreNumbered, IsBigAt, Blames};
+
+use crate::fault::NetFuncFault;
+use crate::leaves::{add_leaf_names, add_names};
+use crate::numbers::{Numbered, Numbers};
+use crate::signals::{forced_numbers, free_numbers, own_numbers};
+use circuit_model::{Circuit, Name, Names};
+use circuit_order::order;
+use func_core::Functions;
+use sis_base::Sequence;
+use std::alloc::{AllocError, Global};
+
+// The leaves, then the tables in order.
+fn signal_names(alloc: Global, circuit: &Circuit) -> Result<Names, AllocError>
+    requires sound { IsSound circuit.now }
+    ensures { IfOk result (λ names. names ≡ leaves_of circuit.now ++ order_of circuit.now.tables) }
+{
+    let mut names = Vec::new(alloc);
+    add_leaf_names(alloc, &mut names, circuit)?;
+    let tables = order(alloc, circuit.tables.as_slice())?;
+    add_names(alloc, &mut names, tables.as_slice())?;
+    Ok(Sequence::from_vec(names))
+}
+
+// The numbers of all signals of a circuit, in order.
+fn listed_signals(
+    alloc: Global,
+    circuit: &Circuit,
+    numbers: &Numbers,
+) -> Result<Numbered, AllocError>
+    requires sound { IsSound circuit.now }
+    requires known { (name : List ℕ) → has_number (number_in numbers.now) name
+        ≡ (has (leaves_of circuit.now) name || has (outputs_of circuit.now.tables) name) }
+    ensures { IfOk result (λ list. IsListing (number_in numbers.now)
+        (leaves_of circuit.now ++ order_of circuit.now.tables) list) }
+{
+    let names = signal_names(alloc, circuit)?;
+    numbers.listed(alloc, names.as_slice())
+}
+
+/// The functions of all signals of a circuit, in order.
+pub(crate) fn own_listed<F: Functions>(
+    alloc: Global,
+    functions: &mut F,
+    circuit: &Circuit,
+) -> Result<Numbered, NetFuncFault>
+    requires sound { IsSound circuit.now }
+    ensures ok { IfOk result (λ list. AreNumbered F.holds F.tree F.limit functions.new
+        (leaves_of circuit.now ++ order_of circuit.now.tables) (own_function circuit.now) list) }
+    ensures big { IfErr result (λ fault. Blames fault
+        (IsBigAt (F.limit functions.old) circuit.now.tables (own_function circuit.now))) }
+    ensures stays { Stays F.holds F.tree F.limit functions.old functions.new }
+{
+    let numbers = own_numbers(alloc, functions, circuit)?;
+    Ok(listed_signals(alloc, circuit, &numbers)?)
+}
+
+/// The functions of all signals of a circuit with one signal fixed, in order.
+pub(crate) fn forced_listed<F: Functions>(
+    alloc: Global,
+    functions: &mut F,
+    circuit: &Circuit,
+    name: &Name,
+    bit: bool,
+) -> Result<Numbered, NetFuncFault>
+    requires sound { IsSound circuit.now }
+    requires driven { has (outputs_of circuit.now.tables) name.now ≡ true }
+    ensures ok { IfOk result (λ list. AreNumbered F.holds F.tree F.limit functions.new
+        (leaves_of circuit.now ++ order_of circuit.now.tables)
+        (forced_function circuit.now name.now bit) list) }
+    ensures big { IfErr result (λ fault. Blames fault (λ blamed. (bytes_eq blamed name.now ≡ false)
+        × IsBigAt (F.limit functions.old) circuit.now.tables
+        (forced_function circuit.now name.now bit) blamed)) }
+    ensures stays { Stays F.holds F.tree F.limit functions.old functions.new }
+{
+    let numbers = forced_numbers(alloc, functions, circuit, name, bit)?;
+    Ok(listed_signals(alloc, circuit, &numbers)?)
+}
+
+/// The functions of the don't-care tables of a circuit, in their order.
+pub(crate) fn free_listed<F: Functions>(
+    alloc: Global,
+    functions: &mut F,
+    circuit: &Circuit,
+) -> Result<Numbered, NetFuncFault>
+    requires sound { IsSound circuit.now }
+    ensures ok { IfOk result (λ list. AreNumbered F.holds F.tree F.limit functions.new
+        (order_of circuit.now.dont_care) (free_function circuit.now) list) }
+    ensures big { IfErr result (λ fault. Blames fault
+        (IsBigAt (F.limit functions.old) circuit.now.dont_care (free_function circuit.now))) }
+    ensures stays { Stays F.holds F.tree F.limit functions.old functions.new }
+{
+    let numbers = free_numbers(alloc, functions, circuit)?;
+    let names = order(alloc, circuit.dont_care.as_slice())?;
+    Ok(numbers.listed(alloc, names.as_slice())?)
+}

@@ -1,0 +1,241 @@
+//! Where a signal is seen from outside: where turning it over changes a latch input, or an output
+//! that the don't-care part does not leave open.
+
+ghost use Rattle.std.specs.Prelude.{◌≡◌, true, false, not, ◌&&◌, ◌||◌, Option, Some, None, Err, ◌⊎◌, map, bytes_eq, IfOk, IfErr};
+ghost use Rattle.std.specs.List.{list_all};
+ghost use Rattle.indexmap.specs.IndexMap.{get};
+ghost use Rattle.circuit_model.specs.Names.{has};
+ghost use Rattle.circuit_model.specs.Soundness.{outputs_of, leaf_names as leaves_of, latch_inputs, IsSound};
+ghost use Rattle.func_core.specs.Numbers.{Means, IsBig, Stays};
+ghost use Rattle.net_func.specs.Numbered.{computed};
+ghost use Rattle.net_func.specs.Numbering.{number_in, has_number, no_numbers, AreAll};
+ghost use Rattle.net_func.specs.Signals.{forced_function, is_seen, seen_among, IsBigSeen, Blames};
+ghost use Rattle.net_func.specs.Changes.{free_bit, FreeStands, ChangeStands, changed_by, shown_by, ChangesStand, HasBigChange, free_in, AreChanges, AreAllChanges};
+
+use crate::building::{Places, place_at, places_of};
+use crate::fault::{NetFuncFault, fault_at};
+use crate::numbers::Numbers;
+use crate::signals::{forced_numbers, free_numbers};
+use circuit_model::{Circuit, Latch, Name};
+use func_core::{Func, FuncFault, Functions};
+use sis_base::Whole;
+use std::alloc::{AllocError, Global};
+
+/// The functions by which a signal changes where another one is turned over: with the other one at
+/// 0, with it at 1, and where the change is not seen, if there is such a function.
+#[derive(Clone, Copy)]
+pub(crate) struct Change {
+    pub low: Func,
+    pub high: Func,
+    pub free: Option<Func>,
+}
+
+// A change where it is not free.
+fn outside<F: Functions>(
+    functions: &mut F,
+    change: Func,
+    free: Option<Func>,
+) -> Result<Func, FuncFault>
+    requires change { F.holds functions.old change.0 }
+    requires free { FreeStands F.holds functions.old free }
+    ensures ok { IfOk result (λ made. Means F.holds F.tree F.limit functions.new made.0
+        (λ point. not (free_bit F.tree functions.old free point)
+        && computed F.tree functions.old change point)) }
+    ensures big { result ≡ Err FuncFault.TooBig → IsBig (F.limit functions.old)
+        (λ point. not (free_bit F.tree functions.old free point)
+        && computed F.tree functions.old change point) }
+    ensures stays { Stays F.holds F.tree F.limit functions.old functions.new }
+{
+    match free {
+        None => Ok(change),
+        Some(free) => {
+            let closed = functions.not(free)?;
+            functions.and(closed, change)
+        }
+    }
+}
+
+// What is seen already, or a change where it is not free.
+fn add_change<F: Functions>(
+    functions: &mut F,
+    seen: Func,
+    change: Change,
+) -> Result<Func, FuncFault>
+    requires seen { F.holds functions.old seen.0 }
+    requires change { ChangeStands F.holds functions.old change }
+    ensures ok { IfOk result (λ made. Means F.holds F.tree F.limit functions.new made.0
+        (λ point. computed F.tree functions.old seen point
+        || shown_by F.tree functions.old change point)) }
+    ensures big { result ≡ Err FuncFault.TooBig
+        → IsBig (F.limit functions.old) (changed_by F.tree functions.old change)
+        ⊎ (IsBig (F.limit functions.old) (shown_by F.tree functions.old change)
+        ⊎ IsBig (F.limit functions.old) (λ point. computed F.tree functions.old seen point
+        || shown_by F.tree functions.old change point)) }
+    ensures stays { Stays F.holds F.tree F.limit functions.old functions.new }
+{
+    let changed = functions.xor(change.low, change.high)?;
+    let shown = outside(functions, changed, change.free)?;
+    functions.or(seen, shown)
+}
+
+// Where one of some changes is seen.
+fn any_change<F: Functions>(functions: &mut F, changes: &[Change]) -> Result<Func, FuncFault>
+    requires stand { ChangesStand F.holds functions.old changes.now }
+    ensures ok { IfOk result (λ seen. Means F.holds F.tree F.limit functions.new seen.0
+        (seen_among (map (shown_by F.tree functions.old) changes.now))) }
+    ensures big { result ≡ Err FuncFault.TooBig → HasBigChange F.tree functions.old
+        (F.limit functions.old) changes.now }
+    ensures stays { Stays F.holds F.tree F.limit functions.old functions.new }
+{
+    let mut seen = functions.constant(false)?;
+    for change in changes {
+        seen = add_change(functions, seen, *change)?;
+    }
+    Ok(seen)
+}
+
+// The change of a signal that has numbers.
+fn change_at(low: &Numbers, high: &Numbers, root: &Name, free: Option<Func>) -> Change
+    requires low { has_number (number_in low.now) root.now ≡ true }
+    requires high { has_number (number_in high.now) root.now ≡ true }
+    ensures low { number_in low.now root.now ≡ Some result.low }
+    ensures high { number_in high.now root.now ≡ Some result.high }
+    ensures free { result.free ≡ free }
+{
+    Change {
+        low: low.known(root),
+        high: high.known(root),
+        free,
+    }
+}
+
+// The changes of what latches take.
+fn latch_changes(
+    alloc: Global,
+    latches: &[Latch],
+    low: &Numbers,
+    high: &Numbers,
+) -> Result<Vec<Change>, AllocError>
+    requires low { list_all (has_number (number_in low.now))
+        (map (λ latch. latch.input) latches.now) ≡ true }
+    requires high { list_all (has_number (number_in high.now))
+        (map (λ latch. latch.input) latches.now) ≡ true }
+    ensures { IfOk result (λ changes. AreChanges (number_in low.now) (number_in high.now)
+        no_numbers (map (λ latch. latch.input) latches.now) changes.items) }
+{
+    let mut changes = Vec::with_capacity(alloc, latches.len())?;
+    for latch in latches {
+        changes.push(change_at(low, high, &latch.input, None))?;
+    }
+    Ok(changes)
+}
+
+// Where an output is free, if a table of the don't-care part drives its name.
+fn free_at(free: &Numbers, places: &Places, output: &Name) -> Option<Func>
+    ensures { result ≡ free_in (number_in free.now) (get bytes_eq places.now) output.now }
+{
+    match place_at(places, output) {
+        Some(_place) => free.get(output),
+        None => None,
+    }
+}
+
+// The changes of outputs.
+fn output_changes(
+    alloc: Global,
+    outputs: &[Name],
+    low: &Numbers,
+    high: &Numbers,
+    free: &Numbers,
+    places: &Places,
+) -> Result<Vec<Change>, AllocError>
+    requires low { list_all (has_number (number_in low.now)) outputs.now ≡ true }
+    requires high { list_all (has_number (number_in high.now)) outputs.now ≡ true }
+    ensures { IfOk result (λ changes. AreChanges (number_in low.now) (number_in high.now)
+        (free_in (number_in free.now) (get bytes_eq places.now)) outputs.now changes.items) }
+{
+    let mut changes = Vec::with_capacity(alloc, outputs.len())?;
+    for output in outputs {
+        changes.push(change_at(low, high, output, free_at(free, places, output)))?;
+    }
+    Ok(changes)
+}
+
+// All changes: those of what latches take, then those of outputs, in order.
+fn changes_of(
+    alloc: Global,
+    circuit: &Circuit,
+    low: &Numbers,
+    high: &Numbers,
+    free: &Numbers,
+    places: &Places,
+) -> Result<Vec<Change>, AllocError>
+    requires low_taken { list_all (has_number (number_in low.now)) (latch_inputs circuit.now)
+        ≡ true }
+    requires high_taken { list_all (has_number (number_in high.now)) (latch_inputs circuit.now)
+        ≡ true }
+    requires low_shown { list_all (has_number (number_in low.now)) circuit.now.outputs ≡ true }
+    requires high_shown { list_all (has_number (number_in high.now)) circuit.now.outputs ≡ true }
+    ensures { IfOk result (λ changes. AreAllChanges (number_in low.now) (number_in high.now)
+        (free_in (number_in free.now) (get bytes_eq places.now)) (latch_inputs circuit.now)
+        circuit.now.outputs changes.items) }
+{
+    let mut changes = latch_changes(alloc, circuit.latches.as_slice(), low, high)?;
+    let more = output_changes(alloc, circuit.outputs.as_slice(), low, high, free, places)?;
+    changes.extend_from_slice(more.as_slice())?;
+    Ok(changes)
+}
+
+// Where a signal is seen, by the functions of all signals with it at 0 and with it at 1.
+fn seen_between<F: Functions>(
+    alloc: Global,
+    functions: &mut F,
+    circuit: &Circuit,
+    name: &Name,
+    low: &Numbers,
+    high: &Numbers,
+) -> Result<Func, NetFuncFault>
+    requires sound { IsSound circuit.now }
+    requires low { AreAll F.holds F.tree F.limit functions.old
+        (λ other. has (leaves_of circuit.now) other || has (outputs_of circuit.now.tables) other)
+        (forced_function circuit.now name.now false) (number_in low.now) }
+    requires high { AreAll F.holds F.tree F.limit functions.old
+        (λ other. has (leaves_of circuit.now) other || has (outputs_of circuit.now.tables) other)
+        (forced_function circuit.now name.now true) (number_in high.now) }
+    ensures ok { IfOk result (λ seen. Means F.holds F.tree F.limit functions.new seen.0
+        (is_seen circuit.now name.now)) }
+    ensures big { IfErr result (λ fault. Blames fault
+        (λ blamed. IsBigSeen (F.limit functions.old) circuit.now name.now)) }
+    ensures stays { Stays F.holds F.tree F.limit functions.old functions.new }
+{
+    let free = free_numbers(alloc, functions, circuit)?;
+    // A whole, so that letting it go is one call.
+    let places = Whole {
+        it: places_of(alloc, circuit.dont_care.as_slice())?,
+    };
+    let changes = changes_of(alloc, circuit, low, high, &free, &places.it)?;
+    match any_change(functions, changes.as_slice()) {
+        Ok(seen) => Ok(seen),
+        Err(fault) => Err(fault_at(alloc, fault, name)),
+    }
+}
+
+/// Where a signal that a table drives is seen from outside.
+pub(crate) fn seen_function<F: Functions>(
+    alloc: Global,
+    functions: &mut F,
+    circuit: &Circuit,
+    name: &Name,
+) -> Result<Func, NetFuncFault>
+    requires sound { IsSound circuit.now }
+    requires driven { has (outputs_of circuit.now.tables) name.now ≡ true }
+    ensures ok { IfOk result (λ seen. Means F.holds F.tree F.limit functions.new seen.0
+        (is_seen circuit.now name.now)) }
+    ensures big { IfErr result (λ fault. Blames fault
+        (λ blamed. IsBigSeen (F.limit functions.old) circuit.now name.now)) }
+    ensures stays { Stays F.holds F.tree F.limit functions.old functions.new }
+{
+    let low = forced_numbers(alloc, functions, circuit, name, false)?;
+    let high = forced_numbers(alloc, functions, circuit, name, true)?;
+    seen_between(alloc, functions, circuit, name, &low, &high)
+}
