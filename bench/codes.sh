@@ -1,10 +1,12 @@
 #!/usr/bin/env bash
-# Codes the states of machines, by their numbers and one hot: how long it takes, and whether ABC finds both circuits equal.
+# Codes the states of machines, by their numbers and one hot: how long it takes, and whether ABC
+# finds both circuits equal.
 # Usage: bench/codes.sh; ABC (Debian's berkeley-abc) is left out where it is not installed.
 top=$(cd "$(dirname "$(readlink -f "$0")")/.." && pwd)
 . "$top/bench/common.sh"
 
-# A machine of 20 rows a state over 10 inputs and 8 outputs; the input cubes of a state part its points.
+# A machine of 20 rows a state over 10 inputs and 8 outputs; the input cubes of a state part its
+# points.
 large() { # states
   python3 - "$1" <<'PY'
 import random, sys
@@ -17,7 +19,8 @@ print(".e")
 PY
 }
 
-# Completely specified machines: a counter with an enable, a finder of a sequence of bits, a traffic light with a timer and a sensor.
+# Completely specified machines: a counter with an enable, a finder of a sequence of bits, a
+# traffic light with a timer and a sensor.
 small() { # name
   python3 - "$1" <<'PY'
 import sys
@@ -32,12 +35,15 @@ elif name.startswith("finder"):
     for k in range(len(word)):
         for bit in "01":
             seen = word[:k] + bit
-            longest = next(n for n in range(min(len(seen), len(word) - (seen == word)), -1, -1) if seen.endswith(word[:n]))
+            most = min(len(seen), len(word) - (seen == word))
+            longest = next(n for n in range(most, -1, -1) if seen.endswith(word[:n]))
             rows.append(f"{bit} f{k} f{longest} {int(seen == word)}")
 else:
     inputs, outputs = 2, 4  # a car waits, the timer is over; green, yellow of either road
-    for state, wait, stay, go, lights in (("main", "1-", "0-", "main_end", "1000"), ("main_end", "-1", "-0", "side", "0100"),
-                                          ("side", "-1", "-0", "side_end", "0010"), ("side_end", "-1", "-0", "main", "0001")):
+    for state, wait, stay, go, lights in (("main", "1-", "0-", "main_end", "1000"),
+                                          ("main_end", "-1", "-0", "side", "0100"),
+                                          ("side", "-1", "-0", "side_end", "0010"),
+                                          ("side_end", "-1", "-0", "main", "0001")):
         rows += [f"{stay} {state} {state} {lights}", f"{wait} {state} {go} {lights}"]
 print(f".i {inputs}\n.o {outputs}\n" + "\n".join(rows) + "\n.e")
 PY
@@ -55,9 +61,11 @@ if ! command -v berkeley-abc >/dev/null; then
   echo "ABC is not installed (Debian's berkeley-abc): no circuits are compared"
   exit
 fi
-for name in counter5 counter16 finder1011 finder110100 light; do
+for name in counter5 counter8 finder1011 finder110100 light; do
   small "$name" > "$work/a.kiss"
-  (cd "$work" && "$top/out/sis" -c "read_kiss a.kiss; state_assign; write_blif n.blif; state_assign onehot; write_blif h.blif" >/dev/null) || exit 1
+  (cd "$work" && "$top/out/sis" -c "read_kiss a.kiss; state_assign; write_blif n.blif
+    state_assign onehot; write_blif h.blif" >/dev/null) || exit 1
   printf '%-14s' "$name"
-  (cd "$work" && berkeley-abc -c "read_blif n.blif; print_stats; read_blif h.blif; print_stats; dsec n.blif h.blif" 2>&1 | grep -i "equivalent\|undecided" | head -1)
+  (cd "$work" && berkeley-abc -c "dsec n.blif h.blif" 2>&1) |
+    grep -i "equivalent\|undecided" | head -1
 done

@@ -1,6 +1,7 @@
 #!/usr/bin/env bash
-# Reads, prints and writes a chain of two-input tables with `sis` and with ABC (Debian's berkeley-abc), and reports
-# the time and the peak memory of each. Usage: bench/first_path.sh [TABLES ..]   (20000 and 65000 where none is named)
+# Reads, prints and writes a circuit of two-input tables with `sis` and with ABC (Debian's
+# berkeley-abc), and reports the time and the peak memory of each.
+# Usage: bench/first_path.sh [TABLES ..]   (20000 and 65000 where none is named)
 set -u
 top=$(cd "$(dirname "$0")/.." && pwd) || exit 1
 . "$top/bench/common.sh" || exit 1
@@ -14,7 +15,7 @@ make() {
   function name(s) { return s < inputs ? "i" s : "t" (s - inputs) }
   BEGIN {
     x = 7; inputs = 16
-    printf ".model chain\n.inputs"; for (i = 0; i < inputs; i++) printf " i%d", i
+    printf ".model random\n.inputs"; for (i = 0; i < inputs; i++) printf " i%d", i
     printf "\n.outputs"; for (i = tables - 8; i < tables; i++) printf " t%d", i; printf "\n"
     for (k = 0; k < tables; k++) {
       a = pick(k); b = pick(k); if (b == a) b = (a + 1) % (inputs + k)
