@@ -1,7 +1,9 @@
 -- Functions of signals in lists.
-use Rattle.std.proofs.Common.{◌≡◌, ℕ, zero, suc, true, ◌||◌, Option, Some, List, [], ◌∷◌, ◌++◌, map, drop, get_or, sym, ap, ◌∙◌, subst, inl, inr}
+use Rattle.std.proofs.Common.{◌≡◌, ℕ, zero, suc, true, false, ◌||◌, Option, Some, None, is_some}
+use Rattle.std.proofs.Common.{List, [], ◌∷◌, ◌++◌, map, drop, get_or, refl, sym, ap, ◌∙◌, subst}
+use Rattle.std.proofs.Common.{inl, inr}
 use Rattle.std.specs.List.{AllByRecursion, list_all}
-use Rattle.std.proofs.lemmas.Bool.{or_left, or_right}
+use Rattle.std.proofs.lemmas.Bool.{false≢true, or_left, or_right}
 use Rattle.circuit_model.specs.Names.{has}
 use Rattle.circuit_model.specs.Soundness.{outputs_of, leaf_names, IsSound}
 use Rattle.circuit_model.specs.declared.circuit.Circuit.{Circuit}
@@ -9,10 +11,10 @@ use Rattle.circuit_laws.proofs.Names.{has_either}
 use Rattle.circuit_order.specs.Order.{order_of}
 use Rattle.circuit_order.proofs.Orders.{ordered}
 use Rattle.func_core.specs.Trees.{BooleanFunction, Tree}
-use Rattle.func_core.specs.Numbers.{Means, Stays}
+use Rattle.func_core.specs.Numbers.{Means, IsBig, Stays}
 use Rattle.func_core.specs.declared.functions.Func.{Func}
-use Rattle.func_core.proofs.Meanings.{Means-kept}
-use Rattle.net_func.specs.Numbering.{has_number, AreRight, IsListing}
+use Rattle.func_core.proofs.Meanings.{Means-kept, Means-fits}
+use Rattle.net_func.specs.Numbering.{has_number, AreRight, AreAll, IsListing}
 use Rattle.net_func.specs.Signals.{AreNumbered, AreMeant, Blames}
 use Rattle.net_func.specs.declared.fault.NetFuncFault.{NetFuncFault}
 use Rattle.net_func.specs.declared.fault.NetFuncFault.TheVariants.{TooBig}
@@ -116,3 +118,19 @@ module _ {S : Type 0} (holds : S → ℕ → Type 0) (tree : S → ℕ → Tree)
     meant_from state number value names list right
         (others_of (Some f) (number name) (map Some list) (map number names) e),
   )
+
+  -- where all names have numbers, the function of none is too big
+  pub all_fit : (state : S) (bound : ℕ) (others names : List (List ℕ))
+      (value : List ℕ → BooleanFunction) (number : List ℕ → Option Func)
+      → AreAll holds tree limit state (λ name. has others name || has names name) value number
+      → limit state ≡ bound → (name : List ℕ) → has names name ≡ true
+      → IsBig bound (value name) → ⊥
+  all_fit state bound others names value number all same name among big =
+      cases (number name) refl
+      (all.known name ∙ or_right (has others name) (has names name) among)
+    where
+      cases : (found : Option Func) → number name ≡ found → is_some (number name) ≡ true → ⊥
+      cases None at there = false≢true (sym (ap is_some at) ∙ there)
+      cases (Some f) at there =
+          Means-fits holds tree limit state f.0 (value name) (all.right name f at)
+          (subst (λ (l : ℕ). IsBig l (value name)) (sym same) big)

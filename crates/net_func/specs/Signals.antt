@@ -7,7 +7,7 @@ use Rattle.std.specs.List.{AllByRecursion, AllZip, list_any}
 use Rattle.circuit_model.specs.Names.{has}
 use Rattle.circuit_model.specs.Values.{Leaves, driver, signal_value, dont_care_leaves, is_free_under}
 use Rattle.circuit_model.specs.Runs.{leaves_of}
-use Rattle.circuit_model.specs.Soundness.{latch_inputs}
+use Rattle.circuit_model.specs.Soundness.{outputs_of, latch_inputs}
 use Rattle.circuit_model.specs.declared.circuit.Table.{Table}
 use Rattle.circuit_model.specs.declared.circuit.Circuit.{Circuit}
 use Rattle.func_core.specs.Trees.{BooleanFunction, Tree, differ}
@@ -103,6 +103,12 @@ abbrev pub IsBigAt : ℕ → List Table → (List ℕ → BooleanFunction) → L
 IsBigAt limit tables value name =
     (table : Table) × (driver tables name ≡ Some table)
     × HasBigPart limit (local_of table) (λ point. map (λ input. value input point) table.inputs)
+
+-- the function of no table's signal is too big
+abbrev pub AreWithin : ℕ → Circuit → Type 0
+AreWithin limit circuit =
+    (signal : List ℕ) → has (outputs_of circuit.tables) signal ≡ true
+    → IsBig limit (own_function circuit signal) → ⊥
 
 -- a fault that blames a signal has a cause there; want of memory has none
 abbrev pub Blames : NetFuncFault → (List ℕ → Type 0) → Type 0

@@ -1,13 +1,14 @@
 //! The functions that the turn of one table needs, in one object.
 
-ghost use Rattle.std.specs.Prelude.{◌≡◌, ℕ, true, ◌||◌, ◌⊎◌, Some, List, map, IfOk, IfErr};
+ghost use Rattle.std.specs.Prelude.{◌≡◌, ℕ, true, ◌||◌, ◌⊎◌, Some, List, map, IfOk, IfErr, OnOk};
 ghost use Rattle.circuit_model.specs.Names.{has};
 ghost use Rattle.circuit_model.specs.Values.{driver};
 ghost use Rattle.circuit_model.specs.Soundness.{outputs_of, leaf_names as leaves_of, IsSound};
 ghost use Rattle.circuit_model.specs.declared.circuit.Table.{Table as TheTable};
 ghost use Rattle.func_core.specs.Numbers.{Means, Stays};
 ghost use Rattle.net_func.specs.Numbering.{number_in, has_number};
-ghost use Rattle.net_func.specs.Signals.{own_function, is_seen, AreMeant, IsBigAt, IsBigSeen, Blames};
+ghost use Rattle.net_func.specs.Signals.{own_function, is_seen, AreMeant, AreWithin};
+ghost use Rattle.net_func.specs.Signals.{IsBigAt, IsBigSeen, Blames};
 
 use crate::building::{places_of, table_at};
 use crate::fault::{NetFuncFault, renamed};
@@ -71,6 +72,7 @@ fn turn_of<F: Functions>(
         (own_function circuit.now name.now)) }
     ensures seen { IfOk result (λ turn. Means F.holds F.tree F.limit functions.new turn.seen.0
         (is_seen circuit.now name.now)) }
+    ensures fits { OnOk result (AreWithin (F.limit functions.old) circuit.now) }
     ensures big { IfErr result (λ fault. Blames fault (λ blamed.
         ((part : List ℕ) × IsBigAt (F.limit functions.old) circuit.now.tables
         (own_function circuit.now) part)
@@ -85,8 +87,8 @@ fn turn_of<F: Functions>(
 }
 
 /// The functions that the turn of a table needs: those of its inputs and of its own signal over the
-/// leaves, and that of where its signal is seen from outside, as `care` gives it. The name told is
-/// the table's.
+/// leaves, and that of where its signal is seen from outside, as `care` gives it. They are refused
+/// wherever the function of some table's signal is too big. The name told is the table's.
 pub fn turn_functions<R: Row, F: Functions>(
     alloc: Global,
     net: &Network<R>,
@@ -102,6 +104,7 @@ pub fn turn_functions<R: Row, F: Functions>(
         (own_function net.now name.now)) }
     ensures seen { IfOk result (λ turn. Means F.holds F.tree F.limit functions.new turn.seen.0
         (is_seen net.now name.now)) }
+    ensures fits { OnOk result (AreWithin (F.limit functions.old) net.now) }
     ensures big { IfErr result (λ fault. Blames fault (λ blamed. (blamed ≡ name.now)
         × (((part : List ℕ) × IsBigAt (F.limit functions.old) net.now.tables (own_function net.now)
         part)

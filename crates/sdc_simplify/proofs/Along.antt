@@ -11,11 +11,11 @@ use Rattle.net_work.specs.Placed.{Placed, standing, circuit_of, table_at, name_a
 use Rattle.circuit_order.specs.Order.{order_of}
 use Rattle.sdc_simplify.specs.Local.{is_local}
 use Rattle.sdc_simplify.specs.Minimized.{minimized, is_list_long}
-use Rattle.sdc_simplify.specs.Simplified.{with_minimum, is_refused, refusal_along, simplified, simplify_refusal}
+use Rattle.sdc_simplify.specs.Simplified.{with_minimum, own_refusal, is_refused, refusal_along, simplified, simplify_refusal}
 use Rattle.sdc_simplify.proofs.Minimal.{minimized_output}
 use Rattle.sdc_simplify.proofs.InTurns.{turn_sound}
 use Rattle.sdc_simplify.specs.Simplify.{IsCause}
-use Rattle.sdc_simplify.specs.Turns.{own_refusal, IsAlong}
+use Rattle.sdc_simplify.specs.Turns.{IsAlong}
 use Rattle.sdc_simplify.specs.declared.fault.SimplifyFault.{SimplifyFault}
 use Rattle.sdc_simplify.specs.declared.fault.SimplifyFault.TheVariants.{CubeLimit, Memory}
 use Rattle.sdc_simplify.proofs.Stands.{drives, standing_replaced, names_kept}

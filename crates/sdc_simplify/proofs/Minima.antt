@@ -25,7 +25,8 @@ use Rattle.net_core.proofs.Rows.{all_places_back}
 use Rattle.circuit_tables.specs.Tidy.{tidied}
 use Rattle.circuit_tables.proofs.Tidied.{tidied_once}
 use Rattle.sdc_simplify.specs.Simplify.{IsCause}
-use Rattle.sdc_simplify.specs.Turns.{own_refusal, seen, AreLocal}
+use Rattle.sdc_simplify.specs.Simplified.{own_refusal}
+use Rattle.sdc_simplify.specs.Turns.{seen, AreLocal}
 use Rattle.sdc_simplify.specs.declared.fault.SimplifyFault.{SimplifyFault}
 use Rattle.sdc_simplify.specs.declared.fault.SimplifyFault.TheVariants.{Memory}
 use Rattle.sis_base.specs.declared.limits.TheConstants.{MAX_ROWS}
@@ -102,17 +103,40 @@ module _ {R : Type 0} where
   listed_fault entry LongList fault over phase long cause memory = listed_cause entry fault over phase (long refl) (cause refl)
   listed_fault entry NoMemory fault over phase long cause memory = subst (λ (f : SimplifyFault). IsCause (own_refusal (written_of entry)) f) (sym (memory refl)) tt
 
+  -- the tidy table of the minimum of rows
+  pub minimum_named : (table : Written) (is_free : List Bool → Bool) (least : Shape)
+      (inputs : List (List ℕ)) (made : Table R)
+      → least.rows ≡ minimum_rows (meaning_of table is_free) (on_rows table)
+      → inputs ≡ table.inputs
+      → ((name : List ℕ) → named name made ≡ tidied (named {R = R} name
+      (record { inputs = inputs; cover = least; phase = true })))
+      → named table.output made ≡ minimized table is_free
+  unfolding minimized named
+  minimum_named table is_free least inputs made rows_are inputs_are tidy =
+      tidy table.output
+      ∙ (ap (λ (names : List (List ℕ)). tidied (record {
+        inputs = names;
+        output = table.output;
+        rows = map characters_of least.rows;
+        phase = true;
+      })) inputs_are
+      ∙ ap (λ (rows : List (List (Option Bool))). tidied (record {
+        inputs = table.inputs;
+        output = table.output;
+        rows = map characters_of rows;
+        phase = true;
+      })) rows_are)
+
   -- the table that is made
   pub least_named : (circuit : Circuit) (entry : Entry R) (ties : List (Held R)) (cover least : Shape) (inputs : List (List ℕ)) (made : Table R) → HasCharacters (length entry.table.inputs) (written_of entry).rows
       → cover ≡ record { width = length entry.table.inputs; rows = on_rows (written_of entry) }
       → least ≡ record cover { rows = minimum_rows (meaning_of_tied (record { width = cover.width; rows = cover.rows; ties = seen ties })) cover.rows }
       → inputs ≡ entry.table.inputs → ((name : List ℕ) → named name made ≡ tidied (named {R = R} name (record { inputs = inputs; cover = least; phase = true })))
       → AreLocal circuit (written_of entry) ties → named entry.output made ≡ minimized (written_of entry) (is_local circuit (written_of entry))
-  unfolding minimized named
+  unfolding named
   least_named circuit entry ties cover least inputs made shaped cover_is least_is inputs_are tidy local =
-      tidy entry.output
-      ∙ (ap (λ (names : List (List ℕ)). tidied (record { inputs = names; output = entry.output; rows = map characters_of least.rows; phase = true })) inputs_are
-      ∙ ap (λ (rows : List (List (Option Bool))). tidied (record { inputs = entry.table.inputs; output = entry.output; rows = map characters_of rows; phase = true })) rows_are)
+      minimum_named (written_of entry) (is_local circuit (written_of entry)) least inputs made rows_are
+      inputs_are tidy
     where
       rows_are : least.rows ≡ minimum_rows (meaning_of (written_of entry) (is_local circuit (written_of entry))) (on_rows (written_of entry))
       rows_are = ap (λ (shape : Shape). shape.rows) least_is

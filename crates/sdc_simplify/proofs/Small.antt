@@ -24,7 +24,7 @@ use Rattle.circuit_tables.specs.Tidy.{IsWide, some_row_or_phase_one, used_places
 use Rattle.circuit_tables.proofs.Tidied.{chosen_small, once_small, phase_kept}
 use Rattle.sdc_simplify.specs.Local.{is_local}
 use Rattle.sdc_simplify.specs.Minimized.{on_rows, meaning_of, with_minimum_rows, minimized, is_list_long}
-use Rattle.sdc_simplify.specs.Simplified.{with_minimum, is_refused, refusal_along, simplify_refusal, simplified}
+use Rattle.sdc_simplify.specs.Simplified.{Freedom, with_minimum, is_refused, refusal_along, simplify_refusal, simplified}
 use Rattle.sdc_simplify.proofs.Minimal.{minimum_wide}
 use Rattle.sdc_simplify.proofs.InTurns.{turn_sound}
 use Rattle.sis_base.specs.declared.limits.TheConstants.{MAX_ROWS}
@@ -118,16 +118,18 @@ with_bounds circuit new bounds this =
       tables = made.0;
     }
 
-pub turn_bounded : (circuit : Circuit) (name : List ℕ) → IsSound circuit → HasBounds circuit → is_refused circuit name ≡ false → HasBounds (with_minimum is_local circuit name)
+pub turn_bounded : (is_free : Freedom) (circuit : Circuit) (name : List ℕ) → IsSound circuit
+    → HasBounds circuit → is_refused circuit name ≡ false
+    → HasBounds (with_minimum is_free circuit name)
 unfolding with_minimum
-turn_bounded circuit name sound bounds passed = cases (driver circuit.tables name) refl passed
+turn_bounded is_free circuit name sound bounds passed = cases (driver circuit.tables name) refl passed
   where
     cases : (found : Option Table) → driver circuit.tables name ≡ found → option_map_or is_list_long found false ≡ false
-        → HasBounds (option_map_or (λ table. with_replaced circuit (minimized table (is_local circuit table))) found circuit)
+        → HasBounds (option_map_or (λ table. with_replaced circuit (minimized table (is_free circuit table))) found circuit)
     cases None at short = bounds
     cases (Some table) at short =
-        with_bounds circuit (minimized table (is_local circuit table)) bounds
-        (minimized_bounded table (is_local circuit table) short (driver_all IsShaped circuit.tables sound.shaped name table at).0 (driver_all IsBounded circuit.tables bounds.tables name table at))
+        with_bounds circuit (minimized table (is_free circuit table)) bounds
+        (minimized_bounded table (is_free circuit table) short (driver_all IsShaped circuit.tables sound.shaped name table at).0 (driver_all IsBounded circuit.tables bounds.tables name table at))
 
 -- nothing was refused, so neither this nor the rest
 not_refused : (refused : Bool) (name : List ℕ) (rest : Option (List ℕ)) → (if refused then Some name else rest) ≡ None → (refused ≡ false) × (rest ≡ None)
@@ -140,7 +142,7 @@ unfolding refusal_along
 turns_bounded [] circuit sound bounds none = bounds
 turns_bounded (name ∷ names) circuit sound bounds none =
     let (passed, rest) = not_refused (is_refused circuit name) name (refusal_along is_local (with_minimum is_local circuit name) names) none in
-    turns_bounded names (with_minimum is_local circuit name) (turn_sound circuit name sound) (turn_bounded circuit name sound bounds passed) rest
+    turns_bounded names (with_minimum is_local circuit name) (turn_sound circuit name sound) (turn_bounded is_local circuit name sound bounds passed) rest
 
 pub simplified_bounded : (circuit : Circuit) → IsSound circuit → HasBounds circuit → simplify_refusal circuit ≡ None → HasBounds (simplified circuit)
 unfolding simplified

@@ -21,6 +21,10 @@ unfoldable pub with_minimum : Freedom → Circuit → List ℕ → Circuit
 with_minimum is_free circuit name =
     option_map_or (λ table. with_replaced circuit (minimized table (is_free circuit table))) (driver circuit.tables name) circuit
 
+-- why a table is not made minimal: its on-list must be made and is too long
+abbrev pub own_refusal : Table → Option (List ℕ)
+own_refusal table = if is_list_long table then Some table.output else None
+
 -- whether the on-list of a signal's table must be made and is too long
 abbrev pub is_refused : Circuit → List ℕ → Bool
 is_refused circuit name = option_map_or is_list_long (driver circuit.tables name) false

@@ -1,7 +1,7 @@
 -- The tables at places while a network is simplified, and the ties that stand for local don't-cares. No public clause needs these
 -- definitions.
 -- Source: the SIS report (UCB/ERL M92/41), `simplify`; De Micheli, "Synthesis and Optimization of Digital Circuits", chapter 8.
-use Rattle.std.specs.Prelude.{◌≡◌, ℕ, Bool, false, not, ◌&&◌, if◌then◌else◌, Option, Some, None, List, fold, map, length, unwrap_or}
+use Rattle.std.specs.Prelude.{◌≡◌, ℕ, Bool, false, not, ◌&&◌, Option, List, fold, map, length, unwrap_or}
 use Rattle.std.specs.List.{AllByRecursion, list_any}
 use Rattle.std.specs.Option.{option_map_or}
 use Rattle.sis_base.specs.Rows.{some_matches}
@@ -15,13 +15,8 @@ use Rattle.cover_search.specs.Ties.{Tie, keeps_all}
 use Rattle.cover_search.specs.Views.{tie_of}
 use Rattle.cover_search.specs.declared.tied.Tie.{Tie as Held}
 use Rattle.sdc_simplify.specs.Local.{differs, is_local}
-use Rattle.sdc_simplify.specs.Minimized.{is_list_long}
 use Rattle.sdc_simplify.specs.Simplified.{with_minimum, refusal_along}
 use Rattle.net_work.specs.Placed.{Placed, circuit_of, name_at}
-
--- why the table of a signal is not made minimal
-abbrev pub own_refusal : Table → Option (List ℕ)
-own_refusal table = if is_list_long table then Some table.output else None
 
 -- the bits that a point of some names has at other names; 0 at a name that is none of them
 abbrev pub bits_at : List (List ℕ) → List Bool → List (List ℕ) → List Bool

@@ -17,3 +17,4 @@ mod turns;
 
 pub use fault::SimplifyFault;
 pub use simplifying::simplify;
+pub use turns::on_cover;

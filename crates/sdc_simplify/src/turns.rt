@@ -13,7 +13,8 @@ ghost use Rattle.net_core.specs.Places.{written_of};
 ghost use Rattle.net_core.specs.Tables.{named, HasCharacters, IsOverInputs};
 ghost use Rattle.net_work.specs.Placed.{circuit_of, table_at, with_slot};
 ghost use Rattle.sdc_simplify.specs.Simplify.{IsCause};
-ghost use Rattle.sdc_simplify.specs.Turns.{AreLocal, AreOfWidth, own_refusal, seen};
+ghost use Rattle.sdc_simplify.specs.Simplified.{own_refusal};
+ghost use Rattle.sdc_simplify.specs.Turns.{AreLocal, AreOfWidth, seen};
 
 use crate::fault::SimplifyFault;
 use crate::ties::ties_at;
@@ -42,20 +43,30 @@ fn fault_of(alloc: Global, name: &Name, fault: ListFault) -> SimplifyFault
     }
 }
 
-// The rows whose phase is 1 for a table's function.
-fn on_cover<R: Row>(alloc: Global, entry: &Entry<R>) -> Result<Cover<R>, SimplifyFault>
-    requires { IsOverInputs entry.now.table }
-    ensures rows { IfOk result (λ made. made ≡ record { width = length entry.now.table.inputs; rows = on_rows (written_of entry.now) }) }
-    ensures within { OnOk result (is_list_long (written_of entry.now) ≡ false) }
-    ensures fault { IfErr result (λ fault. IsCause (own_refusal (written_of entry.now)) fault) }
+/// The rows whose phase is 1 for the function of the table of a name: its own rows where that is
+/// its phase, and the list of those where it is 1 where it is not. `CubeLimit` with the name where
+/// that list must be made and has more than `MAX_ROWS` rows.
+pub fn on_cover<R: Row>(
+    alloc: Global,
+    name: &Name,
+    table: &Table<R>,
+) -> Result<Cover<R>, SimplifyFault>
+    requires { IsOverInputs table.now }
+    ensures rows { IfOk result (λ made. made ≡ record {
+      width = length table.now.inputs;
+      rows = on_rows (named name.now table.now);
+    }) }
+    ensures within { OnOk result (is_list_long (named name.now table.now) ≡ false) }
+    ensures fault { IfErr result (λ fault.
+        IsCause (own_refusal (named name.now table.now)) fault) }
 {
-    let cover = &entry.table.cover;
-    if entry.table.phase {
+    let cover = &table.cover;
+    if table.phase {
         return Ok(cover.copy(alloc)?);
     }
     match on_list(alloc, cover, false, MAX_ROWS) {
         Ok(list) => Ok(list),
-        Err(fault) => Err(fault_of(alloc, &entry.output, fault)),
+        Err(fault) => Err(fault_of(alloc, name, fault)),
     }
 }
 
@@ -91,7 +102,7 @@ fn least_table<R: Row>(
     ensures within { OnOk result (is_list_long (written_of entry.now) ≡ false) }
     ensures fault { IfErr result (λ fault. IsCause (own_refusal (written_of entry.now)) fault) }
 {
-    let cover = on_cover(alloc, entry)?;
+    let cover = on_cover(alloc, &entry.output, &entry.table)?;
     let least = Table {
         inputs: entry.table.inputs.copy(alloc)?,
         cover: least_cover(alloc, cover, ties)?,

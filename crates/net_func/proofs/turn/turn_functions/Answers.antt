@@ -6,7 +6,8 @@ use Rattle.circuit_model.specs.declared.circuit.Table.{Table}
 use Rattle.circuit_model.specs.declared.circuit.Circuit.{Circuit}
 use Rattle.func_core.specs.Numbers.{Means}
 use Rattle.net_func.specs.declared.fault.NetFuncFault.TheVariants.{TooBig}
-use Rattle.net_func.specs.Signals.{own_function, is_seen, AreMeant, IsBigAt, IsBigSeen}
+use Rattle.net_func.specs.Signals.{own_function, is_seen, AreMeant, AreWithin}
+use Rattle.net_func.specs.Signals.{IsBigAt, IsBigSeen}
 use Rattle.net_func.proofs.Adding.{blames_weaker}
 use Rattle.net_func.proofs.Listed.{blamed_part}
 use Rattle.net_func.proofs.turn.turn_functions.Goals as goal
@@ -38,6 +39,11 @@ returns-in-Ok-clause-seen g c =
     subst (λ (circuit : Circuit). Means g.F.Functions.holds g.F.Functions.tree g.F.Functions.limit
     c.turn_of.new.functions c.in-Ok.turn.seen.0
     (is_seen circuit c.args.name.now)) c.in_ok-to_circuit.ensures c.in-Ok.ensures.seen
+
+pub returns-in-Ok-clause-fits : goal.returns-in-Ok-clause-fits
+returns-in-Ok-clause-fits g c =
+    subst (AreWithin (g.F.Functions.limit c.args.functions.now))
+    c.in_ok-to_circuit.ensures c.in-Ok.ensures.fits
 
 pub returns-clause-big : goal.returns-clause-big
 returns-clause-big g c =

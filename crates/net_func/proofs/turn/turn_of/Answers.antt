@@ -7,7 +7,7 @@ use Rattle.net_func.specs.Numbering.{number_in}
 use Rattle.net_func.specs.Signals.{own_function, IsBigAt, IsBigSeen}
 use Rattle.net_func.proofs.Adding.{blames_weaker}
 use Rattle.net_func.proofs.Turning.{all_later}
-use Rattle.net_func.proofs.Listed.{meant_from}
+use Rattle.net_func.proofs.Listed.{meant_from, all_fit}
 use Rattle.net_func.proofs.turn.turn_of.Goals as goal
 
 pub input_numbers-requires-clause-known : goal.input_numbers-requires-clause-known
@@ -60,3 +60,11 @@ returns-clause-own g c =
     (own_function c.args.circuit.now) (number_in c.in_ok-numbers.numbers) c.in_ok-seen.ensures.stays
     c.in_ok-numbers.ensures.ok).right
     c.args.name.now c.known-own.result c.known-own.ensures
+
+pub returns-clause-fits : goal.returns-clause-fits
+returns-clause-fits g c =
+    all_fit g.F.Functions.holds g.F.Functions.tree g.F.Functions.limit
+    c.own_numbers.new.functions (g.F.Functions.limit c.args.functions.now)
+    (leaf_names c.args.circuit.now) (outputs_of c.args.circuit.now.tables)
+    (own_function c.args.circuit.now) (number_in c.in_ok-numbers.numbers)
+    c.in_ok-numbers.ensures.ok c.in_ok-numbers.ensures.stays.same
