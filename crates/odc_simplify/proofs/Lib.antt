@@ -1,0 +1,14 @@
+pub mod Numbers
+pub mod Steps
+pub mod Points
+pub mod Walks
+pub mod Leaves
+pub mod Turned
+pub mod Unseen
+pub mod Kept
+pub mod Bridge
+pub mod Tests
+pub mod Least
+pub mod Along
+pub mod Whole
+pub mod Firsts

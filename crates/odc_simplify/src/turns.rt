@@ -1,0 +1,221 @@
+//! The turn of one table: it becomes its minimum under its don't-cares.
+
+ghost use Rattle.std.specs.Prelude.{◌≡◌, ◌⊎◌, true, false, Some, List, length};
+ghost use Rattle.std.specs.Prelude.{IfOk, IfErr, IfSome, OnOk};
+ghost use Rattle.circuit_model.specs.Names.{has};
+ghost use Rattle.circuit_model.specs.Soundness.{outputs_of};
+ghost use Rattle.circuit_model.specs.Values.{driver};
+ghost use Rattle.circuit_model.specs.declared.circuit.Table.{Table as TheTable};
+ghost use Rattle.cover_min.specs.Minimum.{minimum_rows};
+ghost use Rattle.func_core.specs.Numbers.{Means};
+ghost use Rattle.net_core.specs.Tables.{named, IsOverInputs};
+ghost use Rattle.net_func.specs.Signals.{own_function, is_seen, AreMeant, AreWithin};
+ghost use Rattle.sdc_simplify.specs.Minimized.{on_rows, meaning_of, minimized};
+ghost use Rattle.sdc_simplify.specs.Simplified.{with_minimum, is_refused};
+ghost use Rattle.odc_simplify.specs.Full.{leaf_count, is_dont_care};
+ghost use Rattle.odc_simplify.specs.Turns.{Passes, IsTurnFault, list_fault, turn_fault};
+
+use crate::fault::FullFault;
+use crate::tested::least_cover;
+use circuit_model::Name;
+use cover_min::OracleFault;
+use cube_cover::{Cover, Row};
+use func_core::Functions;
+use net_core::{Network, Table, tidy};
+use net_func::{NetFuncFault, TurnFunctions, turn_functions};
+use sdc_simplify::{SimplifyFault, on_cover};
+use sis_base::Copied;
+use std::alloc::Global;
+
+// The fault for a list that was not made.
+fn fault_of_list(fault: SimplifyFault) -> FullFault
+    ensures { result ≡ list_fault fault }
+{
+    match fault {
+        SimplifyFault::CubeLimit(name) => FullFault::CubeLimit(name),
+        SimplifyFault::Memory => FullFault::Memory,
+    }
+}
+
+// The fault for functions of a turn that were not made.
+fn fault_of_turn(fault: NetFuncFault) -> FullFault
+    ensures { result ≡ turn_fault fault }
+{
+    match fault {
+        NetFuncFault::TooBig(name) => FullFault::TooBig(name),
+        NetFuncFault::Memory => FullFault::Memory,
+    }
+}
+
+// The fault for a function that is too big in the turn of the table of a name.
+fn too_big(alloc: Global, name: &Name) -> FullFault
+    ensures { (result ≡ FullFault.TooBig name.now) ⊎ (result ≡ FullFault.Memory) }
+{
+    match name.copy(alloc) {
+        Ok(name) => FullFault::TooBig(name),
+        Err(_failed) => FullFault::Memory,
+    }
+}
+
+// How many leaves a network has, if a machine can count them.
+fn leaf_number<R: Row>(network: &Network<R>) -> Option<usize>
+    ensures { IfSome result (λ count. count ≡ leaf_count network.now) }
+{
+    network.inputs().len().checked_add(network.latches().len())
+}
+
+// The minimum of the rows of phase 1 of the table of a name, by the functions of its turn.
+fn least_by<R: Row, F: Functions>(
+    alloc: Global,
+    network: &Network<R>,
+    functions: &mut F,
+    name: &Name,
+    table: &Table<R>,
+    cover: Cover<R>,
+    turn: TurnFunctions,
+) -> Result<Cover<R>, FullFault>
+    requires driven { driver network.now.tables name.now ≡ Some (named name.now table.now) }
+    requires short { is_refused network.now name.now ≡ false }
+    requires rows { cover ≡ record {
+      width = length table.now.inputs;
+      rows = on_rows (named name.now table.now);
+    } }
+    requires inputs { AreMeant F.holds F.tree F.limit functions.old table.now.inputs
+        (own_function network.now) turn.inputs.items }
+    requires own { Means F.holds F.tree F.limit functions.old turn.own.0
+        (own_function network.now name.now) }
+    requires seen { Means F.holds F.tree F.limit functions.old turn.seen.0
+        (is_seen network.now name.now) }
+    ensures limit { F.limit functions.new ≡ F.limit functions.old }
+    ensures minimum { IfOk result (λ least. least ≡ record {
+      width = length table.now.inputs;
+      rows = minimum_rows (meaning_of (named name.now table.now)
+          (is_dont_care network.now (named name.now table.now)))
+          (on_rows (named name.now table.now));
+    }) }
+    ensures fault { IfErr result (λ fault.
+        IsTurnFault (F.limit functions.old) network.now name.now fault) }
+{
+    network.sound();
+    let Some(leaves) = leaf_number(network) else {
+        return Err(FullFault::Memory);
+    };
+    let inputs = turn.inputs.as_slice();
+    match least_cover(alloc, functions, cover, leaves, turn.own, turn.seen, inputs) {
+        Ok(least) => Ok(least),
+        Err(OracleFault::Memory) => Err(FullFault::Memory),
+        Err(OracleFault::Refused) => Err(too_big(alloc, name)),
+    }
+}
+
+// The minimum of the rows of phase 1 of the table of a name under its don't-cares. The object
+// forgets what it held, so that each turn has all its room.
+fn least_rows<R: Row, F: Functions>(
+    alloc: Global,
+    network: &Network<R>,
+    functions: &mut F,
+    name: &Name,
+    table: &Table<R>,
+    cover: Cover<R>,
+) -> Result<Cover<R>, FullFault>
+    requires driven { driver network.now.tables name.now ≡ Some (named name.now table.now) }
+    requires short { is_refused network.now name.now ≡ false }
+    requires rows { cover ≡ record {
+      width = length table.now.inputs;
+      rows = on_rows (named name.now table.now);
+    } }
+    ensures limit { F.limit functions.new ≡ F.limit functions.old }
+    ensures minimum { IfOk result (λ least. least ≡ record {
+      width = length table.now.inputs;
+      rows = minimum_rows (meaning_of (named name.now table.now)
+          (is_dont_care network.now (named name.now table.now)))
+          (on_rows (named name.now table.now));
+    }) }
+    ensures within { OnOk result (AreWithin (F.limit functions.old) network.now) }
+    ensures fault { IfErr result (λ fault.
+        IsTurnFault (F.limit functions.old) network.now name.now fault) }
+{
+    functions.clear();
+    match turn_functions(alloc, network, name, functions) {
+        Ok(turn) => least_by(alloc, network, functions, name, table, cover, turn),
+        Err(fault) => Err(fault_of_turn(fault)),
+    }
+}
+
+// The minimum of the table of a name under its don't-cares. Its list of rows is made first, so that
+// one that is too long is told before any function is made.
+fn least_table<R: Row, F: Functions>(
+    alloc: Global,
+    network: &Network<R>,
+    functions: &mut F,
+    name: &Name,
+    table: &Table<R>,
+) -> Result<Table<R>, FullFault>
+    requires driven { driver network.now.tables name.now ≡ Some (named name.now table.now) }
+    requires over { IsOverInputs table.now }
+    ensures limit { F.limit functions.new ≡ F.limit functions.old }
+    ensures minimized { IfOk result (λ made. named name.now made
+        ≡ minimized (named name.now table.now)
+        (is_dont_care network.now (named name.now table.now))) }
+    ensures over { IfOk result IsOverInputs }
+    ensures passed { OnOk result (Passes (F.limit functions.old) network.now name.now) }
+    ensures fault { IfErr result (λ fault.
+        IsTurnFault (F.limit functions.old) network.now name.now fault) }
+{
+    let cover = match on_cover(alloc, name, table) {
+        Ok(cover) => cover,
+        Err(fault) => return Err(fault_of_list(fault)),
+    };
+    let least = Table {
+        inputs: table.inputs.copy(alloc)?,
+        cover: least_rows(alloc, network, functions, name, table, cover)?,
+        phase: true,
+    };
+    Ok(tidy(alloc, &least)?)
+}
+
+// The minimum of the table of a name, which a table drives, under its don't-cares.
+pub(crate) fn least_of<R: Row, F: Functions>(
+    alloc: Global,
+    network: &Network<R>,
+    functions: &mut F,
+    name: &Name,
+) -> Result<Table<R>, FullFault>
+    requires driven { has (outputs_of network.now.tables) name.now ≡ true }
+    ensures limit { F.limit functions.new ≡ F.limit functions.old }
+    ensures minimized { IfOk result (λ made. (table : TheTable)
+        → driver network.now.tables name.now ≡ Some table
+        → named name.now made ≡ minimized table (is_dont_care network.now table)) }
+    ensures over { IfOk result IsOverInputs }
+    ensures passed { OnOk result (Passes (F.limit functions.old) network.now name.now) }
+    ensures fault { IfErr result (λ fault.
+        IsTurnFault (F.limit functions.old) network.now name.now fault) }
+{
+    match network.table(name) {
+        None => unreachable!(),
+        Some(table) => least_table(alloc, network, functions, name, table),
+    }
+}
+
+/// The table of a name, which a table drives, becomes its minimum under its don't-cares. An error
+/// changes nothing of the network, and the limit of the object stays.
+pub(crate) fn minimize<R: Row, F: Functions>(
+    alloc: Global,
+    network: &mut Network<R>,
+    functions: &mut F,
+    name: &Name,
+) -> Result<(), FullFault>
+    requires driven { has (outputs_of network.old.tables) name.now ≡ true }
+    ensures limit { F.limit functions.new ≡ F.limit functions.old }
+    ensures minimized { OnOk result
+        (network.new ≡ with_minimum is_dont_care network.old name.now) }
+    ensures signals { OnOk result (outputs_of network.new.tables ≡ outputs_of network.old.tables) }
+    ensures passed { OnOk result (Passes (F.limit functions.old) network.old name.now) }
+    ensures fault { IfErr result (λ fault.
+        IsTurnFault (F.limit functions.old) network.old name.now fault) }
+{
+    network.sound();
+    let table = least_of(alloc, network, functions, name)?;
+    network.replace(name, table);
+    Ok(())
+}
