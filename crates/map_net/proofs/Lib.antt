@@ -25,3 +25,4 @@ pub mod Alike
 pub mod Rewriting
 pub mod Single
 pub mod Outcomes
+pub mod Areas

@@ -1,7 +1,7 @@
 //! The netlist of a network.
 
-ghost use Rattle.std.specs.Prelude.{◌≡◌, ◌↔◌, ◌+◌, ◌≤◌, ◌<◌, ℕ, List, map, length, IfOk, IfErr};
-ghost use Rattle.std.specs.Prelude.{IsTrue};
+ghost use Rattle.std.specs.Prelude.{◌≡◌, ◌↔◌, ◌+◌, ◌^◌, ◌≤◌, ◌<◌, ℕ, List, map, length, IfOk, IfErr};
+ghost use Rattle.std.specs.Prelude.{IsTrue, sum_by};
 ghost use Rattle.std.specs.List.{AllByRecursion};
 ghost use Rattle.circuit_model.specs.Soundness.{IsSound as IsSoundCircuit};
 ghost use Rattle.circuit_model.specs.Runs.{Refines};
@@ -11,6 +11,7 @@ ghost use Rattle.genlib_format.specs.declared.gate.Gate.{Gate as TheGate};
 ghost use Rattle.net_core.specs.Fresh.{used_names};
 ghost use Rattle.netlist.specs.Netlists.{circuit_of, IsSoundNetlist};
 ghost use Rattle.netlist.specs.Figures.{ArePartedBy};
+ghost use Rattle.netlist.specs.declared.mapped.TreeFigure.{TreeFigure as TheTreeFigure};
 ghost use Rattle.subject_tree.specs.Trees.{size_of};
 ghost use Rattle.subject_tree.specs.Arenas.{tree_at};
 ghost use Rattle.subject_tree.specs.Forest.{fate_of};
@@ -290,7 +291,8 @@ fn assembled(circuit: Circuit, parts: Parts) -> Mapped
 }
 
 /// The netlist of a network by a library, or the first of the reasons why there is none. The
-/// circuit of the netlist is sound, and the network refines to it.
+/// circuit of the netlist is sound, and it refines the network; the areas of all trees, in
+/// millionths, have a sum below 2^128.
 pub fn map<R: Row>(
     alloc: Global,
     network: &Network<R>,
@@ -303,6 +305,8 @@ pub fn map<R: Row>(
         (circuit_of library.now mapped).tables) }
     ensures refines { IfOk result (λ mapped. Refines network.now (circuit_of library.now mapped)) }
     ensures figures { IfOk result (λ mapped. ArePartedBy library.now mapped.trees mapped.gates) }
+    ensures total { IfOk result (λ mapped.
+        sum_by (λ (tree : TheTreeFigure). tree.figure) mapped.trees < 2 ^ 128) }
 {
     network.sound();
     let circuit = Whole {

@@ -3,6 +3,7 @@ use Rattle.circuit_model.specs.declared.circuit.Circuit.{Circuit}
 use Rattle.map_net.specs.Parts.{mapped_of}
 use Rattle.map_net.proofs.Parting.{memory_maps, no_parts, parts_maps, kept_is}
 use Rattle.map_net.proofs.MappedNets.{mapped_sound, mapped_refines, mapped_parted}
+use Rattle.map_net.proofs.Areas.{mapped_total}
 use Rattle.map_net.proofs.mapping.map.Goals as goal
 
 pub returns-in_err-to_circuit-clause-maps : goal.returns-in_err-to_circuit-clause-maps
@@ -51,6 +52,14 @@ returns-clause-refines g c =
 pub returns-clause-figures : goal.returns-clause-figures
 returns-clause-figures g c =
     mapped_parted c.args.network.now c.args.library.now c.assembled.result c.requires
+    (parts_maps c.args.network.now c.in_ok-to_circuit.field-0
+    c.args.library.now c.in_ok-parts.parts c.assembled.result c.in_ok-to_circuit.ensures
+    (c.assembled.ensures ∙ ap (λ (circuit : Circuit). mapped_of circuit c.in_ok-parts.parts)
+    c.into_it.ensures) c.in_ok-parts.ensures).2
+
+pub returns-clause-total : goal.returns-clause-total
+returns-clause-total g c =
+    mapped_total c.args.network.now c.args.library.now c.assembled.result c.requires
     (parts_maps c.args.network.now c.in_ok-to_circuit.field-0
     c.args.library.now c.in_ok-parts.parts c.assembled.result c.in_ok-to_circuit.ensures
     (c.assembled.ensures ∙ ap (λ (circuit : Circuit). mapped_of circuit c.in_ok-parts.parts)
