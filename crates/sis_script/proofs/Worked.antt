@@ -1,5 +1,5 @@
 -- Worked words: what the list of commands makes of them, each by computing.
-use Rattle.std.proofs.Common.{◌≡◌, Some, None, [], ◌∷◌, pos, negsuc, refl}
+use Rattle.std.proofs.Common.{◌≡◌, true, false, Some, None, [], ◌∷◌, pos, negsuc, refl}
 use Rattle.std.specs.Prelude.{codes}
 use Rattle.std.specs.Str.{is_utf8, chars}
 use Rattle.std.proofs.Math.Utf8.{encode}
@@ -8,8 +8,8 @@ use Rattle.sis_script.specs.Bounds.{most_rows, usual_rows, least_inputs, most_in
 use Rattle.sis_script.specs.Kinds.{number_within, integer_of, value_of}
 use Rattle.sis_script.specs.Grammar.{fill, parse_at, parse}
 use Rattle.sis_script.specs.Script.{form_named, number_given, op_by, op_of}
-use Rattle.sis_script.specs.declared.command.Op.TheVariants.{Echo, Quit, ReadBlif, ReadKiss, ReadLibrary, Generate, WriteBlif, WriteKiss, PrintStats, Print, PrintLatch, PrintFactor, PrintKernel, Change, StateAssign, Undo, Source, Bad}
-use Rattle.sis_script.specs.declared.command.Change.TheVariants.{Sweep, Eliminate, Collapse, Simplify, Fx, Gkx, Gcx, Resub, Decomp, TechDecomp}
+use Rattle.sis_script.specs.declared.command.Op.TheVariants.{Echo, Quit, ReadBlif, ReadKiss, ReadLibrary, Generate, WriteBlif, WriteKiss, WriteNetlist, Map, PrintStats, Print, PrintLatch, PrintFactor, PrintKernel, Change, StateAssign, Undo, Source, Bad}
+use Rattle.sis_script.specs.declared.command.Change.TheVariants.{Sweep, Eliminate, Collapse, Simplify, FullSimplify, Fx, Gkx, Gcx, Resub, Decomp, TechDecomp}
 use Rattle.sis_script.specs.declared.command.Style.TheVariants.{Natural, OneHot}
 use Rattle.sis_script.specs.declared.command.ScriptFault.TheVariants.{BadCommand, BadOption, MissingWord}
 
@@ -44,11 +44,11 @@ unfolding op_of op_by form_named number_given parse fill value_of is_utf8 chars 
 reads_library = refl
 
 writes_blif : op_of (codes "write_blif" ∷ []) ≡ WriteBlif None
-unfolding op_of op_by form_named number_given parse fill
+unfolding op_of op_by form_named number_given parse fill parse_at
 writes_blif = refl
 
 writes_blif_to : op_of (codes "write_blif" ∷ codes "a" ∷ []) ≡ WriteBlif (Some (codes "a"))
-unfolding op_of op_by form_named number_given parse fill value_of is_utf8 chars encode
+unfolding op_of op_by form_named number_given parse fill parse_at value_of is_utf8 chars encode
 writes_blif_to = refl
 
 writes_kiss : op_of (codes "write_kiss" ∷ []) ≡ WriteKiss None
@@ -154,7 +154,7 @@ unfolding op_of op_by form_named number_given parse fill value_of
 name_is_option = refl
 
 second_file : op_of (codes "write_blif" ∷ codes "a" ∷ codes "-n" ∷ []) ≡ Bad BadOption
-unfolding op_of op_by form_named parse fill value_of is_utf8 chars encode
+unfolding op_of op_by form_named parse fill parse_at value_of is_utf8 chars encode
 second_file = refl
 
 word_for_none : op_of (codes "quit" ∷ codes "now" ∷ []) ≡ Bad BadOption
@@ -366,3 +366,45 @@ other_codes = refl
 second_style : op_of (codes "state_assign" ∷ codes "onehot" ∷ codes "onehot" ∷ []) ≡ Bad BadOption
 unfolding op_of op_by form_named parse fill value_of
 second_style = refl
+
+-- `full_simplify [-m nocomp]`
+
+simplifies_fully : op_of (codes "full_simplify" ∷ []) ≡ Change FullSimplify
+unfolding op_of op_by form_named number_given parse fill parse_at
+simplifies_fully = refl
+
+full_method :
+    op_of (codes "full_simplify" ∷ codes "-m" ∷ codes "nocomp" ∷ []) ≡ Change FullSimplify
+unfolding op_of op_by form_named parse fill parse_at value_of
+full_method = refl
+
+-- `map [-m 0] [-s]` and `write_blif [-n] [FILE]`
+
+maps : op_of (codes "map" ∷ []) ≡ Map false
+unfolding op_of op_by form_named number_given parse fill parse_at
+maps = refl
+
+maps_by_area : op_of (codes "map" ∷ codes "-m" ∷ codes "0" ∷ []) ≡ Map false
+unfolding op_of op_by form_named parse fill parse_at value_of number_within number_of
+maps_by_area = refl
+
+maps_short : op_of (codes "map" ∷ codes "-s" ∷ codes "-m" ∷ codes "0" ∷ []) ≡ Map true
+unfolding op_of op_by form_named parse fill parse_at value_of number_within number_of
+maps_short = refl
+
+maps_by_delay : op_of (codes "map" ∷ codes "-m" ∷ codes "1" ∷ []) ≡ Bad BadOption
+unfolding op_of op_by form_named parse fill parse_at value_of number_within number_of
+maps_by_delay = refl
+
+writes_netlist : op_of (codes "write_blif" ∷ codes "-n" ∷ []) ≡ WriteNetlist None
+unfolding op_of op_by form_named number_given parse fill parse_at
+writes_netlist = refl
+
+writes_netlist_to :
+    op_of (codes "write_blif" ∷ codes "-n" ∷ codes "a" ∷ []) ≡ WriteNetlist (Some (codes "a"))
+unfolding op_of op_by form_named parse fill parse_at value_of is_utf8 chars encode
+writes_netlist_to = refl
+
+late_option : op_of (codes "write_blif" ∷ codes "a" ∷ codes "-n" ∷ []) ≡ Bad BadOption
+unfolding op_of op_by form_named parse fill parse_at value_of is_utf8 chars encode
+late_option = refl

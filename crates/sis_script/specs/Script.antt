@@ -2,12 +2,12 @@
 -- Source: the SIS manual's command language (UCB/ERL M92/41): `;` and line ends separate commands,
 -- blanks separate words, and `#` begins a comment. There are no quotes or escapes. Grammar.antt
 -- says how words are judged by the options and slots of their command.
-use Rattle.std.specs.Prelude.{ℕ, ◌==◌, Option, Some, None, Result, Ok, Err, List, [], ◌∷◌, bytes_eq, codes, find, min, option_map, unwrap_or, if◌then◌else◌}
+use Rattle.std.specs.Prelude.{ℕ, ◌==◌, Bool, is_some, Option, Some, None, Result, Ok, Err, List, [], ◌∷◌, bytes_eq, codes, find, min, option_map, unwrap_or, if◌then◌else◌}
 use Rattle.sis_text.specs.Entries.{Entry}
 use Rattle.sis_script.specs.Bounds.{most_rows, usual_rows, least_inputs, most_inputs, usual_inputs, most_seed, least_tables, most_tables}
 use Rattle.sis_script.specs.Grammar.{parse}
 use Rattle.sis_script.specs.declared.command.Op.{Op}
-use Rattle.sis_script.specs.declared.command.Op.TheVariants.{Echo, Quit, ReadBlif, ReadKiss, ReadLibrary, Generate, WriteBlif, WriteKiss, PrintStats, Print, PrintLatch, PrintFactor, PrintKernel, Change, StateAssign, Undo, Source, Bad}
+use Rattle.sis_script.specs.declared.command.Op.TheVariants.{Echo, Quit, ReadBlif, ReadKiss, ReadLibrary, Generate, WriteBlif, WriteKiss, WriteNetlist, Map, PrintStats, Print, PrintLatch, PrintFactor, PrintKernel, Change, StateAssign, Undo, Source, Bad}
 use Rattle.sis_script.specs.declared.command.Change.TheVariants as change
 use Rattle.sis_script.specs.declared.command.Style.{Style}
 use Rattle.sis_script.specs.declared.command.Style.TheVariants as style
@@ -42,8 +42,14 @@ letter_l = 108
 abbrev pub letter_m : ℕ
 letter_m = 109
 
+abbrev pub letter_n : ℕ
+letter_n = 110
+
 abbrev pub letter_o : ℕ
 letter_o = 111
+
+abbrev pub letter_s : ℕ
+letter_s = 115
 
 -- an option with a value of this kind
 abbrev pub valued : ℕ → Kind → OptionForm
@@ -137,6 +143,19 @@ style_in other = style.Natural
 abbrev pub state_assign_op : Given → Op
 state_assign_op given = StateAssign (style_in (first_word given))
 
+-- whether the option of a letter was given
+abbrev pub is_given : ℕ → Given → Bool
+is_given letter given = is_some (option_given letter given.options)
+
+-- `write_blif`: the network, or with `-n` the netlist
+abbrev pub write_op : Given → Op
+write_op given =
+    if is_given letter_n given then WriteNetlist (file_in given) else WriteBlif (file_in given)
+
+-- `map`: `-s` prints the total alone
+abbrev pub map_op : Given → Op
+map_op given = Map (is_given letter_s given)
+
 -- a command of its word alone
 abbrev pub plain : List ℕ → Op → Form
 plain word op = record { word = word; options = []; slots = []; becomes = λ given. op }
@@ -200,6 +219,24 @@ gen = record {
   becomes = generate_op;
 }
 
+-- `write_blif [-n] [FILE]`
+abbrev pub write_blif : Form
+write_blif = record {
+  word = codes "write_blif";
+  options = bare letter_n ∷ [];
+  slots = Optional kind.File ∷ [];
+  becomes = write_op;
+}
+
+-- `map [-m 0] [-s]`
+abbrev pub mapping : Form
+mapping = record {
+  word = codes "map";
+  options = valued letter_m (kind.Number 0 0) ∷ bare letter_s ∷ [];
+  slots = [];
+  becomes = map_op;
+}
+
 -- the commands of the shell, but for `echo`, which takes any words
 abbrev pub forms : List Form
 forms =
@@ -208,7 +245,7 @@ forms =
     ∷ of_file (codes "read_kiss") ReadKiss
     ∷ of_file (codes "read_library") ReadLibrary
     ∷ gen
-    ∷ to_file (codes "write_blif") WriteBlif
+    ∷ write_blif
     ∷ to_file (codes "write_kiss") WriteKiss
     ∷ plain (codes "print_stats") PrintStats
     ∷ of_any_name (codes "print") Print
@@ -221,12 +258,15 @@ forms =
     ∷ eliminate
     ∷ plain (codes "collapse") (Change change.Collapse)
     ∷ plain_with (codes "simplify") (valued letter_m kind.NoComplement) (Change change.Simplify)
+    ∷ plain_with (codes "full_simplify") (valued letter_m kind.NoComplement)
+    (Change change.FullSimplify)
     ∷ plain (codes "fx") (Change change.Fx)
     ∷ plain (codes "gkx") (Change change.Gkx)
     ∷ plain (codes "gcx") (Change change.Gcx)
     ∷ plain_with (codes "resub") (bare letter_a) (Change change.Resub)
     ∷ plain (codes "decomp") (Change change.Decomp)
     ∷ tech_decomp
+    ∷ mapping
     ∷ taking (codes "state_assign") (Optional kind.Style) state_assign_op
     ∷ []
 

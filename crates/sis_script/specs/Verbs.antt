@@ -2,9 +2,9 @@
 -- table; no public clause cites it.
 -- Source: the definition's list (Script.antt), whose words these are.
 use Rattle.std.specs.Prelude.{ℕ, Option, List, bytes_eq, find, option_map}
-use Rattle.sis_script.specs.Script.{Form, needed, file_in, name_in, generate_op, eliminate_op, state_assign_op, tech_decomp_op}
+use Rattle.sis_script.specs.Script.{Form, needed, file_in, name_in, generate_op, eliminate_op, map_op, state_assign_op, tech_decomp_op, write_op}
 use Rattle.sis_script.specs.declared.command.Op.{Op}
-use Rattle.sis_script.specs.declared.command.Op.TheVariants.{Quit, ReadBlif, ReadKiss, ReadLibrary, WriteBlif, WriteKiss, PrintStats, Print, PrintLatch, PrintFactor, PrintKernel, Change, Undo, Source}
+use Rattle.sis_script.specs.declared.command.Op.TheVariants.{Quit, ReadBlif, ReadKiss, ReadLibrary, WriteKiss, PrintStats, Print, PrintLatch, PrintFactor, PrintKernel, Change, Undo, Source}
 use Rattle.sis_script.specs.declared.grammar.Given.{Given}
 use Rattle.sis_script.specs.declared.forms.Verb.{Verb}
 use Rattle.sis_script.specs.declared.forms.Verb.TheVariants as verb
@@ -17,7 +17,7 @@ op_made verb.ReadBlif = λ given. needed (option_map ReadBlif (file_in given))
 op_made verb.ReadKiss = λ given. needed (option_map ReadKiss (file_in given))
 op_made verb.ReadLibrary = λ given. needed (option_map ReadLibrary (file_in given))
 op_made verb.Generate = generate_op
-op_made verb.WriteBlif = λ given. WriteBlif (file_in given)
+op_made verb.WriteBlif = write_op
 op_made verb.WriteKiss = λ given. WriteKiss (file_in given)
 op_made verb.PrintStats = λ given. PrintStats
 op_made verb.Print = λ given. Print (name_in given)
@@ -30,6 +30,7 @@ op_made (verb.Plain change) = λ given. Change change
 op_made verb.Eliminate = eliminate_op
 op_made verb.TechDecomp = tech_decomp_op
 op_made verb.StateAssign = state_assign_op
+op_made verb.Map = map_op
 
 -- a row of the code's table as the definition has it
 abbrev pub meaning : CommandForm → Form

@@ -27,6 +27,10 @@ pub enum Op {
     WriteBlif(Option<Word>),
     /// Writes the machine to a file, or to the output where no file is named.
     WriteKiss(Option<Word>),
+    /// Writes the mapped netlist to a file, or to the output where no file is named.
+    WriteNetlist(Option<Word>),
+    /// Maps the network by the library; prints a line for each tree, or the total alone.
+    Map(bool),
     /// Prints how large the network is.
     PrintStats,
     /// Prints the table of a name, or all tables where none is named.
@@ -61,6 +65,8 @@ pub enum Change {
     Collapse,
     /// Makes each table minimal where its inputs' tables leave points free.
     Simplify,
+    /// Makes each table minimal under all its don't-cares, one table after the other.
+    FullSimplify,
     /// Makes tables of sums of two cubes and of products of two literals, as long as that saves
     /// literals.
     Fx,

@@ -52,6 +52,7 @@ pub(crate) enum Verb {
     Eliminate,
     TechDecomp,
     StateAssign,
+    Map,
 }
 
 /// A command: its word, its options, the slots for its other words, and what these make of it.
@@ -91,6 +92,24 @@ const METHOD: OptionForm = OptionForm {
     kind: Some(Kind::NoComplement),
 };
 
+/// `-n` without a value: the netlist.
+const NETLIST: OptionForm = OptionForm {
+    letter: b'n',
+    kind: None,
+};
+
+/// `-s` without a value: the total alone.
+const SHORT: OptionForm = OptionForm {
+    letter: b's',
+    kind: None,
+};
+
+/// `-m 0`, the least area.
+const AREA: OptionForm = OptionForm {
+    letter: b'm',
+    kind: Some(Kind::Number(0, 0)),
+};
+
 /// `-a` without a value.
 const ALGEBRAIC: OptionForm = OptionForm {
     letter: b'a',
@@ -128,7 +147,7 @@ const FORMS: &[CommandForm] = &[
     form!(b"read_kiss", &[], &[FILE], Verb::ReadKiss),
     form!(b"read_library", &[], &[FILE], Verb::ReadLibrary),
     form!(b"gen", &[], &[SEED, TABLES], Verb::Generate),
-    form!(b"write_blif", &[], &[ANY_FILE], Verb::WriteBlif),
+    form!(b"write_blif", &[NETLIST], &[ANY_FILE], Verb::WriteBlif),
     form!(b"write_kiss", &[], &[ANY_FILE], Verb::WriteKiss),
     form!(b"print_stats", &[], &[], Verb::PrintStats),
     form!(b"print", &[], &[ANY_NAME], Verb::Print),
@@ -141,12 +160,19 @@ const FORMS: &[CommandForm] = &[
     form!(b"eliminate", &[ROWS], &[INTEGER], Verb::Eliminate),
     form!(b"collapse", &[], &[], Verb::Plain(Change::Collapse)),
     form!(b"simplify", &[METHOD], &[], Verb::Plain(Change::Simplify)),
+    form!(
+        b"full_simplify",
+        &[METHOD],
+        &[],
+        Verb::Plain(Change::FullSimplify)
+    ),
     form!(b"fx", &[], &[], Verb::Plain(Change::Fx)),
     form!(b"gkx", &[], &[], Verb::Plain(Change::Gkx)),
     form!(b"gcx", &[], &[], Verb::Plain(Change::Gcx)),
     form!(b"resub", &[ALGEBRAIC], &[], Verb::Plain(Change::Resub)),
     form!(b"decomp", &[], &[], Verb::Plain(Change::Decomp)),
     form!(b"tech_decomp", &[PRODUCTS, SUMS], &[], Verb::TechDecomp),
+    form!(b"map", &[AREA, SHORT], &[], Verb::Map),
     form!(b"state_assign", &[], &[ANY_STYLE], Verb::StateAssign),
 ];
 

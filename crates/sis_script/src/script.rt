@@ -10,6 +10,8 @@ ghost use Rattle.sis_script.specs.Script.{
   first_word,
   generate_op,
   inputs_given,
+  is_given,
+  map_op,
   name_in,
   needed,
   number_given,
@@ -21,6 +23,7 @@ ghost use Rattle.sis_script.specs.Script.{
   state_assign_op,
   style_in,
   tech_decomp_op,
+  write_op,
 };
 ghost use Rattle.sis_script.specs.Verbs.{meaning, op_made};
 
@@ -172,6 +175,31 @@ fn state_assign_op(given: Given) -> Op
     Op::StateAssign(style_in(first_word(given)))
 }
 
+/// Whether the option of a letter was given.
+fn is_given(letter: u8, given: &Given) -> bool
+    ensures { result ≡ is_given letter given.now }
+{
+    option_given(letter, given.options.as_slice()).is_some()
+}
+
+/// `write_blif`: the network, or with `-n` the netlist.
+fn write_op(given: Given) -> Op
+    ensures { result ≡ write_op given }
+{
+    if is_given(b'n', &given) {
+        Op::WriteNetlist(file_in(given))
+    } else {
+        Op::WriteBlif(file_in(given))
+    }
+}
+
+/// `map`: `-s` prints the total alone.
+fn map_op(given: &Given) -> Op
+    ensures { result ≡ map_op given.now }
+{
+    Op::Map(is_given(b's', given))
+}
+
 /// What a verb makes of a command's words.
 fn op_made(verb: Verb, given: Given) -> Op
     ensures { result ≡ op_made verb given }
@@ -182,7 +210,7 @@ fn op_made(verb: Verb, given: Given) -> Op
         Verb::ReadKiss => needed(file_in(given).map(Op::ReadKiss)),
         Verb::ReadLibrary => needed(file_in(given).map(Op::ReadLibrary)),
         Verb::Generate => generate_op(given),
-        Verb::WriteBlif => Op::WriteBlif(file_in(given)),
+        Verb::WriteBlif => write_op(given),
         Verb::WriteKiss => Op::WriteKiss(file_in(given)),
         Verb::PrintStats => Op::PrintStats,
         Verb::Print => Op::Print(name_in(given)),
@@ -195,6 +223,7 @@ fn op_made(verb: Verb, given: Given) -> Op
         Verb::Eliminate => eliminate_op(given),
         Verb::TechDecomp => tech_decomp_op(given),
         Verb::StateAssign => state_assign_op(given),
+        Verb::Map => map_op(&given),
     }
 }
 

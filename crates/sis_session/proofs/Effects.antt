@@ -35,6 +35,7 @@ use Rattle.genlib_format.specs.declared.fault.LibFault.{LibFault}
 use Rattle.net_wires.proofs.Chaining.{chain_kept}
 use Rattle.net_elim.specs.Collapsing.{collapsed}
 use Rattle.sdc_simplify.specs.Simplified.{simplified}
+use Rattle.odc_simplify.specs.Full.{fully_simplified}
 use Rattle.net_candidates.specs.Extracting.{IsExtracted}
 use Rattle.net_candidates.specs.declared.rule.Rule.{Rule as Extraction}
 use Rattle.net_candidates.specs.declared.rule.Rule.TheVariants as extract
@@ -47,6 +48,7 @@ use Rattle.net_decomp.specs.declared.rule.Rule.TheVariants.{Shared, Gates}
 use Rattle.net_decomp.proofs.PartedSteps.{reached_extended, decomposed_refines}
 use Rattle.net_elim.proofs.Stepping.{chain_keeps, chain_refines}
 use Rattle.sdc_simplify.proofs.InTurns.{simplified_reduced, simplified_refines}
+use Rattle.odc_simplify.proofs.Kept.{fully_kept, fully_refines}
 use Rattle.net_elim.proofs.Gathered.{collapse_reduced, collapse_refines}
 use Rattle.std.proofs.lemmas.Option.{same_Some}
 use Rattle.sis_script.specs.declared.command.Change.{Change}
@@ -60,10 +62,15 @@ use Rattle.sis_session.specs.Replies.{codes_text}
 use Rattle.state_code.specs.declared.codes.Style.{Style as Coding}
 use Rattle.state_code.proofs.CircuitSound.{encoded_sound}
 use Rattle.state_code.proofs.CircuitValues.{encoded_refines}
-use Rattle.sis_session.specs.Commands.{Blif, ChangedBy, Changes, ChangesNetwork, EncodesMachine, Ends, coding_of, encoded_reply, Form, Format, FormPlans, Generates, IsWrong, Kiss, Plans, Reads, ReadsLibrary, Replies, Sources, StaysTold, TakesBack, Tells, TheMachine, TheNetwork, Writes, blif_read, circuit_of, commands_in, form_of, kiss_read, last_read, library_held, machine_of, network_of, part_of, read_by, reply_with, spec_held, spec_in, undo_outcome, written_text}
-use Rattle.sis_session.specs.Keeping.{RefinesSpec, MachineRefines, IsRefined, IsTextOf, IsWriting, WritesTo}
-use Rattle.sis_session.specs.Plan.{MAX_DEPTH, Asked, Nothing, OnStore, OnOut, OnInput, Comes, ComesLoaded, ComesSaved, ComesPut, Done, Ending, Goes, Loads, Outcome, Does, Refuses, Plan, Quiet, Puts, Reply, Saves, Takes, Steps, by_plan, no_memory, replies, sends}
-use Rattle.sis_session.specs.State.{Held, Library, held_spec, nothing_held, with_read, with_machine, with_encoded, with_exchanged}
+use Rattle.sis_session.specs.Commands.{Blif, ChangedBy, Changes, ChangesNetwork, EncodesMachine, Ends, coding_of, encoded_reply, Form, Format, FormPlans, Generates, IsWrong, Kiss, MakesNetlist, MappedBy, Plans, Reads, ReadsLibrary, Replies, Sources, StaysTold, TakesBack, Tells, TheMachine, TheNetlist, TheNetwork, Writes, Written, OfSpec, OfNetlist, blif_read, circuit_of, commands_in, form_of, kiss_read, last_read, library_held, machine_of, netlist_of, network_of, part_of, read_by, reply_with, spec_held, spec_in, undo_outcome, written_text}
+use Rattle.netlist.specs.Lines.{netlist_text_of}
+use Rattle.genlib_format.specs.Soundness.{IsSound as IsSoundGates}
+use Rattle.map_net.specs.Mapping.{IsMapped}
+use Rattle.map_net.proofs.MappedNets.{mapped_parted, mapped_refines, mapped_sound}
+use Rattle.sis_session.specs.Keeping.{RefinesSpec, MachineRefines, HasMapped, IsMappedFrom, IsMapping, IsRefined, IsTextOf, IsWriting, TellsAreas, WritesTo}
+use Rattle.sis_session.specs.Plan.{MAX_DEPTH, Asked, Nothing, OnStore, OnOut, OnInput, Comes, ComesLoaded, ComesSaved, ComesPut, Cut, Done, Ending, Goes, Loads, Outcome, Does, Refuses, Plan, Quiet, Puts, Reply, Saves, Takes, Steps, by_plan, no_memory, replies, sends}
+use Rattle.sis_session.specs.State.{Held, Library, Netlist, held_spec, nothing_held, with_read, with_spec, with_machine, with_library, with_encoded, with_exchanged}
+use Rattle.sis_session.specs.declared.refusal.Failed.TheVariants as failed
 use Rattle.sis_session.specs.declared.refusal.Next.{Next}
 use Rattle.sis_session.specs.declared.refusal.Next.TheVariants.{Go, Script}
 use Rattle.sis_session.specs.declared.refusal.Next.TheVariants as onward
@@ -184,19 +191,33 @@ machine_refines machine sound other same =
 no_machine_refines : (read : Option Spec) → MachineRefines read None
 no_machine_refines read machine is = cc
 
+-- where there is no netlist, nothing is asked of it
+no_netlist : (library : Option Library) (network : Option Circuit)
+    → HasMapped library network None
+no_netlist library network = record { each = λ netlist is. absurd (none netlist is) }
+  where
+    none : (netlist : Netlist) → None ≡ Some netlist → ⊥
+    none netlist is = cc
+
 -- what is held behind a file that was read
-circuit_held : (held : Held) (circuit : Circuit) → IsSound circuit → IsRefined (Some (asked.Circuit circuit)) (with_read held circuit)
+circuit_held : (held : Held) (circuit : Circuit) → IsSound circuit
+    → IsRefined (Some (asked.Circuit circuit)) (with_read held circuit)
 circuit_held held circuit sound = record {
   network = refines_read circuit sound;
   previous = none_refines (Some (asked.Circuit circuit));
   machine = no_machine_refines (Some (asked.Circuit circuit));
+  netlist = no_netlist held.library (Some circuit);
+  previous_netlist = no_netlist held.library None;
 }
 
-machine_held : (held : Held) (machine : Machine) → IsSoundMachine machine → IsRefined (Some (asked.Machine machine)) (with_machine held machine)
+machine_held : (held : Held) (machine : Machine) → IsSoundMachine machine
+    → IsRefined (Some (asked.Machine machine)) (with_machine held machine)
 machine_held held machine sound = record {
   network = none_refines (Some (asked.Machine machine));
   previous = none_refines (Some (asked.Machine machine));
   machine = machine_refines machine sound;
+  netlist = no_netlist held.library None;
+  previous_netlist = no_netlist held.library None;
 }
 
 -- what is read in a format is sound
@@ -216,15 +237,25 @@ sound_in : (format : Format) (held : Held) (name bytes : List ℕ) (read : Spec)
 sound_in Blif held name bytes read is = circuit_in held name bytes read (read_lines held.library (entries_of bytes)) refl is
 sound_in Kiss held name bytes read is = machine_in name bytes read (machine_lines_read (entries_of bytes)) refl is
 
-spec_leaves : (held : Held) (answer : Result Spec Refusal) → ((read : Spec) → answer ≡ Ok read → IsSoundSpec read)
+spec_leaves : (held : Held) (answer : Result Spec Refusal)
+    → ((read : Spec) → answer ≡ Ok read → IsSoundSpec read)
     → Leaves (λ h. IsRefined (held_spec h.network h.machine) h) (spec_held held answer)
-spec_leaves held (Ok (asked.Circuit circuit)) sound = circuit_held held circuit (sound (asked.Circuit circuit) refl)
-spec_leaves held (Ok (asked.Machine machine)) sound = machine_held held machine (sound (asked.Machine machine) refl)
+spec_leaves held (Ok (asked.Circuit circuit)) sound =
+    circuit_held held circuit (sound (asked.Circuit circuit) refl)
+spec_leaves held (Ok (asked.Machine machine)) sound =
+    machine_held held machine (sound (asked.Machine machine) refl)
 spec_leaves held (Err why) sound = tt
 
-library_leaves : (held : Held) (name : List ℕ) (read : Option Spec) (answer : Result Library LibFault) → IsRefined read held
+library_leaves : (held : Held) (name : List ℕ) (read : Option Spec)
+    (answer : Result Library LibFault) → IsRefined read held
     → Leaves (λ h. IsRefined read h) (library_held held name answer)
-library_leaves held name read (Ok library) refined = record { network = refined.network; previous = refined.previous; machine = refined.machine }
+library_leaves held name read (Ok library) refined = record {
+  network = refined.network;
+  previous = refined.previous;
+  machine = refined.machine;
+  netlist = no_netlist (Some library) held.network;
+  previous_netlist = no_netlist (Some library) held.previous;
+}
 library_leaves held name read (Err fault) refined = tt
 
 -- what refines a circuit refines what that refines
@@ -271,6 +302,15 @@ changed_refines spec changing.Simplify old new (none, made) before circuit same 
     let (read, is, sound, refines) = before old refl in
     let equal : simplified old ≡ circuit = sym made ∙ same_Some new circuit same in
     (read, is, subst IsSound equal (simplified_reduced old sound).change.sound, subst (λ (c : Circuit). RefinesAs (of_spec read) (of_circuit c)) equal (refines_on read old (simplified old) refines (simplified_refines old sound)))
+changed_refines spec changing.FullSimplify old new (none, made) before circuit same =
+    let (read, is, sound, refines) = before old refl in
+    let equal : fully_simplified old ≡ circuit = sym made ∙ same_Some new circuit same in (
+      read,
+      is,
+      subst IsSound equal (fully_kept old sound).sound,
+      subst (λ (c : Circuit). RefinesAs (of_spec read) (of_circuit c)) equal
+          (refines_on read old (fully_simplified old) refines (fully_refines old sound)),
+    )
 changed_refines spec changing.Fx old new made before circuit same = extracted_leads spec extract.Fx old new made before circuit same
 changed_refines spec changing.Gkx old new made before circuit same = extracted_leads spec extract.Gkx old new made before circuit same
 changed_refines spec changing.Gcx old new made before circuit same = extracted_leads spec extract.Gcx old new made before circuit same
@@ -286,6 +326,8 @@ changed_ok spec held change (Some old) reply there refined (Ok new, changes, is)
       network = changed_refines spec change old new changes (subst (RefinesSpec spec) there refined.network);
       previous = refined.network;
       machine = refined.machine;
+      netlist = no_netlist held.library (Some new);
+      previous_netlist = refined.netlist;
     })
 changed_ok spec held change (Some old) reply there refined (Err why, changes, is) = subst (OnOkReply (λ h. IsRefined spec h)) (sym is) tt
 
@@ -307,10 +349,20 @@ encoded_leads spec coding machine narrow before circuit same =
 encoded_held : (spec : Option Spec) (held : Held) (old : Option Circuit) (new : Circuit)
     → held.network ≡ old → IsRefined spec held → RefinesSpec spec (Some new)
     → IsRefined spec (with_encoded held old new)
-encoded_held spec held None new there refined is =
-    record { network = is; previous = refined.previous; machine = refined.machine }
-encoded_held spec held (Some old) new there refined is =
-    record { network = is; previous = refined.network; machine = refined.machine }
+encoded_held spec held None new there refined is = record {
+  network = is;
+  previous = refined.previous;
+  machine = refined.machine;
+  netlist = no_netlist held.library (Some new);
+  previous_netlist = refined.previous_netlist;
+}
+encoded_held spec held (Some old) new there refined is = record {
+  network = is;
+  previous = refined.network;
+  machine = refined.machine;
+  netlist = no_netlist held.library (Some new);
+  previous_netlist = refined.netlist;
+}
 
 encoded_by_ok : (spec : Option Spec) (held : Held) (coding : Coding) (machine : Machine)
     (small : Bool) → nat_le (leaf_count coding machine) MAX_INPUTS ≡ small
@@ -332,9 +384,56 @@ encoded_ok spec held coding (Some machine) is refined =
     encoded_by_ok spec held coding machine (nat_le (leaf_count coding machine) MAX_INPUTS) refl
     refined (subst (MachineRefines spec) is refined.machine)
 
+-- a netlist that is made is that of the network, by the library
+mapped_from : (library : Option Library) (network : Option Circuit) (circuit : Circuit)
+    (gates : Library) (netlist : Netlist) → network ≡ Some circuit → library ≡ Some gates
+    → IsSound circuit → IsSoundGates gates → IsMapped circuit gates netlist
+    → IsMappedFrom library network netlist
+mapped_from library network circuit gates netlist is has sound known mapped = record {
+  gates = gates;
+  circuit = circuit;
+  has = has;
+  there = is;
+  mapped = mapped;
+  sound = mapped_sound circuit gates netlist sound known mapped;
+  refines = mapped_refines circuit gates netlist sound known mapped;
+  parted = mapped_parted circuit gates netlist known mapped;
+}
+
+mapped_ok : (spec : Option Spec) (held : Held) (brief : Bool) (network : Option Circuit)
+    (library : Option Library) (reply : Result Reply Refusal) → held.network ≡ network
+    → held.library ≡ library → IsRefined spec held → MappedBy brief held network library reply
+    → OnOkReply (λ h. IsRefined spec h) reply
+mapped_ok spec held brief None library reply is has refined same =
+    subst (OnOkReply (λ h. IsRefined spec h)) (sym same) tt
+mapped_ok spec held brief (Some circuit) None reply is has refined same =
+    subst (OnOkReply (λ h. IsRefined spec h)) (sym same) tt
+mapped_ok spec held brief (Some circuit) (Some gates) (Ok reply) is has refined
+    (sound, known, netlist, (inverter, nand, mapped), same) =
+    subst (λ (r : Reply). IsRefined spec r.held) (sym same) (record {
+      network = refined.network;
+      previous = refined.previous;
+      machine = refined.machine;
+      netlist = record {
+        each = λ other there.
+            subst (IsMappedFrom held.library held.network) (same_Some netlist other there) made;
+      };
+      previous_netlist = refined.previous_netlist;
+    })
+  where
+    made : IsMappedFrom held.library held.network netlist
+    made = mapped_from held.library held.network circuit gates netlist is has sound known mapped
+mapped_ok spec held brief (Some circuit) (Some gates) (Err why) is has refined made = tt
+
 undo_leads : (spec : Option Spec) (held : Held) (previous : Option Circuit) → IsRefined spec held → Leads (λ h. IsRefined spec h) (Quiet (undo_outcome held previous))
 undo_leads spec held None refined = quiet_leads (λ h. IsRefined spec h) (Refuses refusal.NothingToUndo) tt
-undo_leads spec held (Some circuit) refined = quiet_leads (λ h. IsRefined spec h) (Does (with_exchanged held) Go) (record { network = refined.previous; previous = refined.network; machine = refined.machine })
+undo_leads spec held (Some circuit) refined = quiet_leads (λ h. IsRefined spec h) (Does (with_exchanged held) Go) (record {
+  network = refined.previous;
+  previous = refined.network;
+  machine = refined.machine;
+  netlist = refined.previous_netlist;
+  previous_netlist = refined.netlist;
+})
 
 source_leads : (is : Held → Type 0) (shallow : Bool) (held : Held) (name : List ℕ) → is held
     → Leads is (if shallow then Loads name (λ bytes. Does held (Script (commands_in bytes))) else Quiet (Refuses refusal.Nested))
@@ -358,7 +457,8 @@ form_leads depth spec held (Writes part file) plan refined is =
 form_leads depth spec held (Reads format name) plan refined is =
     subst (Leads (λ h. IsRefined (held_spec h.network h.machine) h)) (sym is)
     (loads_leads (λ h. IsRefined (held_spec h.network h.machine) h) name (λ bytes. spec_held held (spec_in format held name bytes))
-    (λ bytes. spec_leaves held (spec_in format held name bytes) (sound_in format held name bytes)))
+    (λ bytes. spec_leaves held (spec_in format held name bytes)
+    (sound_in format held name bytes)))
 form_leads depth spec held (ReadsLibrary name) plan refined is =
     subst (Leads (λ h. IsRefined spec h)) (sym is) (loads_leads (λ h. IsRefined spec h) name (λ bytes. library_held held name (library_of bytes))
     (λ bytes. library_leaves held name spec (library_of bytes) refined))
@@ -373,19 +473,32 @@ form_leads depth spec held (EncodesMachine style) plan refined is =
     subst (Leads (λ h. IsRefined spec h)) (sym is)
     (sends_leads (λ h. IsRefined spec h) None (encoded_reply (coding_of style) held held.machine)
     (encoded_ok spec held (coding_of style) held.machine refl refined))
+form_leads depth spec held (MakesNetlist brief) plan refined is =
+    replied_leads (λ h. IsRefined spec h) (MappedBy brief held held.network held.library) plan
+    (λ reply. mapped_ok spec held brief held.network held.library reply refl refl refined) is
 form_leads depth spec held TakesBack plan refined is = subst (Leads (λ h. IsRefined spec h)) (sym is) (undo_leads spec held held.previous refined)
 form_leads depth spec held (Sources name) plan refined is =
     subst (Leads (λ h. IsRefined spec h)) (sym is) (source_leads (λ h. IsRefined spec h) (nat_lt depth MAX_DEPTH) held name refined)
 form_leads depth spec held Ends plan refined is = subst (Leads (λ h. IsRefined spec h)) (sym is) (quiet_leads (λ h. IsRefined spec h) (Does held onward.Quit) refined)
 form_leads depth spec held (IsWrong fault) plan refined is = subst (Leads (λ h. IsRefined spec h)) (sym is) (quiet_leads (λ h. IsRefined spec h) (Refuses (refusal.Script fault)) tt)
 
+not_cut : (held : Held) (next : Next) → Done held next ≡ Cut failed.Memory → ⊥
+not_cut held next cut = cc
+
 pub refined_step : (depth : ℕ) (held : Held) (op : Op) (asked : Asked) (held' : Held) (next : Next) (spec : Option Spec)
     → Steps (Plans depth held op) asked (Done held' next) → IsRefined spec held → IsRefined (last_read op held' spec) held'
 refined_step depth held op asked held' next spec (by_plan plan planned goes) refined = form_leads depth spec held (form_of op) plan refined planned asked held' next goes
-refined_step depth held op asked held' next spec (no_memory none cut) refined = cc
+refined_step depth held op asked held' next spec (no_memory none cut) refined =
+    absurd (not_cut held' next cut)
 
 pub refined_nothing : (spec : Option Spec) → IsRefined spec nothing_held
-refined_nothing spec = record { network = none_refines spec; previous = none_refines spec; machine = no_machine_refines spec }
+refined_nothing spec = record {
+  network = none_refines spec;
+  previous = none_refines spec;
+  machine = no_machine_refines spec;
+  netlist = no_netlist None None;
+  previous_netlist = no_netlist None None;
+}
 
 -- what a plan saves, and what it puts
 abbrev IsSave : List ℕ → List ℕ → Plan → Type 0
@@ -435,25 +548,38 @@ source_saves_nothing false held from name bytes saves = saves
 
 -- what a command writes is the text of what is held
 abbrev IsHeldText : Held → Option (List ℕ) → Form → List ℕ → Type 0
-IsHeldText held to form bytes = (written : Spec) × WritesTo to form written × IsTextOf held written bytes
+IsHeldText held to form bytes = (written : Written) × WritesTo to form written × IsTextOf held written bytes
 
 network_saves : (held : Held) (file : Option (List ℕ)) (network : Option Circuit) (name bytes : List ℕ) → held.network ≡ network
     → IsSave name bytes (sends file (reply_with held (written_text (network_of network)))) → IsHeldText held (Some name) (Writes TheNetwork file) bytes
 network_saves held None network name bytes there saves = absurd (puts_save_nothing (reply_with held (written_text (network_of network))) name bytes saves)
 network_saves held (Some to) None name bytes there saves = absurd saves
-network_saves held (Some to) (Some circuit) name bytes there saves = (asked.Circuit circuit, ap (λ n. Some n) (sym saves.0), (there, saves.1))
+network_saves held (Some to) (Some circuit) name bytes there saves = (OfSpec (asked.Circuit circuit), ap (λ n. Some n) (sym saves.0), (there, saves.1))
 
 machine_saves : (held : Held) (file : Option (List ℕ)) (machine : Option Machine) (name bytes : List ℕ) → held.machine ≡ machine
     → IsSave name bytes (sends file (reply_with held (written_text (machine_of machine)))) → IsHeldText held (Some name) (Writes TheMachine file) bytes
 machine_saves held None machine name bytes there saves = absurd (puts_save_nothing (reply_with held (written_text (machine_of machine))) name bytes saves)
 machine_saves held (Some to) None name bytes there saves = absurd saves
-machine_saves held (Some to) (Some machine) name bytes there saves = (asked.Machine machine, ap (λ n. Some n) (sym saves.0), (there, saves.1))
+machine_saves held (Some to) (Some machine) name bytes there saves = (OfSpec (asked.Machine machine), ap (λ n. Some n) (sym saves.0), (there, saves.1))
+
+netlist_saves : (held : Held) (file : Option (List ℕ)) (netlist : Option Netlist)
+    (name bytes : List ℕ) → held.netlist ≡ netlist
+    → IsSave name bytes (sends file (reply_with held (written_text (netlist_of netlist))))
+    → IsHeldText held (Some name) (Writes TheNetlist file) bytes
+netlist_saves held None netlist name bytes there saves =
+    absurd (puts_save_nothing (reply_with held (written_text (netlist_of netlist))) name bytes
+    saves)
+netlist_saves held (Some to) None name bytes there saves = absurd saves
+netlist_saves held (Some to) (Some netlist) name bytes there saves =
+    (OfNetlist netlist, ap (λ n. Some n) (sym saves.0), (there, saves.1))
 
 form_saves : (depth : ℕ) (held : Held) (form : Form) (plan : Plan) (name bytes : List ℕ) → FormPlans depth held form plan → IsSave name bytes plan
     → IsHeldText held (Some name) form bytes
 form_saves depth held (Tells tells) plan name bytes is saves = absurd (replied_saves_nothing (StaysTold held (tells held)) plan name bytes is saves)
 form_saves depth held (Writes TheNetwork file) plan name bytes is saves = network_saves held file held.network name bytes refl (subst (IsSave name bytes) is saves)
 form_saves depth held (Writes TheMachine file) plan name bytes is saves = machine_saves held file held.machine name bytes refl (subst (IsSave name bytes) is saves)
+form_saves depth held (Writes TheNetlist file) plan name bytes is saves =
+    netlist_saves held file held.netlist name bytes refl (subst (IsSave name bytes) is saves)
 form_saves depth held (Reads format from) plan name bytes is saves = absurd (subst (IsSave name bytes) is saves)
 form_saves depth held (ReadsLibrary from) plan name bytes is saves = absurd (subst (IsSave name bytes) is saves)
 form_saves depth held (Generates seed tables) plan name bytes is saves =
@@ -462,6 +588,9 @@ form_saves depth held (ChangesNetwork change) plan name bytes is saves = absurd 
 form_saves depth held (EncodesMachine style) plan name bytes is saves =
     absurd (puts_save_nothing (encoded_reply (coding_of style) held held.machine) name bytes
     (subst (IsSave name bytes) is saves))
+form_saves depth held (MakesNetlist brief) plan name bytes is saves =
+    absurd (replied_saves_nothing (MappedBy brief held held.network held.library) plan name bytes
+    is saves)
 form_saves depth held TakesBack plan name bytes is saves = absurd (subst (IsSave name bytes) is saves)
 form_saves depth held (Sources from) plan name bytes is saves =
     absurd (source_saves_nothing (nat_lt depth MAX_DEPTH) held from name bytes (subst (IsSave name bytes) is saves))
@@ -470,7 +599,7 @@ form_saves depth held (IsWrong fault) plan name bytes is saves = absurd (subst (
 
 pub saved_step : (depth : ℕ) (held : Held) (op : Op) (name bytes : List ℕ) (answer : Result (Unit {0}) SaveFault) (ending : Ending)
     → Steps (Plans depth held op) (OnStore (Save name bytes answer)) ending
-    → (written : Spec) × WritesTo (Some name) (form_of op) written × IsTextOf held written bytes
+    → (written : Written) × WritesTo (Some name) (form_of op) written × IsTextOf held written bytes
 saved_step depth held op name bytes answer ending (by_plan plan planned goes) =
     form_saves depth held (form_of op) plan name bytes planned (goes_save plan name bytes answer ending goes)
 saved_step depth held op name bytes answer ending (no_memory none cut) = cc
@@ -484,24 +613,37 @@ network_puts : (held : Held) (file : Option (List ℕ)) (network : Option Circui
 network_puts held None None piece there puts = absurd puts
 network_puts held (Some name) None piece there puts = absurd puts
 network_puts held (Some name) (Some circuit) piece there puts = absurd puts
-network_puts held None (Some circuit) piece there puts = (asked.Circuit circuit, refl, (there, replies_put piece (text_of circuit) (Does held Go) puts))
+network_puts held None (Some circuit) piece there puts = (OfSpec (asked.Circuit circuit), refl, (there, replies_put piece (text_of circuit) (Does held Go) puts))
 
 machine_puts : (held : Held) (file : Option (List ℕ)) (machine : Option Machine) (piece : List ℕ) → held.machine ≡ machine
     → IsPut piece (sends file (reply_with held (written_text (machine_of machine)))) → IsHeldText held None (Writes TheMachine file) piece
 machine_puts held None None piece there puts = absurd puts
 machine_puts held (Some name) None piece there puts = absurd puts
 machine_puts held (Some name) (Some machine) piece there puts = absurd puts
-machine_puts held None (Some machine) piece there puts = (asked.Machine machine, refl, (there, replies_put piece (machine_text_of machine) (Does held Go) puts))
+machine_puts held None (Some machine) piece there puts = (OfSpec (asked.Machine machine), refl, (there, replies_put piece (machine_text_of machine) (Does held Go) puts))
+
+netlist_puts : (held : Held) (file : Option (List ℕ)) (netlist : Option Netlist) (piece : List ℕ)
+    → held.netlist ≡ netlist
+    → IsPut piece (sends file (reply_with held (written_text (netlist_of netlist))))
+    → IsHeldText held None (Writes TheNetlist file) piece
+netlist_puts held None None piece there puts = absurd puts
+netlist_puts held (Some name) None piece there puts = absurd puts
+netlist_puts held (Some name) (Some netlist) piece there puts = absurd puts
+netlist_puts held None (Some netlist) piece there puts =
+    (OfNetlist netlist, refl, (there, replies_put piece (netlist_text_of netlist) (Does held Go) puts))
 
 form_puts : (depth : ℕ) (held : Held) (form : Form) (plan : Plan) (piece : List ℕ) → IsWriting form → FormPlans depth held form plan → IsPut piece plan → IsHeldText held None form piece
 form_puts depth held (Writes TheNetwork file) plan piece writing is puts = network_puts held file held.network piece refl (subst (IsPut piece) is puts)
 form_puts depth held (Writes TheMachine file) plan piece writing is puts = machine_puts held file held.machine piece refl (subst (IsPut piece) is puts)
+form_puts depth held (Writes TheNetlist file) plan piece writing is puts =
+    netlist_puts held file held.netlist piece refl (subst (IsPut piece) is puts)
 form_puts depth held (Tells tells) plan piece writing is puts = absurd writing
 form_puts depth held (Reads format name) plan piece writing is puts = absurd writing
 form_puts depth held (ReadsLibrary name) plan piece writing is puts = absurd writing
 form_puts depth held (Generates seed tables) plan piece writing is puts = absurd writing
 form_puts depth held (ChangesNetwork change) plan piece writing is puts = absurd writing
 form_puts depth held (EncodesMachine style) plan piece writing is puts = absurd writing
+form_puts depth held (MakesNetlist brief) plan piece writing is puts = absurd writing
 form_puts depth held TakesBack plan piece writing is puts = absurd writing
 form_puts depth held (Sources name) plan piece writing is puts = absurd writing
 form_puts depth held Ends plan piece writing is puts = absurd writing
@@ -509,6 +651,48 @@ form_puts depth held (IsWrong fault) plan piece writing is puts = absurd writing
 
 pub put_step : (depth : ℕ) (held : Held) (op : Op) (call : PutCall) (ending : Ending) → IsWriting (form_of op)
     → Steps (Plans depth held op) (OnOut call) ending
-    → (written : Spec) × WritesTo None (form_of op) written × IsTextOf held written call.piece
+    → (written : Written) × WritesTo None (form_of op) written × IsTextOf held written call.piece
 put_step depth held op call ending writing (by_plan plan planned goes) = form_puts depth held (form_of op) plan call.piece writing planned (goes_put plan call ending goes)
 put_step depth held op call ending writing (no_memory none cut) = cc
+
+-- what `map` puts tells the areas of its netlist
+mapped_puts : (held : Held) (brief : Bool) (network : Option Circuit) (library : Option Library)
+    (reply : Result Reply Refusal) (piece : List ℕ) → held.network ≡ network
+    → held.library ≡ library → MappedBy brief held network library reply
+    → IsPut piece (sends None reply) → TellsAreas held piece
+mapped_puts held brief None library reply piece is has same puts =
+    absurd (subst (λ (r : Result Reply Refusal). IsPut piece (sends None r)) same puts)
+mapped_puts held brief (Some circuit) None reply piece is has same puts =
+    absurd (subst (λ (r : Result Reply Refusal). IsPut piece (sends None r)) same puts)
+mapped_puts held brief (Some circuit) (Some gates) (Err why) piece is has made puts = absurd puts
+mapped_puts held brief (Some circuit) (Some gates) (Ok reply) piece is has
+    (sound, known, netlist, (inverter, nand, mapped), same) puts = (
+      brief,
+      netlist,
+      replies_put piece reply.text (Does reply.held Go) puts ∙ ap (λ (r : Reply). r.text) same,
+      mapped_from held.library held.network circuit gates netlist is has sound known mapped,
+    )
+
+form_tells : (depth : ℕ) (held : Held) (form : Form) (plan : Plan) (piece : List ℕ)
+    → IsMapping form → FormPlans depth held form plan → IsPut piece plan → TellsAreas held piece
+form_tells depth held (MakesNetlist brief) plan piece mapping (reply, made, is) puts =
+    mapped_puts held brief held.network held.library reply piece refl refl made
+    (subst (IsPut piece) is puts)
+form_tells depth held (Writes part file) plan piece mapping is puts = absurd mapping
+form_tells depth held (Tells tells) plan piece mapping is puts = absurd mapping
+form_tells depth held (Reads format name) plan piece mapping is puts = absurd mapping
+form_tells depth held (ReadsLibrary name) plan piece mapping is puts = absurd mapping
+form_tells depth held (Generates seed tables) plan piece mapping is puts = absurd mapping
+form_tells depth held (ChangesNetwork change) plan piece mapping is puts = absurd mapping
+form_tells depth held (EncodesMachine style) plan piece mapping is puts = absurd mapping
+form_tells depth held TakesBack plan piece mapping is puts = absurd mapping
+form_tells depth held (Sources name) plan piece mapping is puts = absurd mapping
+form_tells depth held Ends plan piece mapping is puts = absurd mapping
+form_tells depth held (IsWrong fault) plan piece mapping is puts = absurd mapping
+
+pub areas_step : (depth : ℕ) (held : Held) (op : Op) (call : PutCall) (ending : Ending)
+    → IsMapping (form_of op) → Steps (Plans depth held op) (OnOut call) ending
+    → TellsAreas held call.piece
+areas_step depth held op call ending mapping (by_plan plan planned goes) =
+    form_tells depth held (form_of op) plan call.piece mapping planned (goes_put plan call ending goes)
+areas_step depth held op call ending mapping (no_memory none cut) = cc

@@ -91,12 +91,18 @@ unloaded_did goes name used old new (fault.Refused (refusal.Script why)) h = abs
 unloaded_did goes name used old new (fault.Refused refusal.Nested) h = absurd h
 unloaded_did goes name used old new (fault.Refused refusal.NoNetwork) h = absurd h
 unloaded_did goes name used old new (fault.Refused refusal.NoMachine) h = absurd h
+unloaded_did goes name used old new (fault.Refused refusal.NoLibrary) h = absurd h
+unloaded_did goes name used old new (fault.Refused refusal.NotMapped) h = absurd h
 unloaded_did goes name used old new (fault.Refused refusal.NothingToUndo) h = absurd h
 unloaded_did goes name used old new (fault.Refused (refusal.NoSignal signal)) h = absurd h
 unloaded_did goes name used old new (fault.Refused (refusal.CubeLimit table)) h = absurd h
 unloaded_did goes name used old new (fault.Refused (refusal.TooWide table count)) h = absurd h
 unloaded_did goes name used old new (fault.Refused refusal.NodeLimit) h = absurd h
 unloaded_did goes name used old new (fault.Refused (refusal.KernelLimit table)) h = absurd h
+unloaded_did goes name used old new (fault.Refused (refusal.TooBig table)) h = absurd h
+unloaded_did goes name used old new (fault.Refused refusal.NoInverter) h = absurd h
+unloaded_did goes name used old new (fault.Refused refusal.NoNand) h = absurd h
+unloaded_did goes name used old new (fault.Refused refusal.TreeLimit) h = absurd h
 unloaded_did goes name used old new (fault.Refused (refusal.Blif file why)) h = absurd h
 unloaded_did goes name used old new (fault.Refused (refusal.Kiss file why)) h = absurd h
 unloaded_did goes name used old new (fault.Refused (refusal.Lib file why)) h = absurd h
@@ -208,7 +214,7 @@ steps_as : (plans more : Plan → Type 0) (asked : Asked) (ending : Ending) → 
 steps_as plans more asked ending more_so (by_plan plan is goes) = by_plan plan (more_so plan is) goes
 steps_as plans more asked ending more_so (no_memory none cut) = no_memory none cut
 
-did_as : (plans more : Plan → Type 0) (store : List StoreCall → Type 0) (out : List PutCall → Type 0) (ending : Ending)
+pub did_as : (plans more : Plan → Type 0) (store : List StoreCall → Type 0) (out : List PutCall → Type 0) (ending : Ending)
     → ((plan : Plan) → plans plan → more plan) → Did plans store out ending → Did more store out ending
 did_as plans more store out ending more_so h =
     record { asked = h.asked; steps = steps_as plans more h.asked ending more_so h.steps; store_went = h.store_went; out_went = h.out_went; input_kept = h.input_kept }

@@ -1,6 +1,6 @@
 -- A command ends in one way where the outside answers the same.
 use Rattle.std.proofs.Common.{◌≡◌, ℕ, List, [], ◌∷◌, sym, ap, subst, ◌∙◌, inl, inr}
-use Rattle.std.specs.Prelude.{◌⊎◌, ◌++◌, ℤ, Option, Some, None, Result, Ok, Err}
+use Rattle.std.specs.Prelude.{◌⊎◌, ◌++◌, ℤ, Bool, Option, Some, None, Result, Ok, Err}
 use Rattle.sis_outside.specs.Calls.{Load, Save, TakeCall}
 use Rattle.sis_outside.specs.declared.store.LoadFault.{LoadFault}
 use Rattle.sis_outside.specs.declared.store.LoadFault.TheVariants as load
@@ -21,6 +21,10 @@ use Rattle.alg_tables.specs.declared.taking.TakeFault.TheVariants.{CubeLimit, To
 use Rattle.net_elim.specs.Eliminating.{eliminate_step}
 use Rattle.net_elim.specs.Collapsing.{collapse_refusal}
 use Rattle.sdc_simplify.specs.Simplified.{simplify_refusal}
+use Rattle.circuit_order.specs.Order.{order_of}
+use Rattle.odc_simplify.specs.Turns.{HasFullySimplified}
+use Rattle.odc_simplify.specs.declared.fault.FullFault.TheVariants as unsimplified
+use Rattle.odc_simplify.proofs.Firsts.{first_long, none_long}
 use Rattle.net_candidates.specs.Extracting.{IsExtracted}
 use Rattle.net_candidates.specs.declared.rule.Rule.{Rule as Extraction}
 use Rattle.net_candidates.specs.declared.rule.Rule.TheVariants as extract
@@ -33,11 +37,18 @@ use Rattle.sis_script.specs.declared.command.Change.{Change}
 use Rattle.sis_script.specs.declared.command.Change.TheVariants as changing
 use Rattle.sis_script.specs.declared.command.Op.{Op}
 use Rattle.sis_script.specs.declared.command.Op.TheVariants as command
-use Rattle.sis_session.specs.Commands.{ChangedBy, ChangesNetwork, EncodesMachine, Ends, Form, FormPlans, Generates, IsCollapseRefusal, IsSimplifyRefusal, IsWrong, Just, Decomposes, Extracts, IsExtractionRefusal, FactorsTold, FactorTold, KernelsOf, KernelsTold, KernelTold, Plans, Reads, ReadsLibrary, Replies, Sources, StaysTold, TakesBack, Tells, ToldBy, Writes, form_of, latches_told, reply_changed, reply_with, stats_told, tables_told}
-use Rattle.sis_session.specs.Replies.{echo_line}
-use Rattle.sis_session.specs.Keeping.{ChangesOnce}
-use Rattle.sis_session.specs.Plan.{Asked, Nothing, OnStore, OnOut, OnInput, Comes, ComesLoaded, ComesSaved, ComesPut, ComesTaken, ComesPiece, Cut, Done, Ending, Goes, Loads, Outcome, Does, Refuses, Plan, Quiet, Puts, Refused, Reply, Saves, Takes, Steps, by_plan, no_memory, sends}
-use Rattle.sis_session.specs.State.{Held}
+use Rattle.circuit_model.specs.Soundness.{IsSound}
+use Rattle.genlib_format.specs.Soundness.{IsSound as IsSoundGates}
+use Rattle.map_net.specs.Mapping.{Maps}
+use Rattle.map_net.specs.declared.mapping.MapFault.{MapFault}
+use Rattle.map_net.specs.declared.mapping.MapFault.TheVariants as unmapped
+use Rattle.map_net.proofs.Outcomes.{answers_one, sound_one}
+use Rattle.std.proofs.lemmas.Option.{same_Some}
+use Rattle.sis_session.specs.Commands.{ChangedBy, Changes, ChangesNetwork, EncodesMachine, MakesNetlist, MappedBy, refusal_of, Ends, Form, FormPlans, Generates, IsCollapseRefusal, IsSimplifyRefusal, IsWrong, Just, Decomposes, Extracts, IsExtractionRefusal, FactorsTold, FactorTold, KernelsOf, KernelsTold, KernelTold, Plans, Reads, ReadsLibrary, Replies, Sources, StaysTold, TakesBack, Tells, ToldBy, Writes, form_of, latches_told, reply_changed, reply_with, stats_told, tables_told}
+use Rattle.sis_session.specs.Replies.{echo_line, map_text}
+use Rattle.sis_session.specs.Keeping.{AreOneEnding, AreOnePlan, ChangesOnce, EndsEarly, PlansTooBig, RefusesTooBig}
+use Rattle.sis_session.specs.Plan.{MAX_FUNCTION, Asked, Nothing, OnStore, OnOut, OnInput, Comes, ComesLoaded, ComesSaved, ComesPut, ComesTaken, ComesPiece, Cut, Done, Ending, Goes, Loads, Outcome, Does, Refuses, Plan, Quiet, Puts, Refused, Reply, Saves, Takes, Steps, by_plan, no_memory, sends}
+use Rattle.sis_session.specs.State.{Held, Library, Netlist, with_mapped}
 use Rattle.sis_session.specs.declared.refusal.Failed.TheVariants as failed
 use Rattle.sis_session.specs.declared.refusal.Refusal.{Refusal}
 use Rattle.sis_session.specs.declared.refusal.Refusal.TheVariants as refusal
@@ -118,14 +129,22 @@ goes_once (Takes used) (OnStore (Save saved sent answer)) one other h k = absurd
 goes_once (Takes used) (OnOut call) one other h k = absurd h
 goes_once (Takes used) (OnInput calls) one other h k = taken_once used [] calls one other h k
 
+-- a change makes one thing of each network, whatever it is
+abbrev OneResult : Change → Type 0
+OneResult change = (old : Circuit) (one other : Result Circuit Refusal) → Changes change old one
+    → Changes change old other → one ≡ other
+
+surely : (change : Change) → OneResult change → ChangesOnce change
+surely change once old one other h k = inl (once old one other h k)
+
 -- a sweep makes one thing of each network
-sweeps_once : ChangesOnce changing.Sweep
+sweeps_once : OneResult changing.Sweep
 sweeps_once old (Ok one) (Ok other) h k = ap (λ (c : Circuit). Ok c) (chain_same sweep_step old one other h k)
 sweeps_once old (Ok one) (Err why) h k = absurd k
 sweeps_once old (Err why) other h k = absurd h
 
 -- so does an elimination
-eliminations_once : (threshold : ℤ) (rows : ℕ) → ChangesOnce (changing.Eliminate threshold rows)
+eliminations_once : (threshold : ℤ) (rows : ℕ) → OneResult (changing.Eliminate threshold rows)
 eliminations_once threshold rows old (Ok one) (Ok other) h k = ap (λ (c : Circuit). Ok c) (chain_same (eliminate_step threshold rows) old one other h k)
 eliminations_once threshold rows old (Ok one) (Err why) h k = absurd k
 eliminations_once threshold rows old (Err why) other h k = absurd h
@@ -140,7 +159,7 @@ refused_or_not : (found : Option (List ℕ × TableFault)) (why : Refusal) → f
 refused_or_not found why none refused = subst (λ f. IsCollapseRefusal f why) none refused
 
 -- and a collapse
-collapses_once : ChangesOnce changing.Collapse
+collapses_once : OneResult changing.Collapse
 collapses_once old (Ok one) (Ok other) h k = ap (λ (c : Circuit). Ok c) (h.1 ∙ sym k.1)
 collapses_once old (Ok one) (Err why) h k = absurd (refused_or_not (collapse_refusal old) why h.0 k)
 collapses_once old (Err why) (Ok other) h k = absurd (refused_or_not (collapse_refusal old) why k.0 h)
@@ -154,7 +173,7 @@ long_list_or_not : (found : Option (List ℕ)) (why : Refusal) → found ≡ Non
 long_list_or_not found why none refused = subst (λ f. IsSimplifyRefusal f why) none refused
 
 -- and a simplification
-simplifies_once : ChangesOnce changing.Simplify
+simplifies_once : OneResult changing.Simplify
 simplifies_once old (Ok one) (Ok other) h k = ap (λ (c : Circuit). Ok c) (h.1 ∙ sym k.1)
 simplifies_once old (Ok one) (Err why) h k = absurd (long_list_or_not (simplify_refusal old) why h.0 k)
 simplifies_once old (Err why) (Ok other) h k = absurd (long_list_or_not (simplify_refusal old) why k.0 h)
@@ -186,30 +205,128 @@ extracts_once rule old (Err why) (Ok other) h k = absurd (not_extracted rule old
 extracts_once rule old (Err why) (Err other) h k = ap (λ (r : Refusal). Err r) (extraction_refusals_once rule old why other h k)
 
 -- and resubstitution
-resubs_once : ChangesOnce changing.Resub
+resubs_once : OneResult changing.Resub
 resubs_once old (Ok one) (Ok other) h k = ap (λ (c : Circuit). Ok c) (resubbed_one old one other h k)
 resubs_once old (Ok one) (Err why) h k = absurd k
 resubs_once old (Err why) other h k = absurd h
 
--- each change makes one thing of each network
+-- a full simplification makes one thing of each network, but where a function is too big
+not_full : (old new : Circuit) (name : List ℕ)
+    → HasFullySimplified MAX_FUNCTION old (Ok new)
+    → HasFullySimplified MAX_FUNCTION old (Err (unsimplified.CubeLimit name)) → ⊥
+not_full old new name done fault =
+    none_long MAX_FUNCTION old (order_of old.tables) name done.0 fault
+
+full_once : ChangesOnce changing.FullSimplify
+full_once old (Ok one) (Ok other) h k = inl (ap (λ (c : Circuit). Ok c) (h.1 ∙ sym k.1))
+full_once old (Ok one) (Err why) h (name, inl (fault, is)) = absurd (not_full old one name h fault)
+full_once old (Ok one) (Err why) h (name, inr (big, is)) =
+    inr (inr (name, ap (λ (r : Refusal). Err r) is))
+full_once old (Err why) (Ok other) (name, inl (fault, is)) k = absurd (not_full old other name k fault)
+full_once old (Err why) (Ok other) (name, inr (big, is)) k =
+    inr (inl (name, ap (λ (r : Refusal). Err r) is))
+full_once old (Err why) (Err other) (name, inr (big, is)) k =
+    inr (inl (name, ap (λ (r : Refusal). Err r) is))
+full_once old (Err why) (Err other) (name, inl (fault, is)) (name', inr (big, is')) =
+    inr (inr (name', ap (λ (r : Refusal). Err r) is'))
+full_once old (Err why) (Err other) (name, inl (fault, is)) (name', inl (fault', is')) =
+    let same = first_long MAX_FUNCTION old (order_of old.tables) name name' fault fault' in
+    inl (ap (λ (r : Refusal). Err r)
+    (is ∙ ap (λ (n : List ℕ). refusal.CubeLimit n) same ∙ sym is'))
+
+-- each change makes one thing of each network, but where a function is too big
 pub changes_once : (change : Change) → ChangesOnce change
-changes_once changing.Sweep = sweeps_once
-changes_once (changing.Eliminate threshold rows) = eliminations_once threshold rows
-changes_once changing.Collapse = collapses_once
-changes_once changing.Simplify = simplifies_once
-changes_once changing.Fx = extracts_once extract.Fx
-changes_once changing.Gkx = extracts_once extract.Gkx
-changes_once changing.Gcx = extracts_once extract.Gcx
-changes_once changing.Resub = resubs_once
-changes_once changing.Decomp = decomposes_once Shared
-changes_once (changing.TechDecomp products sums) = decomposes_once (Gates products sums)
+changes_once changing.Sweep = surely changing.Sweep sweeps_once
+changes_once (changing.Eliminate threshold rows) =
+    surely (changing.Eliminate threshold rows) (eliminations_once threshold rows)
+changes_once changing.Collapse = surely changing.Collapse collapses_once
+changes_once changing.Simplify = surely changing.Simplify simplifies_once
+changes_once changing.FullSimplify = full_once
+changes_once changing.Fx = surely changing.Fx (extracts_once extract.Fx)
+changes_once changing.Gkx = surely changing.Gkx (extracts_once extract.Gkx)
+changes_once changing.Gcx = surely changing.Gcx (extracts_once extract.Gcx)
+changes_once changing.Resub = surely changing.Resub resubs_once
+changes_once changing.Decomp = surely changing.Decomp (decomposes_once Shared)
+changes_once (changing.TechDecomp products sums) =
+    surely (changing.TechDecomp products sums) (decomposes_once (Gates products sums))
+
+-- two replies are one, but where a function is too big
+abbrev AreOneReply : Result Reply Refusal → Result Reply Refusal → Type 0
+AreOneReply one other = (one ≡ other) ⊎ (RefusesTooBig one ⊎ RefusesTooBig other)
 
 -- a change comes to one reply
 change_once : (held : Held) (change : Change) (network : Option Circuit) (one other : Result Reply Refusal)
-    → ChangedBy held change network one → ChangedBy held change network other → one ≡ other
-change_once held change None one other h k = h ∙ sym k
+    → ChangedBy held change network one → ChangedBy held change network other → AreOneReply one other
+change_once held change None one other h k = inl (h ∙ sym k)
 change_once held change (Some old) one other (answer, changes, is) (answer', changes', is') =
-    is ∙ ap (reply_changed held) (changes_once change old answer answer' changes changes') ∙ sym is'
+    by (changes_once change old answer answer' changes changes')
+  where
+    by : (answer ≡ answer') ⊎ (RefusesTooBig answer ⊎ RefusesTooBig answer') → AreOneReply one other
+    by (inl same) = inl (is ∙ ap (reply_changed held) same ∙ sym is')
+    by (inr (inl (name, big))) = inr (inl (name, is ∙ ap (reply_changed held) big))
+    by (inr (inr (name, big))) = inr (inr (name, is' ∙ ap (reply_changed held) big))
+
+-- what mapping may answer is one thing, but for want of memory
+abbrev AreOneBut : Result Netlist MapFault → Result Netlist MapFault → Type 0
+AreOneBut one other =
+    (one ≡ other) ⊎ ((one ≡ Err unmapped.Memory) ⊎ (other ≡ Err unmapped.Memory))
+
+netlist_same : (netlist other : Netlist) → AreOneBut (Ok netlist) (Ok other) → netlist ≡ other
+netlist_same netlist other (inl e) = cc
+netlist_same netlist other (inr (inl e)) = cc
+netlist_same netlist other (inr (inr e)) = cc
+
+no_reason : (reason : MapFault) (why : Refusal) → refusal_of reason ≡ Some why
+    → reason ≡ unmapped.Memory → ⊥
+no_reason reason why is memory =
+    let none : None ≡ Some why = ap refusal_of (sym memory) ∙ is in cc
+
+not_declined : (netlist : Netlist) (reason : MapFault) (why : Refusal)
+    → refusal_of reason ≡ Some why → AreOneBut (Ok netlist) (Err reason) → ⊥
+not_declined netlist reason why is (inl e) = cc
+not_declined netlist reason why is (inr (inl e)) = cc
+not_declined netlist reason why is (inr (inr e)) =
+    no_reason reason why is (let same : reason ≡ unmapped.Memory = cc in same)
+
+reason_same : (reason other : MapFault) (why more : Refusal) → refusal_of reason ≡ Some why
+    → refusal_of other ≡ Some more → AreOneBut (Err reason) (Err other) → reason ≡ other
+reason_same reason other why more is are (inl e) = cc
+reason_same reason other why more is are (inr (inl e)) =
+    absurd (no_reason reason why is (let same : reason ≡ unmapped.Memory = cc in same))
+reason_same reason other why more is are (inr (inr e)) =
+    absurd (no_reason other more are (let same : other ≡ unmapped.Memory = cc in same))
+
+maps_once : (circuit : Circuit) (gates : Library) → IsSound circuit → IsSoundGates gates
+    → (one other : Result Netlist MapFault) → Maps circuit gates one → Maps circuit gates other
+    → AreOneBut one other
+maps_once circuit gates sound known one other h k =
+    answers_one circuit gates (sound_one circuit gates sound known) one other h k
+
+-- so does a netlist: a circuit has one by each library, or is declined for one reason
+mapped_once : (brief : Bool) (held : Held) (network : Option Circuit) (library : Option Library)
+    (one other : Result Reply Refusal) → MappedBy brief held network library one
+    → MappedBy brief held network library other → one ≡ other
+mapped_once brief held None library one other h k = h ∙ sym k
+mapped_once brief held (Some circuit) None one other h k = h ∙ sym k
+mapped_once brief held (Some circuit) (Some gates) (Ok one) (Ok other)
+    (sound, known, netlist, maps, same) (sound', known', netlist', maps', same') =
+    ap (λ (r : Reply). Ok r) (same
+    ∙ ap (λ (n : Netlist). record { text = map_text brief n; held = with_mapped held n })
+    (netlist_same netlist netlist'
+    (maps_once circuit gates sound known (Ok netlist) (Ok netlist') maps maps')) ∙ sym same')
+mapped_once brief held (Some circuit) (Some gates) (Ok one) (Err why)
+    (sound, known, netlist, maps, same) (sound', known', (reason, is, declines)) =
+    absurd (not_declined netlist reason why is
+    (maps_once circuit gates sound known (Ok netlist) (Err reason) maps declines))
+mapped_once brief held (Some circuit) (Some gates) (Err why) (Ok one)
+    (sound', known', (reason, is, declines)) (sound, known, netlist, maps, same) =
+    absurd (not_declined netlist reason why is
+    (maps_once circuit gates sound known (Ok netlist) (Err reason) maps declines))
+mapped_once brief held (Some circuit) (Some gates) (Err why) (Err other)
+    (sound, known, (reason, is, declines)) (sound', known', (reason', is', declines')) =
+    ap (λ (r : Refusal). Err r) (same_Some why other
+    (sym is ∙ ap refusal_of (reason_same reason reason' why other is is'
+    (maps_once circuit gates sound known (Err reason) (Err reason') declines declines')) ∙ is'))
 
 -- what is told by a relation is one thing
 IsOne : (Result (List ℕ) Refusal → Type 0) → Type 0
@@ -227,6 +344,16 @@ just_once told of what other h k = sym h ∙ k
 replied_once : (may : Result Reply Refusal → Type 0) (plan plan' : Plan) → ((one other : Result Reply Refusal) → may one → may other → one ≡ other)
     → Replies may plan → Replies may plan' → plan ≡ plan'
 replied_once may plan plan' once (one, h, is) (other, k, is') = is ∙ ap (sends None) (once one other h k) ∙ sym is'
+
+replied_but : (may : Result Reply Refusal → Type 0) (plan plan' : Plan)
+    → ((one other : Result Reply Refusal) → may one → may other → AreOneReply one other)
+    → Replies may plan → Replies may plan' → AreOnePlan plan plan'
+replied_but may plan plan' once (one, h, is) (other, k, is') = by (once one other h k)
+  where
+    by : AreOneReply one other → AreOnePlan plan plan'
+    by (inl same) = inl (is ∙ ap (sends None) same ∙ sym is')
+    by (inr (inl (name, big))) = inr (inl (name, is ∙ ap (sends None) big))
+    by (inr (inr (name, big))) = inr (inr (name, is' ∙ ap (sends None) big))
 
 stays_once : (held : Held) (tells : Result (List ℕ) Refusal → Type 0) → IsOne tells → (one other : Result Reply Refusal) → StaysTold held tells one → StaysTold held tells other → one ≡ other
 unfolding IsOne
@@ -269,28 +396,64 @@ tells_once (command.PrintFactor name) = λ held. told_once (FactorsTold name) he
 tells_once (command.PrintKernel name) = λ held. told_once (KernelsTold name) held.network (λ circuit. kernel_once name (driver circuit.tables name))
 tells_once other = tt
 
--- each form has one plan, and so has each command
-form_once : (depth : ℕ) (held : Held) (form : Form) (plan plan' : Plan) → TellsOnce form → FormPlans depth held form plan → FormPlans depth held form plan' → plan ≡ plan'
+-- each form has one plan, and so has each command, but where a function is too big
+form_once : (depth : ℕ) (held : Held) (form : Form) (plan plan' : Plan) → TellsOnce form
+    → FormPlans depth held form plan → FormPlans depth held form plan' → AreOnePlan plan plan'
 unfolding TellsOnce
-form_once depth held (Tells tells) plan plan' one h k = replied_once (StaysTold held (tells held)) plan plan' (stays_once held (tells held) (one held)) h k
-form_once depth held (Writes part file) plan plan' one h k = h ∙ sym k
-form_once depth held (Reads format name) plan plan' one h k = h ∙ sym k
-form_once depth held (ReadsLibrary name) plan plan' one h k = h ∙ sym k
-form_once depth held (Generates seed tables) plan plan' one h k = h ∙ sym k
-form_once depth held (ChangesNetwork change) plan plan' one h k = replied_once (ChangedBy held change held.network) plan plan' (change_once held change held.network) h k
-form_once depth held (EncodesMachine style) plan plan' one h k = h ∙ sym k
-form_once depth held TakesBack plan plan' one h k = h ∙ sym k
-form_once depth held (Sources name) plan plan' one h k = h ∙ sym k
-form_once depth held Ends plan plan' one h k = h ∙ sym k
-form_once depth held (IsWrong fault) plan plan' one h k = h ∙ sym k
+form_once depth held (Tells tells) plan plan' one h k =
+    inl (replied_once (StaysTold held (tells held)) plan plan'
+    (stays_once held (tells held) (one held)) h k)
+form_once depth held (Writes part file) plan plan' one h k = inl (h ∙ sym k)
+form_once depth held (Reads format name) plan plan' one h k = inl (h ∙ sym k)
+form_once depth held (ReadsLibrary name) plan plan' one h k = inl (h ∙ sym k)
+form_once depth held (Generates seed tables) plan plan' one h k = inl (h ∙ sym k)
+form_once depth held (ChangesNetwork change) plan plan' one h k =
+    replied_but (ChangedBy held change held.network) plan plan'
+    (change_once held change held.network) h k
+form_once depth held (EncodesMachine style) plan plan' one h k = inl (h ∙ sym k)
+form_once depth held (MakesNetlist brief) plan plan' one h k =
+    inl (replied_once (MappedBy brief held held.network held.library) plan plan'
+    (mapped_once brief held held.network held.library) h k)
+form_once depth held TakesBack plan plan' one h k = inl (h ∙ sym k)
+form_once depth held (Sources name) plan plan' one h k = inl (h ∙ sym k)
+form_once depth held Ends plan plan' one h k = inl (h ∙ sym k)
+form_once depth held (IsWrong fault) plan plan' one h k = inl (h ∙ sym k)
 
-pub plans_once : (depth : ℕ) (held : Held) (op : Op) (plan plan' : Plan) → Plans depth held op plan → Plans depth held op plan' → plan ≡ plan'
-plans_once depth held op plan plan' h k = form_once depth held (form_of op) plan plan' (tells_once op) h k
+pub plans_once : (depth : ℕ) (held : Held) (op : Op) (plan plan' : Plan)
+    → Plans depth held op plan → Plans depth held op plan' → AreOnePlan plan plan'
+plans_once depth held op plan plan' h k =
+    form_once depth held (form_of op) plan plan' (tells_once op) h k
+
+-- a plan that refuses a function that is too big comes to that, or memory is wanting
+pub big_ends : (plan : Plan) (asked : Asked) (ending : Ending) → PlansTooBig plan
+    → Goes plan asked ending → EndsEarly ending
+big_ends plan asked ending (name, is) goes =
+    by asked (subst (λ (p : Plan). Goes p asked ending) is goes)
+  where
+    by : (asked : Asked) → Goes (Quiet (Refuses (refusal.TooBig name))) asked ending
+        → EndsEarly ending
+    by Nothing (inl h) = inr (name, h)
+    by Nothing (inr h) = inl h
+    by (OnStore call) h = absurd h
+    by (OnOut call) h = absurd h
+    by (OnInput calls) h = absurd h
+
+early : (one other : Ending) → AreOne one other → AreOneEnding one other
+early one other (inl e) = inl e
+early one other (inr (inl e)) = inr (inl (inl e))
+early one other (inr (inr e)) = inr (inr (inl e))
 
 pub one_ending : (depth : ℕ) (held : Held) (op : Op) (asked : Asked) (one other : Ending)
     → Steps (Plans depth held op) asked one → Steps (Plans depth held op) asked other
-    → (one ≡ other) ⊎ ((one ≡ Cut failed.Memory) ⊎ (other ≡ Cut failed.Memory))
+    → AreOneEnding one other
 one_ending depth held op asked one other (by_plan plan planned goes) (by_plan plan' planned' goes') =
-    goes_once plan asked one other goes (subst (λ p. Goes p asked other) (plans_once depth held op plan' plan planned' planned) goes')
-one_ending depth held op asked one other (no_memory none is) k = inr (inl is)
-one_ending depth held op asked one other (by_plan plan planned goes) (no_memory none is) = inr (inr is)
+    by (plans_once depth held op plan' plan planned' planned)
+  where
+    by : AreOnePlan plan' plan → AreOneEnding one other
+    by (inl same) = early one other (goes_once plan asked one other goes
+        (subst (λ (p : Plan). Goes p asked other) same goes'))
+    by (inr (inl big)) = inr (inr (big_ends plan' asked other big goes'))
+    by (inr (inr big)) = inr (inl (big_ends plan asked one big goes))
+one_ending depth held op asked one other (no_memory none is) k = inr (inl (inl is))
+one_ending depth held op asked one other (by_plan plan planned goes) (no_memory none is) =
+    inr (inr (inl is))

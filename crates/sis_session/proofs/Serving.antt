@@ -1,6 +1,7 @@
 -- A command that is served is done, but for want of memory.
 use Rattle.std.proofs.Common.{◌≡◌, ◌∙◌, ℕ, ◌<◌, ◌≤◌, List, [], ◌∷◌, true, refl, sym, ap, subst, inl, inr, arith}
 use Rattle.std.proofs.lemmas.Bool.Decides.{nat_tests}
+use Rattle.std.proofs.lemmas.Option.{same_Some}
 use Rattle.std.specs.Prelude.{◌⊎◌, Bool, Option, Some, None, Result, Ok, Err, nat_lt, if◌then◌else◌}
 use Rattle.sis_outside.specs.Calls.{Load, Save}
 use Rattle.sis_outside.specs.declared.sink.PutFault.{PutFault}
@@ -22,10 +23,10 @@ use Rattle.sis_base.specs.declared.limits.TheConstants.{MAX_INPUTS}
 use Rattle.state_code.specs.Codes.{leaf_count}
 use Rattle.circuit_model.specs.declared.machine.Machine.{Machine}
 use Rattle.state_code.specs.declared.codes.Style.{Style as Coding}
-use Rattle.sis_session.specs.Commands.{Blif, ChangedBy, Changes, ChangesNetwork, EncodesMachine, Ends, coding_of, encoded_reply, FactorsTold, FactorTold, Form, Format, FormPlans, Generates, Just, KernelsOf, KernelsTold, KernelTold, Kiss, Plans, Reads, ReadsLibrary, Replies, Sources, StaysTold, TakesBack, TheMachine, TheNetwork, ToldBy, Writes, circuit_of, commands_in, form_of, latches_told, library_held, machine_of, named_told, network_of, reply_with, source_plan, spec_held, spec_in, stats_told, tables_told, text_of_spec, undo_outcome, written_text}
+use Rattle.sis_session.specs.Commands.{Blif, ChangedBy, Changes, ChangesNetwork, EncodesMachine, Ends, coding_of, encoded_reply, FactorsTold, FactorTold, Form, Format, FormPlans, Generates, IsWrong, Just, KernelsOf, KernelsTold, KernelTold, Kiss, Plans, Reads, ReadsLibrary, Replies, Sources, StaysTold, TakesBack, TheMachine, TheNetlist, TheNetwork, Written, OfSpec, OfNetlist, MakesNetlist, MappedBy, Declines, ToldBy, Writes, circuit_of, commands_in, form_of, latches_told, library_held, machine_of, netlist_of, named_told, network_of, reply_with, source_plan, spec_held, spec_in, stats_told, tables_told, text_of_written, undo_outcome, written_text}
 use Rattle.sis_session.specs.Keeping.{Allows, HasBytes, HasNeeds, HasNetwork, IsAnswered, IsServed}
 use Rattle.sis_session.specs.Plan.{MAX_DEPTH, Asked, Nothing, OnStore, OnOut, OnInput, Comes, ComesPut, Cut, Done, Ending, Goes, Loads, Outcome, Does, Refuses, Plan, Quiet, Puts, Reply, Saves, Steps, by_plan, no_memory, replies, sends}
-use Rattle.sis_session.specs.State.{Held, with_read, with_spec, with_library, with_changed, with_encoded, with_exchanged}
+use Rattle.sis_session.specs.State.{Library, Held, with_read, with_spec, with_library, with_changed, with_encoded, with_exchanged}
 use Rattle.sis_session.specs.declared.refusal.Failed.TheVariants as failed
 use Rattle.sis_session.specs.declared.refusal.Next.{Next}
 use Rattle.sis_session.specs.declared.refusal.Next.TheVariants.{Go, Quit as QuitNext, Script}
@@ -131,10 +132,10 @@ unfolding Gives
 kernels_give name circuit table found few what told = few_kernels name table what few (subst (λ d. KernelTold name d what) found told)
 
 -- what is held is written
-written_works : (form : Form) (held : Held) (file : Option (List ℕ)) (part : Result Spec Refusal) (written : Spec) → part ≡ Ok written
+written_works : (form : Form) (held : Held) (file : Option (List ℕ)) (part : Result Written Refusal) (written : Written) → part ≡ Ok written
     → Works held form (sends file (reply_with held (written_text part)))
 written_works form held file part written is =
-    subst (λ p. Works held form (sends file (reply_with held (written_text p)))) (sym is) (sends_works form held file (record { text = text_of_spec written; held = held }))
+    subst (λ p. Works held form (sends file (reply_with held (written_text p)))) (sym is) (sends_works form held file (record { text = text_of_written written; held = held }))
 
 -- a change that nothing refuses makes a network
 change_gives : (held : Held) (change : Change) (network : Option Circuit) (old : Circuit) → network ≡ Some old → Allows change old
@@ -155,6 +156,22 @@ encoding_works form held coding there machine is narrow =
       text = codes_text (codes_of coding machine);
       held = with_encoded held held.network (encoded coding machine);
     }))
+
+-- a network that no reason is against is mapped
+mapping_gives : (brief : Bool) (held : Held) (network : Option Circuit) (library : Option Library)
+    (circuit : Circuit) (gates : Library) → network ≡ Some circuit → library ≡ Some gates
+    → ((why : Refusal) → Declines circuit gates why → ⊥)
+    → (reply : Result Reply Refusal) → MappedBy brief held network library reply
+    → (one : Reply) × (reply ≡ Ok one)
+mapping_gives brief held None library circuit gates is has free reply h = cc
+mapping_gives brief held (Some other) None circuit gates is has free reply h = cc
+mapping_gives brief held (Some other) (Some more) circuit gates is has free (Ok reply) h =
+    (reply, refl)
+mapping_gives brief held (Some other) (Some more) circuit gates is has free (Err why) h =
+    let same : other ≡ circuit = same_Some other circuit is in
+    let alike : more ≡ gates = same_Some more gates has in
+    absurd (free why (subst (λ (l : Library). Declines circuit l why) alike
+    (subst (λ (c : Circuit). Declines c more why) same h.2)))
 
 undo_works : (form : Form) (held : Held) (previous : Option Circuit) → HasNetwork previous → Works held form (Quiet (undo_outcome held previous))
 undo_works form held None (circuit, there) = cc
@@ -197,9 +214,9 @@ plan_works depth held (command.Generate seed tables) plan needs is =
     subst (Works held (Generates seed tables)) (sym is)
     (quiet_works (Generates seed tables) held (with_read held (circuit_of seed tables)) Go)
 plan_works depth held (command.WriteBlif file) plan (circuit, there) is =
-    subst (Works held (Writes TheNetwork file)) (sym is) (written_works (Writes TheNetwork file) held file (network_of held.network) (spec.Circuit circuit) (ap network_of there))
+    subst (Works held (Writes TheNetwork file)) (sym is) (written_works (Writes TheNetwork file) held file (network_of held.network) (OfSpec (spec.Circuit circuit)) (ap network_of there))
 plan_works depth held (command.WriteKiss file) plan (machine, there) is =
-    subst (Works held (Writes TheMachine file)) (sym is) (written_works (Writes TheMachine file) held file (machine_of held.machine) (spec.Machine machine) (ap machine_of there))
+    subst (Works held (Writes TheMachine file)) (sym is) (written_works (Writes TheMachine file) held file (machine_of held.machine) (OfSpec (spec.Machine machine)) (ap machine_of there))
 plan_works depth held command.PrintStats plan (circuit, there) is = told_of_network (form_of command.PrintStats) held (Just stats_told) circuit plan there (just_gives stats_told circuit _ refl) is
 plan_works depth held (command.Print None) plan (circuit, there) is =
     told_of_network (form_of (command.Print None)) held (Just (tables_told None)) circuit plan there (just_gives (tables_told None) circuit _ refl) is
@@ -216,6 +233,13 @@ plan_works depth held (command.Change change) plan (old, there, allows) is =
 plan_works depth held (command.StateAssign style) plan (machine, there, narrow) is =
     subst (Works held (EncodesMachine style)) (sym is)
     (encoding_works (EncodesMachine style) held (coding_of style) held.machine machine there narrow)
+plan_works depth held (command.WriteNetlist file) plan (netlist, there) is =
+    subst (Works held (Writes TheNetlist file)) (sym is)
+    (written_works (Writes TheNetlist file) held file (netlist_of held.netlist) (OfNetlist netlist)
+    (ap netlist_of there))
+plan_works depth held (command.Map brief) plan (circuit, gates, there, has, free) is =
+    replied_works (MakesNetlist brief) held (MappedBy brief held held.network held.library) plan
+    (mapping_gives brief held held.network held.library circuit gates there has free) is
 plan_works depth held command.Undo plan needs is = subst (Works held TakesBack) (sym is) (undo_works TakesBack held held.previous needs)
 plan_works depth held (command.Source name) plan needs is = subst (Works held (Sources name)) (sym is) (source_works depth held name needs)
 plan_works depth held (command.Bad fault) plan needs is = absurd needs

@@ -15,18 +15,22 @@ use Rattle.state_code.specs.Codes.{leaf_count}
 use Rattle.state_code.specs.Codes.{codes_of}
 use Rattle.state_code.specs.Encoded.{encoded}
 use Rattle.state_code.specs.declared.codes.Style.{Style as Coding}
-use Rattle.sis_session.specs.Replies.{codes_text}
-use Rattle.sis_session.specs.Commands.{Blif, ChangedBy, Replies, encoded_by, encoded_reply, blif_read, commands_in, library_held, reply_changed, source_plan, spec_held, spec_in, undo_outcome}
-use Rattle.sis_session.specs.Methods.{AskedNone, HasLoaded, HasPut, HasRead, IsChanged, IsEncoded, Undoes}
-use Rattle.sis_session.specs.Plan.{MAX_DEPTH, Outcome, Does, Refuses, Plan, Reply, Quiet, Loads, Ending, Done, Refused, Comes, Did, ended, faulted, sends}
-use Rattle.sis_session.specs.State.{Held, Library, with_spec, with_library, with_changed, with_encoded, with_exchanged}
+use Rattle.circuit_model.specs.Soundness.{IsSound}
+use Rattle.genlib_format.specs.Soundness.{IsSound as IsSoundGates}
+use Rattle.map_net.specs.Mapping.{Maps}
+use Rattle.sis_session.specs.Replies.{codes_text, map_text}
+use Rattle.sis_session.specs.Commands.{Blif, ChangedBy, MappedBy, Replies, encoded_by, encoded_reply, reply_with, blif_read, commands_in, library_held, reply_changed, source_plan, spec_held, spec_in, undo_outcome}
+use Rattle.sis_session.specs.Methods.{AskedNone, HasLoaded, HasPut, HasRead, IsChanged, IsEncoded, IsNetlisted, Undoes}
+use Rattle.sis_session.specs.Plan.{MAX_DEPTH, Outcome, Does, Refuses, Plan, Reply, Quiet, Loads, Ending, Done, Refused, Cut, Comes, Did, ended, faulted, sends}
+use Rattle.sis_session.specs.State.{Held, Library, with_spec, with_library, with_changed, with_encoded, with_exchanged, with_mapped, Netlist}
+use Rattle.sis_session.specs.declared.refusal.Failed.TheVariants as failed
 use Rattle.sis_session.specs.declared.refusal.Next.{Next}
 use Rattle.sis_session.specs.declared.refusal.Next.TheVariants.{Go, Script}
 use Rattle.sis_session.specs.declared.refusal.Refusal.{Refusal}
 use Rattle.sis_session.specs.declared.refusal.Refusal.TheVariants as refusal
 use Rattle.sis_session.specs.declared.refusal.StepFault.{StepFault}
 use Rattle.sis_session.specs.declared.refusal.StepFault.TheVariants as fault
-use Rattle.sis_session.proofs.Going.{loaded_did, unloaded_did, out_alone, put_sent, quiet_did, store_alone, wanting_did}
+use Rattle.sis_session.proofs.Going.{did_as, loaded_did, unloaded_did, out_alone, put_sent, quiet_did, store_alone, wanting_did}
 
 -- `source`: by whether the scripts are nested too deep
 nested_plan : (depth : ℕ) (held : Held) (name : List ℕ) → MAX_DEPTH ≤ depth → Quiet (Refuses refusal.Nested) ≡ source_plan depth held name
@@ -178,6 +182,89 @@ no_machine_did puts coding held there out none =
     (quiet_did (λ plan. plan ≡ sends None (encoded_reply coding held there))
     (Refuses refusal.NoMachine) (Refused refusal.NoMachine)
     (sym (ap (λ m. sends None (encoded_reply coding held m)) none)) (inl refl))
+
+-- the network's netlist was made, and its areas were put
+pub mapped_did : {O : Type 0} (puts : O → PutCall → O → Type 0) (brief : Bool) (held : Held)
+    (network : Option Circuit) (library : Option Library) (circuit : Circuit) (gates : Library)
+    (netlist : Netlist) (text : List ℕ) (old new : O) (answer : Result Next StepFault)
+    → network ≡ Some circuit → library ≡ Some gates → IsSound circuit → IsSoundGates gates
+    → Maps circuit gates (Ok netlist) → text ≡ map_text brief netlist → HasPut puts text old answer new
+    → Did (Replies (MappedBy brief held network library)) AskedNone (Follows puts old new)
+    (ended answer (with_mapped held netlist))
+mapped_did {O} puts brief held network library circuit gates netlist text old new answer is has
+    sound known maps same h =
+    subst (λ (n : Option Circuit). Did (Replies (MappedBy brief held n library)) AskedNone
+    (Follows puts old new) (ended answer left)) (sym is)
+    (subst (λ (l : Option Library). Did (Replies (MappedBy brief held (Some circuit) l)) AskedNone
+    (Follows puts old new) (ended answer left)) (sym has)
+    (did_as (λ plan. plan ≡ sends None (reply_with left (Ok told)))
+    (Replies (MappedBy brief held (Some circuit) (Some gates))) AskedNone (Follows puts old new)
+    (ended answer left)
+    (λ plan planned. (
+      Ok (record { text = told; held = left }),
+      (sound, known, netlist, maps, refl),
+      planned,
+    ))
+    (put_sent puts left told old new answer (subst (λ t. HasPut puts t old answer new) same h))))
+  where
+    told : List ℕ
+    told = map_text brief netlist
+
+    left : Held
+    left = with_mapped held netlist
+
+-- it was not made, and nothing was put
+pub unmapped_did : {O : Type 0} (puts : O → PutCall → O → Type 0) (brief : Bool) (held : Held)
+    (network : Option Circuit) (library : Option Library) (circuit : Circuit) (gates : Library)
+    (out : O) (why : StepFault) → network ≡ Some circuit → library ≡ Some gates → IsSound circuit
+    → IsSoundGates gates → IsNetlisted brief circuit gates (Err why)
+    → Did (Replies (MappedBy brief held network library)) AskedNone (Follows puts out out)
+    (faulted why)
+unmapped_did {O} puts brief held network library circuit gates out why is has sound known h =
+    subst (λ (n : Option Circuit). Did (Replies (MappedBy brief held n library)) AskedNone
+    (Follows puts out out) (faulted why)) (sym is)
+    (subst (λ (l : Option Library). Did (Replies (MappedBy brief held (Some circuit) l)) AskedNone
+    (Follows puts out out) (faulted why)) (sym has)
+    (store_alone puts plans AskedNone out (faulted why) (by why h)))
+  where
+    plans : Plan → Type 0
+    plans = Replies (MappedBy brief held (Some circuit) (Some gates))
+
+    by : (w : StepFault) → IsNetlisted brief circuit gates (Err w)
+        → Did plans AskedNone AskedNone (faulted w)
+    by (fault.Refused reason) k =
+        quiet_did plans (Refuses reason) (Refused reason) (Err reason, (sound, known, k), refl)
+        (inl refl)
+    by fault.StoreFault k = absurd k
+    by fault.SinkFault k = absurd k
+    by fault.Memory k = wanting_did plans
+
+pub no_circuit_did : {O : Type 0} (puts : O → PutCall → O → Type 0) (brief : Bool) (held : Held)
+    (network : Option Circuit) (library : Option Library) (out : O) → network ≡ None
+    → Did (Replies (MappedBy brief held network library)) AskedNone (Follows puts out out)
+    (Refused refusal.NoNetwork)
+no_circuit_did puts brief held network library out none =
+    subst (λ (n : Option Circuit). Did (Replies (MappedBy brief held n library)) AskedNone
+    (Follows puts out out) (Refused refusal.NoNetwork)) (sym none)
+    (store_alone puts (Replies (MappedBy brief held None library)) AskedNone out
+    (Refused refusal.NoNetwork)
+    (quiet_did (Replies (MappedBy brief held None library)) (Refuses refusal.NoNetwork)
+    (Refused refusal.NoNetwork) (Err refusal.NoNetwork, refl, refl) (inl refl)))
+
+pub no_library_did : {O : Type 0} (puts : O → PutCall → O → Type 0) (brief : Bool) (held : Held)
+    (network : Option Circuit) (library : Option Library) (circuit : Circuit) (out : O)
+    → network ≡ Some circuit → library ≡ None
+    → Did (Replies (MappedBy brief held network library)) AskedNone (Follows puts out out)
+    (Refused refusal.NoLibrary)
+no_library_did puts brief held network library circuit out is none =
+    subst (λ (n : Option Circuit). Did (Replies (MappedBy brief held n library)) AskedNone
+    (Follows puts out out) (Refused refusal.NoLibrary)) (sym is)
+    (subst (λ (l : Option Library). Did (Replies (MappedBy brief held (Some circuit) l)) AskedNone
+    (Follows puts out out) (Refused refusal.NoLibrary)) (sym none)
+    (store_alone puts (Replies (MappedBy brief held (Some circuit) None)) AskedNone out
+    (Refused refusal.NoLibrary)
+    (quiet_did (Replies (MappedBy brief held (Some circuit) None)) (Refuses refusal.NoLibrary)
+    (Refused refusal.NoLibrary) (Err refusal.NoLibrary, refl, refl) (inl refl))))
 
 -- `undo`
 pub undone_did : (held held' : Held) (previous : Option Circuit) (undone : Bool) → Undoes previous held undone held' → undone ≡ true

@@ -2,7 +2,7 @@
 -- Source: the SIS manual (UCB/ERL M92/41), the commands; the order of refusals is the project's own: a
 -- command's words, then how deep scripts are nested, then the parts that it needs, then names, then the
 -- file that it loads, then what is read of it, then the command's own limits.
-use Rattle.std.specs.Prelude.{◌≡◌, ◌⊎◌, ℕ, Option, Some, None, Result, Ok, Err, List, [], nat_le, nat_lt, min, flat_map, map, if◌then◌else◌}
+use Rattle.std.specs.Prelude.{◌≡◌, ◌⊎◌, ℕ, Bool, Option, Some, None, Result, Ok, Err, List, [], nat_le, nat_lt, min, flat_map, map, if◌then◌else◌}
 use Rattle.sis_base.specs.Written.{lines_text}
 use Rattle.sis_text.specs.Entries.{entries_of, script_entries_of}
 use Rattle.circuit_model.specs.Text.{text_of, table_lines, latch_line}
@@ -27,6 +27,8 @@ use Rattle.alg_tables.specs.declared.taking.TakeFault.{TakeFault}
 use Rattle.alg_tables.specs.declared.taking.TakeFault.TheVariants.{CubeLimit, TooWide}
 use Rattle.net_elim.specs.Eliminating.{eliminate_step}
 use Rattle.sdc_simplify.specs.Simplified.{simplified, simplify_refusal}
+use Rattle.odc_simplify.specs.Turns.{HasFullySimplified}
+use Rattle.odc_simplify.specs.declared.fault.FullFault.TheVariants as unsimplified
 use Rattle.net_candidates.specs.Extracting.{IsExtracted, IsUnlistable, IsFull as IsExtractionFull}
 use Rattle.net_candidates.specs.declared.rule.Rule.{Rule as Extraction}
 use Rattle.net_candidates.specs.declared.rule.Rule.TheVariants as extract
@@ -41,6 +43,12 @@ use Rattle.state_code.specs.Codes.{codes_of}
 use Rattle.state_code.specs.Encoded.{encoded}
 use Rattle.state_code.specs.declared.codes.Style.{Style as Coding}
 use Rattle.state_code.specs.declared.codes.Style.TheVariants as coded
+use Rattle.circuit_model.specs.Soundness.{IsSound}
+use Rattle.genlib_format.specs.Soundness.{IsSound as IsSoundGates}
+use Rattle.netlist.specs.Lines.{netlist_text_of}
+use Rattle.map_net.specs.Mapping.{Maps}
+use Rattle.map_net.specs.declared.mapping.MapFault.{MapFault}
+use Rattle.map_net.specs.declared.mapping.MapFault.TheVariants as unmapped
 use Rattle.sis_script.specs.Bounds.{most_tables}
 use Rattle.sis_script.specs.Script.{command_of}
 use Rattle.sis_script.specs.declared.command.Command.{Command}
@@ -51,9 +59,9 @@ use Rattle.sis_script.specs.declared.command.Style.TheVariants as style
 use Rattle.sis_script.specs.declared.command.Op.{Op}
 use Rattle.sis_script.specs.declared.command.Op.TheVariants as command
 use Rattle.sis_script.specs.declared.command.ScriptFault.{ScriptFault}
-use Rattle.sis_session.specs.Plan.{MAX_DEPTH, Outcome, Does, Refuses, Plan, Quiet, Loads, Reply, sends}
-use Rattle.sis_session.specs.Replies.{stats_line, echo_line, codes_text}
-use Rattle.sis_session.specs.State.{Held, Library, with_read, with_spec, held_spec, with_library, with_changed, with_encoded, with_exchanged}
+use Rattle.sis_session.specs.Plan.{MAX_DEPTH, MAX_FUNCTION, Outcome, Does, Refuses, Plan, Quiet, Loads, Reply, sends}
+use Rattle.sis_session.specs.Replies.{stats_line, echo_line, codes_text, map_text}
+use Rattle.sis_session.specs.State.{Held, Library, with_read, with_spec, held_spec, with_library, with_changed, with_encoded, with_exchanged, with_mapped, Netlist}
 use Rattle.sis_session.specs.declared.refusal.Next.TheVariants as next
 use Rattle.sis_session.specs.declared.refusal.Refusal.{Refusal}
 use Rattle.sis_session.specs.declared.refusal.Refusal.TheVariants as refusal
@@ -96,31 +104,43 @@ library_held held name (Err fault) = Refuses (refusal.Lib name fault)
 abbrev pub circuit_of : ℕ → ℕ → Circuit
 circuit_of seed tables = generated seed (min tables most_tables)
 
--- what a command writes: the network or the machine
+-- what a command writes: the network, the machine or the netlist
 pub data Part : Type 0 where
   TheNetwork : Part
   TheMachine : Part
+  TheNetlist : Part
 
--- the network, or the refusal where there is none; and the machine
-abbrev pub network_of : Option Circuit → Result Spec Refusal
+-- what is written: a circuit or a machine as it is, or a netlist, whose library is the one held
+pub data Written : Type 0 where
+  OfSpec : Spec → Written
+  OfNetlist : Netlist → Written
+
+-- the network, or the refusal where there is none; the machine; the netlist
+abbrev pub network_of : Option Circuit → Result Written Refusal
 network_of None = Err refusal.NoNetwork
-network_of (Some circuit) = Ok (spec.Circuit circuit)
+network_of (Some circuit) = Ok (OfSpec (spec.Circuit circuit))
 
-abbrev pub machine_of : Option Machine → Result Spec Refusal
+abbrev pub machine_of : Option Machine → Result Written Refusal
 machine_of None = Err refusal.NoMachine
-machine_of (Some machine) = Ok (spec.Machine machine)
+machine_of (Some machine) = Ok (OfSpec (spec.Machine machine))
 
-abbrev pub part_of : Part → Held → Result Spec Refusal
+abbrev pub netlist_of : Option Netlist → Result Written Refusal
+netlist_of None = Err refusal.NotMapped
+netlist_of (Some netlist) = Ok (OfNetlist netlist)
+
+abbrev pub part_of : Part → Held → Result Written Refusal
 part_of TheNetwork held = network_of held.network
 part_of TheMachine held = machine_of held.machine
+part_of TheNetlist held = netlist_of held.netlist
 
--- the text of a circuit, and of a machine
-abbrev pub text_of_spec : Spec → List ℕ
-text_of_spec (spec.Circuit circuit) = text_of circuit
-text_of_spec (spec.Machine machine) = machine_text_of machine
+-- the text of a circuit, of a machine, and of a netlist
+abbrev pub text_of_written : Written → List ℕ
+text_of_written (OfSpec (spec.Circuit circuit)) = text_of circuit
+text_of_written (OfSpec (spec.Machine machine)) = machine_text_of machine
+text_of_written (OfNetlist netlist) = netlist_text_of netlist
 
-abbrev pub written_text : Result Spec Refusal → Result (List ℕ) Refusal
-written_text (Ok written) = Ok (text_of_spec written)
+abbrev pub written_text : Result Written Refusal → Result (List ℕ) Refusal
+written_text (Ok written) = Ok (text_of_written written)
 written_text (Err why) = Err why
 
 -- a text is given, and what is held stays; or the refusal comes
@@ -190,6 +210,16 @@ abbrev pub IsSimplifyRefusal : Option (List ℕ) → Refusal → Type 0
 IsSimplifyRefusal (Some name) why = why ≡ refusal.CubeLimit name
 IsSimplifyRefusal None why = ⊥
 
+-- why a network is not fully simplified: in the turn of a table its list of rows is too long, or a
+-- function is too big
+abbrev pub IsFullRefusal : Circuit → Refusal → Type 0
+IsFullRefusal old why =
+    (name : List ℕ)
+    × ((HasFullySimplified MAX_FUNCTION old (Err (unsimplified.CubeLimit name))
+    × (why ≡ refusal.CubeLimit name))
+    ⊎ (HasFullySimplified MAX_FUNCTION old (Err (unsimplified.TooBig name))
+    × (why ≡ refusal.TooBig name)))
+
 -- a network is decomposed by a rule, or there is no room for a table that is due
 abbrev pub Decomposes : Rule → Circuit → Result Circuit Refusal → Type 0
 Decomposes rule old (Ok new) = IsDecomposed rule old new
@@ -209,8 +239,8 @@ Extracts rule old (Err why) = IsExtractionRefusal rule old why
 
 -- What a command that changes the network makes of it: a new network, or a refusal. `sweep`, `eliminate`:
 -- steps are taken until none applies. `collapse`: all tables are taken into their readers, or the first
--- that cannot take one in is told. `simplify`: each table becomes minimal in its turn, or the first whose
--- list is too long is told. `fx`, `gkx`, `gcx`: candidates become tables as long as one saves literals, or
+-- that cannot take one in is told. `simplify`, `full_simplify`: each table becomes minimal in its turn, or
+-- the first whose list is too long is told, or of which a function is too big. `fx`, `gkx`, `gcx`: candidates become tables as long as one saves literals, or
 -- the first table with too many kernels is told, or there is no room. `resub`: tables are divided by others
 -- as long as that saves literals. `decomp`, `tech_decomp`: tables are parted until all are done, or there
 -- is no room.
@@ -223,6 +253,8 @@ Changes changing.Collapse old (Ok new) = (collapse_refusal old ≡ None) × (new
 Changes changing.Collapse old (Err why) = IsCollapseRefusal (collapse_refusal old) why
 Changes changing.Simplify old (Ok new) = (simplify_refusal old ≡ None) × (new ≡ simplified old)
 Changes changing.Simplify old (Err why) = IsSimplifyRefusal (simplify_refusal old) why
+Changes changing.FullSimplify old (Ok new) = HasFullySimplified MAX_FUNCTION old (Ok new)
+Changes changing.FullSimplify old (Err why) = IsFullRefusal old why
 Changes changing.Fx old what = Extracts extract.Fx old what
 Changes changing.Gkx old what = Extracts extract.Gkx old what
 Changes changing.Gcx old what = Extracts extract.Gcx old what
@@ -241,6 +273,35 @@ abbrev pub ChangedBy : Held → Change → Option Circuit → Result Reply Refus
 ChangedBy held change None reply = reply ≡ Err refusal.NoNetwork
 ChangedBy held change (Some old) reply =
     (answer : Result Circuit Refusal) × Changes change old answer × (reply ≡ reply_changed held answer)
+
+-- `map`: a reason against a netlist as a refusal; want of memory is none
+abbrev pub refusal_of : MapFault → Option Refusal
+refusal_of unmapped.NoInverter = Some refusal.NoInverter
+refusal_of unmapped.NoNand = Some refusal.NoNand
+refusal_of unmapped.TreeLimit = Some refusal.TreeLimit
+refusal_of unmapped.NodeLimit = Some refusal.NodeLimit
+refusal_of unmapped.Memory = None
+
+-- `map` is refused for the first reason against a netlist
+abbrev pub Declines : Circuit → Library → Refusal → Type 0
+Declines circuit library why =
+    (reason : MapFault) × (refusal_of reason ≡ Some why) × Maps circuit library (Err reason)
+
+-- `map`: the areas of a netlist are told, and then it is held; or the first reason against it. What
+-- is mapped is sound, and so is the library.
+abbrev pub MapsNetwork : Bool → Held → Circuit → Library → Result Reply Refusal → Type 0
+MapsNetwork brief held circuit library (Ok reply) =
+    IsSound circuit × IsSoundGates library × (netlist : Netlist) × Maps circuit library (Ok netlist)
+    × (reply ≡ record { text = map_text brief netlist; held = with_mapped held netlist })
+MapsNetwork brief held circuit library (Err why) =
+    IsSound circuit × IsSoundGates library × Declines circuit library why
+
+-- the same of the network and the library that are held, or the refusal where there is none
+abbrev pub MappedBy : Bool → Held → Option Circuit → Option Library → Result Reply Refusal → Type 0
+MappedBy brief held None library reply = reply ≡ Err refusal.NoNetwork
+MappedBy brief held (Some circuit) None reply = reply ≡ Err refusal.NoLibrary
+MappedBy brief held (Some circuit) (Some library) reply =
+    MapsNetwork brief held circuit library reply
 
 -- the coding that a style names
 abbrev pub coding_of : Style → Coding
@@ -278,8 +339,8 @@ source_plan depth held name =
 -- What a command does, by its form: it tells something of what is held; it writes a part of it to a file
 -- or to the output; it reads a file as a circuit or a machine, or as a library; it makes the circuit of a
 -- seed, which is held as one that was read; it changes the network; it makes a network of the machine by
--- codes of its states; it takes a change back; it has a script done next; it ends the script; or its words are
--- wrong.
+-- codes of its states; it makes a netlist of the network; it takes a change back; it has a script done next; it
+-- ends the script; or its words are wrong.
 pub data Form : Type 1 where
   Tells : (tells : Held → Result (List ℕ) Refusal → Type 0) → Form
   Writes : (part : Part) (file : Option (List ℕ)) → Form
@@ -288,6 +349,7 @@ pub data Form : Type 1 where
   Generates : (seed tables : ℕ) → Form
   ChangesNetwork : (change : Change) → Form
   EncodesMachine : (style : Style) → Form
+  MakesNetlist : (brief : Bool) → Form
   TakesBack : Form
   Sources : (file : List ℕ) → Form
   Ends : Form
@@ -303,6 +365,8 @@ form_of (command.ReadLibrary name) = ReadsLibrary name
 form_of (command.Generate seed tables) = Generates seed tables
 form_of (command.WriteBlif file) = Writes TheNetwork file
 form_of (command.WriteKiss file) = Writes TheMachine file
+form_of (command.WriteNetlist file) = Writes TheNetlist file
+form_of (command.Map brief) = MakesNetlist brief
 form_of command.PrintStats = Tells (λ held. ToldBy (Just stats_told) held.network)
 form_of (command.Print name) = Tells (λ held. ToldBy (Just (tables_told name)) held.network)
 form_of command.PrintLatch = Tells (λ held. ToldBy (Just latches_told) held.network)
@@ -337,6 +401,8 @@ FormPlans depth held (Generates seed tables) plan =
 FormPlans depth held (ChangesNetwork change) plan = Replies (ChangedBy held change held.network) plan
 FormPlans depth held (EncodesMachine style) plan =
     plan ≡ sends None (encoded_reply (coding_of style) held held.machine)
+FormPlans depth held (MakesNetlist brief) plan =
+    Replies (MappedBy brief held held.network held.library) plan
 FormPlans depth held TakesBack plan = plan ≡ Quiet (undo_outcome held held.previous)
 FormPlans depth held (Sources name) plan = plan ≡ source_plan depth held name
 FormPlans depth held Ends plan = plan ≡ Quiet (Does held next.Quit)

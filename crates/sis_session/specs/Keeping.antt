@@ -2,10 +2,10 @@
 -- done, and when it has one outcome.
 -- Source: the SIS manual (UCB/ERL M92/41), the commands one by one; that each network refines what was read
 -- last is the project's own promise.
-use Rattle.std.specs.Prelude.{◌≡◌, ℕ, ◌<◌, ◌≤◌, Option, Some, None, Result, Ok, Err, List}
+use Rattle.std.specs.Prelude.{◌≡◌, ◌⊎◌, ℕ, Bool, ◌<◌, ◌≤◌, Option, Some, None, unwrap_or, Result, Ok, Err, List, []}
 use Rattle.sis_outside.specs.Calls.{Load, Save}
-use Rattle.circuit_model.specs.Behaviors.{RefinesAs}
-use Rattle.circuit_model.specs.Runs.{of_circuit}
+use Rattle.circuit_model.specs.Behaviors.{Behavior, RefinesAs}
+use Rattle.circuit_model.specs.Runs.{of_circuit, Refines}
 use Rattle.circuit_model.specs.Soundness.{IsSound}
 use Rattle.circuit_model.specs.Text.{text_of}
 use Rattle.circuit_model.specs.MachineBehaviors.{of_machine, of_spec}
@@ -24,10 +24,17 @@ use Rattle.sis_script.specs.declared.command.Op.TheVariants as command
 use Rattle.sis_script.specs.declared.command.Change.{Change}
 use Rattle.sis_base.specs.declared.limits.TheConstants.{MAX_INPUTS}
 use Rattle.state_code.specs.Codes.{leaf_count}
-use Rattle.sis_session.specs.Commands.{Changes, coding_of, Form, Reads, ReadsLibrary, Writes, TheMachine, TheNetwork, form_of, spec_in}
-use Rattle.sis_session.specs.Plan.{MAX_DEPTH, Asked, Nothing, OnStore, OnOut, OnInput}
-use Rattle.sis_session.specs.State.{Held, Library}
+use Rattle.sis_session.specs.Commands.{Changes, coding_of, Form, Reads, ReadsLibrary, Written, OfSpec, OfNetlist, Declines, MakesNetlist, Writes, TheMachine, TheNetlist, TheNetwork, form_of, spec_in}
+use Rattle.sis_session.specs.Plan.{MAX_DEPTH, Asked, Nothing, OnStore, OnOut, OnInput, Plan, Quiet, Refuses, Ending, Refused, Cut}
+use Rattle.netlist.specs.Netlists.{circuit_of, IsSoundNetlist}
+use Rattle.netlist.specs.Lines.{netlist_text_of}
+use Rattle.netlist.specs.Figures.{ArePartedBy}
+use Rattle.map_net.specs.Mapping.{IsMapped}
+use Rattle.sis_session.specs.Replies.{map_text}
+use Rattle.sis_session.specs.State.{Held, Library, Netlist}
+use Rattle.sis_session.specs.declared.refusal.Failed.TheVariants as failed
 use Rattle.sis_session.specs.declared.refusal.Refusal.{Refusal}
+use Rattle.sis_session.specs.declared.refusal.Refusal.TheVariants as refusal
 
 -- a circuit that is held is sound and refines what was read last
 abbrev pub RefinesSpec : Option Spec → Option Circuit → Type 0
@@ -41,16 +48,52 @@ MachineRefines spec held =
     (machine : Machine) → held ≡ Some machine
     → (read : Spec) × (spec ≡ Some read) × IsSoundMachine machine × RefinesAs (of_spec read) (of_machine machine)
 
--- the network, the previous one and the machine are sound and refine what was read last
+-- a netlist is that of the network beside it, by the library that is held; it is sound, its circuit
+-- refines the network, and the areas of its trees are those of its gates
+pub record IsMappedFrom (library : Option Library) (network : Option Circuit) (netlist : Netlist)
+    : Type 0 where
+  pub gates : Library
+  pub circuit : Circuit
+  pub has : library ≡ Some gates
+  pub there : network ≡ Some circuit
+  pub mapped : IsMapped circuit gates netlist
+  pub sound : IsSoundNetlist gates netlist
+  pub refines : Refines circuit (circuit_of gates netlist)
+  pub parted : ArePartedBy gates netlist.trees netlist.gates
+
+-- so is one that is held
+pub record HasMapped (library : Option Library) (network : Option Circuit) (held : Option Netlist)
+    : Type 0 where
+  pub each : (netlist : Netlist) → held ≡ Some netlist → IsMappedFrom library network netlist
+
+-- the network, the previous one and the machine are sound and refine what was read last; the netlists
+-- are those of the network and of the previous one
 pub record IsRefined (spec : Option Spec) (held : Held) : Type 0 where
   pub network : RefinesSpec spec held.network
   pub previous : RefinesSpec spec held.previous
   pub machine : MachineRefines spec held.machine
+  pub netlist : HasMapped held.library held.network held.netlist
+  pub previous_netlist : HasMapped held.library held.previous held.previous_netlist
 
--- these bytes are the text of what is held: of the network, or of the machine
-abbrev pub IsTextOf : Held → Spec → List ℕ → Type 0
-IsTextOf held (spec.Circuit circuit) bytes = (held.network ≡ Some circuit) × (bytes ≡ text_of circuit)
-IsTextOf held (spec.Machine machine) bytes = (held.machine ≡ Some machine) × (bytes ≡ machine_text_of machine)
+-- these bytes are the text of what is held: of the network, of the machine, or of the netlist
+abbrev pub IsTextOf : Held → Written → List ℕ → Type 0
+IsTextOf held (OfSpec (spec.Circuit circuit)) bytes =
+    (held.network ≡ Some circuit) × (bytes ≡ text_of circuit)
+IsTextOf held (OfSpec (spec.Machine machine)) bytes =
+    (held.machine ≡ Some machine) × (bytes ≡ machine_text_of machine)
+IsTextOf held (OfNetlist netlist) bytes =
+    (held.netlist ≡ Some netlist) × (bytes ≡ netlist_text_of netlist)
+
+-- where a netlist is written, it is the mapped one of the network that is held
+abbrev pub IsOfHeld : Held → Written → Type 0
+IsOfHeld held (OfSpec written) = Unit {0}
+IsOfHeld held (OfNetlist netlist) = IsMappedFrom held.library held.network netlist
+
+-- the behavior of what is written; that of a netlist by the library that is held (by one without gates
+-- where there is none)
+abbrev pub behavior_of : Held → Written → Behavior
+behavior_of held (OfSpec written) = of_spec written
+behavior_of held (OfNetlist netlist) = of_circuit (circuit_of (unwrap_or held.library []) netlist)
 
 -- a command that writes a part of what is held
 abbrev pub IsWriting : Form → Type 0
@@ -58,10 +101,21 @@ IsWriting (Writes part file) = Unit {0}
 IsWriting other = ⊥
 
 -- what a command writes to a file, or to the output
-abbrev pub WritesTo : Option (List ℕ) → Form → Spec → Type 0
-WritesTo to (Writes TheNetwork file) (spec.Circuit circuit) = file ≡ to
-WritesTo to (Writes TheMachine file) (spec.Machine machine) = file ≡ to
+abbrev pub WritesTo : Option (List ℕ) → Form → Written → Type 0
+WritesTo to (Writes TheNetwork file) (OfSpec (spec.Circuit circuit)) = file ≡ to
+WritesTo to (Writes TheMachine file) (OfSpec (spec.Machine machine)) = file ≡ to
+WritesTo to (Writes TheNetlist file) (OfNetlist netlist) = file ≡ to
 WritesTo to other written = ⊥
+
+-- a command that makes a netlist
+abbrev pub IsMapping : Form → Type 0
+IsMapping (MakesNetlist brief) = Unit {0}
+IsMapping other = ⊥
+
+-- these bytes tell the areas of a mapped netlist of the network that is held
+abbrev pub TellsAreas : Held → List ℕ → Type 0
+TellsAreas held bytes = (brief : Bool) × (netlist : Netlist) × (bytes ≡ map_text brief netlist)
+    × IsMappedFrom held.library held.network netlist
 
 -- there is a network
 abbrev pub HasNetwork : Option Circuit → Type 0
@@ -88,7 +142,8 @@ Allows change circuit = (why : Refusal) → Changes change circuit (Err why) →
 
 -- what a command needs of what is held: its words fit, its scripts are not nested too deep; the network,
 -- the previous one or the machine and the table that it names are there, with no more kernels than are
--- listed; the machine's network is not too wide; and nothing refuses the change
+-- listed; the machine's network is not too wide; the netlist is there, or the library, with nothing
+-- against a netlist; and nothing refuses the change
 abbrev pub HasNeeds : ℕ → Held → Op → Type 0
 HasNeeds depth held (command.WriteBlif file) = HasNetwork held.network
 HasNeeds depth held (command.WriteKiss file) = HasMachine held.machine
@@ -104,6 +159,11 @@ HasNeeds depth held (command.Change change) =
 HasNeeds depth held (command.StateAssign style) =
     (machine : Machine) × (held.machine ≡ Some machine)
     × (leaf_count (coding_of style) machine ≤ MAX_INPUTS)
+HasNeeds depth held (command.WriteNetlist file) =
+    (netlist : Netlist) × (held.netlist ≡ Some netlist)
+HasNeeds depth held (command.Map brief) =
+    (circuit : Circuit) × (library : Library) × (held.network ≡ Some circuit)
+    × (held.library ≡ Some library) × ((why : Refusal) → Declines circuit library why → ⊥)
 HasNeeds depth held command.Undo = HasNetwork held.previous
 HasNeeds depth held (command.Source name) = depth < MAX_DEPTH
 HasNeeds depth held (command.Bad fault) = ⊥
@@ -128,8 +188,30 @@ IsAnswered held form (OnInput calls) = Unit {0}
 abbrev pub IsServed : ℕ → Held → Op → Asked → Type 0
 IsServed depth held op asked = HasNeeds depth held op × IsAnswered held (form_of op) asked
 
--- a change makes one thing of each network
+-- some function is too big: for which signal of a network that comes, and whether, may depend on how
+-- functions are made
+abbrev pub RefusesTooBig : {A : Type 0} → Result A Refusal → Type 0
+RefusesTooBig answer = (name : List ℕ) × (answer ≡ Err (refusal.TooBig name))
+
+-- a change makes one thing of each network, but where a function is too big
 abbrev pub ChangesOnce : Change → Type 0
 ChangesOnce change =
     (old : Circuit) (one other : Result Circuit Refusal) → Changes change old one → Changes change old other
-    → one ≡ other
+    → (one ≡ other) ⊎ (RefusesTooBig one ⊎ RefusesTooBig other)
+
+-- two plans are one, but where a function is too big
+abbrev pub PlansTooBig : Plan → Type 0
+PlansTooBig plan = (name : List ℕ) × (plan ≡ Quiet (Refuses (refusal.TooBig name)))
+
+abbrev pub AreOnePlan : Plan → Plan → Type 0
+AreOnePlan plan other = (plan ≡ other) ⊎ (PlansTooBig plan ⊎ PlansTooBig other)
+
+-- two endings are one, but where memory was wanting or a function is too big
+abbrev pub EndsTooBig : Ending → Type 0
+EndsTooBig ending = (name : List ℕ) × (ending ≡ Refused (refusal.TooBig name))
+
+abbrev pub EndsEarly : Ending → Type 0
+EndsEarly ending = (ending ≡ Cut failed.Memory) ⊎ EndsTooBig ending
+
+abbrev pub AreOneEnding : Ending → Ending → Type 0
+AreOneEnding one other = (one ≡ other) ⊎ (EndsEarly one ⊎ EndsEarly other)

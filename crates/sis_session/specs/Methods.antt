@@ -21,11 +21,14 @@ use Rattle.state_code.specs.Encoded.{encoded}
 use Rattle.state_code.specs.declared.codes.Style.{Style as Coding}
 use Rattle.sis_base.specs.declared.limits.TheConstants.{MAX_INPUTS}
 use Rattle.state_code.specs.Codes.{leaf_count}
-use Rattle.sis_session.specs.Commands.{Changes}
-use Rattle.sis_session.specs.Replies.{codes_text}
+use Rattle.map_net.specs.Mapping.{Maps}
+use Rattle.map_net.specs.declared.mapping.MapFault.{MapFault}
+use Rattle.sis_session.specs.declared.mapping.ToldNetlist.{ToldNetlist}
+use Rattle.sis_session.specs.Commands.{Changes, Declines, refusal_of}
+use Rattle.sis_session.specs.Replies.{codes_text, map_text}
 use Rattle.sis_session.specs.declared.encoding.CodedNetwork.{CodedNetwork}
 use Rattle.sis_session.specs.Plan.{MAX_BYTES}
-use Rattle.sis_session.specs.State.{Held, with_spec, with_exchanged}
+use Rattle.sis_session.specs.State.{Held, Library, with_spec, with_exchanged}
 use Rattle.sis_session.specs.declared.refusal.Next.{Next}
 use Rattle.sis_session.specs.declared.refusal.Next.TheVariants.{Go}
 use Rattle.sis_session.specs.declared.refusal.Refusal.{Refusal}
@@ -107,6 +110,21 @@ IsEncoded coding machine (Err (fault.Refused why)) =
     × (why ≡ refusal.TooWide machine.name (leaf_count coding machine))
 IsEncoded coding machine (Err fault.Memory) = Unit {0}
 IsEncoded coding machine (Err other) = ⊥
+
+-- a reason against a netlist as a fault of a step
+abbrev pub IsDeclined : MapFault → StepFault → Type 0
+IsDeclined reason (fault.Refused why) = refusal_of reason ≡ Some why
+IsDeclined reason fault.Memory = Unit {0}
+IsDeclined reason other = ⊥
+
+-- the netlist of a network was made, with the text that tells its areas; or there is a reason against
+-- it; or memory was wanting
+abbrev pub IsNetlisted : Bool → Circuit → Library → Result ToldNetlist StepFault → Type 0
+IsNetlisted brief circuit library (Ok made) =
+    Maps circuit library (Ok made.netlist) × (made.text.items ≡ map_text brief made.netlist)
+IsNetlisted brief circuit library (Err (fault.Refused why)) = Declines circuit library why
+IsNetlisted brief circuit library (Err fault.Memory) = Unit {0}
+IsNetlisted brief circuit library (Err other) = ⊥
 
 -- what an undo leaves: whether there was a previous network, and then the exchange
 abbrev pub Undoes : Option Circuit → Held → Bool → Held → Type 0

@@ -30,6 +30,10 @@ MAX_BYTES = 67108864
 abbrev pub MAX_DEPTH : ℕ
 MAX_DEPTH = 16
 
+-- how large a function may be: different inner nodes of its reduced decision tree
+abbrev pub MAX_FUNCTION : ℕ
+MAX_FUNCTION = 1048575
+
 -- what a command does: what is held then, and how the script goes on; or why it is refused
 pub data Outcome : Type 0 where
   Does : (held : Held) (next : Next) → Outcome

@@ -1,6 +1,6 @@
 -- The texts that the program prints: replies, lines of refusals and of faults.
 -- Source: the SIS manual (UCB/ERL M92/41), `print_stats`; the wording of refusals is the project's own.
-use Rattle.std.specs.Prelude.{ℕ, Bool, List, [], ◌∷◌, ◌++◌, flat_map, map, codes, decimal}
+use Rattle.std.specs.Prelude.{ℕ, Bool, true, false, List, [], ◌∷◌, ◌++◌, flat_map, map, length, sum_by, codes, decimal}
 use Rattle.sis_base.specs.Written.{spaced}
 use Rattle.circuit_model.specs.Counts.{literals_of}
 use Rattle.circuit_model.specs.Runs.{tri_of}
@@ -9,10 +9,13 @@ use Rattle.circuit_model.specs.declared.circuit.Circuit.{Circuit}
 use Rattle.sis_session.specs.Texts.{blif_text, kiss_text, library_text}
 use Rattle.net_core.specs.Reads.{sizes_of}
 use Rattle.state_code.specs.declared.codes.Code.{Code}
+use Rattle.sis_text.specs.Decimals.{decimal_text}
+use Rattle.netlist.specs.declared.mapped.Mapped.{Mapped}
+use Rattle.netlist.specs.declared.mapped.TreeFigure.{TreeFigure}
 use Rattle.sis_script.specs.declared.command.ScriptFault.{ScriptFault}
 use Rattle.sis_script.specs.declared.command.ScriptFault.TheVariants.{BadCommand, BadOption, MissingWord}
 use Rattle.sis_session.specs.declared.refusal.Refusal.{Refusal}
-use Rattle.sis_session.specs.declared.refusal.Refusal.TheVariants.{Script, Nested, NoNetwork, NoMachine, NothingToUndo, NoSignal, CubeLimit, TooWide, NodeLimit, KernelLimit, Missing, TooLong, Blif, Kiss, Lib, LongScript}
+use Rattle.sis_session.specs.declared.refusal.Refusal.TheVariants.{Script, Nested, NoNetwork, NoMachine, NoLibrary, NotMapped, NothingToUndo, NoSignal, CubeLimit, TooWide, NodeLimit, KernelLimit, TooBig, NoInverter, NoNand, TreeLimit, Missing, TooLong, Blif, Kiss, Lib, LongScript}
 use Rattle.sis_session.specs.declared.texts.Stats.{Stats}
 
 -- words as a line, with one blank between
@@ -48,6 +51,27 @@ code_line code = codes "code " ++ (code.state ++ (code_bits code.bits ++ codes "
 abbrev pub codes_text : List Code → List ℕ
 codes_text each = flat_map code_line each
 
+-- a tree of a netlist and its area
+unfoldable pub tree_line : TreeFigure → List ℕ
+tree_line tree =
+    codes "tree " ++ (tree.name ++ (codes " area=" ++ (decimal_text tree.figure ++ codes "\n")))
+
+-- an area, and how many gates there are
+unfoldable pub total_text : ℕ → ℕ → List ℕ
+total_text area gates =
+    codes "total area=" ++ (decimal_text area
+    ++ (codes " gates=" ++ (decimal gates ++ codes "\n")))
+
+-- the area of all trees of a netlist, and how many gates it has
+abbrev pub total_line : Mapped → List ℕ
+total_line mapped =
+    total_text (sum_by (λ (tree : TreeFigure). tree.figure) mapped.trees) (length mapped.gates)
+
+-- what `map` puts: a line for each tree unless it is brief, and the total
+abbrev pub map_text : Bool → Mapped → List ℕ
+map_text true mapped = total_line mapped
+map_text false mapped = flat_map tree_line mapped.trees ++ total_line mapped
+
 -- why the words of a command are refused
 abbrev pub script_fault_text : ScriptFault → List ℕ
 script_fault_text BadCommand = codes "unknown command"
@@ -64,12 +88,18 @@ refusal_text (Script fault) = script_fault_text fault
 refusal_text Nested = codes "sources nested deeper than 16"
 refusal_text NoNetwork = codes "no network"
 refusal_text NoMachine = codes "no machine"
+refusal_text NoLibrary = codes "no library"
+refusal_text NotMapped = codes "no mapped netlist"
 refusal_text NothingToUndo = codes "nothing to undo"
 refusal_text (NoSignal name) = codes "no table " ++ name
 refusal_text (CubeLimit name) = codes "too many rows at " ++ name
 refusal_text (TooWide name count) = decimal count ++ (codes " inputs at " ++ name)
 refusal_text NodeLimit = codes "too many nodes"
 refusal_text (KernelLimit name) = codes "too many kernels at " ++ name
+refusal_text (TooBig name) = codes "function too big at " ++ name
+refusal_text NoInverter = codes "no inverter in the library"
+refusal_text NoNand = codes "no nand in the library"
+refusal_text TreeLimit = codes "too many tree vertices"
 refusal_text (Missing file) = codes "no file " ++ file
 refusal_text (TooLong file) = codes "file " ++ (file ++ codes " is longer than 67108864 bytes")
 refusal_text (Blif file fault) = file_text file (blif_text fault)

@@ -7,15 +7,18 @@ use Rattle.circuit_model.specs.declared.machine.Machine.{Machine}
 use Rattle.circuit_model.specs.declared.machine.Spec.{Spec}
 use Rattle.circuit_model.specs.declared.machine.Spec.TheVariants as spec
 use Rattle.genlib_format.specs.declared.gate.Gate.{Gate}
+use Rattle.netlist.specs.declared.mapped.Mapped.{Mapped}
 
 -- a library: its gates, in order
 abbrev pub Library : Type 0
 Library = List Gate
 
--- a mapped netlist: no command makes one so far, and so this type has no value
-pub data Netlist : Type 0 where
+-- a mapped netlist
+abbrev pub Netlist : Type 0
+Netlist = Mapped
 
--- the network and its netlist, and the previous ones: as they were before the last change; the machine and the library
+-- the network and its netlist by the library, and the previous ones, as they were before the last
+-- change; the machine and the library
 pub record Held : Type 0 where
   pub network : Option Circuit
   pub previous : Option Circuit
@@ -24,14 +27,21 @@ pub record Held : Type 0 where
   pub netlist : Option Netlist
   pub previous_netlist : Option Netlist
 
--- a network, a previous one, a machine and a library, where they are there, and no netlist
-abbrev pub parts_held : Option Circuit → Option Circuit → Option Machine → Option Library → Held
-parts_held network previous machine library =
-    record { network = network; previous = previous; machine = machine; library = library; netlist = None; previous_netlist = None }
+-- the parts, where they are there
+abbrev pub parts_held : Option Circuit → Option Circuit → Option Machine → Option Library
+    → Option Netlist → Option Netlist → Held
+parts_held network previous machine library netlist previous_netlist = record {
+  network = network;
+  previous = previous;
+  machine = machine;
+  library = library;
+  netlist = netlist;
+  previous_netlist = previous_netlist;
+}
 
 -- what a new session holds
 abbrev pub nothing_held : Held
-nothing_held = parts_held None None None None
+nothing_held = parts_held None None None None None None
 
 -- a circuit that was read becomes the network; but for the library nothing else is held, and there is nothing to take back
 abbrev pub with_read : Held → Circuit → Held
@@ -59,6 +69,10 @@ with_library held library = record held { library = Some library; netlist = None
 -- a new network in place of the one that is held, which becomes the previous one with its netlist; the new one has none
 abbrev pub with_changed : Held → Circuit → Held
 with_changed held new = record held { network = Some new; previous = held.network; netlist = None; previous_netlist = held.netlist }
+
+-- a netlist of the network is held
+abbrev pub with_mapped : Held → Netlist → Held
+with_mapped held netlist = record held { netlist = Some netlist }
 
 -- the network of a machine in place of the one that is held: as any new network, where one is; else
 -- the previous one stays as it was

@@ -8,12 +8,14 @@ ghost use Rattle.std.specs.Prelude.{◌≡◌, IfOk};
 ghost use Rattle.circuit_laws.specs.Chains.{Chain};
 ghost use Rattle.net_elim.specs.Eliminating.{eliminate_step};
 ghost use Rattle.net_core.specs.Reads.{HasBounds};
-ghost use Rattle.sis_script.specs.declared.command.Change.TheVariants.{Collapse, Simplify};
+ghost use Rattle.sis_script.specs.declared.command.Change.TheVariants.{Collapse, FullSimplify, Simplify};
 ghost use Rattle.sis_session.specs.Commands.{Decomposes, Extracts};
 ghost use Rattle.sis_session.specs.Methods.{IsChanged, IsMadeBy};
 
 use crate::refusal::{Refusal, StepFault};
+use crate::session::MAX_FUNCTION;
 use cube_cover::PlainRow;
+use func_core::PlainFunctions;
 use net_candidates::Rule as Extraction;
 use net_core::{AddFault, Network};
 use net_decomp::{Rule, decompose};
@@ -21,6 +23,7 @@ use net_elim::{CollapseFault, collapse, eliminate};
 use net_extract::{ExtractFault, extract};
 use net_resub::resubstitute;
 use net_sweep::{SweepFault, sweep};
+use odc_simplify::{FullFault, full_simplify};
 use sdc_simplify::{SimplifyFault, simplify};
 use sis_script::Change;
 use std::alloc::{AllocError, Global};
@@ -65,6 +68,25 @@ fn simplified(alloc: Global, network: &Network<PlainRow>) -> Result<Network<Plai
         Ok(new) => Ok(new),
         Err(SimplifyFault::CubeLimit(name)) => Err(StepFault::Refused(Refusal::CubeLimit(name))),
         Err(SimplifyFault::Memory) => Err(StepFault::Memory),
+    }
+}
+
+/// A network after full simplification, or the refusal of a table whose list of rows is too long, or
+/// of which a function is too big.
+fn fully_simplified(
+    alloc: Global,
+    network: &Network<PlainRow>,
+) -> Result<Network<PlainRow>, StepFault>
+    requires { HasBounds network.now }
+    ensures changes { IsChanged FullSimplify network.now result }
+    ensures bounds { IfOk result HasBounds }
+{
+    let mut functions = PlainFunctions::new(alloc, MAX_FUNCTION);
+    match full_simplify(alloc, network, &mut functions) {
+        Ok(new) => Ok(new),
+        Err(FullFault::CubeLimit(name)) => Err(StepFault::Refused(Refusal::CubeLimit(name))),
+        Err(FullFault::TooBig(name)) => Err(StepFault::Refused(Refusal::TooBig(name))),
+        Err(FullFault::Memory) => Err(StepFault::Memory),
     }
 }
 
@@ -127,6 +149,7 @@ pub fn change_network(
         },
         Change::Collapse => collapsed(alloc, network),
         Change::Simplify => simplified(alloc, network),
+        Change::FullSimplify => fully_simplified(alloc, network),
         Change::Fx => extracted(alloc, network, Extraction::Fx),
         Change::Gkx => extracted(alloc, network, Extraction::Gkx),
         Change::Gcx => extracted(alloc, network, Extraction::Gcx),

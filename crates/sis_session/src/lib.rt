@@ -5,14 +5,16 @@
 //! step goes by a plan of its command (`specs/Plan`), it makes just the call that the plan says,
 //! over every outside, and every answer but `Ok` leaves the session as it was; a script that comes
 //! next is nested no deeper than it may be. Laws over steps (`laws`): what is held refines what was
-//! read last, nothing is saved but the text of the network or the machine, a command that has what
-//! it needs is done (`specs/Keeping`), and it ends in one way.
+//! read last, nothing is saved but the text of the network, the netlist or the machine, a command
+//! that has what it needs is done (`specs/Keeping`), and it ends in one way, but where memory is
+//! wanting or a function is too big.
 //!
 //! Rooms: `session` (what is held, and the step), `printing` (what commands tell), `algebra` (what
 //! they tell of tables as algebra, by the lines of `factors` and `kernels`, `specs/Told`),
-//! `changing` (what they make of the network), `encoding` (what they make of the machine), `outside` (the calls on files and output), `texts`
-//! (what is printed), `refusal`. What is wrong with a file is told by `blif`, `kiss` and `library`:
-//! just the one text of the fault (`specs/Texts`), in the project's own words.
+//! `changing` (what they make of the network), `encoding` and `mapping` (what they make of the
+//! machine, and of the network by gates), `outside` (the calls on files and output), `texts` (what
+//! is printed), `refusal`. What is wrong with a file is told by `blif`, `kiss` and `library`: just
+//! the one text of the fault (`specs/Texts`), in the project's own words.
 #![tactic(auto)]
 
 mod algebra;
@@ -25,6 +27,7 @@ mod kernels;
 mod kiss;
 mod laws;
 mod library;
+mod mapping;
 mod outside;
 mod printing;
 mod putting;

@@ -9,17 +9,18 @@ ghost use Rattle.sis_base.specs.Written.{lines_text};
 ghost use Rattle.circuit_model.specs.Text.{table_lines};
 ghost use Rattle.circuit_model.specs.Values.{driver};
 ghost use Rattle.net_core.specs.Reads.{HasBounds};
-ghost use Rattle.sis_session.specs.Commands.{Just, ToldBy, latches_told, machine_of, named_told, network_of, stats_told, tables_told, written_text};
+ghost use Rattle.sis_session.specs.Commands.{Just, ToldBy, latches_told, machine_of, named_told, netlist_of, network_of, stats_told, tables_told, written_text};
 ghost use Rattle.sis_session.specs.Methods.{IsTold, IsToldBy};
 ghost use Rattle.sis_session.specs.Replies.{echo_line, stats_of};
 
 use crate::refusal::{Refusal, StepFault};
 use crate::texts::{Stats, echo_text, stats_text};
-use blif_write::{circuit_text, latches_text, table_text, tables_text};
+use blif_write::{circuit_text, latches_text, netlist_text, table_text, tables_text};
 use circuit_model::Machine;
 use cube_cover::PlainRow;
 use kiss_format::machine_text;
 use net_core::Network;
+use netlist::Mapped;
 use sis_base::Copied;
 use sis_script::{RawWord, RawWords};
 use std::alloc::Global;
@@ -119,6 +120,18 @@ pub fn network_text(
     };
     let mut text = Vec::new(alloc);
     circuit_text(alloc, &network.to_circuit(alloc)?, &mut text)?;
+    Ok(text)
+}
+
+/// What `write_blif -n` sends.
+pub fn netlist_told(alloc: Global, netlist: &Option<Mapped>) -> Result<Vec<u8>, StepFault>
+    ensures { IsTold (written_text (netlist_of netlist.now)) result }
+{
+    let Some(netlist) = netlist else {
+        return Err(StepFault::Refused(Refusal::NotMapped));
+    };
+    let mut text = Vec::new(alloc);
+    netlist_text(alloc, netlist, &mut text)?;
     Ok(text)
 }
 

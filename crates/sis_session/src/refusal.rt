@@ -48,6 +48,10 @@ pub enum Refusal {
     NoNetwork,
     /// There is no machine.
     NoMachine,
+    /// There is no library.
+    NoLibrary,
+    /// There is no mapped netlist.
+    NotMapped,
     /// There is no previous network.
     NothingToUndo,
     /// No table has this name.
@@ -60,6 +64,14 @@ pub enum Refusal {
     NodeLimit,
     /// The table of this name has more kernels than are listed.
     KernelLimit(RawWord),
+    /// In the turn of the table of this name a function is too big.
+    TooBig(RawWord),
+    /// No gate that is used is an inverter.
+    NoInverter,
+    /// No gate that is used is a NAND of two pins.
+    NoNand,
+    /// The trees of the network have more vertices than they may.
+    TreeLimit,
     /// There is no file of this name.
     Missing(Word),
     /// The file of this name is longer than is read.

@@ -9,7 +9,7 @@
 
 ghost use Rattle.std.specs.Prelude.{◌≡◌, ◌<◌, ℕ, IfOk, IfSome, OnOk, OnErr, option_map};
 ghost use Rattle.sis_outside.specs.Calls.{Follows};
-ghost use Rattle.sis_session.specs.Commands.{Blif, ChangedBy, Kiss, Plans, Replies, circuit_of, coding_of, encoded_reply, library_held, spec_held, spec_in, undo_outcome};
+ghost use Rattle.sis_session.specs.Commands.{Blif, ChangedBy, Kiss, MappedBy, Plans, Replies, circuit_of, coding_of, encoded_reply, library_held, spec_held, spec_in, undo_outcome};
 ghost use Rattle.sis_session.specs.Methods.{AskedNone, HasRead, Undoes};
 ghost use Rattle.sis_session.specs.Plan.{Comes, Did, Does, Loads, NestsBelow, Quiet, ended, sends};
 ghost use Rattle.sis_session.specs.Replies.{stats_of};
@@ -25,9 +25,10 @@ use crate::algebra::{print_factor, print_kernel};
 use crate::changing::change_network;
 use crate::encoding::{CodedNetwork, encoded};
 use crate::generating::circuit_of;
+use crate::mapping::{ToldNetlist, netlisted};
 use crate::outside::{load, put, put_told, send_told, source};
 use crate::printing::{
-    echo, machine_told, network_text, print, print_latch, print_stats, stats_of,
+    echo, machine_told, netlist_told, network_text, print, print_latch, print_stats, stats_of,
 };
 use crate::refusal::{Next, Refusal, StepFault};
 use crate::texts::Stats;
@@ -36,6 +37,7 @@ use circuit_model::{Circuit, Machine, Spec};
 use cube_cover::PlainRow;
 use genlib_format::Library;
 use net_core::Network;
+use netlist::Mapped;
 use sis_outside::{Sink, Store};
 use sis_script::{Change, Command, Op, Style};
 use sis_text::Word;
@@ -49,14 +51,20 @@ pub const MAX_BYTES: usize = 67_108_864;
 /// The most scripts that may stand round one another.
 pub const MAX_DEPTH: u32 = 16;
 
+/// How large a function may be: different inner nodes of its reduced decision tree.
+pub const MAX_FUNCTION: usize = 1_048_575;
+
 /// What is held between two commands: the network, and the one before its last change, which both
-/// keep the bounds in which literals are counted; the machine and the library, which are sound.
+/// keep the bounds in which literals are counted, each with its netlist; the machine and the library,
+/// which are sound.
 #[derive(Drop)]
 pub struct Session {
     network: Option<Network<PlainRow>>,
     previous: Option<Network<PlainRow>>,
     machine: Option<Machine>,
     library: Option<Library>,
+    netlist: Option<Mapped>,
+    previous_netlist: Option<Mapped>,
 }
 
 impl Model for Session {
@@ -68,7 +76,8 @@ impl Model for Session {
 
     ghost Value = { Held };
 
-    ghost view = { λ s. parts_held s.network s.previous s.machine s.library };
+    ghost view = { λ s. parts_held s.network s.previous s.machine s.library s.netlist
+        s.previous_netlist };
 
     ghost invariant = { λ s. IfSome s.network HasBounds × (IfSome s.previous HasBounds
         × (IsSoundLibrary s.library × IfSome s.machine IsSoundMachine)) };
@@ -84,7 +93,17 @@ impl Session {
             previous: None,
             machine: None,
             library: None,
+            netlist: None,
+            previous_netlist: None,
         }
+    }
+
+    /// Lets both netlists go.
+    fn drop_netlists(&mut self)
+        ensures { self.new ≡ record self.old { netlist = None; previous_netlist = None } }
+    {
+        self.netlist = None;
+        self.previous_netlist = None;
     }
 
     /// Holds a circuit that was read as the network.
@@ -98,6 +117,7 @@ impl Session {
         self.network = Some(Network::from_circuit(alloc, circuit)?);
         self.previous = None;
         self.machine = None;
+        self.drop_netlists();
         Ok(())
     }
 
@@ -118,6 +138,7 @@ impl Session {
         self.network = None;
         self.previous = None;
         self.machine = Some(machine);
+        self.drop_netlists();
     }
 
     /// Reads bytes as the network or the machine, by the library that is held; after an error the
@@ -143,7 +164,7 @@ impl Session {
     }
 
     /// Takes the last change back, where there was one: the network and the previous one change
-    /// places; takes no memory.
+    /// places, with their netlists; takes no memory.
     pub fn undo(&mut self) -> bool
         ensures { Undoes self.old.previous self.old result self.new }
     {
@@ -151,6 +172,7 @@ impl Session {
             return false;
         }
         mem::swap(&mut self.network, &mut self.previous);
+        mem::swap(&mut self.netlist, &mut self.previous_netlist);
         true
     }
 
@@ -198,6 +220,7 @@ impl Session {
         match genlib_format::read(alloc, bytes) {
             Ok(library) => {
                 self.library = Some(library);
+                self.drop_netlists();
                 Ok(Next::Go)
             }
             Err(genlib_format::ReadFault::Fault(fault)) => Err(StepFault::Refused(Refusal::Lib(
@@ -279,6 +302,7 @@ impl Session {
         };
         let new = change_network(alloc, network, change)?;
         self.previous = mem::replace(&mut self.network, Some(new));
+        self.previous_netlist = mem::replace(&mut self.netlist, None);
         Ok(Next::Go)
     }
 
@@ -288,8 +312,10 @@ impl Session {
         ensures { self.new ≡ with_encoded self.old self.old.network network }
     {
         let old = mem::replace(&mut self.network, Some(network));
+        let netlist = mem::replace(&mut self.netlist, None);
         if old.is_some() {
             self.previous = old;
+            self.previous_netlist = netlist;
         }
     }
 
@@ -312,6 +338,30 @@ impl Session {
         match put(out, text.as_slice()) {
             Ok(next) => {
                 self.hold_encoded(network);
+                Ok(next)
+            }
+            Err(fault) => Err(fault),
+        }
+    }
+
+    /// Makes a netlist of the network by the library, tells its areas, and then holds it.
+    fn map<O: Sink>(&mut self, alloc: Global, brief: bool, out: &mut O) -> Result<Next, StepFault>
+        ensures did { Did (Replies (MappedBy brief self.old self.old.network self.old.library))
+            AskedNone (Follows O.calls out.old out.new) (ended result self.new) }
+        ensures err { OnErr result (self.new ≡ self.old) }
+        ensures nests { (depth : ℕ) → IfOk result (NestsBelow depth) }
+    {
+        let Some(network) = &self.network else {
+            return Err(StepFault::Refused(Refusal::NoNetwork));
+        };
+        let Some(library) = &self.library else {
+            return Err(StepFault::Refused(Refusal::NoLibrary));
+        };
+        network.sound();
+        let ToldNetlist { netlist, text } = netlisted(alloc, network, library, brief)?;
+        match put(out, text.as_slice()) {
+            Ok(next) => {
+                self.netlist = Some(netlist);
                 Ok(next)
             }
             Err(fault) => Err(fault),
@@ -356,6 +406,9 @@ impl Session {
             Op::Generate(seed, tables) => self.generate(alloc, *seed, *tables),
             Op::WriteBlif(file) => send_told(network_text(alloc, &self.network), file, store, out),
             Op::WriteKiss(file) => send_told(machine_told(alloc, &self.machine), file, store, out),
+            Op::WriteNetlist(file) => {
+                send_told(netlist_told(alloc, &self.netlist), file, store, out)
+            }
             Op::PrintStats => put_told(print_stats(alloc, &self.network), out),
             Op::Print(name) => put_told(print(alloc, &self.network, name), out),
             Op::PrintLatch => put_told(print_latch(alloc, &self.network), out),
@@ -363,6 +416,7 @@ impl Session {
             Op::PrintKernel(name) => put_told(print_kernel(alloc, &self.network, name), out),
             Op::Change(change) => self.change(alloc, *change),
             Op::StateAssign(style) => self.state_assign(alloc, *style, out),
+            Op::Map(brief) => self.map(alloc, *brief, out),
             Op::Undo => self.undo_or_refuse(),
             Op::Source(name) => source(alloc, name, depth, store),
             Op::Bad(fault) => Err(StepFault::Refused(Refusal::Script(*fault))),

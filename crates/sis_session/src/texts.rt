@@ -215,6 +215,8 @@ fn put_refusal(out: &mut Vec<u8>, alloc: Global, refusal: &Refusal) -> Result<()
         Refusal::Nested => out.extend_from_slice(b"sources nested deeper than 16".as_slice()),
         Refusal::NoNetwork => out.extend_from_slice(b"no network".as_slice()),
         Refusal::NoMachine => out.extend_from_slice(b"no machine".as_slice()),
+        Refusal::NoLibrary => out.extend_from_slice(b"no library".as_slice()),
+        Refusal::NotMapped => out.extend_from_slice(b"no mapped netlist".as_slice()),
         Refusal::NothingToUndo => out.extend_from_slice(b"nothing to undo".as_slice()),
         Refusal::NoSignal(name) => put_two(out, b"no table ".as_slice(), name.as_slice()),
         Refusal::CubeLimit(name) => {
@@ -225,6 +227,10 @@ fn put_refusal(out: &mut Vec<u8>, alloc: Global, refusal: &Refusal) -> Result<()
         Refusal::KernelLimit(name) => {
             put_two(out, b"too many kernels at ".as_slice(), name.as_slice())
         }
+        Refusal::TooBig(name) => put_two(out, b"function too big at ".as_slice(), name.as_slice()),
+        Refusal::NoInverter => put_text(out, b"no inverter in the library".as_slice()),
+        Refusal::NoNand => put_text(out, b"no nand in the library".as_slice()),
+        Refusal::TreeLimit => put_text(out, b"too many tree vertices".as_slice()),
         Refusal::Missing(file) => put_two(out, b"no file ".as_slice(), file.text().as_bytes()),
         Refusal::TooLong(file) => put_three(
             out,

@@ -88,7 +88,7 @@ run_wanting goes_on script store input out err status stored took sent line = re
   input_went = took;
   out_went = sent;
   err_went = line.went;
-  faithful = (record { saved = λ name bytes answer e. cc; put = λ depth op call w writing e. cc }, tt);
+  faithful = (record { saved = λ name bytes answer e. cc; put = λ depth op call w writing e. cc; areas = λ depth op call w mapping e. cc }, tt);
   served = λ all. line_wanting (failure_line (record { line = 0; what = failed.Memory })) line.last status line.ended;
 }
 

@@ -15,16 +15,17 @@ use Rattle.sis_outside.specs.declared.store.SaveFault.{SaveFault}
 use Rattle.sis_outside.specs.declared.store.SaveFault.TheVariants as save
 use Rattle.sis_outside.specs.declared.sink.PutFault.{PutFault}
 use Rattle.sis_outside.specs.declared.sink.PutFault.TheVariants as put
+use Rattle.circuit_model.specs.Text.{text_of}
 use Rattle.circuit_model.specs.declared.circuit.Circuit.{Circuit}
 use Rattle.circuit_model.specs.declared.machine.Spec.TheVariants as spec
 use Rattle.blif_read.specs.Reader.{read_lines}
-use Rattle.sis_script.specs.Grammar.{fill, parse}
+use Rattle.sis_script.specs.Grammar.{fill, parse, parse_at}
 use Rattle.sis_script.specs.Kinds.{value_of}
 use Rattle.sis_script.specs.Script.{command_of, form_named, number_given, op_by, op_of}
 use Rattle.sis_script.specs.declared.command.Command.{Command}
 use Rattle.sis_script.specs.declared.command.Op.{Op}
 use Rattle.sis_script.specs.declared.command.Op.TheVariants.{ReadBlif, PrintStats, WriteBlif}
-use Rattle.sis_session.specs.Commands.{Blif, Plans, blif_read, commands_in, reply_with, spec_held, spec_in, text_of_spec}
+use Rattle.sis_session.specs.Commands.{Blif, Plans, blif_read, commands_in, reply_with, spec_held, spec_in}
 use Rattle.sis_session.specs.Plan.{MAX_BYTES, Does, Plan, Loads, Saves, Asked, Nothing, OnStore, OnOut, OnInput, Ending, Done, Cut, Comes, ComesLoaded, ComesPut, ComesSaved, Goes, Steps, by_plan, no_memory, on_store, replies, sends}
 use Rattle.sis_session.specs.Replies.{stats_line}
 use Rattle.sis_session.specs.State.{Held, nothing_held, with_read}
@@ -50,7 +51,7 @@ unfolding script_entries_of pieces_of pieces_from line_pieces piece_at cut_comme
 pieces_are = refl
 
 commands_are : commands_in copying ≡ three
-unfolding three op_of op_by form_named number_given parse fill value_of is_utf8 chars encode
+unfolding three op_of op_by form_named number_given parse parse_at fill value_of is_utf8 chars encode
 commands_are = ap (map command_of) pieces_are
 
 -- a command was cut short
@@ -237,7 +238,7 @@ module _ (goes_on : Bool) (files : Files) (left bytes : List ℕ) (circuit : Cir
   unfolding EndsIn IsCut kept
   writes asked ending (no_memory a d) = inr (failed.Memory, d)
   writes asked ending (by_plan plan p g) =
-      file_ends (codes "b") (text_of_spec (spec.Circuit circuit)) kept asked ending (subst (λ (x : Plan). Goes x asked ending) p g)
+      file_ends (codes "b") (text_of circuit) kept asked ending (subst (λ (x : Plan). Goes x asked ending) p g)
 
   -- whatever a command asks that needs only the network is answered, or not
   any_asked : (op : Op) (asked : Asked) → ((a : Asked) → a ≡ asked → IsServedWork kept (Run 0 op) a) → IsServedWork kept (Run 0 op) asked

@@ -1,6 +1,6 @@
 -- What a run writes refines what was read last.
 use Rattle.std.proofs.Common.{◌≡◌, ◌∙◌, ℕ, List, [], ◌∷◌, ◌++◌, sym, ap, subst, length, nat_le}
-use Rattle.std.specs.Prelude.{Bool, true, false, Option, Some, None, Result, Ok, Err, if◌then◌else◌}
+use Rattle.std.specs.Prelude.{Bool, true, false, Option, Some, None, unwrap_or, Result, Ok, Err, if◌then◌else◌}
 use Rattle.std.proofs.Common.{inl, inr}
 use Rattle.sis_outside.specs.Calls.{Save, TakeCall, PutCall}
 use Rattle.sis_outside.specs.declared.store.LoadFault.{LoadFault}
@@ -10,13 +10,19 @@ use Rattle.sis_outside.specs.declared.source.TakeFault.{TakeFault}
 use Rattle.sis_outside.specs.declared.source.TakeFault.TheVariants as take
 use Rattle.sis_top.specs.Asked.{TheScript, InFile, AsText, OnInput}
 use Rattle.sis_script.specs.declared.command.Op.{Op}
-use Rattle.sis_session.specs.Commands.{Plans, form_of, last_read}
-use Rattle.sis_session.specs.Keeping.{IsRefined, IsTextOf, IsWriting, WritesTo}
+use Rattle.sis_session.specs.Commands.{Plans, Written, OfSpec, OfNetlist, form_of, last_read}
+use Rattle.sis_session.specs.Keeping.{IsMapping, IsRefined, IsTextOf, IsWriting, TellsAreas, WritesTo}
 use Rattle.sis_session.specs.Plan.{MAX_BYTES, Outcome, Refuses, Plan, Quiet, Loads, Takes, Asked, OnStore, OnOut, OnInput, Ending, Done, Refused, Cut, Comes, ComesLoaded, ComesPiece, ComesTaken, Goes, Steps, by_plan, no_memory}
 use Rattle.circuit_model.specs.declared.machine.Spec.{Spec}
 use Rattle.circuit_model.specs.declared.machine.Spec.TheVariants as spec
-use Rattle.sis_session.specs.State.{Held}
+use Rattle.circuit_model.specs.Behaviors.{RefinesAs}
+use Rattle.circuit_model.specs.MachineBehaviors.{of_spec}
+use Rattle.circuit_model.specs.Runs.{of_circuit}
+use Rattle.circuit_model.proofs.Refinement.{behaves-through}
+use Rattle.netlist.specs.Netlists.{circuit_of}
+use Rattle.sis_session.specs.State.{Held, Library}
 use Rattle.sis_session.specs.declared.refusal.Failed.{Failed}
+use Rattle.sis_session.specs.declared.refusal.Failed.TheVariants as failed
 use Rattle.sis_session.specs.declared.refusal.Next.{Next}
 use Rattle.sis_session.specs.declared.refusal.Refusal.TheVariants.{LongScript}
 use Rattle.sis_top.specs.Machine.{AtEach, Begin, Run, Work, Due, Machine, Turn, WorkPlans, Runs, after, after_refusal, after_ending, begin_plan, begins, next_work, spec_after, told_cut}
@@ -32,11 +38,14 @@ Kept = (depth : ℕ) (held : Held) (op : Op) (asked : Asked) (held' : Held) (nex
 abbrev pub Saved : Type 0
 Saved = (depth : ℕ) (held : Held) (op : Op) (name bytes : List ℕ) (answer : Result (Unit {0}) SaveFault) (ending : Ending)
     → Steps (Plans depth held op) (OnStore (Save name bytes answer)) ending
-    → (written : Spec) × WritesTo (Some name) (form_of op) written × IsTextOf held written bytes
+    → (written : Written) × WritesTo (Some name) (form_of op) written × IsTextOf held written bytes
 
-abbrev pub Put : Type 0
-Put = (depth : ℕ) (held : Held) (op : Op) (call : PutCall) (ending : Ending) → IsWriting (form_of op) → Steps (Plans depth held op) (OnOut call) ending
-    → (written : Spec) × WritesTo None (form_of op) written × IsTextOf held written call.piece
+pub record Put : Type 0 where
+  pub text : (depth : ℕ) (held : Held) (op : Op) (call : PutCall) (ending : Ending) → IsWriting (form_of op)
+      → Steps (Plans depth held op) (OnOut call) ending
+      → (written : Written) × WritesTo None (form_of op) written × IsTextOf held written call.piece
+  pub areas : (depth : ℕ) (held : Held) (op : Op) (call : PutCall) (ending : Ending) → IsMapping (form_of op)
+      → Steps (Plans depth held op) (OnOut call) ending → TellsAreas held call.piece
 
 -- what is held where a script was begun
 held_of : Held → Ending → Held
@@ -118,12 +127,15 @@ begun_unsaved held OnInput asked ending name bytes answer (saves other sent outc
 begun_unsaved held script asked ending name bytes answer (puts reply outcome call e d p h) k = cc
 begun_unsaved held script asked ending name bytes answer (takes used calls e d h) k = cc
 
+done_cut : (held : Held) (next : Next) (what : Failed) → Done held next ≡ Cut what → ⊥
+done_cut held next what e = cc
+
 -- a work that is done keeps what is held refined
 refined_done : Kept → (held held' : Held) (next : Next) (work : Work) (asked : Asked) (spec : Option Spec) → Steps (WorkPlans held work) asked (Done held' next)
     → IsRefined spec held → IsRefined (spec_after work held' spec) held'
 refined_done kept held held' next (Begin script) asked spec (by_plan plan p g) refined =
     subst (λ (h : Held). IsRefined spec h) (sym (begun_same held held' next script asked (went (begin_plan held script) asked (Done held' next) (subst (λ (x : Plan). Goes x asked (Done held' next)) p g)))) refined
-refined_done kept held held' next (Begin script) asked spec (no_memory a e) refined = cc
+refined_done kept held held' next (Begin script) asked spec (no_memory a e) refined = absurd (done_cut held' next failed.Memory e)
 refined_done kept held held' next (Run depth op) asked spec steps refined = kept depth held op asked held' next spec steps refined
 
 told_refined : (goes_on : Bool) (machine : Machine) (line : ℕ) (cut : Option Failed) → IsRefined machine.spec machine.held
@@ -138,11 +150,26 @@ ending_refined kept goes_on machine due asked (Done held next) told steps refine
 ending_refined kept goes_on machine due asked (Refused why) told steps refined = told_refined goes_on machine due.line (told_cut told) refined
 ending_refined kept goes_on machine due asked (Cut what) told steps refined = refined
 
-text_faithful : (machine : Machine) (bytes : List ℕ) (written : Spec) → IsRefined machine.spec machine.held → IsTextOf machine.held written bytes → AreFaithful machine bytes
-text_faithful machine bytes (spec.Circuit circuit) refined (there, text) =
-    let found = refined.network circuit there in (spec.Circuit circuit, (there, text), found.0, found.1, found.3)
-text_faithful machine bytes (spec.Machine one) refined (there, text) =
-    let found = refined.machine one there in (spec.Machine one, (there, text), found.0, found.1, found.3)
+text_faithful : (machine : Machine) (bytes : List ℕ) (written : Written) → IsRefined machine.spec machine.held → IsTextOf machine.held written bytes → AreFaithful machine bytes
+text_faithful machine bytes (OfSpec (spec.Circuit circuit)) refined (there, text) =
+    let found = refined.network circuit there in
+    (OfSpec (spec.Circuit circuit), (there, text), tt, found.0, found.1, found.3)
+text_faithful machine bytes (OfSpec (spec.Machine one)) refined (there, text) =
+    let found = refined.machine one there in
+    (OfSpec (spec.Machine one), (there, text), tt, found.0, found.1, found.3)
+text_faithful machine bytes (OfNetlist netlist) refined (there, text) =
+    let made = refined.netlist.each netlist there in
+    let found = refined.network made.circuit made.there in (
+      OfNetlist netlist,
+      (there, text),
+      made,
+      found.0,
+      found.1,
+      subst (λ (l : Option Library). RefinesAs (of_spec found.0)
+          (of_circuit (circuit_of (unwrap_or l []) netlist))) (sym made.has)
+          (behaves-through (of_spec found.0) (of_circuit made.circuit)
+          (of_circuit (circuit_of made.gates netlist)) found.3 made.refines),
+    )
 
 turn_saved : Saved → (machine : Machine) (work : Work) (asked : Asked) (ending : Ending) (name bytes : List ℕ) (answer : Result (Unit {0}) SaveFault)
     → Steps (WorkPlans machine.held work) asked ending → IsRefined machine.spec machine.held → asked ≡ OnStore (Save name bytes answer) → AreFaithful machine bytes
@@ -157,9 +184,16 @@ turn_put : Put → (machine : Machine) (work : Work) (asked : Asked) (ending : E
     → Steps (WorkPlans machine.held work) asked ending → IsRefined machine.spec machine.held → work ≡ Run depth op → IsWriting (form_of op) → asked ≡ OnOut call
     → AreFaithful machine call.piece
 turn_put put machine work asked ending depth op call steps refined w writing e =
-    let wrote = put depth machine.held op call ending writing
+    let wrote = put.text depth machine.held op call ending writing
     (subst (λ (a : Asked). Steps (Plans depth machine.held op) a ending) e (subst (λ (x : Work). Steps (WorkPlans machine.held x) asked ending) w steps)) in
     text_faithful machine call.piece wrote.0 refined wrote.2
+
+turn_areas : Put → (machine : Machine) (work : Work) (asked : Asked) (ending : Ending) (depth : ℕ) (op : Op) (call : PutCall)
+    → Steps (WorkPlans machine.held work) asked ending → work ≡ Run depth op → IsMapping (form_of op) → asked ≡ OnOut call
+    → TellsAreas machine.held call.piece
+turn_areas put machine work asked ending depth op call steps w mapping e =
+    put.areas depth machine.held op call ending mapping
+    (subst (λ (a : Asked). Steps (Plans depth machine.held op) a ending) e (subst (λ (x : Work). Steps (WorkPlans machine.held x) asked ending) w steps))
 
 same_work : (one other : Work) → Some one ≡ Some other → one ≡ other
 same_work one other e = cc
@@ -169,6 +203,8 @@ turn_faithful saved put goes_on machine turn t refined = record {
   saved = λ name bytes answer e. turn_saved saved machine t.due.work turn.asked turn.ending name bytes answer t.steps refined e;
   put = λ depth op call w writing e.
       turn_put put machine t.due.work turn.asked turn.ending depth op call t.steps refined (same_work t.due.work (Run depth op) (sym t.first ∙ w)) writing e;
+  areas = λ depth op call w mapping e.
+      turn_areas put machine t.due.work turn.asked turn.ending depth op call t.steps (same_work t.due.work (Run depth op) (sym t.first ∙ w)) mapping e;
 }
 
 -- what is held behind a turn is refined

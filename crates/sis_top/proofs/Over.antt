@@ -15,7 +15,7 @@ use Rattle.sis_session.specs.declared.refusal.Failed.{Failed}
 use Rattle.sis_top.specs.declared.status.Stop.{Stop}
 use Rattle.sis_top.specs.Machine.{Due, Machine, Turn, WorkPlans, IsTold, IsTurnOf, Runs, after, after_ending, after_first, after_refusal, cut_at, told_cut}
 use Rattle.sis_top.specs.Call.{input_calls, store_calls}
-use Rattle.sis_top.specs.Laws.{AnswersAlike, HasMemory, LinesAlike, TakesAlike}
+use Rattle.sis_top.specs.Laws.{AnswersAlike, HasFitted, HasRoom, LinesAlike, TakesAlike}
 use Rattle.sis_top.proofs.Single.{Once, ended_run, same_turn}
 
 -- a work was not cut short, nor the line of its refusal
@@ -45,12 +45,13 @@ uncut_turn : (goes_on : Bool) (from end : Machine) (turns : List Turn) (todo : L
 uncut_turn goes_on from end turns [] turn is runs uncut = absurd is
 uncut_turn goes_on from end turns (due ∷ rest) turn is runs uncut = uncut_ending goes_on from end turns due turn.ending turn.told runs uncut
 
-has_memory : (turn : Turn) → IsUncut turn.ending turn.told → HasMemory turn
+has_room : (turn : Turn) → IsUncut turn.ending turn.told → HasFitted turn → HasRoom turn
 unfolding IsUncut
-has_memory turn uncut = record {
+has_room turn uncut fits = record {
   whole = λ e. subst (λ (x : Ending). IsUncut x turn.told) e uncut;
   told = λ why e none.
       let same : told_cut None ≡ None = subst (λ (x : Option PutCall). told_cut x ≡ None) none (subst (λ (x : Ending). IsUncut x turn.told) e uncut) in cc;
+  fitted = fits;
 }
 
 -- what was asked was answered
@@ -234,12 +235,12 @@ takes_behind [] more less h = h
 takes_behind (one ∷ ones) more less h = takes_behind ones more less h.1
 
 pub told_run : Once → (goes_on : Bool) (from end last : Machine) (files later left : Files) (one other : List Turn) → Runs goes_on from one end → Runs goes_on from other last
-    → end.todo ≡ [] → last.todo ≡ [] → end.cut ≡ None → last.cut ≡ None → Follows FilesGo files later (store_calls one) → Follows FilesGo files left (store_calls other)
+    → end.todo ≡ [] → last.todo ≡ [] → end.cut ≡ None → last.cut ≡ None → AllByRecursion HasFitted one → AllByRecursion HasFitted other → Follows FilesGo files later (store_calls one) → Follows FilesGo files left (store_calls other)
     → AllByRecursion IsStoreWithin (store_calls one) → AllByRecursion IsStoreWithin (store_calls other) → TakesAlike (input_calls one) (input_calls other) → one ≡ other
-told_run law goes_on from end last files later left [] [] h k none nothing c d went gone w v takes = refl
-told_run law goes_on from end last files later left [] (turn ∷ other) h k none nothing c d went gone w v takes = absurd (ended_run from end turn h none k.0)
-told_run law goes_on from end last files later left (turn ∷ one) [] h k none nothing c d went gone w v takes = absurd (ended_run from last turn k nothing h.0)
-told_run law goes_on from end last files later left (turn ∷ one) (same ∷ other) h k none nothing c d went gone w v takes =
+told_run law goes_on from end last files later left [] [] h k none nothing c d a b went gone w v takes = refl
+told_run law goes_on from end last files later left [] (turn ∷ other) h k none nothing c d a b went gone w v takes = absurd (ended_run from end turn h none k.0)
+told_run law goes_on from end last files later left (turn ∷ one) [] h k none nothing c d a b went gone w v takes = absurd (ended_run from last turn k nothing h.0)
+told_run law goes_on from end last files later left (turn ∷ one) (same ∷ other) h k none nothing c d a b went gone w v takes =
     let u = uncut_turn goes_on from end one from.todo turn h.0 h.1 c in
     let t = uncut_turn goes_on from last other from.todo same k.0 k.1 d in
     let first = first_leaves files later turn.asked (store_calls one) went in
@@ -249,14 +250,14 @@ told_run law goes_on from end last files later left (turn ∷ one) (same ∷ oth
     let answered = turn_answered from from.todo turn u h.0 in
     let given = turn_answered from from.todo same t k.0 in
     let turns : turn ≡ same =
-    same_turn law from from.todo turn same h.0 k.0 (has_memory turn u) (has_memory same t)
+    same_turn law from from.todo turn same h.0 k.0 (has_room turn u a.0) (has_room same t b.0)
     (same_answers files first.0 second.0 turn.asked same.asked answered given first.1 second.1 within.0 bounded.0
     (takes_front (on_input turn.asked) (on_input same.asked) (input_calls one) (input_calls other) takes)) (turn_lines from from.todo turn same u t h.0 k.0) in
     let mid : first.0 ≡ second.0 =
     same_files files first.0 second.0 same.asked given (subst (λ (x : Turn). Leaves files x.asked first.0) turns first.1) second.1 in
     ap (λ (x : Turn). x ∷ one) turns
     ∙ ap (λ (rest : List Turn). same ∷ rest) (told_run law goes_on (after goes_on from same) end last second.0 later left one other
-    (subst (λ (x : Turn). Runs goes_on (after goes_on from x) one end) turns h.1) k.1 none nothing c d
+    (subst (λ (x : Turn). Runs goes_on (after goes_on from x) one end) turns h.1) k.1 none nothing c d a.1 b.1
     (subst (λ (x : Files). Follows FilesGo x later (store_calls one)) mid first.2) second.2 within.1 bounded.1
     (takes_behind (on_input same.asked) (input_calls one) (input_calls other)
     (subst (λ (x : Turn). TakesAlike (on_input x.asked ++ input_calls one) (on_input same.asked ++ input_calls other)) turns takes)))

@@ -13,21 +13,26 @@ use Rattle.sis_session.specs.Plan.{MAX_BYTES, Outcome, Plan, Quiet, Loads, Saves
 use Rattle.sis_session.specs.State.{Held}
 use Rattle.sis_session.specs.declared.refusal.Failed.TheVariants as failed
 use Rattle.sis_session.specs.declared.refusal.Refusal.{Refusal}
-use Rattle.sis_session.proofs.Once.{goes_once}
+use Rattle.sis_session.proofs.Once.{big_ends, goes_once}
+use Rattle.sis_session.specs.Keeping.{AreOnePlan, EndsEarly, EndsTooBig, PlansTooBig}
 use Rattle.sis_top.specs.Machine.{Begin, Run, Work, Due, Machine, Turn, WorkPlans, IsTold, IsTurn, IsTurnOf, Runs, after}
-use Rattle.sis_top.specs.Laws.{AnswersAlike, AreAlike, HasMemory, LinesAlike, TakesAlike}
+use Rattle.sis_top.specs.Laws.{AnswersAlike, AreAlike, HasRoom, LinesAlike, TakesAlike}
 
 -- the law of the session that is used here
 abbrev pub Once : Type 0
-Once = (depth : ℕ) (held : Held) (op : Op) (plan other : Plan) → Plans depth held op plan → Plans depth held op other → plan ≡ other
+Once = (depth : ℕ) (held : Held) (op : Op) (plan other : Plan) → Plans depth held op plan → Plans depth held op other → AreOnePlan plan other
 
-work_once : Once → (held : Held) (work : Work) (plan other : Plan) → WorkPlans held work plan → WorkPlans held work other → plan ≡ other
+work_once : Once → (held : Held) (work : Work) (plan other : Plan) → WorkPlans held work plan → WorkPlans held work other → AreOnePlan plan other
 work_once law held (Run depth op) plan other h k = law depth held op plan other h k
-work_once law held (Begin script) plan other h k = h ∙ sym k
+work_once law held (Begin script) plan other h k = inl (h ∙ sym k)
 
 -- memory was not wanting
 Whole : Ending → Type 0
 Whole ending = ending ≡ Cut failed.Memory → ⊥
+
+cut_whole : (ending : Ending) → Whole ending → ending ≡ Cut failed.Memory → ⊥
+unfolding Whole
+cut_whole ending whole cut = whole cut
 
 -- takes of the whole input that are answered the same are the same
 same_call : (one other : TakeCall) → one.max ≡ other.max → one.answer ≡ other.answer → one ≡ other
@@ -135,16 +140,34 @@ same_ending one other not nor (inl e) = e
 same_ending one other not nor (inr (inl e)) = absurd (not e)
 same_ending one other not nor (inr (inr e)) = absurd (nor e)
 
+-- a step that refuses no function that is too big, and is not cut short for want of memory, is not
+-- planned so
+Fits : Ending → Type 0
+Fits ending = EndsTooBig ending → ⊥
+
+not_early : (ending : Ending) → Whole ending → Fits ending → EndsEarly ending → ⊥
+unfolding Whole Fits
+not_early ending whole fits (inl cut) = whole cut
+not_early ending whole fits (inr big) = fits big
+
 -- a step is one where equal requests are answered the same
-same_steps : Once → (held : Held) (work : Work) (one other : Asked) (ending ended : Ending) → Whole ending → Whole ended
+same_steps : Once → (held : Held) (work : Work) (one other : Asked) (ending ended : Ending) → Whole ending → Whole ended → Fits ending → Fits ended
     → Steps (WorkPlans held work) one ending → Steps (WorkPlans held work) other ended → AnswersAlike one other → (one ≡ other) × (ending ≡ ended)
-unfolding Whole
-same_steps law held work one other ending ended w v (by_plan plan p g) (by_plan plan' p' g') alike =
-    let goes : Goes plan other ended = subst (λ (x : Plan). Goes x other ended) (sym (work_once law held work plan plan' p p')) g' in
-    let asked = same_asked plan one other ending ended w v g goes alike in
-    (asked, same_ending ending ended w v (goes_once plan other ending ended (subst (λ (a : Asked). Goes plan a ending) asked g) goes))
-same_steps law held work one other ending ended w v (no_memory a e) k alike = absurd (w e)
-same_steps law held work one other ending ended w v (by_plan plan p g) (no_memory a e) alike = absurd (v e)
+same_steps law held work one other ending ended w v f g (by_plan plan p goes) (by_plan plan' p' goes') alike =
+    by (work_once law held work plan plan' p p')
+  where
+    by : AreOnePlan plan plan' → (one ≡ other) × (ending ≡ ended)
+    by (inl same) =
+        let again : Goes plan other ended = subst (λ (x : Plan). Goes x other ended) (sym same) goes' in
+        let asked = same_asked plan one other ending ended w v goes again alike in (
+          asked,
+          same_ending ending ended w v (goes_once plan other ending ended
+              (subst (λ (a : Asked). Goes plan a ending) asked goes) again),
+        )
+    by (inr (inl big)) = absurd (not_early ending w f (big_ends plan one ending big goes))
+    by (inr (inr big)) = absurd (not_early ended v g (big_ends plan' other ended big goes'))
+same_steps law held work one other ending ended w v f g (no_memory a e) k alike = absurd (cut_whole ending w e)
+same_steps law held work one other ending ended w v f g (by_plan plan p goes) (no_memory a e) alike = absurd (cut_whole ended v e)
 
 -- so is the line of a refusal
 same_line : (line : ℕ) (ending : Ending) (one other : Option PutCall) → IsTold line ending one → IsTold line ending other
@@ -161,12 +184,12 @@ one_turn one other asked ending told =
     ∙ ap (λ (x : Ending). record { asked = other.asked; ending = x; told = one.told }) ending
     ∙ ap (λ (x : Option PutCall). record { asked = other.asked; ending = other.ending; told = x }) told
 
-pub same_turn : Once → (machine : Machine) (todo : List Due) (one other : Turn) → IsTurnOf machine todo one → IsTurnOf machine todo other → HasMemory one → HasMemory other
+pub same_turn : Once → (machine : Machine) (todo : List Due) (one other : Turn) → IsTurnOf machine todo one → IsTurnOf machine todo other → HasRoom one → HasRoom other
     → AnswersAlike one.asked other.asked → LinesAlike one.told other.told → one ≡ other
-unfolding Whole
+unfolding Whole Fits
 same_turn law machine [] one other h k certain sure asked told = absurd h
 same_turn law machine (due ∷ rest) one other h k certain sure asked told =
-    let same = same_steps law machine.held due.work one.asked other.asked one.ending other.ending certain.whole sure.whole h.0 k.0 asked in
+    let same = same_steps law machine.held due.work one.asked other.asked one.ending other.ending certain.whole sure.whole certain.fitted.fits sure.fitted.fits h.0 k.0 asked in
     one_turn one other same.0 same.1
     (same_line due.line one.ending one.told other.told h.1 (subst (λ (e : Ending). IsTold due.line e other.told) (sym same.1) k.1)
     certain.told (λ why e. sure.told why (sym same.1 ∙ e)) told)
@@ -175,7 +198,7 @@ pub ended_run : (machine end : Machine) (turn : Turn) → end ≡ machine → en
 ended_run machine end turn e none is = subst (λ (todo : List Due). IsTurnOf machine todo turn) (ap (λ (m : Machine). m.todo) (sym e) ∙ none) is
 
 pub one_run : Once → (goes_on : Bool) (from end last : Machine) (one other : List Turn) → Runs goes_on from one end → Runs goes_on from other last → end.todo ≡ [] → last.todo ≡ []
-    → AllByRecursion HasMemory one → AllByRecursion HasMemory other → AreAlike one other → one ≡ other
+    → AllByRecursion HasRoom one → AllByRecursion HasRoom other → AreAlike one other → one ≡ other
 one_run law goes_on from end last [] [] h k none nothing certain sure alike = refl
 one_run law goes_on from end last [] (turn ∷ other) h k none nothing certain sure alike = absurd (ended_run from end turn h none k.0)
 one_run law goes_on from end last (turn ∷ one) [] h k none nothing certain sure alike = absurd (ended_run from last turn k nothing h.0)

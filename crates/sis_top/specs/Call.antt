@@ -8,8 +8,8 @@ use Rattle.sis_outside.specs.declared.sink.PutFault.{PutFault}
 use Rattle.sis_outside.specs.declared.sink.PutFault.TheVariants as put
 use Rattle.sis_top.specs.Asked.{TheOptions, TheScript, InFile}
 use Rattle.sis_script.specs.declared.command.Op.{Op}
-use Rattle.sis_session.specs.Commands.{Plans, form_of}
-use Rattle.sis_session.specs.Keeping.{IsTextOf, IsWriting}
+use Rattle.sis_session.specs.Commands.{Plans, Written, form_of}
+use Rattle.sis_session.specs.Keeping.{IsMapping, IsOfHeld, IsTextOf, IsWriting, TellsAreas, behavior_of}
 use Rattle.circuit_model.specs.Behaviors.{RefinesAs}
 use Rattle.circuit_model.specs.MachineBehaviors.{of_spec}
 use Rattle.sis_session.specs.Plan.{Asked, OnStore, OnOut, Refused as RefusedFor, Steps, on_store, on_out, on_input}
@@ -68,19 +68,23 @@ out_calls turns = flat_map (λ turn. on_out turn.asked) turns
 abbrev pub err_calls : List Turn → List PutCall
 err_calls turns = flat_map (λ turn. puts_of turn.told) turns
 
--- these bytes are faithful at a machine: they are the text of what it holds, and that refines what was read
--- last
+-- these bytes are faithful at a machine: they are the text of what it holds, a netlist that of the
+-- network that it holds, and that refines what was read last
 abbrev pub AreFaithful : Machine → List ℕ → Type 0
 AreFaithful machine bytes =
-    (written : Spec) × IsTextOf machine.held written bytes
-    × (read : Spec) × (machine.spec ≡ Some read) × RefinesAs (of_spec read) (of_spec written)
+    (written : Written) × IsTextOf machine.held written bytes × IsOfHeld machine.held written
+    × (read : Spec) × (machine.spec ≡ Some read)
+    × RefinesAs (of_spec read) (behavior_of machine.held written)
 
--- what a turn saves is faithful, whatever the save answers, and so is what a command puts that writes
+-- what a turn saves is faithful, whatever the save answers, and so is what a command puts that
+-- writes; what `map` puts tells the areas of a mapped netlist of the network
 pub record IsFaithful (machine : Machine) (turn : Turn) : Type 0 where
   pub saved : (name bytes : List ℕ) (answer : Result (Unit {0}) SaveFault)
       → turn.asked ≡ OnStore (Save name bytes answer) → AreFaithful machine bytes
   pub put : (depth : ℕ) (op : Op) (call : PutCall) → next_work machine.todo ≡ Some (Run depth op)
       → IsWriting (form_of op) → turn.asked ≡ OnOut call → AreFaithful machine call.piece
+  pub areas : (depth : ℕ) (op : Op) (call : PutCall) → next_work machine.todo ≡ Some (Run depth op)
+      → IsMapping (form_of op) → turn.asked ≡ OnOut call → TellsAreas machine.held call.piece
 
 -- the status of a call, unless memory was wanting in the put of its last line
 abbrev pub unless_memory : Status → Result (Unit {0}) PutFault → Status

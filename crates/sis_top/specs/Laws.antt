@@ -1,5 +1,6 @@
--- What follows for whole calls: no call failed where a call ended with its run; over files that are told, a run
--- whose turns are served is done; and two runs whose equal requests are answered the same are one.
+-- What follows for whole calls: no call failed where a call ended with its run; over files that are
+-- told, a run whose turns are served is done; and two runs whose equal requests are answered the
+-- same are one, but for want of memory and functions that are too big.
 -- Source: the project's own promise.
 use Rattle.std.specs.Prelude.{◌≡◌, ◌≤◌, ℕ, Bool, Option, Some, None, List, [], ◌∷◌, ◌++◌, length, Result, Ok, codes}
 use Rattle.std.specs.List.{AllByRecursion}
@@ -11,6 +12,7 @@ use Rattle.circuit_model.specs.declared.machine.Spec.TheVariants as spec
 use Rattle.blif_read.specs.Reader.{read_lines}
 use Rattle.sis_top.specs.Asked.{TheOptions, TheScript, AsText, OnInput}
 use Rattle.sis_session.specs.Plan.{MAX_BYTES, Asked, OnStore, OnOut, OnInput as FromInput, Cut, Refused as Ended}
+use Rattle.sis_session.specs.Keeping.{EndsTooBig}
 use Rattle.sis_session.specs.declared.refusal.Failed.TheVariants.{Memory as NoMemory}
 use Rattle.sis_session.specs.declared.refusal.Refusal.{Refusal}
 use Rattle.sis_top.specs.Machine.{Machine, Turn, IsTurn, Runs, begun}
@@ -60,10 +62,15 @@ CopiesAreServed =
     → read_lines None (entries_of bytes) ≡ Ok (spec.Circuit circuit)
     → AreServed goes_on (AsText copying) files left
 
--- memory was not wanting in a turn, nor for the line of its refusal
-pub record HasMemory (turn : Turn) : Type 0 where
+-- no function was too big in a turn
+pub record HasFitted (turn : Turn) : Type 0 where
+  pub fits : EndsTooBig turn.ending → ⊥
+
+-- memory was not wanting in a turn, nor for the line of its refusal; and no function was too big
+pub record HasRoom (turn : Turn) : Type 0 where
   pub whole : turn.ending ≡ Cut NoMemory → ⊥
   pub told : (why : Refusal) → turn.ending ≡ Ended why → turn.told ≡ None → ⊥
+  pub fitted : HasFitted turn
 
 -- takes of the same bounds were answered the same, one after the other
 abbrev pub TakesAlike : List TakeCall → List TakeCall → Type 0
@@ -95,13 +102,15 @@ AreAlike (one ∷ ones) (other ∷ others) =
     AnswersAlike one.asked other.asked × LinesAlike one.told other.told × AreAlike ones others
 AreAlike ones others = Unit {0}
 
--- some turns are a whole run of a script over files that are told: nothing is due behind it, nothing cut it
--- short, the files went by its calls, and each load kept within what was asked for
+-- some turns are a whole run of a script over files that are told: nothing is due behind it, nothing
+-- cut it short, no function was too big, the files went by its calls, and each load kept within what
+-- was asked for
 pub record IsRunOver (goes_on : Bool) (script : TheScript) (files : Files) (turns : List Turn) : Type 0 where
   pub end : Machine
   pub runs : Runs goes_on (begun script) turns end
   pub whole : end.todo ≡ []
   pub uncut : end.cut ≡ None
+  pub fitted : AllByRecursion HasFitted turns
   pub later : Files
   pub went : Follows FilesGo files later (store_calls turns)
   pub within : AllByRecursion IsStoreWithin (store_calls turns)

@@ -9,7 +9,7 @@ ghost use Rattle.sis_top.specs.Asked.{TheScript};
 ghost use Rattle.sis_session.specs.Keeping.{IsRefined};
 ghost use Rattle.sis_outside.specs.Files.{Files};
 ghost use Rattle.sis_top.specs.Call.{input_calls};
-ghost use Rattle.sis_top.specs.Laws.{AreAlike, CopiesAreServed, HasMemory, IsRunOver, TakesAlike};
+ghost use Rattle.sis_top.specs.Laws.{AreAlike, CopiesAreServed, HasRoom, IsRunOver, TakesAlike};
 ghost use Rattle.sis_top.specs.Machine.{AtEach, Machine, Runs, Turn, begun};
 ghost use Rattle.sis_top.specs.Served.{IsServedTurn};
 
@@ -34,20 +34,21 @@ pub fn served_runs_refuse_nothing()
 }
 
 /// A law, no work: where equal requests get equal answers there is one list of turns. Two whole
-/// runs of a script, in which memory was not wanting, are one if no request that both made was
-/// answered in two ways.
+/// runs of a script, in which memory was not wanting and no function was too big, are one if no
+/// request that both made was answered in two ways.
 pub fn runs_are_one()
     ensures { (goes_on : Bool) (script : TheScript) (one other : List Turn) (end last : Machine)
         → Runs goes_on (begun script) one end → Runs goes_on (begun script) other last
         → end.todo ≡ [] → last.todo ≡ []
-        → AllByRecursion HasMemory one → AllByRecursion HasMemory other → AreAlike one other
+        → AllByRecursion HasRoom one → AllByRecursion HasRoom other → AreAlike one other
         → one ≡ other }
 {
     commands_have_one_plan();
 }
 
-/// A law, no work: two whole runs of a script over the same told files, neither of them cut short,
-/// are one, where takes of the same bounds off the input gave the same pieces.
+/// A law, no work: two whole runs of a script over the same told files, neither of them cut short
+/// and none of their functions too big, are one, where takes of the same bounds off the input gave
+/// the same pieces.
 pub fn told_runs_are_one()
     ensures { (goes_on : Bool) (script : TheScript) (files : Files) (one other : List Turn)
         → IsRunOver goes_on script files one → IsRunOver goes_on script files other

@@ -43,6 +43,11 @@ pub returns-in-WriteKiss-clause-did : goal.returns-in-WriteKiss-clause-did
 returns-in-WriteKiss-clause-did g c =
     rw (c.in-WriteKiss.is, ← c.self-in-WriteKiss.view_is) (c.send_told-in-WriteKiss.ensures.did _ _ c.machine_told.ensures)
 
+pub returns-in-WriteNetlist-clause-did : goal.returns-in-WriteNetlist-clause-did
+returns-in-WriteNetlist-clause-did g c =
+    rw (c.in-WriteNetlist.is, ← c.self-in-WriteNetlist.view_is)
+    (c.send_told-in-WriteNetlist.ensures.did _ _ c.netlist_told.ensures)
+
 pub returns-in-PrintStats-clause-did : goal.returns-in-PrintStats-clause-did
 returns-in-PrintStats-clause-did g c =
     rw (c.in-PrintStats.is, ← c.self-in-PrintStats.view_is) (out_alone g.S.Store.calls _ _ c.args.store.now _ (told_did g.O.Sink.calls _ _ _ _ _ _ c.print_stats.ensures c.put_told-in-PrintStats.ensures.put))
@@ -72,6 +77,10 @@ returns-in-StateAssign-clause-did g c =
     rw c.in-StateAssign.is
     (out_alone g.S.Store.calls _ _ c.args.store.now _ c.state_assign.ensures.did)
 
+pub returns-in-Map-clause-did : goal.returns-in-Map-clause-did
+returns-in-Map-clause-did g c =
+    rw c.in-Map.is (out_alone g.S.Store.calls _ _ c.args.store.now _ c.map.ensures.did)
+
 pub returns-in-Undo-clause-did : goal.returns-in-Undo-clause-did
 returns-in-Undo-clause-did g c =
     rw c.in-Undo.is (both_alone g.S.Store.calls g.O.Sink.calls _ c.args.store.now c.args.out.now _ c.undo_or_refuse.ensures.did)
@@ -100,6 +109,12 @@ returns-in-WriteBlif-clause-nests g c = c.send_told.ensures.nests c.args.depth
 
 pub returns-in-WriteKiss-clause-nests : goal.returns-in-WriteKiss-clause-nests
 returns-in-WriteKiss-clause-nests g c = c.send_told-in-WriteKiss.ensures.nests c.args.depth
+
+pub returns-in-WriteNetlist-clause-nests : goal.returns-in-WriteNetlist-clause-nests
+returns-in-WriteNetlist-clause-nests g c = c.send_told-in-WriteNetlist.ensures.nests c.args.depth
+
+pub returns-in-Map-clause-nests : goal.returns-in-Map-clause-nests
+returns-in-Map-clause-nests g c = c.map.ensures.nests c.args.depth
 
 pub returns-in-PrintStats-clause-nests : goal.returns-in-PrintStats-clause-nests
 returns-in-PrintStats-clause-nests g c = c.put_told-in-PrintStats.ensures.nests c.args.depth
