@@ -60,6 +60,7 @@ impl Trial for Calls {
             "generate" => circuits::put_generated(alloc, out, case),
             "checks" => circuits::put_checks(alloc, out, case),
             "readers" => wires::put_readers(alloc, out, case),
+            "map" => netlists::put_mapped(alloc, out, case),
             "patterns" | "matches" | "forest" | "vertices" | "cover" | "totals" => {
                 trees::answer(alloc, out, case)
             }
@@ -79,6 +80,7 @@ fn answer_of_text(alloc: Global, out: &mut Vec<u8>, case: &Case<'_>) -> Result<(
         "aliases" => wires::put_aliases(alloc, out, case, text.as_slice()),
         "network" => networks::answer(alloc, out, case, text.as_slice()),
         "work" => networks::put_work(alloc, out, case, text.as_slice()),
+        "full" => networks::put_full(alloc, out, case, text.as_slice()),
         "netlist" => netlists::put_netlist(alloc, out, case, text.as_slice()),
         "command" => networks::put_command(alloc, out, case, text.as_slice()),
         _ => covers::answer::<PlainRow>(alloc, out, case),

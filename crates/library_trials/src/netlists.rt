@@ -1,12 +1,19 @@
-//! The text of a netlist: a circuit, and beside it one gate.
+//! Netlists: the text of a circuit with one gate beside it, and what a network is mapped to.
 
-use crate::reads::circuit;
+ghost use Rattle.genlib_format.specs.Soundness.{IsSound as IsSoundLibrary};
+
+use crate::puts::put_value;
+use crate::reads::{circuit, library, network, parted};
 use blif_write::netlist_text;
+use cube_cover::PlainRow;
+use genlib_format::Library;
 use line_words::name_of;
+use map_net::map;
+use net_core::Network;
 use netlist::{Connection, Mapped, Placed};
 use sis_base::Sequence;
 use std::alloc::{AllocError, Global};
-use trial_cases::{Case, CaseFault};
+use trial_cases::{Case, CaseFault, text_of};
 
 /// A pin, and the signal that stands there.
 fn connection(alloc: Global, pin: &str, signal: &str) -> Result<Connection, AllocError> {
@@ -47,4 +54,31 @@ pub fn put_netlist(
 ) -> Result<(), CaseFault> {
     netlist_text(alloc, &mapped(alloc, case, text)?, out)?;
     Ok(())
+}
+
+/// Puts the netlist of a network by a library, which stand in a case, or why there is none.
+pub fn put_mapped(alloc: Global, out: &mut Vec<u8>, case: &Case<'_>) -> Result<(), CaseFault> {
+    let (first, rest) = parted(case.lines.as_slice());
+    let library = library(alloc, text_of(alloc, first)?.as_slice())?;
+    let text = text_of(alloc, rest.get(1..).unwrap_or(&[]))?;
+    let network = network(alloc, text.as_slice())?;
+    put_map(alloc, out, &network, &library)
+}
+
+/// Puts the netlist of a network by a library, or why there is none.
+fn put_map(
+    alloc: Global,
+    out: &mut Vec<u8>,
+    network: &Network<PlainRow>,
+    library: &Library,
+) -> Result<(), CaseFault>
+    requires { IsSoundLibrary library.now }
+{
+    match map(alloc, network, library) {
+        Ok(netlist) => {
+            netlist_text(alloc, &netlist, out)?;
+            Ok(())
+        }
+        Err(fault) => put_value(alloc, out, &fault),
+    }
 }

@@ -12,6 +12,7 @@ use crate::puts::{put_circuit, put_names, put_table, put_text, put_value};
 use crate::reads::network;
 use circuit_model::Name;
 use cube_cover::{Cover, PlainRow};
+use func_core::PlainFunctions;
 use line_words::name_of;
 use net_candidates::Rule as Extraction;
 use net_core::{AddFault, Network, Table, tidy};
@@ -21,10 +22,11 @@ use net_extract::extract;
 use net_resub::resubstitute;
 use net_sweep::{SweepFault, Swept, sweep};
 use net_work::Work;
+use odc_simplify::full_simplify;
 use sdc_simplify::simplify;
 use sis_base::Sequence;
 use std::alloc::{AllocError, Global};
-use trial_cases::{Case, CaseFault};
+use trial_cases::{Case, CaseFault, number_of};
 
 /// Puts the answer to a case of a network: what the call on a name tells, and the network behind
 /// it.
@@ -197,5 +199,25 @@ pub fn put_command(
     match &changed(alloc, &network, case.word(1)) {
         None => put_text(out, b"refused"),
         Some(made) => put_network(alloc, out, made),
+    }
+}
+
+/// Puts the network that full simplification makes of that of a text, or its fault, by functions
+/// under a limit, which is at least 1.
+pub fn put_full(
+    alloc: Global,
+    out: &mut Vec<u8>,
+    case: &Case<'_>,
+    text: &[u8],
+) -> Result<(), CaseFault> {
+    let limit = number_of(case.word(1))?;
+    if limit == 0 {
+        return Err(CaseFault::Bad);
+    }
+    let network = network(alloc, text)?;
+    let mut functions = PlainFunctions::new(alloc, limit);
+    match &full_simplify(alloc, &network, &mut functions) {
+        Ok(made) => put_network(alloc, out, made),
+        Err(fault) => put_value(alloc, out, fault),
     }
 }
