@@ -68,3 +68,34 @@ for k, name in enumerate(last): print(f".latch {name} l{k} 0")
 print("\n".join(lines) + "\n.end")
 PY
 }
+
+# A random circuit in which each table that nothing reads is an output, so that no program drops it.
+living() { # tables
+  random "$1" | python3 -c '
+import sys
+lines = sys.stdin.read().split("\n")
+tables = [line.split()[1:] for line in lines if line.startswith(".names")]
+outputs = next(line for line in lines if line.startswith(".outputs"))
+read = {name for table in tables for name in table[:-1]} | set(outputs.split())
+more = "".join(" " + table[-1] for table in tables if table[-1] not in read)
+print("\n".join(line + more if line == outputs else line for line in lines), end="")
+'
+}
+
+# A library in the manner of the mcnc ones.
+own_library() {
+  cat <<'L'
+# name, area, function, delays
+GATE inv1   1  O=!a;            PIN * INV 1 999 0.9 0.3 0.9 0.3
+GATE buf1   1  O=a;             PIN * NONINV 1 999 0.9 0.3 0.9 0.3
+GATE nand2  2  O=!(a*b);        PIN * INV 1 999 1.0 0.2 1.0 0.2
+GATE nor2   2  O=!(a+b);        PIN * INV 1 999 1.4 0.5 1.4 0.5
+GATE and2   3  O=a*b;           PIN * NONINV 1 999 1.9 0.3 1.9 0.3
+GATE xor2   5  O=a*!b+!a*b;     PIN * UNKNOWN 2 999 1.9 0.5 1.9 0.5
+GATE aoi21  3  O=!(a*b+c);      PIN a INV 1 999 1.6 0.4 1.6 0.4
+                                PIN b INV 1 999 1.6 0.4 1.6 0.4 PIN c INV 1 999 1.6 0.4 1.6 0.4
+GATE oai22  4  O=!((a+b)*(c+d)); PIN * INV 1 999 2.0 0.4 2.0 0.4
+GATE zero   0  O=CONST0;
+GATE one    0  O=CONST1;
+L
+}

@@ -33,18 +33,6 @@ put("b", family(6))
 PY
 }
 
-# A random circuit in which each table that nothing reads is an output, so that no program drops it.
-living() { # tables
-  random "$1" | python3 -c '
-import sys
-lines = sys.stdin.read().split("\n")
-tables = [line.split()[1:] for line in lines if line.startswith(".names")]
-read = {name for table in tables for name in table[:-1]} | set(next(line for line in lines if line.startswith(".outputs")).split())
-more = "".join(" " + table[-1] for table in tables if table[-1] not in read)
-print("\n".join(line + more if line.startswith(".outputs") else line for line in lines), end="")
-'
-}
-
 # Reads both files, makes the patterns and the forest, and covers; the parts of it alone are measured beside it, so that what
 # covering takes is what is left. The least of three runs counts.
 cover() { # the library

@@ -22,21 +22,7 @@ module top(input clk, input load, input [7:0] data, input bit_in, output reg [7:
 endmodule
 V
 
-# A library in the manner of the mcnc ones.
-cat > "$work/own.genlib" <<'L'
-# name, area, function, delays
-GATE inv1   1  O=!a;            PIN * INV 1 999 0.9 0.3 0.9 0.3
-GATE buf1   1  O=a;             PIN * NONINV 1 999 0.9 0.3 0.9 0.3
-GATE nand2  2  O=!(a*b);        PIN * INV 1 999 1.0 0.2 1.0 0.2
-GATE nor2   2  O=!(a+b);        PIN * INV 1 999 1.4 0.5 1.4 0.5
-GATE and2   3  O=a*b;           PIN * NONINV 1 999 1.9 0.3 1.9 0.3
-GATE xor2   5  O=a*!b+!a*b;     PIN * UNKNOWN 2 999 1.9 0.5 1.9 0.5
-GATE aoi21  3  O=!(a*b+c);      PIN a INV 1 999 1.6 0.4 1.6 0.4 PIN b INV 1 999 1.6 0.4 1.6 0.4 PIN c INV 1 999 1.6 0.4 1.6 0.4
-GATE oai22  4  O=!((a+b)*(c+d)); PIN * INV 1 999 2.0 0.4 2.0 0.4
-GATE zero   0  O=CONST0;
-GATE one    0  O=CONST1;
-L
-
+own_library > "$work/own.genlib"
 cd "$work" || exit 1
 yosys -q -p "read_verilog a.v; hierarchy -top top; proc; opt; techmap; opt; abc -g AND,OR,XOR,NAND,NOR; opt_clean; write_blif yosys.blif" > yosys.log 2>&1 || { tail -3 yosys.log; exit 1; }
 berkeley-abc -c "read_blif yosys.blif; strash; write_blif abc.blif" > abc.log 2>&1
