@@ -1,4 +1,5 @@
--- What follows of functions that numbers mean: the laws, and the steps that callers of any object take.
+-- What follows of functions that numbers mean: the laws, and the steps that callers of any object
+-- take.
 use Rattle.std.proofs.Common.{◌≡◌, ℕ, suc, ◌<◌, ◌≤◌, Bool, true, false, not, if◌then◌else◌, refl, ap, sym, ◌∙◌, subst, arith}
 use Rattle.func_core.specs.Trees.{BooleanFunction, Tree, Zero, One, Node, eval, IsReduced, IsTreeOf, constant, variable, complement}
 use Rattle.func_core.specs.Sizes.{inner, size}

@@ -1,4 +1,5 @@
--- The given path of a reduced tree: its point makes the function true, and no variable stands on it twice.
+-- The given path of a reduced tree: its point makes the function true, and no variable stands on it
+-- twice.
 use Rattle.std.proofs.Common.{◌≡◌, ℕ, suc, Bool, true, false, Some, None, List, ◌∷◌, if◌then◌else◌, refl, sym, ◌∙◌, subst}
 use Rattle.func_core.specs.Trees.{Tree, Zero, One, Node, eval, IsReduced}
 use Rattle.func_core.specs.Points.{is_constant_zero, path, one_path, Follows, IsRising}

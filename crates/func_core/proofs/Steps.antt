@@ -1,5 +1,6 @@
--- The recursion by which Bryant's "apply" makes the tree of an operation: one step, over its two trees' top
--- variables, with the halves' trees already made. What the made tree computes, and that it is reduced.
+-- The recursion by which Bryant's "apply" makes the tree of an operation: one step, over its two
+-- trees' top variables, with the halves' trees already made. What the made tree computes, and that
+-- it is reduced.
 use Rattle.std.proofs.Common.{Result, IfOk, ◌≡◌, ℕ, suc, ◌<◌, ◌≤◌, Bool, true, false, if◌then◌else◌, refl, ap, sym, ◌∙◌, subst, arith}
 use Rattle.std.proofs.lemmas.Result.{IfOk-weaker}
 use Rattle.func_core.specs.Trees.{Tree, Zero, One, Node, eval, IsReduced}

@@ -1,6 +1,6 @@
--- Laws of Boolean functions and their trees.
--- Source: R. E. Bryant, "Graph-Based Algorithms for Boolean Function Manipulation", IEEE Transactions on
--- Computers C-35 (1986), whose theorem 1 is that each function has one reduced tree.
+-- Laws of Boolean functions and their trees. Source: R. E. Bryant, "Graph-Based Algorithms for
+-- Boolean Function Manipulation", IEEE Transactions on Computers C-35 (1986), whose theorem 1 is
+-- that each function has one reduced tree.
 use Rattle.std.specs.Prelude.{◌≡◌, ℕ, ◌≤◌, Bool, true, Some, None, List}
 use Rattle.func_core.specs.Trees.{BooleanFunction, Tree, Zero, eval, IsReduced, IsTreeOf, complement}
 use Rattle.func_core.specs.Sizes.{size}

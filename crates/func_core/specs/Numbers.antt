@@ -1,8 +1,8 @@
--- Functions named by numbers of one object: which numbers stand in a state of the object, for which trees,
--- within which limit on their sizes. What a number means, and what is too big, goes by the bits at each
--- valuation alone, so functions that agree everywhere are meant alike and are too big together.
--- Source: R. E. Bryant, "Graph-Based Algorithms for Boolean Function Manipulation", IEEE Transactions on
--- Computers C-35 (1986), where a function is named by a vertex of a graph.
+-- Functions named by numbers of one object: which numbers stand in a state of the object, for which
+-- trees, within which limit on their sizes. What a number means, and what is too big, goes by the
+-- bits at each valuation alone, so functions that agree everywhere are meant alike and are too big
+-- together. Source: R. E. Bryant, "Graph-Based Algorithms for Boolean Function Manipulation", IEEE
+-- Transactions on Computers C-35 (1986), where a function is named by a vertex of a graph.
 use Rattle.std.specs.Prelude.{◌≡◌, ℕ, ◌<◌, ◌≤◌}
 use Rattle.func_core.specs.Trees.{BooleanFunction, Tree, IsTreeOf}
 use Rattle.func_core.specs.Sizes.{size}

@@ -1,5 +1,5 @@
--- How `PlainFunctions` holds its trees. These words serve its private functions: a caller needs none of them,
--- since each clause of the trait and of the laws is said without.
+-- How `PlainFunctions` holds its trees. These words serve its private functions: a caller needs
+-- none of them, since each clause of the trait and of the laws is said without.
 use Rattle.std.specs.Prelude.{◌≡◌, ℕ, ◌<◌, ◌≤◌, Bool, ◌&&◌, ◌||◌, List, map, slice_index_or, length}
 use Rattle.std.specs.Set.{is_member}
 use Rattle.std.specs.List.{IsDistinct}

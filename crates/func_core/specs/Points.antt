@@ -1,5 +1,5 @@
--- A point at which a function is true, as the literals on one path of its tree.
--- Source: R. E. Bryant, "Graph-Based Algorithms for Boolean Function Manipulation", IEEE Transactions on
+-- A point at which a function is true, as the literals on one path of its tree. Source: R. E.
+-- Bryant, "Graph-Based Algorithms for Boolean Function Manipulation", IEEE Transactions on
 -- Computers C-35 (1986), "satisfy-one".
 use Rattle.std.specs.Prelude.{◌≡◌, ℕ, suc, ◌≤◌, Bool, true, false, Option, Some, None, List, [], ◌∷◌, if◌then◌else◌}
 use Rattle.func_core.specs.Trees.{Tree, Zero, One, Node}
@@ -10,7 +10,8 @@ is_constant_zero Zero = true
 is_constant_zero One = false
 is_constant_zero (Node place lo hi) = false
 
--- the variables on the path that takes the false half wherever that isn't Zero, each with the half taken
+-- the variables on the path that takes the false half wherever that isn't Zero, each with the half
+-- taken
 unfoldable pub path : Tree → List (ℕ × Bool)
 path Zero = []
 path One = []

@@ -1,7 +1,6 @@
--- The size of a decision tree: how many different inner subtrees it has, which is how many nodes a shared
--- table needs for it.
--- Source: R. E. Bryant, "Graph-Based Algorithms for Boolean Function Manipulation", IEEE Transactions on
--- Computers C-35 (1986).
+-- The size of a decision tree: how many different inner subtrees it has, which is how many nodes a
+-- shared table needs for it. Source: R. E. Bryant, "Graph-Based Algorithms for Boolean Function
+-- Manipulation", IEEE Transactions on Computers C-35 (1986).
 use Rattle.std.specs.Prelude.{ℕ, Bool, true, false, ◌==◌, ◌&&◌, List, [], ◌∷◌, ◌++◌}
 use Rattle.std.specs.Set.{distinct_count}
 use Rattle.func_core.specs.Trees.{Tree, Zero, One, Node}

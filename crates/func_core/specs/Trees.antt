@@ -1,5 +1,5 @@
--- Boolean functions of numbered variables, and their reduced ordered decision trees.
--- Source: R. E. Bryant, "Graph-Based Algorithms for Boolean Function Manipulation", IEEE Transactions on
+-- Boolean functions of numbered variables, and their reduced ordered decision trees. Source: R. E.
+-- Bryant, "Graph-Based Algorithms for Boolean Function Manipulation", IEEE Transactions on
 -- Computers C-35 (1986).
 use Rattle.std.specs.Prelude.{◌≡◌, ℕ, suc, ◌≤◌, Bool, true, false, not, ◌&&◌, ◌||◌, if◌then◌else◌}
 
@@ -36,7 +36,8 @@ differ true b = not b
 abbrev pub exclusive_or : BooleanFunction → BooleanFunction → BooleanFunction
 exclusive_or f g = λ point. differ (f point) (g point)
 
--- a decision tree: a constant, or a variable with the tree where it is false and the tree where it is true
+-- a decision tree: a constant, or a variable with the tree where it is false and the tree where it
+-- is true
 pub data Tree : Type 0 where
   Zero : Tree
   One : Tree
@@ -48,7 +49,8 @@ eval Zero point = false
 eval One point = true
 eval (Node place lo hi) point = if point place then eval hi point else eval lo point
 
--- reduced, and with no variable below a least one: variables rise on each path, and no node has equal halves
+-- reduced, and with no variable below a least one: variables rise on each path, and no node has
+-- equal halves
 unfoldable pub IsReduced : ℕ → Tree → Type 0
 IsReduced least Zero = Unit {0}
 IsReduced least One = Unit {0}

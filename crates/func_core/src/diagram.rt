@@ -9,7 +9,8 @@ ghost use Rattle.func_core.specs.PlainTrees.{shape, bits, Adds};
 
 use std::alloc::{AllocError, Global};
 
-/// A decision tree: a constant, or a variable with the tree where it is false and the tree where it is true.
+/// A decision tree: a constant, or a variable with the tree where it is false and the tree where it
+/// is true.
 #[derive(Drop)]
 pub enum Diagram {
     Zero,
@@ -48,7 +49,8 @@ pub fn leaf(bit: bool) -> Diagram
 /// The tree of a variable.
 #[tactic(auto, using(crate::proofs::Steps::eval_variable, crate::proofs::Steps::reduced_variable))]
 pub fn variable_at(alloc: Global, place: usize) -> Result<Diagram, AllocError>
-    ensures computes { IfOk result (λ made. (point : ℕ → Bool) → eval (shape made) point ≡ point place) }
+    ensures computes { IfOk result (λ made. (point : ℕ → Bool) → eval (shape made) point
+        ≡ point place) }
     ensures reduced { IfOk result (λ made. IsReduced 0 (shape made)) }
 {
     Ok(Diagram::Branch(
@@ -75,8 +77,10 @@ pub fn is_same(a: &Diagram, b: &Diagram) -> bool
 
 /// A node over two trees, or the first where both are one.
 fn join_halves(alloc: Global, place: usize, lo: Diagram, hi: Diagram) -> Result<Diagram, AllocError>
-    ensures computes { IfOk result (λ made. (point : ℕ → Bool) → eval (shape made) point ≡ (if point place then eval (shape hi) point else eval (shape lo) point)) }
-    ensures reduced { IfOk result (λ made. (least : ℕ) → least ≤ place → IsReduced (suc place) (shape lo) → IsReduced (suc place) (shape hi) → IsReduced least (shape made)) }
+    ensures computes { IfOk result (λ made. (point : ℕ → Bool) → eval (shape made) point ≡
+        (if point place then eval (shape hi) point else eval (shape lo) point)) }
+    ensures reduced { IfOk result (λ made. (least : ℕ) → least ≤ place → IsReduced (suc place)
+        (shape lo) → IsReduced (suc place) (shape hi) → IsReduced least (shape made)) }
 {
     if is_same(&lo, &hi) {
         return Ok(lo);
@@ -84,15 +88,18 @@ fn join_halves(alloc: Global, place: usize, lo: Diagram, hi: Diagram) -> Result<
     Ok(Diagram::Branch(place, Box::new(alloc, lo)?, Box::new(alloc, hi)?))
 }
 
-/// The tree of an operation on a constant and a tree; as the operations commute, either may come first.
+/// The tree of an operation on a constant and a tree; as the operations commute, either may come
+/// first.
 pub fn with_constant(
     alloc: Global,
     operation: Operation,
     left: bool,
     right: &Diagram,
 ) -> Result<Diagram, AllocError>
-    ensures computes { IfOk result (λ made. (point : ℕ → Bool) → eval (shape made) point ≡ bits operation left (eval (shape right.now) point)) }
-    ensures reduced { IfOk result (λ made. (least : ℕ) → IsReduced least (shape right.now) → IsReduced least (shape made)) }
+    ensures computes { IfOk result (λ made. (point : ℕ → Bool) → eval (shape made) point
+        ≡ bits operation left (eval (shape right.now) point)) }
+    ensures reduced { IfOk result (λ made. (least : ℕ) → IsReduced least (shape right.now)
+        → IsReduced least (shape made)) }
 {
     match right {
         Diagram::Zero => Ok(leaf(bit_of(operation, left, false))),
@@ -112,8 +119,10 @@ pub fn combine(
     left: &Diagram,
     right: &Diagram,
 ) -> Result<Diagram, AllocError>
-    ensures computes { IfOk result (λ made. (point : ℕ → Bool) → eval (shape made) point ≡ bits operation (eval (shape left.now) point) (eval (shape right.now) point)) }
-    ensures reduced { IfOk result (λ made. (least : ℕ) → IsReduced least (shape left.now) → IsReduced least (shape right.now) → IsReduced least (shape made)) }
+    ensures computes { IfOk result (λ made. (point : ℕ → Bool) → eval (shape made) point
+        ≡ bits operation (eval (shape left.now) point) (eval (shape right.now) point)) }
+    ensures reduced { IfOk result (λ made. (least : ℕ) → IsReduced least (shape left.now)
+        → IsReduced least (shape right.now) → IsReduced least (shape made)) }
 {
     match left {
         Diagram::Zero => with_constant(alloc, operation, false, right),
@@ -154,7 +163,8 @@ fn is_among(others: &[&Diagram], tree: &Diagram) -> bool
 
 /// The trees seen, and behind them a further one unless it is among them.
 fn see<'a>(seen: Vec<&'a Diagram>, tree: &'a Diagram) -> Result<Vec<&'a Diagram>, AllocError>
-    ensures { IfOk result (λ all. Adds (map (λ d. shape d.now) seen.entry.items) (shape tree.now ∷ []) (map (λ d. shape d.now) all.items)) }
+    ensures { IfOk result (λ all. Adds (map (λ d. shape d.now) seen.entry.items)
+        (shape tree.now ∷ []) (map (λ d. shape d.now) all.items)) }
 {
     if is_among(&seen, tree) {
         return Ok(seen);
@@ -166,7 +176,8 @@ fn see<'a>(seen: Vec<&'a Diagram>, tree: &'a Diagram) -> Result<Vec<&'a Diagram>
 
 /// The trees seen, and behind them each inner subtree of a tree that is not among them yet.
 fn see_inner<'a>(seen: Vec<&'a Diagram>, tree: &'a Diagram) -> Result<Vec<&'a Diagram>, AllocError>
-    ensures { IfOk result (λ all. Adds (map (λ d. shape d.now) seen.entry.items) (inner (shape tree.now)) (map (λ d. shape d.now) all.items)) }
+    ensures { IfOk result (λ all. Adds (map (λ d. shape d.now) seen.entry.items) (inner
+        (shape tree.now)) (map (λ d. shape d.now) all.items)) }
 {
     match tree {
         Diagram::Branch(_, lo, hi) => {

@@ -1,4 +1,5 @@
-//! Functions by number: what any body owes, whether it holds plain trees or a shared table of nodes.
+//! Functions by number: what any body owes, whether it holds plain trees or a shared table of
+//! nodes.
 
 ghost use Rattle.std.specs.Prelude.{◌≡◌, ℕ, ◌≤◌, ◌↔◌, IsTrue, IfOk};
 ghost use Rattle.func_core.specs.Trees.{Tree, Zero, eval, IsReduced, constant, variable, complement, conjunction, disjunction, exclusive_or};
@@ -34,8 +35,8 @@ impl From<AllocError> for FuncFault {
 }
 
 /// An object that names Boolean functions by numbers. Each number that stands is that of one tree,
-/// which is reduced and within the object's limit on the size of a tree. The limit is at least 1, the
-/// size of a variable.
+/// which is reduced and within the object's limit on the size of a tree. The limit is at least 1,
+/// the size of a variable.
 pub trait Functions: Drop {
     ghost holds: { Self → ℕ → Type 0 };
 
@@ -43,7 +44,8 @@ pub trait Functions: Drop {
 
     ghost limit: { Self → ℕ };
 
-    /// The function that is the bit of the variable at a place, whose size is 1: it is never too big.
+    /// The function that is the bit of the variable at a place, whose size is 1: it is never too
+    /// big.
     fn var(&mut self, place: usize) -> Result<Func, FuncFault>
         ensures ok { IfOk result (λ h. Means holds tree limit self.new h.0 (variable place)) }
         ensures fits { result ≡ Err FuncFault.TooBig → ⊥ }
@@ -58,7 +60,8 @@ pub trait Functions: Drop {
     /// The complement of a function, whose size is the function's: it is never too big.
     fn not(&mut self, f: Func) -> Result<Func, FuncFault>
         requires { holds self.old f.0 }
-        ensures ok { IfOk result (λ h. Means holds tree limit self.new h.0 (complement (eval (tree self.old f.0)))) }
+        ensures ok { IfOk result (λ h. Means holds tree limit self.new h.0 (complement (eval
+            (tree self.old f.0)))) }
         ensures fits { result ≡ Err FuncFault.TooBig → ⊥ }
         ensures stays { Stays holds tree limit self.old self.new };
 
@@ -66,24 +69,30 @@ pub trait Functions: Drop {
     fn and(&mut self, f: Func, g: Func) -> Result<Func, FuncFault>
         requires f { holds self.old f.0 }
         requires g { holds self.old g.0 }
-        ensures ok { IfOk result (λ h. Means holds tree limit self.new h.0 (conjunction (eval (tree self.old f.0)) (eval (tree self.old g.0)))) }
-        ensures big { result ≡ Err FuncFault.TooBig → IsBig (limit self.old) (conjunction (eval (tree self.old f.0)) (eval (tree self.old g.0))) }
+        ensures ok { IfOk result (λ h. Means holds tree limit self.new h.0 (conjunction (eval
+            (tree self.old f.0)) (eval (tree self.old g.0)))) }
+        ensures big { result ≡ Err FuncFault.TooBig → IsBig (limit self.old) (conjunction (eval
+            (tree self.old f.0)) (eval (tree self.old g.0))) }
         ensures stays { Stays holds tree limit self.old self.new };
 
     /// Where one of the functions is true, or both are.
     fn or(&mut self, f: Func, g: Func) -> Result<Func, FuncFault>
         requires f { holds self.old f.0 }
         requires g { holds self.old g.0 }
-        ensures ok { IfOk result (λ h. Means holds tree limit self.new h.0 (disjunction (eval (tree self.old f.0)) (eval (tree self.old g.0)))) }
-        ensures big { result ≡ Err FuncFault.TooBig → IsBig (limit self.old) (disjunction (eval (tree self.old f.0)) (eval (tree self.old g.0))) }
+        ensures ok { IfOk result (λ h. Means holds tree limit self.new h.0 (disjunction (eval
+            (tree self.old f.0)) (eval (tree self.old g.0)))) }
+        ensures big { result ≡ Err FuncFault.TooBig → IsBig (limit self.old) (disjunction (eval
+            (tree self.old f.0)) (eval (tree self.old g.0))) }
         ensures stays { Stays holds tree limit self.old self.new };
 
     /// Where just one of the functions is true.
     fn xor(&mut self, f: Func, g: Func) -> Result<Func, FuncFault>
         requires f { holds self.old f.0 }
         requires g { holds self.old g.0 }
-        ensures ok { IfOk result (λ h. Means holds tree limit self.new h.0 (exclusive_or (eval (tree self.old f.0)) (eval (tree self.old g.0)))) }
-        ensures big { result ≡ Err FuncFault.TooBig → IsBig (limit self.old) (exclusive_or (eval (tree self.old f.0)) (eval (tree self.old g.0))) }
+        ensures ok { IfOk result (λ h. Means holds tree limit self.new h.0 (exclusive_or (eval
+            (tree self.old f.0)) (eval (tree self.old g.0)))) }
+        ensures big { result ≡ Err FuncFault.TooBig → IsBig (limit self.old) (exclusive_or (eval
+            (tree self.old f.0)) (eval (tree self.old g.0))) }
         ensures stays { Stays holds tree limit self.old self.new };
 
     /// Whether a function is false everywhere; takes no memory.
@@ -91,9 +100,10 @@ pub trait Functions: Drop {
         requires { holds self.now f.0 }
         ensures { IsTrue result ↔ (tree self.now f.0 ≡ Zero) };
 
-    /// The variables, each with its bit, on the path to a point where the function is true; none exactly
-    /// where it is false everywhere. Variables rise, those that are not named may have any bit, and the
-    /// path takes the half where a variable is false wherever that is not false everywhere.
+    /// The variables, each with its bit, on the path to a point where the function is true; none
+    /// exactly where it is false everywhere. Variables rise, those that are not named may have any
+    /// bit, and the path takes the half where a variable is false wherever that is not false
+    /// everywhere.
     fn one_point(&self, f: Func) -> Result<Option<Sequence<(usize, bool)>>, AllocError>
         requires { holds self.now f.0 }
         ensures { IfOk result (λ point. point ≡ one_path (tree self.now f.0)) };
@@ -102,6 +112,10 @@ pub trait Functions: Drop {
     fn size(&self, f: Func) -> Result<usize, AllocError>
         requires { holds self.now f.0 }
         ensures { IfOk result (λ count. count ≡ size (tree self.now f.0)) };
+
+    /// Whether so much is held that a caller who can do without its numbers had better clear it. It
+    /// tells nothing of any function.
+    fn is_full(&self) -> bool;
 
     /// Takes all numbers back; takes no memory.
     fn clear(&mut self)

@@ -1,4 +1,5 @@
-//! Laws of Boolean functions and their trees, each proved as the contract of a function that does nothing.
+//! Laws of Boolean functions and their trees, each proved as the contract of a function that does
+//! nothing.
 
 ghost use Rattle.func_core.specs.Laws.{OneTree, TreeGoesByPoints, BigGoesByPoints, FittingIsNotBig, ComplementHasSize, NonzeroIsTrueSomewhere, NoPointIsZero, PointIsTrue, PointRises};
 
@@ -7,8 +8,9 @@ pub fn equal_functions_have_one_tree()
     ensures { OneTree }
 {}
 
-/// What a number means, and what is too big, goes by the bits of a function alone: where two functions
-/// agree at each valuation, a tree of one is a tree of the other, and they are too big together.
+/// What a number means, and what is too big, goes by the bits of a function alone: where two
+/// functions agree at each valuation, a tree of one is a tree of the other, and they are too big
+/// together.
 pub fn functions_go_by_points()
     ensures tree { TreeGoesByPoints }
     ensures big { BigGoesByPoints }
@@ -24,8 +26,9 @@ pub fn complements_have_one_size()
     ensures { ComplementHasSize }
 {}
 
-/// A function that is not the constant false is true somewhere. The given path of a tree leads to a point
-/// where the function is true, only the constant false has none, and no variable stands on it twice.
+/// A function that is not the constant false is true somewhere. The given path of a tree leads to a
+/// point where the function is true, only the constant false has none, and no variable stands on it
+/// twice.
 pub fn given_points_are_true()
     ensures somewhere { NonzeroIsTrueSomewhere }
     ensures none { NoPointIsZero }

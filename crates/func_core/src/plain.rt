@@ -7,8 +7,8 @@ use crate::functions::{Func, FuncFault, Functions};
 use sis_base::Sequence;
 use std::alloc::{AllocError, Global};
 
-/// Functions as plain reduced trees, each of its own. An operation goes down its trees by calls, as deep as
-/// variables stand on a path, and a size is counted by comparing subtrees.
+/// Functions as plain reduced trees, each of its own. An operation goes down its trees by calls, as
+/// deep as variables stand on a path, and a size is counted by comparing subtrees.
 #[derive(Drop)]
 pub struct PlainFunctions {
     alloc: Global,
@@ -23,8 +23,8 @@ impl PlainFunctions {
     ghost use Rattle.func_core.specs.Numbers.{Means, IsBig, Stays, NoneStands};
     ghost use Rattle.func_core.specs.PlainTrees.{shape, bits, plain_tree, plain_limit, PlainHolds};
 
-    /// An object without numbers, for trees of a size up to the limit, which is at least 1; takes no
-    /// memory.
+    /// An object without numbers, for trees of a size up to the limit, which is at least 1; takes
+    /// no memory.
     pub fn new(alloc: Global, limit: usize) -> Self
         requires { 1 ≤ limit }
         ensures limit { ⟦<PlainFunctions as Functions>⟧.limit result ≡ limit }
@@ -37,10 +37,12 @@ impl PlainFunctions {
         }
     }
 
-    /// Puts a reduced tree behind the others, unless its size is above the limit; its number is its place.
+    /// Puts a reduced tree behind the others, unless its size is above the limit; its number is its
+    /// place.
     fn keep(&mut self, made: Diagram) -> Result<Func, FuncFault>
         requires { IsReduced 0 (shape made) }
-        ensures ok { IfOk result (λ h. Means PlainHolds plain_tree plain_limit self.new h.0 (eval (shape made))) }
+        ensures ok { IfOk result (λ h. Means PlainHolds plain_tree plain_limit self.new h.0 (eval
+            (shape made))) }
         ensures big { result ≡ Err FuncFault.TooBig → self.old.limit < size (shape made) }
         ensures stays { Stays PlainHolds plain_tree plain_limit self.old self.new }
     {
@@ -57,8 +59,11 @@ impl PlainFunctions {
     fn operate(&mut self, operation: Operation, f: Func, g: Func) -> Result<Func, FuncFault>
         requires f { PlainHolds self.old f.0 }
         requires g { PlainHolds self.old g.0 }
-        ensures ok { IfOk result (λ h. Means PlainHolds plain_tree plain_limit self.new h.0 (λ point. bits operation (eval (plain_tree self.old f.0) point) (eval (plain_tree self.old g.0) point))) }
-        ensures big { result ≡ Err FuncFault.TooBig → IsBig self.old.limit (λ point. bits operation (eval (plain_tree self.old f.0) point) (eval (plain_tree self.old g.0) point)) }
+        ensures ok { IfOk result (λ h. Means PlainHolds plain_tree plain_limit self.new h.0
+            (λ point. bits operation (eval (plain_tree self.old f.0) point) (eval
+            (plain_tree self.old g.0) point))) }
+        ensures big { result ≡ Err FuncFault.TooBig → IsBig self.old.limit (λ point. bits operation
+            (eval (plain_tree self.old f.0) point) (eval (plain_tree self.old g.0) point)) }
         ensures stays { Stays PlainHolds plain_tree plain_limit self.old self.new }
     {
         let left = &self.diagrams[f.0];
@@ -118,6 +123,11 @@ impl Functions for PlainFunctions {
 
     fn size(&self, f: Func) -> Result<usize, AllocError> {
         diagram::size_of(self.alloc, &self.diagrams[f.0])
+    }
+
+    // Each number has memory of its own, so any are worth taking back.
+    fn is_full(&self) -> bool {
+        !self.diagrams.is_empty()
     }
 
     fn clear(&mut self) {

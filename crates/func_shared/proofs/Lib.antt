@@ -1,0 +1,14 @@
+pub mod Numbered
+pub mod Inner
+pub mod Growing
+pub mod Visiting
+pub mod Merged
+pub mod Shortcuts
+pub mod Halving
+pub mod Within
+pub mod Costs
+pub mod Frames
+pub mod Remembered
+pub mod Working
+pub mod Fitted
+pub mod Sharing

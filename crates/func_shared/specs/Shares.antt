@@ -1,0 +1,26 @@
+-- How `SharedFunctions` holds its functions: as numbers of one table, of which those below a mark
+-- stand. These words serve its private functions: a caller needs none of them, since each clause of
+-- the trait and of the laws is said without.
+use Rattle.std.specs.Prelude.{ℕ, ◌<◌}
+use Rattle.func_core.specs.Trees.{BooleanFunction, Tree, eval, IsReduced}
+use Rattle.func_shared.specs.Vertices.{tree_at}
+use Rattle.func_shared.specs.Merging.{bits}
+use Rattle.func_shared.specs.declared.operation.Operation.{Operation}
+use Rattle.func_shared.specs.declared.shared.SharedFunctions.{SharedFunctions}
+
+-- the tree of a number
+abbrev pub shared_tree : SharedFunctions → ℕ → Tree
+shared_tree functions n = tree_at functions.nodes n
+
+-- a number stands: it is below the mark, and its tree is reduced
+abbrev pub SharedHolds : SharedFunctions → ℕ → Type 0
+SharedHolds functions n = (n < functions.standing) × IsReduced 0 (shared_tree functions n)
+
+-- the limit that was given
+abbrev pub shared_limit : SharedFunctions → ℕ
+shared_limit functions = functions.limit
+
+-- the operation on the functions of two numbers
+abbrev pub operated : SharedFunctions → Operation → ℕ → ℕ → BooleanFunction
+operated functions operation f g = λ point.
+    bits operation (eval (shared_tree functions f) point) (eval (shared_tree functions g) point)

@@ -1,0 +1,184 @@
+//! The answers of operations that are remembered. An answer that is lost costs time alone.
+
+ghost use Rattle.std.specs.Prelude.{◌≡◌, ◌≤◌, ◌⊎◌, List, IfSome};
+ghost use Rattle.func_shared.specs.declared.vertex.Vertex.{Vertex as TheVertex};
+ghost use Rattle.func_shared.specs.Vertices.{Has};
+ghost use Rattle.func_shared.specs.Answers.{made, AreNumbers, IsAnswer, AreAnswers, StayAnswers};
+
+use crate::operation::Operation;
+use std::alloc::Global;
+
+/// How many answers there is room for at first, and at most.
+const FIRST_ANSWERS: usize = 4096;
+
+const MAX_ANSWERS: usize = 4_194_304;
+
+/// False and false is false: what stands where no answer is kept.
+const NOTHING: Answer = Answer {
+    operation: Operation::And,
+    left: 0,
+    right: 0,
+    number: 0,
+};
+
+/// Two numbers of a table.
+#[derive(Clone, Copy, Debug, PartialEq, Eq)]
+pub(crate) struct Pair {
+    pub(crate) left: u32,
+    pub(crate) right: u32,
+}
+
+impl Pair {
+    /// The pair of two numbers.
+    pub(crate) fn new(left: u32, right: u32) -> Pair
+        ensures { result ≡ record { left = left; right = right } }
+    {
+        Pair { left, right }
+    }
+
+    /// The pair with the lower number first.
+    pub(crate) fn ordered(self) -> Pair
+        ensures order { result.left ≤ result.right }
+        ensures same { (result ≡ self) ⊎ ((result.left ≡ self.right) × (result.right ≡ self.left)) }
+    {
+        if self.left <= self.right {
+            return self;
+        }
+        Pair::new(self.right, self.left)
+    }
+
+    /// Where the answer of an operation on the pair is kept, among so many places, a power of two.
+    fn place(self, operation: Operation, count: usize) -> usize {
+        let packed = (u64::from(self.left) << 32) | u64::from(self.right);
+        let first = (packed ^ (operation as u64) << 62).wrapping_mul(0x9E37_79B9_7F4A_7C15);
+        let mixed = (first ^ (first >> 32)).wrapping_mul(0xD6E8_FEB8_6659_FD93);
+        (mixed >> 32) as usize & count.wrapping_sub(1)
+    }
+}
+
+/// What an operation made of two numbers, the lower first. Sixteen bytes.
+#[derive(Clone, Copy)]
+pub(crate) struct Answer {
+    operation: Operation,
+    left: u32,
+    right: u32,
+    number: u32,
+}
+
+impl Answer {
+    /// The numbers that it is of.
+    fn pair(self) -> Pair
+        ensures left { result.left ≡ self.left }
+        ensures right { result.right ≡ self.right }
+    {
+        Pair::new(self.left, self.right)
+    }
+}
+
+/// Answers of operations on the numbers of one table, each in the one place that its numbers give:
+/// a new answer takes the place of an old one.
+#[derive(Drop)]
+pub(crate) struct Answers {
+    slots: Vec<Answer>,
+    /// How many were put in since there was more room last.
+    count: usize,
+}
+
+impl Answers {
+    /// No answers; takes no memory.
+    pub(crate) fn new(alloc: Global) -> Answers
+        ensures { (vertices : List TheVertex) → AreAnswers vertices result }
+    {
+        Answers {
+            slots: Vec::new(alloc),
+            count: 0,
+        }
+    }
+
+    /// Forgets all.
+    pub(crate) fn clear(&mut self)
+        ensures { (vertices : List TheVertex) → AreAnswers vertices self.new }
+    {
+        self.slots.clear();
+        self.count = 0;
+    }
+
+    /// The answer of an operation on two numbers, if it is kept.
+    pub(crate) fn get(&self, operation: Operation, pair: Pair) -> Option<u32>
+        ensures { IfSome result (λ number. (vertices : List TheVertex)
+            → AreAnswers vertices self.now → Has vertices number (made vertices operation pair)) }
+    {
+        let slot = self.slots.get(pair.place(operation, self.slots.len()))?;
+        if slot.operation == operation && slot.left == pair.left && slot.right == pair.right {
+            return Some(slot.number);
+        }
+        None
+    }
+
+    /// Keeps an answer. Makes more room first, where as many were put in as there is room for.
+    pub(crate) fn put(&mut self, operation: Operation, pair: Pair, number: u32)
+        ensures { (vertices : List TheVertex) → AreAnswers vertices self.old
+            → AreNumbers vertices pair → Has vertices number (made vertices operation pair)
+            → AreAnswers vertices self.new }
+    {
+        if self.count >= self.slots.len() {
+            self.grow();
+        }
+        self.count += 1;
+        self.keep(Answer {
+            operation,
+            left: pair.left,
+            right: pair.right,
+            number,
+        });
+    }
+
+    /// Puts an answer in its place, if there is any room.
+    fn keep(&mut self, answer: Answer)
+        ensures kept { (vertices : List TheVertex) → AreAnswers vertices self.old
+            → IsAnswer vertices answer → AreAnswers vertices self.new }
+        ensures count { self.new.count ≡ self.old.count }
+    {
+        let place = answer.pair().place(answer.operation, self.slots.len());
+        if let Some(slot) = self.slots.get_mut(place) {
+            *slot = answer;
+        }
+    }
+
+    /// Doubles the room, unless it is the most there may be or there is no memory.
+    fn grow(&mut self)
+        ensures kept { StayAnswers self.old self.new }
+        ensures count { self.new.count ≡ 0 }
+    {
+        self.count = 0;
+        let old = self.slots.len();
+        if old >= MAX_ANSWERS {
+            return;
+        }
+        let room = if old == 0 { FIRST_ANSWERS } else { 2 * old };
+        if self.slots.resize(room, NOTHING).is_ok() {
+            self.spread(old);
+        }
+    }
+
+    /// Puts the first answers where they belong now.
+    fn spread(&mut self, count: usize)
+        ensures kept { StayAnswers self.old self.new }
+        ensures count { self.new.count ≡ self.old.count }
+    {
+        for place in 0..count {
+            self.move_from(place);
+        }
+    }
+
+    /// Puts the answer of a place where it belongs.
+    fn move_from(&mut self, place: usize)
+        ensures kept { StayAnswers self.old self.new }
+        ensures count { self.new.count ≡ self.old.count }
+    {
+        if let Some(answer) = self.slots.get(place) {
+            let moved = *answer;
+            self.keep(moved);
+        }
+    }
+}

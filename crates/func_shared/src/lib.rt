@@ -1,0 +1,22 @@
+//! Boolean functions of numbered variables, as numbers of one table of different decision nodes.
+//!
+//! Equal functions are one node (R. E. Bryant, "Graph-Based Algorithms for Boolean Function
+//! Manipulation", IEEE Transactions on Computers C-35, 1986; K. S. Brace, R. L. Rudell and R. E.
+//! Bryant, "Efficient Implementation of a BDD Package", 27th Design Automation Conference, 1990).
+//! `SharedFunctions` promises what its trait, `Functions` of func_core, does: a number stands for
+//! the reduced tree of the function asked for, `TooBig` comes exactly where the size of that tree
+//! is above the limit, and each earlier number stands for the same tree after answers and errors.
+//! By `laws` equal functions have one number.
+#![tactic(auto)]
+
+mod answering;
+mod cache;
+pub mod laws;
+mod nodes;
+mod operation;
+mod shared;
+mod table;
+mod vertex;
+mod walking;
+
+pub use shared::SharedFunctions;
