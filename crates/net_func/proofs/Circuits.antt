@@ -147,7 +147,7 @@ over_fits tables leaves names number acyclic same none = record {
       over_table tables leaves acyclic name table at (none name table at unnumbered);
 }
 
-own_none : (circuit : Circuit) → IsSound circuit → (name : List ℕ) (table : Table)
+pub own_none : (circuit : Circuit) → IsSound circuit → (name : List ℕ) (table : Table)
     → driver circuit.tables name ≡ Some table → (point : ℕ → Bool) → leaves_at circuit point name ≡
     None
 own_none circuit sound name table at point =

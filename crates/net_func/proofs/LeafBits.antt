@@ -133,6 +133,22 @@ module _ {S : Type 0} (holds : S → ℕ → Type 0) (tree : S → ℕ → Tree)
       absurd (false≢true (sym (not-true (is_some (driven other)) parts.1)
       ∙ ap (λ (n : List ℕ). is_some (driven n)) (same_name other name parts.0) ∙ there)))
 
+  -- nor does one that has a number
+  pub leaf_there : (state : S) (number : List ℕ → Option Func) (driven : List ℕ → Option ℕ) (name :
+      List ℕ)
+      (Fits : (List ℕ → BooleanFunction) → Type 0) → NumbersStand holds state number
+      → is_some (number name) ≡ true
+      → Adds holds tree limit state state number number
+      (λ other. bytes_eq other name && not (is_some (driven other))) Fits
+  leaf_there state number driven name Fits stand there =
+      adds_none holds tree limit state number (λ other. bytes_eq other name && not
+      (is_some (driven other)))
+      Fits stand
+      (λ other both.
+      ap (has_number number)
+      (same_name other name (and_parts (bytes_eq other name) (not (is_some (driven other))) both).0)
+      ∙ there)
+
   pub leaf_added : (before after : S) (old new : List ℕ → Option Func) (driven : List ℕ → Option ℕ)
       (name : List ℕ) (place : ℕ) (made : Func)
       → Stays holds tree limit before after → NumbersStand holds before old

@@ -8,3 +8,7 @@ pub mod Circuits
 pub mod Seeing
 pub mod Turning
 pub mod Listed
+pub mod Reach
+pub mod Keeping
+pub mod Replacing
+pub mod Alike

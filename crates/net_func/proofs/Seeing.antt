@@ -1,7 +1,7 @@
 -- Changes that are seen, one after the other.
 use Rattle.std.proofs.Common.{◌≡◌, ℕ, zero, suc, ◌+◌, ◌<◌, Bool, true, false, not, ◌&&◌, ◌||◌, Option, Some, None, List, [], ◌∷◌, length, take, get_or, slice_get, map, refl, sym, ap, ap₂, ◌∙◌, subst, inl, inr, ◌⊎◌, arith}
 use Rattle.std.proofs.Math.Bool.{or_assoc}
-use Rattle.func_core.specs.Trees.{BooleanFunction, Tree, differ, constant}
+use Rattle.func_core.specs.Trees.{BooleanFunction, Tree, eval, differ, constant}
 use Rattle.func_core.specs.Numbers.{Means, IsBig, Stays}
 use Rattle.func_core.specs.declared.functions.Func.{Func}
 use Rattle.func_core.proofs.Meanings.{IsBig-same}
@@ -196,3 +196,18 @@ module _ {S : Type 0} (holds : S → ℕ → Type 0) (tree : S → ℕ → Tree)
             making.stays.same big)
             (more_point before now seen changes k change making stand low is),
       )
+
+-- nothing changes where both functions have one number
+pub unchanged_point : {S : Type 0} (tree : S → ℕ → Tree) (state : S) (change : Change)
+    → change.low.0 ≡ change.high.0 → (b : Bool) (point : ℕ → Bool)
+    → b ≡ (b || shown_by tree state change point)
+unchanged_point tree state change same b point =
+    stays b (not (free_bit tree state change.free point)) (computed tree state change.low point)
+    ∙ ap (λ (n : ℕ). b || (not (free_bit tree state change.free point)
+    && differ (computed tree state change.low point) (eval (tree state n) point))) same
+  where
+    stays : (a d v : Bool) → a ≡ (a || (d && differ v v))
+    stays true d v = refl
+    stays false true true = refl
+    stays false true false = refl
+    stays false false v = refl

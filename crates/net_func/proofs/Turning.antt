@@ -1,6 +1,6 @@
 -- Where a signal is seen: fixing it at 0 and at 1 differ just where turning it over changes
 -- something; and the changes by numbers are those of the circuit.
-use Rattle.std.proofs.Common.{◌≡◌, ℕ, zero, suc, ◌+◌, Bool, true, false, not, ◌&&◌, ◌||◌, if◌then◌else◌, Option, Some, None, is_some, unwrap_or, List, [], ◌∷◌, ◌++◌, take, drop, get_or, slice_get, map, bytes_eq, refl, sym, ap, ap₂, ◌∙◌, subst, inl, inr, ◌⊎◌}
+use Rattle.std.proofs.Common.{◌≡◌, ℕ, zero, suc, Bool, true, false, not, ◌&&◌, ◌||◌, if◌then◌else◌, Option, Some, None, is_some, unwrap_or, List, [], ◌∷◌, ◌++◌, take, drop, get_or, slice_get, map, bytes_eq, refl, sym, ap, ap₂, ◌∙◌, subst, inl, inr, ◌⊎◌}
 use Rattle.std.specs.List.{AllByRecursion, list_all}
 use Rattle.std.proofs.Math.Path.{fun_ext}
 use Rattle.std.proofs.lemmas.Bool.{false≢true, or_left, or_right}
@@ -482,27 +482,6 @@ module _ {S : Type 0} (holds : S → ℕ → Type 0) (tree : S → ℕ → Tree)
                       is),
                 ))))
           ]
-
-  -- what numbers mean they mean later
-  pub halves_later : (before after : S) (circuit : Circuit) (name : List ℕ) (low high : List ℕ →
-      Option Func)
-      → IsSound circuit → Stays holds tree limit before after
-      → AreAll holds tree limit before
-      (λ n. has (leaf_names circuit) n || has (outputs_of circuit.tables) n)
-      (forced_function circuit name false) low
-      → AreAll holds tree limit before
-      (λ n. has (leaf_names circuit) n || has (outputs_of circuit.tables) n)
-      (forced_function circuit name true) high
-      → AreHalves after circuit name low high
-  halves_later before after circuit name low high sound stays low_all high_all = record {
-    sound = sound;
-    low_right = λ root f at.
-        Means-kept holds tree limit before after f.0 (forced_function circuit name false root) stays
-        (low_all.right root f at);
-    high_right = λ root f at.
-        Means-kept holds tree limit before after f.0 (forced_function circuit name true root) stays
-        (high_all.right root f at);
-  }
 
   pub right_stands : (state : S) (number : List ℕ → Option Func) (value : List ℕ → BooleanFunction)
       → AreRight holds tree limit state number value → NumbersStand holds state number

@@ -1,4 +1,6 @@
 pub mod Changes
+pub mod Held
+pub mod Kept
 pub mod Locals
 pub mod Numbered
 pub mod Numbering

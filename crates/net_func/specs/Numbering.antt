@@ -10,10 +10,13 @@ use Rattle.circuit_model.specs.Names.{has, all_different}
 use Rattle.circuit_model.specs.Values.{Leaves, driver, driven_value}
 use Rattle.circuit_model.specs.Soundness.{outputs_of, table_inputs, IsAcyclic, IsShaped}
 use Rattle.circuit_model.specs.declared.circuit.Table.{Table}
+use Rattle.circuit_order.specs.Order.{IsOrdered}
+use Rattle.circuit_order.specs.Places.{IsIndex}
 use Rattle.func_core.specs.Trees.{BooleanFunction, Tree}
 use Rattle.func_core.specs.Numbers.{Means}
 use Rattle.func_core.specs.declared.functions.Func.{Func}
 use Rattle.net_func.specs.Signals.{IsBigAt}
+use Rattle.net_func.specs.declared.building.TableOrder.{TableOrder}
 use Rattle.net_func.specs.declared.numbers.Numbers.{Numbers}
 
 -- the number that stands at a name
@@ -69,6 +72,11 @@ pub record AreSettled (tables : List Table) : Type 0 where
   pub acyclic : IsAcyclic tables
   pub shaped : AllByRecursion IsShaped tables
 
+-- where tables stand, and an order in which each stands behind what it reads
+pub record IsOrderOf (tables : List Table) (order : TableOrder) : Type 0 where
+  pub places : IsIndex tables (get bytes_eq order.places)
+  pub names : IsOrdered tables order.names
+
 -- the bits that a valuation gives leaves, by their places from one on
 unfoldable pub leaf_bits : ℕ → List (List ℕ) → (ℕ → Bool) → Leaves
 leaf_bits place [] point name = None
@@ -108,6 +116,13 @@ pub record AreAll {S : Type 0} (holds : S → ℕ → Type 0) (tree : S → ℕ 
     (state : S) (test : List ℕ → Bool) (value : List ℕ → BooleanFunction)
     (number : List ℕ → Option Func) : Type 0 where
   pub known : (name : List ℕ) → has_number number name ≡ test name
+  pub right : AreRight holds tree limit state number value
+
+-- names of a test have numbers, and no other ones, each that of its function
+pub record AreSome {S : Type 0} (holds : S → ℕ → Type 0) (tree : S → ℕ → Tree) (limit : S → ℕ)
+    (state : S) (test : List ℕ → Bool) (value : List ℕ → BooleanFunction)
+    (number : List ℕ → Option Func) : Type 0 where
+  pub among : (name : List ℕ) → has_number number name ≡ true → test name ≡ true
   pub right : AreRight holds tree limit state number value
 
 -- a signal without a number is to blame: a part of its table is too big for all functions that the

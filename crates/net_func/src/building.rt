@@ -12,13 +12,13 @@ ghost use Rattle.circuit_order.specs.Places.{IsIndex};
 ghost use Rattle.func_core.specs.Trees.{BooleanFunction};
 ghost use Rattle.func_core.specs.Numbers.{Stays};
 ghost use Rattle.net_func.specs.Locals.{local_of, HasBigPart};
-ghost use Rattle.net_func.specs.Numbering.{number_in, has_number, NumbersStand, AreRight, Solves, SolvesRest, AreClosed, AreSettled, Adds, IsBlamed};
+ghost use Rattle.net_func.specs.Numbering.{number_in, has_number, NumbersStand, AreRight, Solves, SolvesRest, AreClosed, AreSettled, IsOrderOf, Adds, IsBlamed};
 ghost use Rattle.net_func.specs.Signals.{Blames};
 
 use crate::fault::{NetFuncFault, fault_at};
 use crate::numbers::Numbers;
 use crate::rows::table_function;
-use circuit_model::{Name, Table};
+use circuit_model::{Name, Names, Table};
 use circuit_order::order;
 use func_core::{FuncFault, Functions};
 use indexmap::IndexMap;
@@ -27,6 +27,23 @@ use std::alloc::{AllocError, Global};
 
 /// The places of tables by their outputs.
 pub(crate) type Places = IndexMap<Name, usize>;
+
+/// Where tables stand by their outputs, and these outputs in an order in which each stands behind
+/// what its table reads.
+pub(crate) struct TableOrder {
+    pub places: Places,
+    pub names: Names,
+}
+
+// By hand, so that letting an order go is one call in the functions that own one.
+impl Drop for TableOrder {
+    fn drop(self) {
+        let TableOrder {
+            places: _places,
+            names: _names,
+        } = self;
+    }
+}
 
 // Notes the place of a name; an error only for want of memory.
 fn note_place(places: &mut Places, name: Name, place: usize) -> Result<(), AllocError>
@@ -47,6 +64,17 @@ pub(crate) fn places_of(alloc: Global, tables: &[Table]) -> Result<Places, Alloc
         note_place(&mut places, table.output.copy(alloc)?, place)?;
     }
     Ok(places)
+}
+
+/// Where tables stand, and in which order their functions can be made; an error only for want of
+/// memory.
+pub(crate) fn table_order(alloc: Global, tables: &[Table]) -> Result<TableOrder, AllocError>
+    requires { AreSettled tables.now }
+    ensures { IfOk result (IsOrderOf tables.now) }
+{
+    let names = order(alloc, tables)?;
+    let places = places_of(alloc, tables)?;
+    Ok(TableOrder { places, names })
 }
 
 /// The place of a name, if there is one.
@@ -158,10 +186,10 @@ pub(crate) fn add_all<F: Functions>(
     functions: &mut F,
     numbers: &mut Numbers,
     tables: &[Table],
-    places: &Places,
+    order: &TableOrder,
 ) -> Result<(), NetFuncFault>
     requires tables { AreSettled tables.now }
-    requires places { IsIndex tables.now (get bytes_eq places.now) }
+    requires order { IsOrderOf tables.now order.now }
     requires stand { NumbersStand F.holds functions.old (number_in numbers.old) }
     requires closed { AreClosed tables.now (number_in numbers.old) }
     ensures ok { OnOk result (Adds F.holds F.tree F.limit functions.old functions.new
@@ -171,6 +199,6 @@ pub(crate) fn add_all<F: Functions>(
         tables.now (number_in numbers.old) (SolvesRest tables.now (number_in numbers.old)))) }
     ensures stays { Stays F.holds F.tree F.limit functions.old functions.new }
 {
-    let names = order(alloc, tables)?;
-    add_in_order(alloc, functions, numbers, tables, places, names.as_slice())
+    let names = order.names.as_slice();
+    add_in_order(alloc, functions, numbers, tables, &order.places, names)
 }

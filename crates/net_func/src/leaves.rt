@@ -5,15 +5,15 @@ ghost use Rattle.indexmap.specs.IndexMap.{get};
 ghost use Rattle.circuit_model.specs.Names.{has, all_different};
 ghost use Rattle.circuit_model.specs.Soundness.{outputs_of, leaf_names as leaves_of};
 ghost use Rattle.func_core.specs.Numbers.{Stays};
-ghost use Rattle.net_func.specs.Numbering.{number_in, no_numbers, NumbersStand, AreSettled, AreOver, Adds, IsBlamed, is_free_leaf, FitsLeaves, FitsOver};
+ghost use Rattle.net_func.specs.Numbering.{number_in, no_numbers, NumbersStand, AreSettled, IsOrderOf, AreOver, Adds, IsBlamed, is_free_leaf, FitsLeaves, FitsOver};
 ghost use Rattle.net_func.specs.Signals.{Blames};
 
-use crate::building::{Places, add_all, place_at, places_of};
+use crate::building::{Places, TableOrder, add_all, place_at, table_order};
 use crate::fault::NetFuncFault;
 use crate::numbers::Numbers;
 use circuit_model::{Circuit, Latch, Name, Names, Table};
 use func_core::Functions;
-use sis_base::{Copied, Sequence, Whole};
+use sis_base::{Copied, Sequence};
 use std::alloc::{AllocError, Global};
 
 /// Puts copies of names behind the last; an error only for want of memory.
@@ -63,7 +63,8 @@ pub(crate) fn leaf_names(alloc: Global, circuit: &Circuit) -> Result<Names, Allo
     Ok(Sequence::from_vec(names))
 }
 
-// Makes the function of a leaf, unless a table drives its name: the bit of the variable at a place.
+// Makes the function of a leaf, the bit of the variable at a place, unless a table drives its name
+// or it has a number.
 fn add_leaf<F: Functions>(
     alloc: Global,
     functions: &mut F,
@@ -81,6 +82,9 @@ fn add_leaf<F: Functions>(
     ensures stays { Stays F.holds F.tree F.limit functions.old functions.new }
 {
     if place_at(places, name).is_some() {
+        return Ok(());
+    }
+    if numbers.get(name).is_some() {
         return Ok(());
     }
     match functions.var(place) {
@@ -111,8 +115,8 @@ fn add_leaves<F: Functions>(
     Ok(())
 }
 
-// Makes a function that is one bit everywhere, for a name.
-fn add_constant<F: Functions>(
+/// Makes a function that is one bit everywhere, for a name; an error only for want of memory.
+pub(crate) fn add_constant<F: Functions>(
     alloc: Global,
     functions: &mut F,
     numbers: &mut Numbers,
@@ -151,6 +155,33 @@ pub(crate) fn constant_at<F: Functions>(
 
 /// Makes the functions of leaves and tables: where a table drives the name of a leaf its function
 /// stands there, but where a number stood before.
+pub(crate) fn add_ordered<F: Functions>(
+    alloc: Global,
+    functions: &mut F,
+    numbers: &mut Numbers,
+    leaves: &[Name],
+    tables: &[Table],
+    order: &TableOrder,
+) -> Result<(), NetFuncFault>
+    requires once { all_different leaves.now ≡ true }
+    requires tables { AreSettled tables.now }
+    requires order { IsOrderOf tables.now order.now }
+    requires over { AreOver leaves.now tables.now }
+    requires stand { NumbersStand F.holds functions.old (number_in numbers.old) }
+    ensures ok { OnOk result (Adds F.holds F.tree F.limit functions.old functions.new
+        (number_in numbers.old) (number_in numbers.new)
+        (λ name. has leaves.now name || has (outputs_of tables.now) name)
+        (FitsOver leaves.now tables.now (number_in numbers.old))) }
+    ensures big { IfErr result (λ fault. Blames fault (IsBlamed F.holds F.tree F.limit functions.old
+        tables.now (number_in numbers.old)
+        (FitsOver leaves.now tables.now (number_in numbers.old)))) }
+    ensures stays { Stays F.holds F.tree F.limit functions.old functions.new }
+{
+    add_leaves(alloc, functions, numbers, &order.places, leaves)?;
+    add_all(alloc, functions, numbers, tables, order)
+}
+
+/// The same, where no order of the tables is at hand.
 pub(crate) fn add_over<F: Functions>(
     alloc: Global,
     functions: &mut F,
@@ -171,10 +202,6 @@ pub(crate) fn add_over<F: Functions>(
         (FitsOver leaves.now tables.now (number_in numbers.old)))) }
     ensures stays { Stays F.holds F.tree F.limit functions.old functions.new }
 {
-    // A whole, so that letting it go is one call.
-    let places = Whole {
-        it: places_of(alloc, tables)?,
-    };
-    add_leaves(alloc, functions, numbers, &places.it, leaves)?;
-    add_all(alloc, functions, numbers, tables, &places.it)
+    let order = table_order(alloc, tables)?;
+    add_ordered(alloc, functions, numbers, leaves, tables, &order)
 }

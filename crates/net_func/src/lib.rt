@@ -5,27 +5,32 @@
 //! Manipulation", IEEE Transactions on Computers C-35 (1986). For any object of func_core's trait
 //! `Functions`: `table_function` makes the function of a table over functions of its inputs,
 //! `signal_functions` those of all signals of a network and of its don't-care part, `forced` those
-//! with one signal fixed, `care` that of where a signal is seen from outside, and `turn_functions`
-//! all that the turn of one table needs. Promised: each number means exactly its function
+//! with one signal fixed, `care` that of where a signal is seen from outside, and `KeptFunctions`
+//! all that the turn of one table needs: it keeps what is made from turn to turn, and where a table
+//! changes only what it reaches is made anew. Promised: each number means exactly its function
 //! (`specs/Signals.antt`, `specs/Locals.antt`), one is refused only where a part that is built for
 //! it is too big, and earlier numbers and the limit stay, whatever the answer.
 #![tactic(auto)]
 
 mod building;
 mod fault;
+mod kept;
 mod leaves;
 mod listing;
 mod local;
 mod network;
 mod numbers;
+mod ordered;
 mod rows;
 mod seen;
 mod signals;
 mod turn;
+mod unreached;
 
 pub use fault::NetFuncFault;
+pub use kept::KeptFunctions;
 pub use local::Local;
 pub use network::{Signals, care, forced, signal_functions};
 pub use numbers::Numbered;
 pub use rows::table_function;
-pub use turn::{TurnFunctions, turn_functions};
+pub use turn::TurnFunctions;

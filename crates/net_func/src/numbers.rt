@@ -56,6 +56,13 @@ impl Numbers {
         Ok(())
     }
 
+    /// Takes all numbers away; takes no memory.
+    pub(crate) fn clear(&mut self)
+        ensures { (name : List ℕ) → number_in self.new name ≡ None }
+    {
+        self.by_name.clear();
+    }
+
     /// The number that stands at a name.
     pub(crate) fn known(&self, name: &Name) -> Func
         requires { has_number (number_in self.now) name.now ≡ true }
@@ -65,6 +72,13 @@ impl Numbers {
             Some(number) => number,
             None => unreachable!(),
         }
+    }
+
+    /// Whether numbers stand at all of some names.
+    pub(crate) fn know(&self, names: &[Name]) -> bool
+        ensures { result ≡ list_all (has_number (number_in self.now)) names.now }
+    {
+        names.iter().all(|name| self.get(name).is_some())
     }
 
     /// The numbers that stand at names; an error only for want of memory.

@@ -5,16 +5,19 @@ ghost use Rattle.std.specs.Prelude.{◌≡◌, true, false, not, ◌&&◌, ◌||
 ghost use Rattle.std.specs.List.{list_all};
 ghost use Rattle.indexmap.specs.IndexMap.{get};
 ghost use Rattle.circuit_model.specs.Names.{has};
-ghost use Rattle.circuit_model.specs.Soundness.{outputs_of, leaf_names as leaves_of, latch_inputs, IsSound};
+ghost use Rattle.circuit_model.specs.Soundness.{outputs_of, latch_inputs, IsSound};
+ghost use Rattle.circuit_order.specs.Places.{IsIndex};
 ghost use Rattle.func_core.specs.Numbers.{Means, IsBig, Stays};
 ghost use Rattle.net_func.specs.Numbered.{computed};
 ghost use Rattle.net_func.specs.Numbering.{number_in, has_number, no_numbers, AreAll};
-ghost use Rattle.net_func.specs.Signals.{forced_function, is_seen, seen_among, IsBigSeen, Blames};
+ghost use Rattle.net_func.specs.Signals.{own_function, free_function, forced_function, is_seen, seen_among, IsBigSeen, Blames};
+ghost use Rattle.net_func.specs.Kept.{is_signal, is_free_signal, IsInOrder};
 ghost use Rattle.net_func.specs.Changes.{free_bit, FreeStands, ChangeStands, changed_by, shown_by, ChangesStand, HasBigChange, free_in, AreChanges, AreAllChanges};
 
 use crate::building::{Places, place_at, places_of};
 use crate::fault::{NetFuncFault, fault_at};
 use crate::numbers::Numbers;
+use crate::ordered::{OrderedCircuit, forced_beside};
 use crate::signals::{forced_numbers, free_numbers};
 use circuit_model::{Circuit, Latch, Name};
 use func_core::{Func, FuncFault, Functions};
@@ -73,6 +76,10 @@ fn add_change<F: Functions>(
         || shown_by F.tree functions.old change point)) }
     ensures stays { Stays F.holds F.tree F.limit functions.old functions.new }
 {
+    // One number is one function: nothing changes.
+    if change.low.0 == change.high.0 {
+        return Ok(seen);
+    }
     let changed = functions.xor(change.low, change.high)?;
     let shown = outside(functions, changed, change.free)?;
     functions.or(seen, shown)
@@ -186,6 +193,39 @@ fn changes_of(
     Ok(changes)
 }
 
+// Where a signal is seen, by the functions of all signals with it at 0 and with it at 1, and by
+// those of the don't-care part.
+fn seen_by<F: Functions>(
+    alloc: Global,
+    functions: &mut F,
+    circuit: &Circuit,
+    name: &Name,
+    low: &Numbers,
+    high: &Numbers,
+    free: &Numbers,
+    places: &Places,
+) -> Result<Func, NetFuncFault>
+    requires sound { IsSound circuit.now }
+    requires low { AreAll F.holds F.tree F.limit functions.old (is_signal circuit.now)
+        (forced_function circuit.now name.now false) (number_in low.now) }
+    requires high { AreAll F.holds F.tree F.limit functions.old (is_signal circuit.now)
+        (forced_function circuit.now name.now true) (number_in high.now) }
+    requires free { AreAll F.holds F.tree F.limit functions.old (is_free_signal circuit.now)
+        (free_function circuit.now) (number_in free.now) }
+    requires places { IsIndex circuit.now.dont_care (get bytes_eq places.now) }
+    ensures ok { IfOk result (λ seen. Means F.holds F.tree F.limit functions.new seen.0
+        (is_seen circuit.now name.now)) }
+    ensures big { IfErr result (λ fault. Blames fault
+        (λ blamed. IsBigSeen (F.limit functions.old) circuit.now name.now)) }
+    ensures stays { Stays F.holds F.tree F.limit functions.old functions.new }
+{
+    let changes = changes_of(alloc, circuit, low, high, free, places)?;
+    match any_change(functions, changes.as_slice()) {
+        Ok(seen) => Ok(seen),
+        Err(fault) => Err(fault_at(alloc, fault, name)),
+    }
+}
+
 // Where a signal is seen, by the functions of all signals with it at 0 and with it at 1.
 fn seen_between<F: Functions>(
     alloc: Global,
@@ -196,11 +236,9 @@ fn seen_between<F: Functions>(
     high: &Numbers,
 ) -> Result<Func, NetFuncFault>
     requires sound { IsSound circuit.now }
-    requires low { AreAll F.holds F.tree F.limit functions.old
-        (λ other. has (leaves_of circuit.now) other || has (outputs_of circuit.now.tables) other)
+    requires low { AreAll F.holds F.tree F.limit functions.old (is_signal circuit.now)
         (forced_function circuit.now name.now false) (number_in low.now) }
-    requires high { AreAll F.holds F.tree F.limit functions.old
-        (λ other. has (leaves_of circuit.now) other || has (outputs_of circuit.now.tables) other)
+    requires high { AreAll F.holds F.tree F.limit functions.old (is_signal circuit.now)
         (forced_function circuit.now name.now true) (number_in high.now) }
     ensures ok { IfOk result (λ seen. Means F.holds F.tree F.limit functions.new seen.0
         (is_seen circuit.now name.now)) }
@@ -213,11 +251,9 @@ fn seen_between<F: Functions>(
     let places = Whole {
         it: places_of(alloc, circuit.dont_care.as_slice())?,
     };
-    let changes = changes_of(alloc, circuit, low, high, &free, &places.it)?;
-    match any_change(functions, changes.as_slice()) {
-        Ok(seen) => Ok(seen),
-        Err(fault) => Err(fault_at(alloc, fault, name)),
-    }
+    seen_by(
+        alloc, functions, circuit, name, low, high, &free, &places.it,
+    )
 }
 
 /// Where a signal that a table drives is seen from outside.
@@ -238,4 +274,33 @@ pub(crate) fn seen_function<F: Functions>(
     let low = forced_numbers(alloc, functions, circuit, name, false)?;
     let high = forced_numbers(alloc, functions, circuit, name, true)?;
     seen_between(alloc, functions, circuit, name, &low, &high)
+}
+
+/// The same, by the functions that signals have already and those of the don't-care part.
+pub(crate) fn seen_beside<F: Functions>(
+    alloc: Global,
+    functions: &mut F,
+    ordered: &OrderedCircuit,
+    name: &Name,
+    own: &Numbers,
+    free: &Numbers,
+) -> Result<Func, NetFuncFault>
+    requires ready { IsInOrder ordered.now }
+    requires driven { has (outputs_of ordered.now.circuit.tables) name.now ≡ true }
+    requires own { AreAll F.holds F.tree F.limit functions.old (is_signal ordered.now.circuit)
+        (own_function ordered.now.circuit) (number_in own.now) }
+    requires free { AreAll F.holds F.tree F.limit functions.old
+        (is_free_signal ordered.now.circuit) (free_function ordered.now.circuit)
+        (number_in free.now) }
+    ensures ok { IfOk result (λ seen. Means F.holds F.tree F.limit functions.new seen.0
+        (is_seen ordered.now.circuit name.now)) }
+    ensures big { IfErr result (λ fault. Blames fault
+        (λ blamed. IsBigSeen (F.limit functions.old) ordered.now.circuit name.now)) }
+    ensures stays { Stays F.holds F.tree F.limit functions.old functions.new }
+{
+    let low = forced_beside(alloc, functions, ordered, own, name, false)?;
+    let high = forced_beside(alloc, functions, ordered, own, name, true)?;
+    let circuit = &ordered.circuit;
+    let places = &ordered.dont_care.places;
+    seen_by(alloc, functions, circuit, name, &low, &high, free, places)
 }

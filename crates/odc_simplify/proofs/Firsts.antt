@@ -1,4 +1,5 @@
--- A list that is too long is told of the first table that has one, and of none where all turns pass.
+-- A list that is too long is told of the first table that has one, and of none where all turns
+-- pass.
 use Rattle.std.proofs.Common.{◌≡◌, ℕ, true, false, List, [], ◌∷◌, inl, inr, sym, ◌∙◌}
 use Rattle.circuit_model.specs.declared.circuit.Circuit.{Circuit}
 use Rattle.sdc_simplify.specs.Simplified.{with_minimum, is_refused}

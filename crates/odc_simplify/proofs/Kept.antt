@@ -236,6 +236,21 @@ module _ (circuit : Circuit) (name : List ℕ) (made : Table) (sound : IsSound c
       subst (λ (t : Table). IsAcyclic (replaced circuit.tables t)) (sym (is table at))
       (least_acyclic circuit name table sound at)
 
+  pub made_output : made.output ≡ name
+  made_output =
+      let (table, at) = output_driver circuit.tables name driven in
+      ap (λ (t : Table). t.output) (is table at)
+      ∙ minimized_output table (is_dont_care circuit table)
+      ∙ driver_name circuit.tables name table at
+
+  pub made_reads : (old : Table) → driver circuit.tables made.output ≡ Some old
+      → (input : List ℕ) → has made.inputs input ≡ true → has old.inputs input ≡ true
+  made_reads old at input among =
+      let there : driver circuit.tables name ≡ Some old =
+      ap (driver circuit.tables) (sym made_output) ∙ at in
+      minimized_reads old (is_dont_care circuit old) input
+      (subst (λ (t : Table). has t.inputs input ≡ true) (is old there) among)
+
   pub made_turned : with_replaced circuit made ≡ with_minimum is_dont_care circuit name
   unfolding with_minimum
   made_turned =

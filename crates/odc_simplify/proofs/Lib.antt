@@ -12,3 +12,4 @@ pub mod Least
 pub mod Along
 pub mod Whole
 pub mod Firsts
+pub mod Serving

@@ -1,8 +1,9 @@
--- The combinational don't-cares of a table, and the tables of a circuit made minimal under them, one
--- after the other: the don't-cares of a turn are those of the circuit of that turn. Source: De
+-- The combinational don't-cares of a table, and the tables of a circuit made minimal under them,
+-- one after the other: the don't-cares of a turn are those of the circuit of that turn. Source: De
 -- Micheli, "Synthesis and Optimization of Digital Circuits", chapter 8 (satisfiability and
 -- observability don't-care conditions; simplification of one vertex after the other); the SIS
--- report (UCB/ERL M92/41), `full_simplify`, which takes compatible subsets of them for all vertices.
+-- report (UCB/ERL M92/41), `full_simplify`, which takes compatible subsets of them for all
+-- vertices.
 use Rattle.std.specs.Prelude.{◌≡◌, ℕ, ◌+◌, not, map, length, fold}
 use Rattle.circuit_model.specs.Soundness.{outputs_of, IsSound}
 use Rattle.circuit_model.specs.declared.circuit.Circuit.{Circuit}

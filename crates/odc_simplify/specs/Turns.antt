@@ -12,7 +12,9 @@ use Rattle.circuit_model.specs.declared.circuit.Circuit.{Circuit}
 use Rattle.circuit_order.specs.Order.{order_of}
 use Rattle.func_core.specs.Trees.{Tree, complement, conjunction}
 use Rattle.func_core.specs.declared.functions.Func.{Func}
+use Rattle.net_func.specs.Held.{circuit_of, IsReady, AreKept}
 use Rattle.net_func.specs.Signals.{AreWithin}
+use Rattle.net_func.specs.declared.kept.KeptFunctions.{KeptFunctions}
 use Rattle.net_func.specs.declared.fault.NetFuncFault.{NetFuncFault}
 use Rattle.net_func.specs.declared.fault.NetFuncFault.TheVariants.{TooBig as BigPart}
 use Rattle.net_func.specs.declared.fault.NetFuncFault.TheVariants.{Memory as NoRoom}
@@ -98,6 +100,13 @@ list_fault NoMemory = Memory
 abbrev pub turn_fault : NetFuncFault → FullFault
 turn_fault (BigPart name) = TooBig name
 turn_fault NoRoom = Memory
+
+-- functions of a circuit are kept, each number of an object right
+pub record Serves {S : Type 0} (holds : S → ℕ → Type 0) (tree : S → ℕ → Tree) (limit : S → ℕ)
+    (state : S) (circuit : Circuit) (kept : KeptFunctions) : Type 0 where
+  pub ready : IsReady kept
+  pub same : circuit_of kept ≡ circuit
+  pub right : AreKept holds tree limit state kept
 
 -- all turns were had: each passed, and each table gave place to its minimum
 pub record AreTurned (limit : ℕ) (circuit : Circuit) (names : List (List ℕ)) (new : Circuit)

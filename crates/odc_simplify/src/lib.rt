@@ -8,9 +8,9 @@
 //! `full_simplify` makes exactly that circuit (`specs/Turns.antt`), or answers the fault of the
 //! first turn that has one: a list that is too long, or a function that is too big of those by
 //! which the turn is worked out (`specs/Tested.antt`), and always where the function of a table's
-//! signal is. Within, an oracle tells `cover_min` of a table by functions of leaves: where its signal
-//! must be 1, where it must be 0, and those of its inputs (`specs/Seen.antt`); it refuses just where
-//! a function that a test builds is too big (`specs/Products.antt`).
+//! signal is. Within, an oracle tells `cover_min` of a table by functions of leaves: where its
+//! signal must be 1, where it must be 0, and those of its inputs (`specs/Seen.antt`); it refuses
+//! just where a function that a test builds is too big (`specs/Products.antt`).
 #![tactic(auto)]
 
 mod fault;

@@ -6,14 +6,17 @@ ghost use Rattle.circuit_model.specs.Names.{has};
 ghost use Rattle.circuit_model.specs.Soundness.{outputs_of};
 ghost use Rattle.circuit_model.specs.Values.{driver};
 ghost use Rattle.circuit_model.specs.declared.circuit.Table.{Table as TheTable};
+ghost use Rattle.circuit_model.specs.declared.circuit.Circuit.{Circuit as TheCircuit};
+ghost use Rattle.circuit_laws.specs.Edits.{with_replaced};
 ghost use Rattle.cover_min.specs.Minimum.{minimum_rows};
-ghost use Rattle.func_core.specs.Numbers.{Means};
+ghost use Rattle.func_core.specs.Numbers.{Means, Stays};
 ghost use Rattle.net_core.specs.Tables.{named, IsOverInputs};
 ghost use Rattle.net_func.specs.Signals.{own_function, is_seen, AreMeant, AreWithin};
+ghost use Rattle.net_func.specs.Held.{circuit_of, IsReady, KeepsSome};
 ghost use Rattle.sdc_simplify.specs.Minimized.{on_rows, meaning_of, minimized};
 ghost use Rattle.sdc_simplify.specs.Simplified.{with_minimum, is_refused};
 ghost use Rattle.odc_simplify.specs.Full.{leaf_count, is_dont_care};
-ghost use Rattle.odc_simplify.specs.Turns.{Passes, IsTurnFault, list_fault, turn_fault};
+ghost use Rattle.odc_simplify.specs.Turns.{Passes, IsTurnFault, Serves, list_fault, turn_fault};
 
 use crate::fault::FullFault;
 use crate::tested::least_cover;
@@ -22,10 +25,10 @@ use cover_min::OracleFault;
 use cube_cover::{Cover, Row};
 use func_core::Functions;
 use net_core::{Network, Table, tidy};
-use net_func::{NetFuncFault, TurnFunctions, turn_functions};
+use net_func::{KeptFunctions, NetFuncFault, TurnFunctions};
 use sdc_simplify::{SimplifyFault, on_cover};
 use sis_base::Copied;
-use std::alloc::Global;
+use std::alloc::{AllocError, Global};
 
 // The fault for a list that was not made.
 fn fault_of_list(fault: SimplifyFault) -> FullFault
@@ -86,7 +89,7 @@ fn least_by<R: Row, F: Functions>(
         (own_function network.now name.now) }
     requires seen { Means F.holds F.tree F.limit functions.old turn.seen.0
         (is_seen network.now name.now) }
-    ensures limit { F.limit functions.new ≡ F.limit functions.old }
+    ensures stays { Stays F.holds F.tree F.limit functions.old functions.new }
     ensures minimum { IfOk result (λ least. least ≡ record {
       width = length table.now.inputs;
       rows = minimum_rows (meaning_of (named name.now table.now)
@@ -108,12 +111,25 @@ fn least_by<R: Row, F: Functions>(
     }
 }
 
-// The minimum of the rows of phase 1 of the table of a name under its don't-cares. The object
-// forgets what it held, so that each turn has all its room.
+// Clears an object that asks for it; the numbers that are kept of it go with its own.
+fn make_room<F: Functions>(functions: &mut F, kept: &mut KeptFunctions)
+    ensures limit { F.limit functions.new ≡ F.limit functions.old }
+    ensures serves { (circuit : TheCircuit)
+        → Serves F.holds F.tree F.limit functions.old circuit kept.old
+        → Serves F.holds F.tree F.limit functions.new circuit kept.new }
+{
+    if functions.is_full() {
+        functions.clear();
+        kept.forget();
+    }
+}
+
+// The minimum of the rows of phase 1 of the table of a name under its don't-cares.
 fn least_rows<R: Row, F: Functions>(
     alloc: Global,
     network: &Network<R>,
     functions: &mut F,
+    kept: &mut KeptFunctions,
     name: &Name,
     table: &Table<R>,
     cover: Cover<R>,
@@ -124,6 +140,8 @@ fn least_rows<R: Row, F: Functions>(
       width = length table.now.inputs;
       rows = on_rows (named name.now table.now);
     } }
+    requires serves { Serves F.holds F.tree F.limit functions.old network.now kept.old }
+    ensures serves { Serves F.holds F.tree F.limit functions.new network.now kept.new }
     ensures limit { F.limit functions.new ≡ F.limit functions.old }
     ensures minimum { IfOk result (λ least. least ≡ record {
       width = length table.now.inputs;
@@ -135,8 +153,8 @@ fn least_rows<R: Row, F: Functions>(
     ensures fault { IfErr result (λ fault.
         IsTurnFault (F.limit functions.old) network.now name.now fault) }
 {
-    functions.clear();
-    match turn_functions(alloc, network, name, functions) {
+    make_room(functions, kept);
+    match kept.turn(alloc, functions, name) {
         Ok(turn) => least_by(alloc, network, functions, name, table, cover, turn),
         Err(fault) => Err(fault_of_turn(fault)),
     }
@@ -148,11 +166,14 @@ fn least_table<R: Row, F: Functions>(
     alloc: Global,
     network: &Network<R>,
     functions: &mut F,
+    kept: &mut KeptFunctions,
     name: &Name,
     table: &Table<R>,
 ) -> Result<Table<R>, FullFault>
     requires driven { driver network.now.tables name.now ≡ Some (named name.now table.now) }
     requires over { IsOverInputs table.now }
+    requires serves { Serves F.holds F.tree F.limit functions.old network.now kept.old }
+    ensures serves { Serves F.holds F.tree F.limit functions.new network.now kept.new }
     ensures limit { F.limit functions.new ≡ F.limit functions.old }
     ensures minimized { IfOk result (λ made. named name.now made
         ≡ minimized (named name.now table.now)
@@ -168,7 +189,7 @@ fn least_table<R: Row, F: Functions>(
     };
     let least = Table {
         inputs: table.inputs.copy(alloc)?,
-        cover: least_rows(alloc, network, functions, name, table, cover)?,
+        cover: least_rows(alloc, network, functions, kept, name, table, cover)?,
         phase: true,
     };
     Ok(tidy(alloc, &least)?)
@@ -179,9 +200,12 @@ pub(crate) fn least_of<R: Row, F: Functions>(
     alloc: Global,
     network: &Network<R>,
     functions: &mut F,
+    kept: &mut KeptFunctions,
     name: &Name,
 ) -> Result<Table<R>, FullFault>
     requires driven { has (outputs_of network.now.tables) name.now ≡ true }
+    requires serves { Serves F.holds F.tree F.limit functions.old network.now kept.old }
+    ensures serves { Serves F.holds F.tree F.limit functions.new network.now kept.new }
     ensures limit { F.limit functions.new ≡ F.limit functions.old }
     ensures minimized { IfOk result (λ made. (table : TheTable)
         → driver network.now.tables name.now ≡ Some table
@@ -193,8 +217,30 @@ pub(crate) fn least_of<R: Row, F: Functions>(
 {
     match network.table(name) {
         None => unreachable!(),
-        Some(table) => least_table(alloc, network, functions, name, table),
+        Some(table) => least_table(alloc, network, functions, kept, name, table),
     }
+}
+
+// The circuit whose functions are kept gets the table of a name that is made in its turn; an error
+// only for want of memory.
+fn tell<R: Row>(
+    alloc: Global,
+    kept: &mut KeptFunctions,
+    name: &Name,
+    table: &Table<R>,
+) -> Result<(), AllocError>
+    requires ready { IsReady kept.old }
+    requires driven { has (outputs_of (circuit_of kept.old).tables) name.now ≡ true }
+    requires over { IsOverInputs table.now }
+    requires minimized { (old : TheTable) → driver (circuit_of kept.old).tables name.now ≡ Some old
+        → named name.now table.now ≡ minimized old (is_dont_care (circuit_of kept.old) old) }
+    ensures ready { IsReady kept.new }
+    ensures replaced { OnOk result (circuit_of kept.new
+        ≡ with_replaced (circuit_of kept.old) (named name.now table.now)) }
+    ensures kept { OnOk result (KeepsSome kept.old kept.new) }
+{
+    let written = table.to_written(alloc, name)?;
+    kept.replace(alloc, written)
 }
 
 /// The table of a name, which a table drives, becomes its minimum under its don't-cares. An error
@@ -203,9 +249,13 @@ pub(crate) fn minimize<R: Row, F: Functions>(
     alloc: Global,
     network: &mut Network<R>,
     functions: &mut F,
+    kept: &mut KeptFunctions,
     name: &Name,
 ) -> Result<(), FullFault>
     requires driven { has (outputs_of network.old.tables) name.now ≡ true }
+    requires serves { Serves F.holds F.tree F.limit functions.old network.old kept.old }
+    ensures serves { OnOk result
+        (Serves F.holds F.tree F.limit functions.new network.new kept.new) }
     ensures limit { F.limit functions.new ≡ F.limit functions.old }
     ensures minimized { OnOk result
         (network.new ≡ with_minimum is_dont_care network.old name.now) }
@@ -215,7 +265,8 @@ pub(crate) fn minimize<R: Row, F: Functions>(
         IsTurnFault (F.limit functions.old) network.old name.now fault) }
 {
     network.sound();
-    let table = least_of(alloc, network, functions, name)?;
+    let table = least_of(alloc, network, functions, kept, name)?;
+    tell(alloc, kept, name, &table)?;
     network.replace(name, table);
     Ok(())
 }

@@ -1,10 +1,11 @@
 use Rattle.std.proofs.Common.{rules, ◌≡◌, Err, ap, inl, inr}
 use Rattle.std.proofs.lemmas.Result.{IfOk-weaker}
 use Rattle.func_core.specs.declared.functions.FuncFault.TheVariants.{TooBig}
-use Rattle.func_core.proofs.Meanings.{Means-same, Stays-chain}
+use Rattle.func_core.proofs.Meanings.{Means-own, Means-same, Stays-chain}
+use Rattle.net_func.specs.Numbered.{computed}
 use Rattle.net_func.specs.Changes.{shown_by}
 use Rattle.net_func.proofs.Making.{big_before}
-use Rattle.net_func.proofs.Seeing.{free_stays, outside_point, either_point}
+use Rattle.net_func.proofs.Seeing.{free_stays, outside_point, either_point, unchanged_point}
 use Rattle.net_func.proofs.seen.add_change.Goals as goal
 
 pub outside-requires-clause-free : goal.outside-requires-clause-free
@@ -80,3 +81,14 @@ returns-clause-big g c = λ h.
     c.args.functions.now c.xor.new.self c.args.change c.in_ok-changed.changed
     c.in_ok-changed.ensures.stays c.requires.change.free c.in_ok-changed.ensures.ok)))
     ))
+
+pub returns-then-change-clause-ok : goal.returns-then-change-clause-ok
+returns-then-change-clause-ok g c =
+    Means-same g.F.Functions.holds g.F.Functions.tree g.F.Functions.limit c.args.functions.now
+    c.args.seen.0 (computed g.F.Functions.tree c.args.functions.now c.args.seen) _
+    (Means-own g.F.Functions.holds g.F.Functions.tree g.F.Functions.limit c.args.functions.now
+    c.args.seen.0 c.requires.seen
+    (g.met.F.Functions.reduced c.args.functions.now c.args.seen.0 c.requires.seen)
+    (g.met.F.Functions.bounded c.args.functions.now c.args.seen.0 c.requires.seen))
+    (λ point. unchanged_point g.F.Functions.tree c.args.functions.now c.args.change
+    c.if-change.true (computed g.F.Functions.tree c.args.functions.now c.args.seen point) point)

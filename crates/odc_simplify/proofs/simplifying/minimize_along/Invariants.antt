@@ -1,9 +1,12 @@
 use Rattle.std.proofs.Common.{drop}
-use Rattle.odc_simplify.specs.Turns.{IsUnderway}
+use Rattle.odc_simplify.specs.Turns.{IsUnderway, Serves}
 use Rattle.odc_simplify.proofs.simplifying.minimize_along.Given as goal
 
--- the turns so far
+-- the turns so far, and the functions that are kept
 abbrev pub invariant-loop-name : goal.invariant-loop-name
-invariant-loop-name g l =
-    IsUnderway (g.F.Functions.limit l.fn.functions) (g.F.Functions.limit l.functions) l.names
-    (drop l.name-index l.names) l.fn.network l.network
+invariant-loop-name g l = record {
+  underway : IsUnderway (g.F.Functions.limit l.fn.functions) (g.F.Functions.limit l.functions)
+      l.names (drop l.name-index l.names) l.fn.network l.network;
+  serves : Serves g.F.Functions.holds g.F.Functions.tree g.F.Functions.limit l.functions l.network
+      l.kept;
+}

@@ -1,0 +1,224 @@
+//! A circuit in order, and the functions of its signals that have no number yet.
+
+ghost use Rattle.std.specs.Prelude.{◌≡◌, ◌<◌, ℕ, List, Some, length, slice_set, true, false, bytes_eq, IfOk, IfErr, OnOk};
+ghost use Rattle.circuit_model.specs.Names.{has};
+ghost use Rattle.circuit_model.specs.Soundness.{outputs_of, IsSound, IsAcyclic};
+ghost use Rattle.circuit_model.specs.Values.{driver};
+ghost use Rattle.circuit_model.specs.declared.circuit.Table.{Table as TheTable};
+ghost use Rattle.circuit_laws.specs.Edits.{replaced, with_replaced};
+ghost use Rattle.circuit_laws.specs.Fitting.{IsFitting};
+ghost use Rattle.func_core.specs.Numbers.{Stays};
+ghost use Rattle.net_func.specs.Numbering.{number_in, has_number, AreSome, AreAll};
+ghost use Rattle.net_func.specs.Signals.{own_function, free_function, forced_function, IsBigAt, Blames};
+ghost use Rattle.net_func.specs.Kept.{is_signal, is_free_signal, IsInOrder};
+
+use crate::building::{TableOrder, place_at, table_at, table_order};
+use crate::fault::NetFuncFault;
+use crate::leaves::{add_constant, add_ordered, leaf_names};
+use crate::numbers::Numbers;
+use crate::unreached::unreached_numbers;
+use circuit_model::{Circuit, Name, Names, Table, Tables};
+use func_core::Functions;
+use sis_base::{Sequence, Whole};
+use std::alloc::{AllocError, Global};
+use std::mem;
+
+/// A circuit with its leaves, and with orders of its tables and of those of its don't-care part.
+pub(crate) struct OrderedCircuit {
+    pub circuit: Circuit,
+    pub leaves: Names,
+    pub tables: TableOrder,
+    pub dont_care: TableOrder,
+}
+
+// By hand, so that letting a circuit go is one call in the functions that own one.
+impl Drop for OrderedCircuit {
+    fn drop(self) {
+        let OrderedCircuit {
+            circuit: _circuit,
+            leaves: _leaves,
+            tables: _tables,
+            dont_care: _dont_care,
+        } = self;
+    }
+}
+
+/// A circuit in order; an error only for want of memory.
+pub(crate) fn in_order(alloc: Global, circuit: Whole<Circuit>) -> Result<OrderedCircuit, AllocError>
+    requires { IsSound circuit.it }
+    ensures ready { IfOk result IsInOrder }
+    ensures same { IfOk result (λ ordered. ordered.circuit ≡ circuit.it) }
+{
+    let leaves = leaf_names(alloc, &circuit.it)?;
+    let tables = table_order(alloc, circuit.it.tables.as_slice())?;
+    let dont_care = table_order(alloc, circuit.it.dont_care.as_slice())?;
+    Ok(OrderedCircuit {
+        circuit: circuit.into_it(),
+        leaves,
+        tables,
+        dont_care,
+    })
+}
+
+// Whether two tables of one signal are the same.
+fn is_same(one: &Table, other: &Table) -> bool
+    requires { one.now.output ≡ other.now.output }
+    ensures { result ≡ true → one.now ≡ other.now }
+{
+    if one.phase != other.phase {
+        return false;
+    }
+    if one.inputs == other.inputs {
+        return one.rows == other.rows;
+    }
+    false
+}
+
+/// Whether a table is that of its signal already.
+pub(crate) fn stands(ordered: &OrderedCircuit, table: &Table) -> bool
+    requires ready { IsInOrder ordered.now }
+    requires driven { has (outputs_of ordered.now.circuit.tables) table.now.output ≡ true }
+    ensures { result ≡ true
+        → with_replaced ordered.now.circuit table.now ≡ ordered.now.circuit }
+{
+    let tables = ordered.circuit.tables.as_slice();
+    let old = table_at(tables, &ordered.tables.places, &table.output);
+    is_same(old, table)
+}
+
+// Puts a table at a place.
+fn set_table(alloc: Global, tables: &mut Tables, place: usize, table: Table)
+    requires { place < length tables.old }
+    ensures { tables.new ≡ slice_set tables.old place table }
+{
+    let mut items = mem::replace(tables, Sequence::new(alloc)).into_vec();
+    items[place] = table;
+    *tables = Sequence::from_vec(items);
+}
+
+/// Puts a table, which reads no more, in the place of the table of its signal; takes no memory.
+pub(crate) fn put_table(alloc: Global, ordered: &mut OrderedCircuit, table: Table)
+    requires ready { IsInOrder ordered.old }
+    requires driven { has (outputs_of ordered.old.circuit.tables) table.output ≡ true }
+    requires fitting { IsFitting ordered.old.circuit table }
+    requires acyclic { IsAcyclic (replaced ordered.old.circuit.tables table) }
+    requires reads { (old : TheTable)
+        → driver ordered.old.circuit.tables table.output ≡ Some old → (input : List ℕ)
+        → has table.inputs input ≡ true → has old.inputs input ≡ true }
+    ensures ready { IsInOrder ordered.new }
+    ensures replaced { ordered.new.circuit ≡ with_replaced ordered.old.circuit table }
+{
+    match place_at(&ordered.tables.places, &table.output) {
+        None => unreachable!(),
+        Some(place) => set_table(alloc, &mut ordered.circuit.tables, place, table),
+    }
+}
+
+/// Makes the functions of all signals that have no number yet.
+pub(crate) fn add_own<F: Functions>(
+    alloc: Global,
+    functions: &mut F,
+    ordered: &OrderedCircuit,
+    numbers: &mut Numbers,
+) -> Result<(), NetFuncFault>
+    requires ready { IsInOrder ordered.now }
+    requires some { AreSome F.holds F.tree F.limit functions.old (is_signal ordered.now.circuit)
+        (own_function ordered.now.circuit) (number_in numbers.old) }
+    ensures ok { OnOk result (AreAll F.holds F.tree F.limit functions.new
+        (is_signal ordered.now.circuit) (own_function ordered.now.circuit)
+        (number_in numbers.new)) }
+    ensures big { IfErr result (λ fault. Blames fault (IsBigAt (F.limit functions.old)
+        ordered.now.circuit.tables (own_function ordered.now.circuit))) }
+    ensures stays { Stays F.holds F.tree F.limit functions.old functions.new }
+{
+    let leaves = ordered.leaves.as_slice();
+    let tables = ordered.circuit.tables.as_slice();
+    add_ordered(alloc, functions, numbers, leaves, tables, &ordered.tables)
+}
+
+/// Makes the functions of the leaves and of the tables of the don't-care part that have no number
+/// yet.
+pub(crate) fn add_free<F: Functions>(
+    alloc: Global,
+    functions: &mut F,
+    ordered: &OrderedCircuit,
+    numbers: &mut Numbers,
+) -> Result<(), NetFuncFault>
+    requires ready { IsInOrder ordered.now }
+    requires some { AreSome F.holds F.tree F.limit functions.old
+        (is_free_signal ordered.now.circuit) (free_function ordered.now.circuit)
+        (number_in numbers.old) }
+    ensures ok { OnOk result (AreAll F.holds F.tree F.limit functions.new
+        (is_free_signal ordered.now.circuit) (free_function ordered.now.circuit)
+        (number_in numbers.new)) }
+    ensures big { IfErr result (λ fault. Blames fault (IsBigAt (F.limit functions.old)
+        ordered.now.circuit.dont_care (free_function ordered.now.circuit))) }
+    ensures stays { Stays F.holds F.tree F.limit functions.old functions.new }
+{
+    let leaves = ordered.leaves.as_slice();
+    let tables = ordered.circuit.dont_care.as_slice();
+    add_ordered(
+        alloc,
+        functions,
+        numbers,
+        leaves,
+        tables,
+        &ordered.dont_care,
+    )
+}
+
+// Makes the functions of all signals that have no number yet, where one signal, whose number
+// stands, has a bit in place of its table's value.
+fn add_forced<F: Functions>(
+    alloc: Global,
+    functions: &mut F,
+    ordered: &OrderedCircuit,
+    numbers: &mut Numbers,
+    name: &Name,
+    bit: bool,
+) -> Result<(), NetFuncFault>
+    requires ready { IsInOrder ordered.now }
+    requires driven { has (outputs_of ordered.now.circuit.tables) name.now ≡ true }
+    requires fixed { has_number (number_in numbers.old) name.now ≡ true }
+    requires some { AreSome F.holds F.tree F.limit functions.old (is_signal ordered.now.circuit)
+        (forced_function ordered.now.circuit name.now bit) (number_in numbers.old) }
+    ensures ok { OnOk result (AreAll F.holds F.tree F.limit functions.new
+        (is_signal ordered.now.circuit) (forced_function ordered.now.circuit name.now bit)
+        (number_in numbers.new)) }
+    ensures big { IfErr result (λ fault. Blames fault (λ blamed. (bytes_eq blamed name.now ≡ false)
+        × IsBigAt (F.limit functions.old) ordered.now.circuit.tables
+        (forced_function ordered.now.circuit name.now bit) blamed)) }
+    ensures stays { Stays F.holds F.tree F.limit functions.old functions.new }
+{
+    let leaves = ordered.leaves.as_slice();
+    let tables = ordered.circuit.tables.as_slice();
+    add_ordered(alloc, functions, numbers, leaves, tables, &ordered.tables)
+}
+
+/// The numbers of the functions of all signals where one signal, which a table drives, has a bit in
+/// place of its table's value. Those of signals that it does not reach are their own.
+pub(crate) fn forced_beside<F: Functions>(
+    alloc: Global,
+    functions: &mut F,
+    ordered: &OrderedCircuit,
+    own: &Numbers,
+    name: &Name,
+    bit: bool,
+) -> Result<Numbers, NetFuncFault>
+    requires ready { IsInOrder ordered.now }
+    requires driven { has (outputs_of ordered.now.circuit.tables) name.now ≡ true }
+    requires own { AreSome F.holds F.tree F.limit functions.old (is_signal ordered.now.circuit)
+        (own_function ordered.now.circuit) (number_in own.now) }
+    ensures ok { IfOk result (λ numbers. AreAll F.holds F.tree F.limit functions.new
+        (is_signal ordered.now.circuit) (forced_function ordered.now.circuit name.now bit)
+        (number_in numbers)) }
+    ensures big { IfErr result (λ fault. Blames fault (λ blamed. (bytes_eq blamed name.now ≡ false)
+        × IsBigAt (F.limit functions.old) ordered.now.circuit.tables
+        (forced_function ordered.now.circuit name.now bit) blamed)) }
+    ensures stays { Stays F.holds F.tree F.limit functions.old functions.new }
+{
+    let mut numbers = unreached_numbers(alloc, own, ordered, name)?;
+    add_constant(alloc, functions, &mut numbers, name, bit)?;
+    add_forced(alloc, functions, ordered, &mut numbers, name, bit)?;
+    Ok(numbers)
+}
