@@ -6,3 +6,4 @@ pub mod MemSource
 pub mod MemStore
 pub mod Plan
 pub mod Recording
+pub mod Sure

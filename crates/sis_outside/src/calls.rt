@@ -4,10 +4,14 @@
 ghost use Rattle.std.specs.Prelude.{◌≡◌, ◌⊎◌, Some, List, ℕ};
 ghost use Rattle.sis_outside.specs.Calls.{StoreCall, TakeCall, PutCall, FilesGo, Follows, StoreWent, SourceWent, SinkWent, WasSaved};
 ghost use Rattle.sis_outside.specs.Files.{Files, file_at};
+ghost use Rattle.sis_outside.specs.Sure.{NeverFails};
 
 use crate::sink::Sink;
 use crate::source::Source;
 use crate::store::Store;
+use crate::sure_sink::SureSink;
+use crate::sure_source::SureSource;
+use crate::sure_store::SureStore;
 
 /// A list of calls of a store: files that are told go by the calls, and each count rose where some
 /// call was counted, and stayed where none was.
@@ -35,4 +39,11 @@ pub fn files_are_saved()
         → (name : List ℕ)
         → (file_at new name ≡ file_at old name) ⊎ ((left : List ℕ)
         × (file_at new name ≡ Some left) × WasSaved calls name left) }
+{}
+
+/// The objects in memory that are sure count no fault, whatever is asked of them.
+pub fn sure_objects_never_fail()
+    ensures store { NeverFails ⟦<SureStore as Store>⟧.faults }
+    ensures source { NeverFails ⟦<SureSource as Source>⟧.faults }
+    ensures sink { NeverFails ⟦<SureSink as Sink>⟧.faults }
 {}

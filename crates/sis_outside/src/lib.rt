@@ -4,11 +4,13 @@
 //! counts of what went wrong, which are kept in 64 bits. Each trait promises, after POSIX's read
 //! and write, what an answer says of the contents, what a failed call leaves, and that a fault
 //! comes only where its count rose. `MemStore`, `MemSource` and `MemSink` keep those promises in
-//! memory, and fail at the calls that were planned.
+//! memory, and fail at the calls that were planned; `SureStore`, `SureSource` and `SureSink` never
+//! fail: their count of faults is always 0.
 #![tactic(auto)]
 
 mod calls;
 mod counts;
+mod mem_files;
 mod mem_sink;
 mod mem_source;
 mod mem_store;
@@ -17,8 +19,11 @@ mod recording;
 mod sink;
 mod source;
 mod store;
+mod sure_sink;
+mod sure_source;
+mod sure_store;
 
-pub use calls::{files_are_saved, sinks_went, sources_went, stores_went};
+pub use calls::{files_are_saved, sinks_went, sources_went, stores_went, sure_objects_never_fail};
 pub use counts::risen_counts_stay;
 pub use mem_sink::MemSink;
 pub use mem_source::MemSource;
@@ -27,3 +32,6 @@ pub use recording::{PutEntry, Recording, StoreEntry, TakeEntry, recordings_grow}
 pub use sink::{PutFault, Sink};
 pub use source::{Source, TakeFault};
 pub use store::{LoadFault, SaveFault, Store};
+pub use sure_sink::SureSink;
+pub use sure_source::SureSource;
+pub use sure_store::SureStore;

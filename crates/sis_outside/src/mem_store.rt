@@ -1,70 +1,29 @@
 //! A store in memory.
 
-ghost use Rattle.std.specs.Prelude.{◌≡◌, ◌-◌, ◌^◌, ◌<◌, true, false, [], IfOk, OnOk, OnErr};
-ghost use Rattle.std.specs.Ordering.{nat_cmp};
-ghost use Rattle.std.specs.Cmp.Lexicographic.{slice_cmp};
+ghost use Rattle.std.specs.Prelude.{◌≡◌, ◌-◌, ◌^◌, ◌<◌, true, OnOk, OnErr};
 ghost use Rattle.std.specs.FinMap as map;
 ghost use Rattle.std.specs.Option.{option_map};
-ghost use Rattle.sis_outside.specs.Calls.{IsLoadWithin, StoreKeeps, Tells, Load, Save, bytes_of, load_failed, load_missed};
+ghost use Rattle.sis_outside.specs.Calls.{StoreKeeps, Load, Save, bytes_of};
 ghost use Rattle.sis_outside.specs.Files.{file_at, with_file};
 ghost use Rattle.sis_outside.specs.MemStore.{LoadsByPlan, SavesByPlan};
 ghost use Rattle.sis_outside.specs.Plan.{with_failure, nothing_planned};
 
+use crate::mem_files::{MemFiles, copied_within};
 use crate::plan::Plan;
 use crate::store::{LoadFault, SaveFault, Store};
 use std::alloc::{AllocError, Global};
 use std::marker::Model;
 
-/// A file, which contracts see as its name's bytes and its bytes.
-#[derive(Drop)]
-struct Entry {
-    name: String,
-    bytes: Vec<u8>,
-}
-
-impl Model for Entry {
-    ghost use Rattle.std.specs.Prelude.{ℕ, List, string_bytes};
-
-    ghost Value = { List ℕ × List ℕ };
-
-    ghost view = { λ e. (string_bytes e.name, e.bytes.items) };
-}
-
-impl Entry {
-    fn new(alloc: Global, name: &str, bytes: &[u8]) -> Result<Self, AllocError>
-        ensures { IfOk result (λ made. made ≡ (name.now, bytes.now)) }
-    {
-        Ok(Entry {
-            name: String::from_str(alloc, name)?,
-            bytes: bytes.to_vec(alloc)?,
-        })
-    }
-
-    fn name(&self) -> &str
-        ensures { result.now ≡ self.now.0 }
-    {
-        self.name.as_str()
-    }
-
-    fn bytes(&self) -> &[u8]
-        ensures { result.now ≡ self.now.1 }
-    {
-        self.bytes.as_slice()
-    }
-}
-
 /// A store that keeps its files, and fails at the calls that were planned.
 #[derive(Drop)]
 pub struct MemStore {
-    alloc: Global,
-    entries: Vec<Entry>,
+    files: MemFiles,
     plan: Plan,
     faults: u64,
     misses: u64,
 }
 
 impl Model for MemStore {
-    ghost use Rattle.std.specs.FinMap.{from_entries};
     ghost use Rattle.sis_outside.specs.MemStore.{StoreState, state_code};
 
     ghost Value = { StoreState };
@@ -72,37 +31,7 @@ impl Model for MemStore {
     ghost coded = { state_code };
 
     ghost view = { λ s. record
-        { files = from_entries s.entries.items; schedule = s.plan; faults = s.faults; misses = s.misses } };
-}
-
-/// The bytes of the first entry of this name.
-fn first_of<'a>(entries: &'a [Entry], name: &str) -> Option<&'a [u8]>
-    ensures { option_map (λ bytes. bytes.now) result ≡ map.find
-        (slice_cmp nat_cmp) name.now entries.now }
-{
-    for entry in entries {
-        if name == entry.name() {
-            return Some(entry.bytes());
-        }
-    }
-    None
-}
-
-/// A copy of a file's bytes, of which there are to be at most `max`.
-fn copied_within(alloc: Global, bytes: &[u8], max: usize) -> Result<Vec<u8>, LoadFault>
-    requires { max < 2 ^ 64 - 1 }
-    ensures tells { Tells (Some bytes.now) max (bytes_of result) }
-    ensures within { IsLoadWithin max (bytes_of result) }
-    ensures unfailed { load_failed (bytes_of result) ≡ false }
-    ensures unmissed { load_missed (bytes_of result) ≡ false }
-{
-    if bytes.len() > max {
-        return Err(LoadFault::TooLong(max + 1));
-    }
-    match bytes.to_vec(alloc) {
-        Ok(copy) => Ok(copy),
-        Err(_) => Err(LoadFault::Memory),
-    }
+        { files = s.files; schedule = s.plan; faults = s.faults; misses = s.misses } };
 }
 
 impl MemStore {
@@ -112,8 +41,7 @@ impl MemStore {
             { files = map.empty; schedule = nothing_planned; faults = 0; misses = 0 } }
     {
         MemStore {
-            alloc,
-            entries: Vec::new(alloc),
+            files: MemFiles::new(alloc),
             plan: Plan::new(alloc),
             faults: 0,
             misses: 0,
@@ -126,9 +54,7 @@ impl MemStore {
             { files = with_file self.old.files name.now bytes.now }) }
         ensures err { OnErr result (self.new ≡ self.old) }
     {
-        let entry = Entry::new(self.alloc, name, bytes)?;
-        self.entries.insert(0, entry)?;
-        Ok(())
+        self.files.put(name, bytes)
     }
 
     /// Has the load or save of this number, counted from 0 over both, fail: a save after `passes`
@@ -145,7 +71,7 @@ impl MemStore {
     pub fn file(&self, name: &str) -> Option<&[u8]>
         ensures { option_map (λ bytes. bytes.now) result ≡ file_at self.now.files name.now }
     {
-        first_of(self.entries.as_slice(), name)
+        self.files.find(name)
     }
 
     /// How many loads and saves failed, at most the greatest `u64`.
@@ -187,7 +113,7 @@ impl Store for MemStore {
                 self.faults = self.faults.saturating_add(1);
                 Err(LoadFault::Failed)
             }
-            None => match self.file(name) {
+            None => match self.files.find(name) {
                 None => {
                     self.misses = self.misses.saturating_add(1);
                     Err(LoadFault::Missing)

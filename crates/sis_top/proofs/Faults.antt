@@ -1,8 +1,9 @@
 -- What a fault says of the counts.
-use Rattle.std.proofs.Common.{◌≡◌, ℕ, List, [], ◌∷◌, ◌++◌, refl, sym, ap, subst, ◌∙◌, inl, inr}
+use Rattle.std.proofs.Common.{◌≡◌, ℕ, List, [], ◌∷◌, ◌++◌, refl, sym, ap, subst, ◌∙◌, inl, inr, arith}
 use Rattle.std.specs.Prelude.{◌⊎◌, Bool, true, false, ◌||◌, Option, Some, None, Result, Ok, Err}
 use Rattle.sis_outside.specs.Calls.{StoreCall, TakeCall, PutCall, any_of, store_failed, take_failed, put_failed, Counted}
 use Rattle.sis_outside.specs.Counts.{Rose}
+use Rattle.sis_outside.specs.Sure.{NeverFails}
 use Rattle.sis_outside.specs.declared.sink.PutFault.{PutFault}
 use Rattle.sis_outside.specs.declared.sink.PutFault.TheVariants as put
 use Rattle.sis_top.specs.Asked.{TheOptions, TheScript}
@@ -119,3 +120,18 @@ pub call_usage : (asked : Option TheOptions) (store : List StoreCall → Type 0)
 unfolding IsCall
 call_usage None store input out err status call f = refl
 call_usage (Some options) store input out err status call f = absurd (ends_usage call.end.cut call.end.refused call.last status call.ends f)
+
+-- a count that is 0 of each object of a kind does not rise
+pub never_rises : {X : Type 0} (faults : X → ℕ) → NeverFails faults → (before now : X) → Rose (faults before) (faults now) → ⊥
+never_rises faults never before now rose = zero_rises (faults before) (faults now) (never before) (never now) rose
+  where
+    zero_rises : (before now : ℕ) → before ≡ 0 → now ≡ 0 → Rose before now → ⊥
+    zero_rises before now b n rose = omega arith
+
+-- where no count rises, no object is named that failed
+pub none_counted : {A B C D : Type 0} → (A → ⊥) → (B → ⊥) → (C → ⊥) → (D → ⊥) → (what : Failed) → CountOf A B C D what → ⊥
+none_counted a b c d failed.Store h = a h
+none_counted a b c d failed.Input h = b h
+none_counted a b c d failed.Out h = c h
+none_counted a b c d failed.Err h = d h
+none_counted a b c d failed.Memory h = h

@@ -1,6 +1,5 @@
--- What the words of the command line ask for.
--- Source: the SIS manual (UCB/ERL M92/41): the script is a file (`-f`), a text (`-c`), or, with neither, what stands
--- on the input.
+-- What the words of the command line ask for. Source: the SIS manual (UCB/ERL M92/41): the script
+-- is a file (`-f`), a text (`-c`), or, with neither, what stands on the input.
 use Rattle.std.specs.Prelude.{◌≡◌, ⊤, Bool, false, Option, Some, None, option_map, List, [], ◌∷◌, codes, bytes_eq, Result, Ok, Err}
 use Rattle.clap.specs.Words.{Kinds, Text, fault_of}
 use Rattle.sis_top.specs.Shell.{shell, value_of}
@@ -57,7 +56,8 @@ script_in from.Input = OnInput
 abbrev pub options_in : Options → TheOptions
 options_in options = record { keep = options.keep; script = script_in options.script }
 
--- an answer is what was asked for, or Usage where the words are not taken; only want of memory is free
+-- an answer is what was asked for, or Usage where the words are not taken; only want of memory is
+-- free
 abbrev pub Answers : Option TheOptions → Result Options WordsFault → Type 0
 Answers asked (Ok options) = asked ≡ Some (options_in options)
 Answers asked (Err Usage) = asked ≡ None

@@ -1,6 +1,6 @@
--- What a call of the program promises.
--- Source: the SIS manual (UCB/ERL M92/41) for the commands; that what is written refines what was read, and the last line
--- and the status of a call, are the project's own promise.
+-- What a call of the program promises. Source: the SIS manual (UCB/ERL M92/41) for the commands;
+-- that what is written refines what was read, and the last line and the status of a call, are the
+-- project's own promise.
 use Rattle.std.specs.Prelude.{◌≡◌, ◌⊎◌, ℕ, Bool, true, false, Option, Some, None, List, [], ◌∷◌, ◌++◌, flat_map, codes, Result, Ok, Err}
 use Rattle.sis_outside.specs.Calls.{StoreCall, Save, TakeCall, PutCall}
 use Rattle.sis_outside.specs.declared.store.SaveFault.{SaveFault}
@@ -55,7 +55,8 @@ abbrev pub puts_of : Option PutCall → List PutCall
 puts_of None = []
 puts_of (Some call) = call ∷ []
 
--- the calls of some turns on the store, on the input, on the output and on the error output, in order
+-- the calls of some turns on the store, on the input, on the output and on the error output, in
+-- order
 abbrev pub store_calls : List Turn → List StoreCall
 store_calls turns = flat_map (λ turn. on_store turn.asked) turns
 
@@ -92,7 +93,8 @@ unless_memory status (Ok done) = status
 unless_memory status (Err put.Failed) = status
 unless_memory status (Err put.Memory) = Memory
 
--- a call ends with a line and a status: the line was put, whole or in part as the put answers, or memory was wanting for it
+-- a call ends with a line and a status: the line was put, whole or in part as the put answers, or
+-- memory was wanting for it
 abbrev pub EndsWith : List ℕ → Status → Option PutCall → Status → Type 0
 EndsWith line ends (Some call) status = (call.piece ≡ line) × (status ≡ unless_memory ends call.answer)
 EndsWith line ends None status = status ≡ Memory
@@ -119,9 +121,10 @@ Ends (Some stop) refused last status = EndsWith (failure_line stop) (status_cut 
 abbrev pub IsDoneBut : Status → Type 0
 IsDoneBut status = (status ≡ Done) ⊎ ((status ≡ Fault) ⊎ (status ≡ Memory))
 
--- A call that runs a script: some turns are a run from its begin to its end, after which nothing is due; each
--- object of the outside went by just the calls of these turns, the error output by that of the last line
--- behind them; all that was written is faithful; and where each turn is served, nothing was refused.
+-- A call that runs a script: some turns are a run from its begin to its end, after which nothing is
+-- due; each object of the outside went by just the calls of these turns, the error output by that
+-- of the last line behind them; all that was written is faithful; and where each turn is served,
+-- nothing was refused.
 pub record IsRun (goes_on : Bool) (script : TheScript) (store : List StoreCall → Type 0) (input : List TakeCall → Type 0) (out err : List PutCall → Type 0) (status : Status) : Type 0 where
   pub turns : List Turn
   pub end : Machine
@@ -136,8 +139,8 @@ pub record IsRun (goes_on : Bool) (script : TheScript) (store : List StoreCall �
   pub faithful : AtEach goes_on IsFaithful (begun script) turns
   pub served : AtEach goes_on IsServedTurn (begun script) turns → IsDoneBut status
 
--- A call whose words are not taken: the line is put that tells how the program is used, or memory was wanting before that;
--- nothing else is asked of the outside.
+-- A call whose words are not taken: the line is put that tells how the program is used, or memory
+-- was wanting before that; nothing else is asked of the outside.
 pub record IsUnused (store : List StoreCall → Type 0) (input : List TakeCall → Type 0) (out err : List PutCall → Type 0) (status : Status) : Type 0 where
   pub last : Option PutCall
   pub ends : EndsWith usage_line Usage last status
@@ -160,7 +163,8 @@ CountOf store input out err failed.Out = out
 CountOf store input out err failed.Err = err
 CountOf store input out err failed.Memory = ⊥
 
--- A fault names its object: the last line on the error output says what failed, and that object's count rose.
+-- A fault names its object: the last line on the error output says what failed, and that object's
+-- count rose.
 pub record NamesFault (rose : Failed → Type 0) (err : List PutCall → Type 0) : Type 0 where
   pub stop : Stop
   pub counted : rose stop.what
@@ -169,8 +173,8 @@ pub record NamesFault (rose : Failed → Type 0) (err : List PutCall → Type 0)
   pub went : err (lines ++ last ∷ [])
   pub names : last.piece ≡ failure_line stop
 
--- why a work was refused: a script that is a file is missing, which was counted, or too long; a script that
--- is a text or the input is too long; a command is refused for its own reasons
+-- why a work was refused: a script that is a file is missing, which was counted, or too long; a
+-- script that is a text or the input is too long; a command is refused for its own reasons
 abbrev pub CauseOf : Type 0 → Work → Refusal → Type 0
 CauseOf missed (Begin (InFile name)) why = ((why ≡ Missing name) × missed) ⊎ (why ≡ TooLong name)
 CauseOf missed (Begin script) why = why ≡ LongScript

@@ -1,6 +1,5 @@
--- What the private calls below the top call promise, in the terms of the command machine. No public clause
--- stands on these definitions.
--- Source: the project's own rule for the outside.
+-- What the private calls below the top call promise, in the terms of the command machine. No public
+-- clause stands on these definitions. Source: the project's own rule for the outside.
 use Rattle.std.specs.Prelude.{◌≡◌, ◌⊎◌, ℕ, ◌+◌, ◌*◌, ◌-◌, ◌≤◌, zero, suc, Bool, ◌||◌, Option, Some, None, List, [], ◌∷◌, ◌++◌, length, Result, Ok, Err}
 use Rattle.std.specs.Global.{Vec}
 use Rattle.sis_outside.specs.Calls.{StoreCall, TakeCall, PutCall}
@@ -56,7 +55,8 @@ pub record IsTaking (input : List TakeCall → Type 0) (text : List ℕ) : Type 
   pub goes_on : (used : List ℕ → Outcome) (more : List TakeCall) (ending : Ending) → ComesTaken used text more ending
       → ComesTaken used [] (calls ++ more) ending
 
--- what a script's begin did: by a plan, with just these calls on the store and on the input; the output is not asked
+-- what a script's begin did: by a plan, with just these calls on the store and on the input; the
+-- output is not asked
 pub record HasBegun (plan : Plan) (store : List StoreCall → Type 0) (input : List TakeCall → Type 0) (ending : Ending) : Type 0 where
   pub asked : Asked
   pub steps : Steps (λ other. other ≡ plan) asked ending
@@ -84,7 +84,8 @@ IsAt held todo refused machine = (machine.held ≡ held) × (machine.todo ≡ to
 abbrev pub IsCutAt : Stop → Machine → Type 0
 IsCutAt stop machine = (machine.todo ≡ []) × (machine.cut ≡ Some stop)
 
--- where a machine stands behind a turn, by the answer: whether the work was refused, or what cut the run short
+-- where a machine stands behind a turn, by the answer: whether the work was refused, or what cut
+-- the run short
 abbrev pub Lands : Held → List Due → Bool → ℕ → Result Bool Failed → Machine → Type 0
 Lands held todo before line (Ok refused) machine = IsAt held todo (refused || before) machine
 Lands held todo before line (Err what) machine = IsCutAt (record { line = line; what = what }) machine
@@ -99,7 +100,8 @@ abbrev pub IsDone : Ending → Type 0
 IsDone (Done held next) = Unit {0}
 IsDone other = ⊥
 
--- the end of a work was told, and the machine stands so behind it; where memory was wanting for what is due, it is cut short
+-- the end of a work was told, and the machine stands so behind it; where memory was wanting for
+-- what is due, it is cut short
 pub record HasSettled (goes_on : Bool) (machine : Machine) (due : Due) (ended : Ending) (err : List PutCall → Type 0) (stands : Machine → Type 0) : Type 0 where
   pub ending : Ending
   pub told : Option PutCall
@@ -140,7 +142,8 @@ pub record HasEndLine (line : List ℕ) (ends : Status) (err : List PutCall → 
   pub ended : EndsWith line ends last status
   pub went : err (puts_of last)
 
--- more than all the commands that one script can make due, for each level that they may still go deeper
+-- more than all the commands that one script can make due, for each level that they may still go
+-- deeper
 unfoldable pub heft : ℕ → ℕ
 heft zero = 1
 heft (suc levels) = 134217728 * heft levels

@@ -34,8 +34,8 @@ abbrev pub AsksInput : Option TheOptions → Type 0
 AsksInput None = ⊥
 AsksInput (Some options) = options.script ≡ OnInput
 
--- over these files, and over this input where the script is taken off it, each turn that the machine may come
--- to is served
+-- over these files, and over this input where the script is taken off it, each turn that the
+-- machine may come to is served
 abbrev pub AreServed : Bool → TheScript → Files → List ℕ → Type 0
 AreServed goes_on script files left =
     (turns : List Turn) (machine : Machine) (turn : Turn)
@@ -102,9 +102,9 @@ AreAlike (one ∷ ones) (other ∷ others) =
     AnswersAlike one.asked other.asked × LinesAlike one.told other.told × AreAlike ones others
 AreAlike ones others = Unit {0}
 
--- some turns are a whole run of a script over files that are told: nothing is due behind it, nothing
--- cut it short, no function was too big, the files went by its calls, and each load kept within what
--- was asked for
+-- some turns are a whole run of a script over files that are told: nothing is due behind it,
+-- nothing cut it short, no function was too big, the files went by its calls, and each load kept
+-- within what was asked for
 pub record IsRunOver (goes_on : Bool) (script : TheScript) (files : Files) (turns : List Turn) : Type 0 where
   pub end : Machine
   pub runs : Runs goes_on (begun script) turns end

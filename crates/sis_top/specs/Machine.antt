@@ -1,7 +1,7 @@
 -- The command machine: what stands between two turns, one turn, and a run as a list of turns.
--- Source: the SIS manual (UCB/ERL M92/41): the commands of a script are done one after the other, and
--- `source` has those of a file done before the rest. That a refusal ends a run that is not to go on behind
--- it is the project's own rule.
+-- Source: the SIS manual (UCB/ERL M92/41): the commands of a script are done one after the other,
+-- and `source` has those of a file done before the rest. That a refusal ends a run that is not to
+-- go on behind it is the project's own rule.
 use Rattle.std.specs.Prelude.{◌≡◌, ℕ, ◌+◌, Bool, true, false, Option, Some, None, List, [], ◌∷◌, ◌++◌, map, length, nat_le, Result, Ok, Err, if◌then◌else◌}
 use Rattle.sis_outside.specs.Calls.{PutCall}
 use Rattle.sis_outside.specs.declared.sink.PutFault.{PutFault}
@@ -21,8 +21,8 @@ use Rattle.sis_session.specs.declared.refusal.Next.TheVariants as next
 use Rattle.sis_session.specs.declared.refusal.Refusal.TheVariants.{LongScript}
 use Rattle.sis_top.specs.declared.status.Stop.{Stop}
 
--- what is to be done: the script is begun for which the words of the command line ask, or a command is run,
--- with so many sourced scripts round it
+-- what is to be done: the script is begun for which the words of the command line ask, or a command
+-- is run, with so many sourced scripts round it
 pub data Work : Type 0 where
   Begin : (script : TheScript) → Work
   Run : (depth : ℕ) (op : Op) → Work
@@ -32,8 +32,8 @@ pub record Due : Type 0 where
   pub line : ℕ
   pub work : Work
 
--- what stands between two turns: what is held, what was read last, whether a work was refused, what cut the
--- run short, and what is due, the next in front
+-- what stands between two turns: what is held, what was read last, whether a work was refused, what
+-- cut the run short, and what is due, the next in front
 pub record Machine : Type 0 where
   pub held : Held
   pub spec : Option Spec
@@ -55,8 +55,8 @@ begun script = record {
 abbrev pub begins : Held → List ℕ → Outcome
 begins held text = Does held (next.Script (commands_in text))
 
--- the plan by which a script is begun: a file is loaded, a text is taken as it stands unless it is longer
--- than is run, and the input is taken to its end
+-- the plan by which a script is begun: a file is loaded, a text is taken as it stands unless it is
+-- longer than is run, and the input is taken to its end
 abbrev pub begin_plan : Held → TheScript → Plan
 begin_plan held (InFile name) = Loads name (begins held)
 begin_plan held (AsText text) =
@@ -68,8 +68,8 @@ abbrev pub WorkPlans : Held → Work → Plan → Type 0
 WorkPlans held (Begin script) plan = plan ≡ begin_plan held script
 WorkPlans held (Run depth op) plan = Plans depth held op plan
 
--- A turn: what the work that is due asked of the outside, with the answers, how it ended, and the put of the
--- line of its refusal.
+-- A turn: what the work that is due asked of the outside, with the answers, how it ended, and the
+-- put of the line of its refusal.
 pub record Turn : Type 0 where
   pub asked : Asked
   pub ending : Ending
@@ -102,8 +102,8 @@ abbrev pub dues : ℕ → List Command → List Due
 dues depth commands =
     map (λ command. record { line = command.line; work = Run depth command.op }) commands
 
--- what is due behind a work that is done, before the rest: a script's commands, at a depth; nothing at all
--- behind `quit`
+-- what is due behind a work that is done, before the rest: a script's commands, at a depth; nothing
+-- at all behind `quit`
 abbrev pub todo_after : ℕ → Next → List Due → List Due
 todo_after depth next.Go rest = rest
 todo_after depth next.Quit rest = []

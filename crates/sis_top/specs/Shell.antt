@@ -1,6 +1,6 @@
--- The command line of the shell, as the crate `clap` sees it.
--- Source: the SIS manual (UCB/ERL M92/41): the program takes a script by `-f FILE` or commands by `-c TEXT`; `-k`
--- (go on behind a refused command) is this project's own. How words are parted into flags and values is clap's,
+-- The command line of the shell, as the crate `clap` sees it. Source: the SIS manual (UCB/ERL
+-- M92/41): the program takes a script by `-f FILE` or commands by `-c TEXT`; `-k` (go on behind a
+-- refused command) is this project's own. How words are parted into flags and values is clap's,
 -- whose own function of a command and its words is taken as it stands.
 use Rattle.std.specs.Prelude.{◌≡◌, ◌⊎◌, Option, Some, None, List, [], codes, true}
 use Rattle.clap.specs.Words.{App, Rule, Text, fault_of, first_of, matches_of, new_app, new_rule, with_rule}

@@ -1,5 +1,6 @@
--- Words that ask for given options, in the two ways in which a value may stand, and words that are refused.
--- Source: POSIX, "Utility Argument Syntax", with `=` between a letter and its value as clap takes it.
+-- Words that ask for given options, in the two ways in which a value may stand, and words that are
+-- refused. Source: POSIX, "Utility Argument Syntax", with `=` between a letter and its value as
+-- clap takes it.
 use Rattle.std.specs.Prelude.{◌≡◌, ⊤, ◌==◌, ℕ, Bool, true, false, Some, None, List, [], ◌∷◌, ◌++◌, codes}
 use Rattle.clap.specs.Words.{Text}
 use Rattle.sis_top.specs.Asked.{TheScript, InFile, AsText, OnInput, options_of}
@@ -39,8 +40,8 @@ pub record AreAskedFor : Type 0 where
   pub parted : (keep : Bool) (script : TheScript) → HasPlainValue script
       → options_of (keep_words keep ++ parted_words script) ≡ Some (record { keep = keep; script = script })
 
--- words that are not taken: a file and a text together, alone; a flag twice, a long option or a stray word, whatever stands
--- behind them
+-- words that are not taken: a file and a text together, alone; a flag twice, a long option or a
+-- stray word, whatever stands behind them
 pub record AreRefused : Type 0 where
   -- a file and a text together
   pub both : (name text : Text) → options_of (joined_words (InFile name) ++ joined_words (AsText text)) ≡ None

@@ -10,6 +10,7 @@ ghost use Rattle.std.specs.Prelude.{◌≡◌, IsTrue, None};
 ghost use Rattle.sis_outside.specs.Calls.{Follows, SinkWent, SourceWent, StoreWent};
 ghost use Rattle.sis_outside.specs.Counts.{Rose};
 ghost use Rattle.sis_outside.specs.Recording.{IsRecorded, calls_in, put_call, store_call, take_call};
+ghost use Rattle.sis_outside.specs.Sure.{NeverFails};
 ghost use Rattle.sis_top.specs.Asked.{options_in, options_of};
 ghost use Rattle.sis_top.specs.Call.{CountOf, IsCall, IsRun, NamesFault, NamesRefusal, failure_line, failure_text, status_cut, status_of, usage_line};
 ghost use Rattle.sis_top.specs.Code.{HasEndLine};
@@ -220,6 +221,10 @@ pub fn run_sis<S: Store, I: Source, O: Sink, E: Sink>(
     ensures refused { result ≡ status.Refused → NamesRefusal (Rose (S.misses store.old)
         (S.misses store.new)) (Follows E.calls err.old err.new) }
     ensures usage { result ≡ status.Usage → options_of words.now ≡ None }
+
+    // Over objects of kinds that never fail there is no fault.
+    ensures sure { NeverFails S.faults → NeverFails I.faults → NeverFails O.faults
+        → NeverFails E.faults → result ≡ status.Fault → ⊥ }
 
     // Where the files are told, and the input too if the script stands on it, and each turn that a
     // run may come to is served, all is done, unless something fails or memory is wanting.

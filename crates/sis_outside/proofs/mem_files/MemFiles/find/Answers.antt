@@ -3,7 +3,7 @@ use Rattle.std.specs.Ordering.{nat_cmp}
 use Rattle.std.specs.Cmp.Lexicographic.{slice_cmp}
 use Rattle.std.specs.FinMap.{find, get-from_entries}
 use Rattle.std.proofs.lemmas.Cmp.{nat_list_cmp_total}
-use Rattle.sis_outside.proofs.mem_store.MemStore.file.Goals as goal
+use Rattle.sis_outside.proofs.mem_files.MemFiles.find.Goals as goal
 
 pub returns : goal.returns
 returns c =

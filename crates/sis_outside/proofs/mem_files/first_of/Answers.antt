@@ -1,7 +1,7 @@
 use Rattle.std.proofs.Common.{ap, sym, ◌∙◌, Some}
 use Rattle.std.specs.Str.{bytes_eq}
 use Rattle.sis_outside.proofs.Entries.{find_here, find_later}
-use Rattle.sis_outside.proofs.mem_store.first_of.Goals as goal
+use Rattle.sis_outside.proofs.mem_files.first_of.Goals as goal
 
 pub returns-then-eq : goal.returns-then-eq
 returns-then-eq c =
