@@ -32,7 +32,7 @@ fn main(rt: HostRuntime) -> ExitCode {
     let Ok(words) = words(&rt) else {
         return ExitCode::from(Status::Memory.code());
     };
-    let mut store = RealStore::new(&rt);
+    let mut store = RealStore::new(rt.alloc(), &rt);
     let mut input = StdSource::new(rt.stdin());
     let mut out = StdSink::new(rt.stdout());
     let mut err = StdSink::new(rt.stderr());

@@ -1,10 +1,12 @@
 //! The real files as a store. It tells no contents, and counts its faults and misses.
+//!
+//! A file is saved by a new one beside it, which takes its place once it is whole (`replacing`).
 
 ghost use Rattle.std.specs.Prelude.{◌≡◌, ◌<◌, ◌-◌, ◌^◌, ℕ, false, IsTrue};
 ghost use Rattle.std.specs.FinMap.{empty};
 ghost use Rattle.sis_outside.specs.Calls.{IsLoadWithin, StoreKeeps, bytes_of};
 
-use crate::streams::write_whole;
+use crate::replacing::save_file;
 use sis_outside::{LoadFault, SaveFault, Store};
 use std::alloc::Global;
 use std::fs;
@@ -17,15 +19,17 @@ const PIECE: usize = 65_536;
 /// A store over the files of the runtime, by their paths.
 #[derive(Drop)]
 pub struct RealStore<'a, R: Files> {
+    alloc: Global,
     rt: &'a R,
     faults: u64,
     misses: u64,
 }
 
 impl<'a, R: Files> RealStore<'a, R> {
-    /// The store of the files of a runtime.
-    pub fn new(rt: &'a R) -> Self {
+    /// The store of the files of a runtime; takes no memory.
+    pub fn new(alloc: Global, rt: &'a R) -> Self {
         RealStore {
+            alloc,
             rt,
             faults: 0,
             misses: 0,
@@ -83,11 +87,10 @@ impl<R: Files> Store for RealStore<'_, R> {
     }
 
     fn save(&mut self, name: &str, bytes: &[u8]) -> Result<(), SaveFault> {
-        let saved = match fs::create(self.rt, name) {
-            Ok(mut file) => write_whole(&mut file, bytes),
-            Err(_) => false,
+        let Ok(beside) = format!(in self.alloc; "{name}.sis-new") else {
+            return Err(SaveFault::Memory);
         };
-        if saved {
+        if save_file(self.rt, name, beside.as_str(), bytes) {
             return Ok(());
         }
         self.faults = self.faults.saturating_add(1);
@@ -103,7 +106,7 @@ mod tests {
     #[test]
     fn files_are_saved_and_loaded(rt: HostRuntime) -> Result<(), Fail> {
         let alloc = rt.alloc();
-        let mut store = RealStore::new(&rt);
+        let mut store = RealStore::new(alloc, &rt);
         store.save("kept", b"12345")?;
         store.save("kept", b"abc")?;
         assert_eq!(rt; store.load(alloc, "kept", 3)?.as_slice(), b"abc".as_slice());
@@ -115,8 +118,12 @@ mod tests {
             store.load(alloc, "none", 9).err(),
             Some(LoadFault::Missing)
         );
+        assert_eq!(rt;
+            store.load(alloc, "kept.sis-new", 9).err(),
+            Some(LoadFault::Missing)
+        );
         assert_eq!(rt; store.save("no/folder", b"x"), Err(SaveFault::Failed));
-        assert_eq!(rt; (store.faults, store.misses), (1, 1));
+        assert_eq!(rt; (store.faults, store.misses), (1, 2));
         Ok(())
     }
 }

@@ -8,6 +8,7 @@
 
 mod arguments;
 mod files;
+mod replacing;
 mod streams;
 
 pub use arguments::{behind_name, words_of};
