@@ -1,7 +1,7 @@
 -- The commands one by one: the form of each, and the plans of a form. A new command is a new case.
--- Source: the SIS manual (UCB/ERL M92/41), the commands; the order of refusals is the project's own: a
--- command's words, then how deep scripts are nested, then the parts that it needs, then names, then the
--- file that it loads, then what is read of it, then the command's own limits.
+-- Source: the SIS manual (UCB/ERL M92/41), the commands; the order of refusals is the project's
+-- own: a command's words, then how deep scripts are nested, then the parts that it needs, then
+-- names, then the file that it loads, then what is read of it, then the command's own limits.
 use Rattle.std.specs.Prelude.{◌≡◌, ◌⊎◌, ℕ, Bool, Option, Some, None, Result, Ok, Err, List, [], nat_le, nat_lt, min, flat_map, map, if◌then◌else◌}
 use Rattle.sis_base.specs.Written.{lines_text}
 use Rattle.sis_text.specs.Entries.{entries_of, script_entries_of}
@@ -84,7 +84,8 @@ abbrev pub kiss_read : List ℕ → Result Machine KissFault → Result Spec Ref
 kiss_read name (Ok machine) = Ok (spec.Machine machine)
 kiss_read name (Err fault) = Err (refusal.Kiss name fault)
 
--- what the bytes of a file are read as: a circuit or a machine, by the library that is held; a machine
+-- what the bytes of a file are read as: a circuit or a machine, by the library that is held; a
+-- machine
 abbrev pub spec_in : Format → Held → List ℕ → List ℕ → Result Spec Refusal
 spec_in Blif held name bytes = blif_read name (read_lines held.library (entries_of bytes))
 spec_in Kiss held name bytes = kiss_read name (machine_lines_read (entries_of bytes))
@@ -185,7 +186,8 @@ abbrev pub FactorsTold : Option (List ℕ) → Circuit → Result (List ℕ) Ref
 FactorsTold None circuit what = (text : List ℕ) × AreFactorLines circuit.tables text × (what ≡ Ok text)
 FactorsTold (Some name) circuit what = FactorTold name (driver circuit.tables name) what
 
--- what is told of a table's kernels: their lines, or a refusal just where there are more than are listed
+-- what is told of a table's kernels: their lines, or a refusal just where there are more than are
+-- listed
 abbrev pub KernelsOf : List ℕ → Table → Result (List ℕ) Refusal → Type 0
 KernelsOf name table (Ok text) = AreKernelLines table text × (HasManyKernels table → ⊥)
 KernelsOf name table (Err why) = (why ≡ refusal.KernelLimit name) × HasManyKernels table
@@ -225,8 +227,8 @@ abbrev pub Decomposes : Rule → Circuit → Result Circuit Refusal → Type 0
 Decomposes rule old (Ok new) = IsDecomposed rule old new
 Decomposes rule old (Err why) = IsFull rule old × (why ≡ refusal.NodeLimit)
 
--- why a network is not extracted by a rule: its steps come to a first table with too many kernels, or
--- to a network that has no room for the next table
+-- why a network is not extracted by a rule: its steps come to a first table with too many kernels,
+-- or to a network that has no room for the next table
 abbrev pub IsExtractionRefusal : Extraction → Circuit → Refusal → Type 0
 IsExtractionRefusal rule old why =
     ((name : List ℕ) × IsUnlistable rule old name × (why ≡ refusal.KernelLimit name))
@@ -237,13 +239,14 @@ abbrev pub Extracts : Extraction → Circuit → Result Circuit Refusal → Type
 Extracts rule old (Ok new) = IsExtracted rule old new
 Extracts rule old (Err why) = IsExtractionRefusal rule old why
 
--- What a command that changes the network makes of it: a new network, or a refusal. `sweep`, `eliminate`:
--- steps are taken until none applies. `collapse`: all tables are taken into their readers, or the first
--- that cannot take one in is told. `simplify`, `full_simplify`: each table becomes minimal in its turn, or
--- the first whose list is too long is told, or of which a function is too big. `fx`, `gkx`, `gcx`: candidates become tables as long as one saves literals, or
--- the first table with too many kernels is told, or there is no room. `resub`: tables are divided by others
--- as long as that saves literals. `decomp`, `tech_decomp`: tables are parted until all are done, or there
--- is no room.
+-- What a command that changes the network makes of it: a new network, or a refusal. `sweep`,
+-- `eliminate`: steps are taken until none applies. `collapse`: all tables are taken into their
+-- readers, or the first that cannot take one in is told. `simplify`, `full_simplify`: each table
+-- becomes minimal in its turn, or the first whose list is too long is told, or of which a function
+-- is too big. `fx`, `gkx`, `gcx`: candidates become tables as long as one saves literals, or the
+-- first table with too many kernels is told, or there is no room. `resub`: tables are divided by
+-- others as long as that saves literals. `decomp`, `tech_decomp`: tables are parted until all are
+-- done, or there is no room.
 abbrev pub Changes : Change → Circuit → Result Circuit Refusal → Type 0
 Changes changing.Sweep old (Ok new) = Chain sweep_step old new
 Changes changing.Sweep old (Err why) = ⊥
@@ -263,7 +266,8 @@ Changes changing.Resub old (Err why) = ⊥
 Changes changing.Decomp old what = Decomposes Shared old what
 Changes (changing.TechDecomp products sums) old what = Decomposes (Gates products sums) old what
 
--- what comes of a change: the new network is held, and the old one is the previous one; nothing is put
+-- what comes of a change: the new network is held, and the old one is the previous one; nothing is
+-- put
 abbrev pub reply_changed : Held → Result Circuit Refusal → Result Reply Refusal
 reply_changed held (Ok new) = Ok (record { text = []; held = with_changed held new })
 reply_changed held (Err why) = Err why
@@ -336,11 +340,11 @@ source_plan depth held name =
     then Loads name (λ bytes. Does held (next.Script (commands_in bytes)))
     else Quiet (Refuses refusal.Nested)
 
--- What a command does, by its form: it tells something of what is held; it writes a part of it to a file
--- or to the output; it reads a file as a circuit or a machine, or as a library; it makes the circuit of a
--- seed, which is held as one that was read; it changes the network; it makes a network of the machine by
--- codes of its states; it makes a netlist of the network; it takes a change back; it has a script done next; it
--- ends the script; or its words are wrong.
+-- What a command does, by its form: it tells something of what is held; it writes a part of it to a
+-- file or to the output; it reads a file as a circuit or a machine, or as a library; it makes the
+-- circuit of a seed, which is held as one that was read; it changes the network; it makes a network
+-- of the machine by codes of its states; it makes a netlist of the network; it takes a change back;
+-- it has a script done next; it ends the script; or its words are wrong.
 pub data Form : Type 1 where
   Tells : (tells : Held → Result (List ℕ) Refusal → Type 0) → Form
   Writes : (part : Part) (file : Option (List ℕ)) → Form

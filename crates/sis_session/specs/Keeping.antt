@@ -1,7 +1,6 @@
--- What every command keeps of what is held, what is written of it, what a command needs so that it is
--- done, and when it has one outcome.
--- Source: the SIS manual (UCB/ERL M92/41), the commands one by one; that each network refines what was read
--- last is the project's own promise.
+-- What every command keeps of what is held, what is written of it, what a command needs so that it
+-- is done, and when it has one outcome. Source: the SIS manual (UCB/ERL M92/41), the commands one
+-- by one; that each network refines what was read last is the project's own promise.
 use Rattle.std.specs.Prelude.{◌≡◌, ◌⊎◌, ℕ, Bool, ◌<◌, ◌≤◌, Option, Some, None, unwrap_or, Result, Ok, Err, List, []}
 use Rattle.sis_outside.specs.Calls.{Load, Save}
 use Rattle.circuit_model.specs.Behaviors.{Behavior, RefinesAs}
@@ -66,8 +65,8 @@ pub record HasMapped (library : Option Library) (network : Option Circuit) (held
     : Type 0 where
   pub each : (netlist : Netlist) → held ≡ Some netlist → IsMappedFrom library network netlist
 
--- the network, the previous one and the machine are sound and refine what was read last; the netlists
--- are those of the network and of the previous one
+-- the network, the previous one and the machine are sound and refine what was read last; the
+-- netlists are those of the network and of the previous one
 pub record IsRefined (spec : Option Spec) (held : Held) : Type 0 where
   pub network : RefinesSpec spec held.network
   pub previous : RefinesSpec spec held.previous
@@ -89,8 +88,8 @@ abbrev pub IsOfHeld : Held → Written → Type 0
 IsOfHeld held (OfSpec written) = Unit {0}
 IsOfHeld held (OfNetlist netlist) = IsMappedFrom held.library held.network netlist
 
--- the behavior of what is written; that of a netlist by the library that is held (by one without gates
--- where there is none)
+-- the behavior of what is written; that of a netlist by the library that is held (by one without
+-- gates where there is none)
 abbrev pub behavior_of : Held → Written → Behavior
 behavior_of held (OfSpec written) = of_spec written
 behavior_of held (OfNetlist netlist) = of_circuit (circuit_of (unwrap_or held.library []) netlist)
@@ -140,10 +139,10 @@ HasKernels network name =
 abbrev pub Allows : Change → Circuit → Type 0
 Allows change circuit = (why : Refusal) → Changes change circuit (Err why) → ⊥
 
--- what a command needs of what is held: its words fit, its scripts are not nested too deep; the network,
--- the previous one or the machine and the table that it names are there, with no more kernels than are
--- listed; the machine's network is not too wide; the netlist is there, or the library, with nothing
--- against a netlist; and nothing refuses the change
+-- what a command needs of what is held: its words fit, its scripts are not nested too deep; the
+-- network, the previous one or the machine and the table that it names are there, with no more
+-- kernels than are listed; the machine's network is not too wide; the netlist is there, or the
+-- library, with nothing against a netlist; and nothing refuses the change
 abbrev pub HasNeeds : ℕ → Held → Op → Type 0
 HasNeeds depth held (command.WriteBlif file) = HasNetwork held.network
 HasNeeds depth held (command.WriteKiss file) = HasMachine held.machine
@@ -188,8 +187,8 @@ IsAnswered held form (OnInput calls) = Unit {0}
 abbrev pub IsServed : ℕ → Held → Op → Asked → Type 0
 IsServed depth held op asked = HasNeeds depth held op × IsAnswered held (form_of op) asked
 
--- some function is too big: for which signal of a network that comes, and whether, may depend on how
--- functions are made
+-- some function is too big: for which signal of a network that comes, and whether, may depend on
+-- how functions are made
 abbrev pub RefusesTooBig : {A : Type 0} → Result A Refusal → Type 0
 RefusesTooBig answer = (name : List ℕ) × (answer ≡ Err (refusal.TooBig name))
 

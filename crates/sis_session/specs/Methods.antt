@@ -1,6 +1,7 @@
--- What the calls below a step promise, each by cases on its answer. No public clause stands on these
--- definitions but that of `load` and of the session's `read` and `undo`.
--- Source: the project's own rule: an answer names what failed, and only a command that is done changes what is held.
+-- What the calls below a step promise, each by cases on its answer. No public clause stands on
+-- these definitions but that of `load` and of the session's `read` and `undo`. Source: the
+-- project's own rule: an answer names what failed, and only a command that is done changes what is
+-- held.
 use Rattle.std.specs.Prelude.{◌≡◌, ℕ, ◌<◌, ◌≤◌, Bool, true, false, List, [], ◌∷◌, Option, Some, None, Result, Ok, Err}
 use Rattle.std.specs.Global.{Vec}
 use Rattle.sis_text.specs.Entries.{entries_of}
@@ -40,7 +41,8 @@ use Rattle.sis_session.specs.declared.refusal.StepFault.TheVariants as fault
 abbrev pub AskedNone : {C : Type 0} → List C → Type 0
 AskedNone calls = calls ≡ []
 
--- a file was loaded by one call: its bytes, or why there are none; memory may be wanting behind any answer but a failure
+-- a file was loaded by one call: its bytes, or why there are none; memory may be wanting behind any
+-- answer but a failure
 abbrev pub HasLoaded : {S : Type 0} → (S → StoreCall → S → Type 0) → List ℕ → S → Result (Vec ℕ) StepFault → S → Type 0
 HasLoaded goes name old (Ok bytes) new = goes old (Load name MAX_BYTES (Ok bytes.items)) new
 HasLoaded goes name old (Err (fault.Refused (refusal.Missing file))) new = (file ≡ name) × goes old (Load name MAX_BYTES (Err load.Missing)) new
@@ -117,8 +119,8 @@ IsDeclined reason (fault.Refused why) = refusal_of reason ≡ Some why
 IsDeclined reason fault.Memory = Unit {0}
 IsDeclined reason other = ⊥
 
--- the netlist of a network was made, with the text that tells its areas; or there is a reason against
--- it; or memory was wanting
+-- the netlist of a network was made, with the text that tells its areas; or there is a reason
+-- against it; or memory was wanting
 abbrev pub IsNetlisted : Bool → Circuit → Library → Result ToldNetlist StepFault → Type 0
 IsNetlisted brief circuit library (Ok made) =
     Maps circuit library (Ok made.netlist) × (made.text.items ≡ map_text brief made.netlist)

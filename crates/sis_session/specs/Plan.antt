@@ -1,7 +1,7 @@
--- A command's plan: at most one call on the outside, and what comes of its answer. How a command goes by its plan, and what
--- the answer of a step says of it.
--- Source: the project's own rule for the outside: a command makes at most one call and puts its reply whole; a refusal, a
--- fault and want of memory leave what is held as it was.
+-- A command's plan: at most one call on the outside, and what comes of its answer. How a command
+-- goes by its plan, and what the answer of a step says of it. Source: the project's own rule for
+-- the outside: a command makes at most one call and puts its reply whole; a refusal, a fault and
+-- want of memory leave what is held as it was.
 use Rattle.std.specs.Prelude.{◌≡◌, ◌⊎◌, ◌≤◌, ◌<◌, ◌+◌, ℕ, Option, Some, None, List, [], ◌∷◌, ◌++◌, length, Result, Ok, Err}
 use Rattle.sis_outside.specs.Calls.{StoreCall, Load, Save, TakeCall, PutCall}
 use Rattle.sis_outside.specs.declared.store.LoadFault.{LoadFault}
@@ -39,8 +39,9 @@ pub data Outcome : Type 0 where
   Does : (held : Held) (next : Next) → Outcome
   Refuses : (why : Refusal) → Outcome
 
--- the plan of a command: it asks nothing of the outside; it loads a file, and what it does depends on the bytes; it saves a
--- file; it puts a reply; it takes the whole input, and what it does depends on the bytes
+-- the plan of a command: it asks nothing of the outside; it loads a file, and what it does depends
+-- on the bytes; it saves a file; it puts a reply; it takes the whole input, and what it does
+-- depends on the bytes
 pub data Plan : Type 0 where
   Quiet : Outcome → Plan
   Loads : (name : List ℕ) (used : List ℕ → Outcome) → Plan
@@ -113,17 +114,17 @@ ComesPut outcome (Ok done) ending = Comes outcome ending
 ComesPut outcome (Err put.Failed) ending = ending ≡ Cut failed.Out
 ComesPut outcome (Err put.Memory) ending = ending ≡ Cut failed.Memory
 
--- what comes of the answer of one take of the whole input, behind the bytes that were taken so far: no bytes are the end; where
--- some came, it goes on behind them
+-- what comes of the answer of one take of the whole input, behind the bytes that were taken so far:
+-- no bytes are the end; where some came, it goes on behind them
 abbrev pub ComesPiece : (List ℕ → Outcome) → List ℕ → Result (List ℕ) TakeFault → List TakeCall → (List ℕ → Type 0) → Ending → Type 0
 ComesPiece used text (Ok []) calls more ending = (calls ≡ []) × Comes (used text) ending
 ComesPiece used text (Ok (byte ∷ piece)) calls more ending = more (text ++ byte ∷ piece)
 ComesPiece used text (Err take.Failed) calls more ending = (calls ≡ []) × (ending ≡ Cut failed.Input)
 ComesPiece used text (Err take.Memory) calls more ending = (calls ≡ []) × (ending ≡ Cut failed.Memory)
 
--- what comes of the takes of the whole input, behind the bytes that were taken so far: as long as these may be
--- used, each asks for all that may still be used and one byte more; an empty piece is the end, a byte too many
--- a script that is too long
+-- what comes of the takes of the whole input, behind the bytes that were taken so far: as long as
+-- these may be used, each asks for all that may still be used and one byte more; an empty piece is
+-- the end, a byte too many a script that is too long
 abbrev pub ComesTaken : (List ℕ → Outcome) → List ℕ → List TakeCall → Ending → Type 0
 ComesTaken used text [] ending =
     ((MAX_BYTES < length text) × Comes (Refuses refusal.LongScript) ending)
@@ -141,13 +142,14 @@ Goes (Puts reply outcome) (OnOut call) ending = (call.piece ≡ reply) × ComesP
 Goes (Takes used) (OnInput calls) ending = ComesTaken used [] calls ending
 Goes plan asked ending = ⊥
 
--- a step of a command with these plans: it went by one of them, or memory was wanting before it asked anything
+-- a step of a command with these plans: it went by one of them, or memory was wanting before it
+-- asked anything
 pub data Steps (plans : Plan → Type 0) (asked : Asked) (ending : Ending) : Type 0 where
   by_plan : (plan : Plan) → plans plan → Goes plan asked ending → Steps plans asked ending
   no_memory : asked ≡ Nothing → ending ≡ Cut failed.Memory → Steps plans asked ending
 
--- what a call of a command did: a step, and each object of the outside went by just the calls that the step made on it; the
--- input is asked for nothing
+-- what a call of a command did: a step, and each object of the outside went by just the calls that
+-- the step made on it; the input is asked for nothing
 pub record Did (plans : Plan → Type 0) (store : List StoreCall → Type 0) (out : List PutCall → Type 0) (ending : Ending) : Type 0 where
   pub asked : Asked
   pub steps : Steps plans asked ending
@@ -167,7 +169,8 @@ abbrev pub ended : Result Next StepFault → Held → Ending
 ended (Ok next) held = Done held next
 ended (Err why) held = faulted why
 
--- a script comes only where no more than the most scripts stand round one another, and it is no longer than what is read
+-- a script comes only where no more than the most scripts stand round one another, and it is no
+-- longer than what is read
 abbrev pub NestsBelow : ℕ → Next → Type 0
 NestsBelow depth (Script commands) = (depth < MAX_DEPTH) × (length commands ≤ MAX_BYTES)
 NestsBelow depth next = Unit {0}

@@ -1,5 +1,5 @@
--- The texts that the program prints: replies, lines of refusals and of faults.
--- Source: the SIS manual (UCB/ERL M92/41), `print_stats`; the wording of refusals is the project's own.
+-- The texts that the program prints: replies, lines of refusals and of faults. Source: the SIS
+-- manual (UCB/ERL M92/41), `print_stats`; the wording of refusals is the project's own.
 use Rattle.std.specs.Prelude.{ℕ, Bool, true, false, List, [], ◌∷◌, ◌++◌, flat_map, map, length, sum_by, codes, decimal}
 use Rattle.sis_base.specs.Written.{spaced}
 use Rattle.circuit_model.specs.Counts.{literals_of}

@@ -1,6 +1,6 @@
--- What a session holds between two commands, what it read last, and what it writes.
--- Source: the SIS manual (UCB/ERL M92/41): a shell has one current network, finite-state machine, library and mapped netlist,
--- and `undo` takes back the last change.
+-- What a session holds between two commands, what it read last, and what it writes. Source: the SIS
+-- manual (UCB/ERL M92/41): a shell has one current network, finite-state machine, library and
+-- mapped netlist, and `undo` takes back the last change.
 use Rattle.std.specs.Prelude.{Option, Some, None, List}
 use Rattle.circuit_model.specs.declared.circuit.Circuit.{Circuit}
 use Rattle.circuit_model.specs.declared.machine.Machine.{Machine}
@@ -43,11 +43,13 @@ parts_held network previous machine library netlist previous_netlist = record {
 abbrev pub nothing_held : Held
 nothing_held = parts_held None None None None None None
 
--- a circuit that was read becomes the network; but for the library nothing else is held, and there is nothing to take back
+-- a circuit that was read becomes the network; but for the library nothing else is held, and there
+-- is nothing to take back
 abbrev pub with_read : Held → Circuit → Held
 with_read held circuit = record held { network = Some circuit; previous = None; machine = None; netlist = None; previous_netlist = None }
 
--- a machine that was read is held; but for the library nothing else is, and there is nothing to take back
+-- a machine that was read is held; but for the library nothing else is, and there is nothing to
+-- take back
 abbrev pub with_machine : Held → Machine → Held
 with_machine held machine = record held { network = None; previous = None; machine = Some machine; netlist = None; previous_netlist = None }
 
@@ -66,7 +68,8 @@ held_spec None (Some machine) = Some (spec.Machine machine)
 abbrev pub with_library : Held → Library → Held
 with_library held library = record held { library = Some library; netlist = None; previous_netlist = None }
 
--- a new network in place of the one that is held, which becomes the previous one with its netlist; the new one has none
+-- a new network in place of the one that is held, which becomes the previous one with its netlist;
+-- the new one has none
 abbrev pub with_changed : Held → Circuit → Held
 with_changed held new = record held { network = Some new; previous = held.network; netlist = None; previous_netlist = held.netlist }
 

@@ -1,5 +1,5 @@
--- What is wrong with a file, as a text.
--- Source: the wording is the project's own; the faults are those of the readers of BLIF, KISS2 and genlib.
+-- What is wrong with a file, as a text. Source: the wording is the project's own; the faults are
+-- those of the readers of BLIF, KISS2 and genlib.
 use Rattle.std.specs.Prelude.{ℕ, List, ◌++◌, codes, decimal}
 use Rattle.blif_lines.specs.declared.fault.BlifFault.{BlifFault}
 use Rattle.blif_lines.specs.declared.fault.BlifFault.TheVariants as blif

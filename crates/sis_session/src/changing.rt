@@ -15,7 +15,7 @@ ghost use Rattle.sis_session.specs.Methods.{IsChanged, IsMadeBy};
 use crate::refusal::{Refusal, StepFault};
 use crate::session::MAX_FUNCTION;
 use cube_cover::PlainRow;
-use func_core::PlainFunctions;
+use func_shared::SharedFunctions;
 use net_candidates::Rule as Extraction;
 use net_core::{AddFault, Network};
 use net_decomp::{Rule, decompose};
@@ -71,8 +71,8 @@ fn simplified(alloc: Global, network: &Network<PlainRow>) -> Result<Network<Plai
     }
 }
 
-/// A network after full simplification, or the refusal of a table whose list of rows is too long, or
-/// of which a function is too big.
+/// A network after full simplification, or the refusal of a table whose list of rows is too long,
+/// or of which a function is too big.
 fn fully_simplified(
     alloc: Global,
     network: &Network<PlainRow>,
@@ -81,7 +81,7 @@ fn fully_simplified(
     ensures changes { IsChanged FullSimplify network.now result }
     ensures bounds { IfOk result HasBounds }
 {
-    let mut functions = PlainFunctions::new(alloc, MAX_FUNCTION);
+    let mut functions = SharedFunctions::new(alloc, MAX_FUNCTION);
     match full_simplify(alloc, network, &mut functions) {
         Ok(new) => Ok(new),
         Err(FullFault::CubeLimit(name)) => Err(StepFault::Refused(Refusal::CubeLimit(name))),

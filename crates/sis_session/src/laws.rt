@@ -18,8 +18,8 @@ ghost use Rattle.sis_session.specs.State.{Held, nothing_held};
 ghost use Rattle.sis_session.specs.declared.refusal.Failed.TheVariants.{Memory};
 ghost use Rattle.sis_session.specs.declared.refusal.Next.{Next as TheNext};
 
-/// A law, no work: what is held is sound and refines what was read last, and netlists are those of the
-/// networks; so it is where nothing is held, and so it stays by each command that is done.
+/// A law, no work: what is held is sound and refines what was read last, and netlists are those of
+/// the networks; so it is where nothing is held, and so it stays by each command that is done.
 pub fn steps_keep_refinement()
     ensures begun { (spec : Option TheSpec) → IsRefined spec nothing_held }
     ensures kept { (depth : ℕ) (held : Held) (op : TheOp) (asked : Asked) (held' : Held)

@@ -55,8 +55,8 @@ pub const MAX_DEPTH: u32 = 16;
 pub const MAX_FUNCTION: usize = 1_048_575;
 
 /// What is held between two commands: the network, and the one before its last change, which both
-/// keep the bounds in which literals are counted, each with its netlist; the machine and the library,
-/// which are sound.
+/// keep the bounds in which literals are counted, each with its netlist; the machine and the
+/// library, which are sound.
 #[derive(Drop)]
 pub struct Session {
     network: Option<Network<PlainRow>>,
@@ -306,7 +306,8 @@ impl Session {
         Ok(Next::Go)
     }
 
-    /// Holds the network of the machine, and the one before as the previous one, where there was one.
+    /// Holds the network of the machine, and the one before as the previous one, where there was
+    /// one.
     fn hold_encoded(&mut self, network: Network<PlainRow>)
         requires { HasBounds network }
         ensures { self.new ≡ with_encoded self.old self.old.network network }
