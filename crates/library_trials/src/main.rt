@@ -81,6 +81,7 @@ fn answer_of_text(alloc: Global, out: &mut Vec<u8>, case: &Case<'_>) -> Result<(
         "network" => networks::answer(alloc, out, case, text.as_slice()),
         "work" => networks::put_work(alloc, out, case, text.as_slice()),
         "full" => networks::put_full(alloc, out, case, text.as_slice()),
+        "signals" => functions::put_signals(alloc, out, case, text.as_slice()),
         "netlist" => netlists::put_netlist(alloc, out, case, text.as_slice()),
         "command" => networks::put_command(alloc, out, case, text.as_slice()),
         _ => covers::answer::<PlainRow>(alloc, out, case),

@@ -7,12 +7,14 @@ ghost use Rattle.circuit_model.specs.Soundness.{outputs_of};
 ghost use Rattle.circuit_laws.specs.Edits.{constant_table};
 ghost use Rattle.net_core.specs.Tables.{named, IsOverInputs};
 
+use crate::functions::limit_of;
 use crate::needed::is_needed;
 use crate::puts::{put_circuit, put_names, put_table, put_text, put_value};
 use crate::reads::network;
 use circuit_model::Name;
 use cube_cover::{Cover, PlainRow};
-use func_core::PlainFunctions;
+use func_core::{Functions, PlainFunctions};
+use func_shared::SharedFunctions;
 use line_words::name_of;
 use net_candidates::Rule as Extraction;
 use net_core::{AddFault, Network, Table, tidy};
@@ -26,7 +28,7 @@ use odc_simplify::full_simplify;
 use sdc_simplify::simplify;
 use sis_base::Sequence;
 use std::alloc::{AllocError, Global};
-use trial_cases::{Case, CaseFault, number_of};
+use trial_cases::{Case, CaseFault};
 
 /// Puts the answer to a case of a network: what the call on a name tells, and the network behind
 /// it.
@@ -94,7 +96,7 @@ fn constant(alloc: Global) -> Table<PlainRow>
 }
 
 /// Whether a table has the name.
-fn has_table(network: &Network<PlainRow>, name: &Name) -> bool
+pub fn has_table(network: &Network<PlainRow>, name: &Name) -> bool
     ensures { result ≡ has (outputs_of network.now.tables) name.now }
 {
     network.table(name).is_some()
@@ -202,21 +204,36 @@ pub fn put_command(
     }
 }
 
-/// Puts the network that full simplification makes of that of a text, or its fault, by functions
-/// under a limit, which is at least 1.
+/// Puts the network that full simplification makes of that of a text, or its fault: how functions
+/// are held, and a limit.
 pub fn put_full(
     alloc: Global,
     out: &mut Vec<u8>,
     case: &Case<'_>,
     text: &[u8],
 ) -> Result<(), CaseFault> {
-    let limit = number_of(case.word(1))?;
-    if limit == 0 {
-        return Err(CaseFault::Bad);
-    }
+    let limit = limit_of(case)?;
     let network = network(alloc, text)?;
-    let mut functions = PlainFunctions::new(alloc, limit);
-    match &full_simplify(alloc, &network, &mut functions) {
+    match case.word(1) {
+        "plain" => put_by(alloc, out, &mut PlainFunctions::new(alloc, limit), &network),
+        "shared" => put_by(
+            alloc,
+            out,
+            &mut SharedFunctions::new(alloc, limit),
+            &network,
+        ),
+        _ => Err(CaseFault::Bad),
+    }
+}
+
+/// Puts the network that full simplification makes by an object of functions, or its fault.
+fn put_by<F: Functions>(
+    alloc: Global,
+    out: &mut Vec<u8>,
+    functions: &mut F,
+    network: &Network<PlainRow>,
+) -> Result<(), CaseFault> {
+    match &full_simplify(alloc, network, functions) {
         Ok(made) => put_network(alloc, out, made),
         Err(fault) => put_value(alloc, out, fault),
     }

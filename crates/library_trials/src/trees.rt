@@ -81,7 +81,8 @@ fn put_matches(alloc: Global, out: &mut Vec<u8>) -> Result<(), CaseFault> {
 /// The forest of a circuit.
 fn forest(alloc: Global, circuit: &Circuit) -> Result<Forest, ForestFault>
     requires { IsSoundCircuit circuit.now }
-    ensures { IfOk result (λ forest. (n : ℕ) → n < length forest.arena → size_of (tree_at forest.arena n) ≤ MAX_VERTICES) }
+    ensures { IfOk result (λ forest. (n : ℕ) → n < length forest.arena → size_of
+        (tree_at forest.arena n) ≤ MAX_VERTICES) }
 {
     forest_of(alloc, circuit)
 }
@@ -175,7 +176,8 @@ fn cover_forest(
     is_whole: bool,
 ) -> Result<(), CaseFault>
     requires patterns { IsLibrary patterns.now.arena patterns.now.gates }
-    requires sizes { (n : ℕ) → n < length forest.now.arena → size_of (tree_at forest.now.arena n) ≤ MAX_VERTICES }
+    requires sizes { (n : ℕ) → n < length forest.now.arena → size_of
+        (tree_at forest.now.arena n) ≤ MAX_VERTICES }
 {
     let choices = best(alloc, &forest.leaves, &forest.arena, patterns)?;
     put_covers(alloc, out, library, forest, &choices, is_whole)

@@ -51,7 +51,7 @@ fn put_call_over(
 }
 
 /// Calls the program on the words of a case: those of its first line, and behind the last of them what stands right below.
-fn call(
+pub fn call(
     alloc: Global,
     head: &str,
     own: &[Part<'_>],
@@ -120,7 +120,7 @@ fn run(alloc: Global, words: &[Word], outside: &mut Outside) -> Status {
 }
 
 /// Puts what is told of a call: its status, what was put on both outputs, and what was saved.
-fn put_told(
+pub fn put_told(
     alloc: Global,
     out: &mut Vec<u8>,
     status: Status,
@@ -136,7 +136,7 @@ fn put_told(
 }
 
 /// Puts a status and its number.
-fn put_status(alloc: Global, out: &mut Vec<u8>, status: Status) -> Result<(), AllocError> {
+pub fn put_status(alloc: Global, out: &mut Vec<u8>, status: Status) -> Result<(), AllocError> {
     let line = format!(in alloc; "{status:?}, {}", status.code())?;
     put_line(out, line.as_bytes())
 }
@@ -153,7 +153,7 @@ fn put_saved(
 }
 
 /// Puts a line for each file of some parts that was not to be saved and did not stay.
-fn put_changed(
+pub fn put_changed(
     alloc: Global,
     out: &mut Vec<u8>,
     store: &TrialStore,

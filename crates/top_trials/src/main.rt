@@ -1,20 +1,28 @@
 //! Answers cases about calls of the whole program over files, an input and outputs in memory.
 //!
-//! A case `call WORD|WORD|..` is a call of the program on these words, as trial_cases writes texts; lines right below it
-//! stand behind the last word. Below them stand parts, each with a line that begins with `@` and the lines of a text:
-//! `@file NAME`, `@input`, and without a text `@fail OBJECT CALL PASSES` and `@want OBJECT CALL`: the call of this number,
-//! counted from 0, of `store`, `input`, `out` or `err` fails after so many bytes, or wants memory. The input stands before
-//! its failures. A line `%HH HH ..` of a text is the bytes of these hexadecimal numbers. A case `files` has parts for all
-//! cases behind it, up to the next `files`, and no answer.
+//! A case `call WORD|WORD|..` is a call of the program on these words, as trial_cases writes texts;
+//! lines right below it stand behind the last word. Below them stand parts, each with a line that
+//! begins with `@` and the lines of a text: `@file NAME`, `@input` or, for pieces of at most so
+//! many bytes, `@input MOST`, and without a text `@fail OBJECT CALL PASSES` and `@want OBJECT
+//! CALL`: the call of this number, counted from 0, of `store`, `input`, `out` or `err` fails after
+//! so many bytes, or wants memory. The input stands before its failures. A line `%HH HH ..` of a
+//! text is the bytes of these hexadecimal numbers. A case `files` has parts for all cases behind
+//! it, up to the next `files`, and no answer.
 //!
-//! Told are the status and its number, the lines put on the output behind `out: ` and on the error output behind `err: `,
-//! those of each file that the call saved behind its name, and the name of any other file that did not stay as it was. A
-//! `\` stands where a text ends without a line end. A case `recorded` is a call over objects that record their calls, and
-//! tells their lists. A case `session` is calls on a session by itself, a case `laws` calls the laws. What is in `stdin` and `stdout` is worked out by hand from the definitions.
+//! Told are the status and its number, the lines put on the output behind `out: ` and on the error
+//! output behind `err: `, those of each file that the call saved behind its name, and the name of
+//! any other file that did not stay as it was. A `\` stands where a text ends without a line end. A
+//! case `failing` is calls in each of which one call on the outside fails (`failing`). A case
+//! `recorded` is a call over objects that record their calls, and tells their lists; a case `sure`
+//! is one over objects that never fail, a case `endless` one over an input without an end. A case
+//! `session` is calls on a session by itself, a case `laws` calls the laws. What is in `stdin` and
+//! `stdout` is worked out by hand from the definitions.
 #![tactic(auto)]
 
 mod calls;
+mod failing;
 mod law_calls;
+mod others;
 mod outside;
 mod parts;
 mod sessions;
@@ -36,7 +44,10 @@ fn answer(
 ) -> Result<(), CaseFault> {
     match case.word(0) {
         "call" => calls::answer(alloc, out, case, shared),
+        "failing" => failing::answer(alloc, out, case.head, shared),
         "recorded" => calls::put_recorded(alloc, out),
+        "sure" => others::put_sure(alloc, out),
+        "endless" => others::put_endless(alloc, out),
         "session" => sessions::answer(alloc, out, case, shared),
         "laws" => law_calls::answer(out),
         _ => Err(CaseFault::Bad),

@@ -46,7 +46,7 @@ impl Outside {
         Ok(())
     }
 
-    /// Does what a part says; one without a word says nothing.
+    /// Does what a part says; one without a word, or that says a call of a run, says nothing.
     fn take_part(&mut self, alloc: Global, part: &Part<'_>) -> Result<(), CaseFault> {
         match part.word(0) {
             "" => Ok(()),
@@ -54,6 +54,7 @@ impl Outside {
             "input" => self.put_input(alloc, part),
             "fail" => self.fail(part),
             "want" => self.want(part),
+            "load" | "save" | "take" | "out" | "err" => Ok(()),
             _ => Err(CaseFault::Bad),
         }
     }
@@ -69,14 +70,31 @@ impl Outside {
     fn put_input(&mut self, alloc: Global, part: &Part<'_>) -> Result<(), CaseFault> {
         let text = part.text(alloc)?;
         self.input.object = MemSource::new(alloc, text.as_slice())?;
+        self.limit_pieces(part.word(1))
+    }
+
+    /// Has no piece of the input be longer than a word says, if there is one.
+    fn limit_pieces(&mut self, word: &str) -> Result<(), CaseFault> {
+        if word.is_empty() {
+            return Ok(());
+        }
+        let most = number_of(word)?;
+        if most == 0 {
+            return Err(CaseFault::Bad);
+        }
+        self.input.object.limit_pieces(most);
         Ok(())
     }
 
     /// Has a call of an object fail after so many bytes.
     fn fail(&mut self, part: &Part<'_>) -> Result<(), CaseFault> {
         let call = number_of(part.word(2))?;
-        let passes = number_of(part.word(3))?;
-        match part.word(1) {
+        self.fail_at(part.word(1), call, number_of(part.word(3))?)
+    }
+
+    /// Has the call of this number of an object fail after so many bytes.
+    pub fn fail_at(&mut self, object: &str, call: usize, passes: usize) -> Result<(), CaseFault> {
+        match object {
             "store" => Ok(self.store.files.fail_at(call, passes)?),
             "input" => Ok(self.input.object.fail_at(call, passes)?),
             "out" => Ok(self.out.object.fail_at(call, passes)?),
