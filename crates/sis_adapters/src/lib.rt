@@ -3,7 +3,8 @@
 //!
 //! Promised, as clauses of `Store`, `Source` and `Sink` (sis_outside): each call is answered in
 //! their forms, and each that fails or misses is counted. The adapters tell no contents: what a
-//! real file or stream holds is trusted and not proved.
+//! real file or stream holds is trusted and not proved. Neither is how a save keeps the old file
+//! (`replacing`).
 #![tactic(auto)]
 
 mod arguments;
