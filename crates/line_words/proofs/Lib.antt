@@ -1,2 +1,1 @@
-pub mod LineEnds
 pub mod LongNames

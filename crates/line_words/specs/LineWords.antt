@@ -1,6 +1,6 @@
--- The words of a line, and what names and cube characters are in it.
--- Source: SIS report (UCB/ERL M92/41), BLIF and KISS2: a line is known by its first word, a cube by its characters `0`,
--- `1` and `-`. The limit on names is the project's own.
+-- The words of a line, and the names and cube characters in it. Source: SIS report (UCB/ERL
+-- M92/41), BLIF and KISS2: a line is known by its first word, a cube by its characters `0`, `1` and
+-- `-`. The limit on names is the project's own.
 use Rattle.std.specs.Prelude.{ℕ, Bool, ◌||◌, ◌==◌, nat_lt, Option, List, [], ◌∷◌, map, find, length, if◌then◌else◌}
 use Rattle.std.specs.Borrow.{Bor}
 use Rattle.std.specs.Option.{option_map}
@@ -8,7 +8,7 @@ use Rattle.circuit_model.specs.declared.circuit.Tri.{Tri}
 use Rattle.circuit_model.specs.declared.circuit.Tri.TheVariants.{Zero, One, Free}
 use Rattle.sis_base.specs.declared.limits.TheConstants.{MAX_NAME}
 
--- the bytes of words that stand in a text
+-- the bytes of words that are slices of a text
 abbrev pub texts : List (Bor (List ℕ)) → List (List ℕ)
 texts words = map (λ (word : Bor (List ℕ)). word.now) words
 
@@ -17,7 +17,7 @@ abbrev pub first_word : List (List ℕ) → List ℕ
 first_word [] = []
 first_word (word ∷ words) = word
 
--- the words behind the first
+-- the words after the first
 abbrev pub other_words : List (List ℕ) → List (List ℕ)
 other_words [] = []
 other_words (word ∷ words) = words

@@ -1,10 +1,9 @@
-//! The words of a line, as readers take them and writers put them.
+//! The words of a line, as readers take them and writers write them.
 //!
-//! What the readers and the writers of the line formats of SIS (report UCB/ERL M92/41: BLIF and
-//! KISS2) share: the first word of a line and the others, names and cube characters of words, and how
-//! a line of words is put. Promised: just what `specs/LineWords.antt` and the base crate's
-//! `specs/Written.antt` say; an error only for want of memory, and what was lent then stays as it
-//! was.
+//! This is what the readers and the writers of the line formats of SIS (report UCB/ERL M92/41: BLIF
+//! and KISS2) share: the first word of a line and the others, names and cube characters of words,
+//! and how a line of words is written. The results are exactly those of `specs/LineWords.antt` and
+//! of the base crate's `specs/Written.antt`. If memory runs out, what was borrowed stays as it was.
 #![tactic(auto)]
 
 mod putting;

@@ -1,19 +1,16 @@
-//! Words as a writer puts them.
+//! Appends words, cube characters and line ends to a text, as a writer does.
+//!
+//! Source: the BLIF appendix of the SIS report (UCB/ERL M92/41), as `specs/Written.antt` of the
+//! base crate states it. A word has one blank before it; a line ends with byte 10, after one more
+//! blank if its last byte is `\`. If memory runs out, the text stays as it was.
 
 ghost use Rattle.std.specs.Prelude.{◌≡◌, ◌≤◌, ◌++◌, ◌∷◌, [], map, drop, length, OnOk, OnErr};
-ghost use Rattle.sis_base.specs.Written.{ends_open, line_end, spaced};
+ghost use Rattle.sis_base.specs.Written.{line_end, spaced};
 ghost use Rattle.circuit_model.specs.Text.{character};
 
 use circuit_model::Tri;
+use sis_text::ends_open;
 use std::alloc::AllocError;
-
-/// Whether the last byte is `\`, which would join the next line.
-#[tactic(auto, using(crate::proofs::LineEnds::ends_open_last))]
-fn ends_open(text: &[u8]) -> bool
-    ensures { result ≡ ends_open text.now }
-{
-    !text.is_empty() && text[text.len() - 1] == b'\\'
-}
 
 /// How a line ends: by byte 10, after a blank where the last byte would join the next line.
 #[tactic(auto, unfolding(sis_base::specs::Written::line_end))]
@@ -27,8 +24,8 @@ fn line_end(line: &[u8]) -> &'static [u8]
     }
 }
 
-/// Ends the line that begins at `start`: by byte 10, after a blank where the line's last byte would
-/// join the next line. An error only for want of memory; then nothing is put.
+/// Ends the line that begins at `start`: by byte 10, after a blank if the line's last byte would
+/// join the next line. On an error the text stays as it was.
 pub fn end_line(out: &mut Vec<u8>, start: usize) -> Result<(), AllocError>
     requires { start ≤ length out.old.items }
     ensures ok { OnOk result (out.new.items
@@ -39,7 +36,7 @@ pub fn end_line(out: &mut Vec<u8>, start: usize) -> Result<(), AllocError>
     out.extend_from_slice(end)
 }
 
-/// Puts a word with a blank before it. An error only for want of memory; then nothing is put.
+/// Appends a word with a blank before it. On an error the text stays as it was.
 pub fn put_word(out: &mut Vec<u8>, word: &[u8]) -> Result<(), AllocError>
     ensures ok { OnOk result (out.new.items ≡ out.old.items ++ spaced word.now) }
     ensures err { OnErr result (out.new.items ≡ out.old.items) }
@@ -66,7 +63,7 @@ fn character(place: Tri) -> u8
     }
 }
 
-/// Puts a cube character. An error only for want of memory; then nothing is put.
+/// Appends a cube character. On an error the text stays as it was.
 fn put_character(out: &mut Vec<u8>, place: Tri) -> Result<(), AllocError>
     ensures ok { OnOk result (out.new.items ≡ out.old.items ++ character place ∷ []) }
     ensures err { OnErr result (out.new.items ≡ out.old.items) }
@@ -75,7 +72,7 @@ fn put_character(out: &mut Vec<u8>, place: Tri) -> Result<(), AllocError>
     Ok(())
 }
 
-/// Puts the cube characters of a row. An error only for want of memory; then nothing is put.
+/// Appends the cube characters of a row. On an error the text stays as it was.
 #[tactic(auto, using(std::proofs::lemmas::Grind::common_steps))]
 pub fn put_characters(out: &mut Vec<u8>, row: &[Tri]) -> Result<(), AllocError>
     ensures ok { OnOk result (out.new.items ≡ out.old.items ++ map character row.now) }

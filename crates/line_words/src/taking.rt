@@ -1,21 +1,26 @@
-//! Words as a reader takes them.
+//! The words of a line, as a reader takes them.
+//!
+//! Source: the line formats of SIS (UCB/ERL M92/41): a line is known by its first word, and a cube
+//! by its characters `0`, `1` and `-`. Words are slices of the text. The calls return exactly what
+//! `specs/LineWords.antt` defines: the first word and the others, names, the first name of more
+//! than `MAX_NAME` bytes, and cube characters. If memory runs out, a list of names stays as it was.
 
 ghost use Rattle.std.specs.Prelude.{◌≡◌, ◌++◌, ◌∷◌, [], nat_lt, length, map, find, option_copied};
 ghost use Rattle.std.specs.Prelude.{IfOk, OnOk, OnErr};
 ghost use Rattle.std.specs.List.{list_all};
-ghost use Rattle.line_words.specs.LineWords.{texts, first_word as first_of};
-ghost use Rattle.line_words.specs.LineWords.{other_words as others_of, long_name as long_among};
-ghost use Rattle.line_words.specs.LineWords.{is_character as is_character_byte};
-ghost use Rattle.line_words.specs.LineWords.{character_of as character_by};
+ghost use Rattle.line_words.specs.LineWords.{texts, first_word};
+ghost use Rattle.line_words.specs.LineWords.{other_words, long_name};
+ghost use Rattle.line_words.specs.LineWords.{is_character};
+ghost use Rattle.line_words.specs.LineWords.{character_of};
 
 use circuit_model::{Name, Names, Row, Tri};
 use sis_base::limits::MAX_NAME;
 use std::alloc::{AllocError, Global};
 use std::mem;
 
-/// The first word; the empty one where there is none.
+/// The first word; the empty one if there is none.
 pub fn first_word<'a>(words: &[&'a [u8]]) -> &'a [u8]
-    ensures { result.now ≡ first_of (texts words.now) }
+    ensures { result.now ≡ first_word (texts words.now) }
 {
     match words {
         [] => b"".as_slice(),
@@ -23,9 +28,9 @@ pub fn first_word<'a>(words: &[&'a [u8]]) -> &'a [u8]
     }
 }
 
-/// The words behind the first.
+/// The words after the first.
 pub fn other_words<'a, 'w>(words: &'w [&'a [u8]]) -> &'w [&'a [u8]]
-    ensures { texts result.now ≡ others_of (texts words.now) }
+    ensures { texts result.now ≡ other_words (texts words.now) }
 {
     match words {
         [] => words,
@@ -33,14 +38,14 @@ pub fn other_words<'a, 'w>(words: &'w [&'a [u8]]) -> &'w [&'a [u8]]
     }
 }
 
-/// The name of a word; an error only for want of memory.
+/// The name of a word.
 pub fn name_of(alloc: Global, word: &[u8]) -> Result<Name, AllocError>
     ensures { IfOk result (λ name. name ≡ word.now) }
 {
     Name::from_slice(alloc, word)
 }
 
-/// Puts the name of a word behind the last. An error only for want of memory; then nothing is put.
+/// Appends the name of a word. On an error the names stay.
 fn put_name(alloc: Global, names: &mut Vec<Name>, word: &[u8]) -> Result<(), AllocError>
     ensures ok { OnOk result (names.new.items ≡ names.old.items ++ word.now ∷ []) }
     ensures err { OnErr result (names.new.items ≡ names.old.items) }
@@ -49,8 +54,7 @@ fn put_name(alloc: Global, names: &mut Vec<Name>, word: &[u8]) -> Result<(), All
     Ok(())
 }
 
-/// Puts a name for each word behind the last. An error only for want of memory; then nothing is
-/// put.
+/// Appends a name for each word. On an error the names stay.
 #[tactic(auto, using(std::proofs::lemmas::Grind::common_steps))]
 fn put_names(alloc: Global, names: &mut Vec<Name>, words: &[&[u8]]) -> Result<(), AllocError>
     ensures ok { OnOk result (names.new.items ≡ names.old.items ++ texts words.now) }
@@ -66,8 +70,7 @@ fn put_names(alloc: Global, names: &mut Vec<Name>, words: &[&[u8]]) -> Result<()
     Ok(())
 }
 
-/// Puts a name for each word behind the last of some names. An error only for want of memory; then
-/// nothing is put.
+/// Appends a name for each word to some names. On an error the names stay.
 pub fn add_names(alloc: Global, names: &mut Names, words: &[&[u8]]) -> Result<(), AllocError>
     ensures ok { OnOk result (names.new ≡ names.old ++ texts words.now) }
     ensures err { OnErr result (names.new ≡ names.old) }
@@ -78,7 +81,7 @@ pub fn add_names(alloc: Global, names: &mut Names, words: &[&[u8]]) -> Result<()
     put
 }
 
-/// The first of some words that is longer than a name may be.
+/// The first word that is longer than a name may be.
 fn first_long<'a, 'w>(words: &'w [&'a [u8]]) -> Option<&'w &'a [u8]>
     ensures { option_copied result ≡ find (λ word. nat_lt MAX_NAME (length word.now)) words.now }
 {
@@ -88,7 +91,7 @@ fn first_long<'a, 'w>(words: &'w [&'a [u8]]) -> Option<&'w &'a [u8]>
 /// The length, in bytes, of the first word that is longer than a name may be.
 #[tactic(auto, unfolding(crate::specs::LineWords::long_name))]
 pub fn long_name(words: &[&[u8]]) -> Option<usize>
-    ensures { result ≡ long_among (texts words.now) }
+    ensures { result ≡ long_name (texts words.now) }
 {
     match first_long(words) {
         None => None,
@@ -98,7 +101,7 @@ pub fn long_name(words: &[&[u8]]) -> Option<usize>
 
 /// Whether all bytes are cube characters: `0`, `1` or `-`.
 pub fn are_characters(bytes: &[u8]) -> bool
-    ensures { result ≡ list_all is_character_byte bytes.now }
+    ensures { result ≡ list_all is_character bytes.now }
 {
     bytes
         .iter()
@@ -107,7 +110,7 @@ pub fn are_characters(bytes: &[u8]) -> bool
 
 /// The cube character of a byte; any byte but `0` and `1` is a dash.
 fn character_of(byte: u8) -> Tri
-    ensures { result ≡ character_by byte }
+    ensures { result ≡ character_of byte }
 {
     if byte == b'0' {
         Tri::Zero
@@ -118,9 +121,9 @@ fn character_of(byte: u8) -> Tri
     }
 }
 
-/// The cube characters of some bytes; an error only for want of memory.
+/// The cube characters of some bytes.
 pub fn characters(alloc: Global, bytes: &[u8]) -> Result<Row, AllocError>
-    ensures { IfOk result (λ row. row ≡ map character_by bytes.now) }
+    ensures { IfOk result (λ row. row ≡ map character_of bytes.now) }
 {
     let mut row = Row::new(alloc);
     for byte in bytes {

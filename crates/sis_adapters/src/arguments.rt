@@ -7,8 +7,7 @@ use sis_text::Word;
 use std::alloc::{AllocError, Global};
 use std::vec::IntoIter;
 
-/// The words of the arguments that an iterator still holds, each as it was given, in their order;
-/// an error only for want of memory.
+/// The words of the arguments that an iterator still has, unchanged and in order.
 pub fn words_of(alloc: Global, arguments: IntoIter<String>) -> Result<Vec<Word>, AllocError>
     ensures { IfOk result (λ words. words.items ≡ map string_bytes (into_iter_items arguments)) }
 {
@@ -19,7 +18,7 @@ pub fn words_of(alloc: Global, arguments: IntoIter<String>) -> Result<Vec<Word>,
     Ok(words)
 }
 
-/// The words behind the first one, which is the name of the program; none where there is no first.
+/// The words after the first one, which is the name of the program; none if there is no first.
 pub fn behind_name(words: &[Word]) -> &[Word]
     ensures { result.now ≡ drop 1 words.now }
 {

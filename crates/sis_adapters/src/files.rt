@@ -1,6 +1,9 @@
-//! The real files as a store. It tells no contents, and counts its faults and misses.
+//! The real files as a store, which shows no contents and counts its faults and misses.
 //!
-//! A file is saved by a new one beside it, which takes its place once it is whole (`replacing`).
+//! A load reads pieces of 64 KiB until the end of the file, and stops once it has more than `max`
+//! bytes. A save writes a new file next to the old one, which replaces it once it is complete
+//! (`replacing`). What a file contains is trusted, not proved: the contracts bound the length of
+//! what a load returns and say when the counts rise.
 
 ghost use Rattle.std.specs.Prelude.{◌≡◌, ◌<◌, ◌-◌, ◌^◌, ℕ, false, IsTrue};
 ghost use Rattle.std.specs.FinMap.{empty};

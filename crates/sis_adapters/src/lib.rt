@@ -1,9 +1,9 @@
 //! The real files and streams as the store, the source and the sinks of the program, and its
 //! arguments as words.
 //!
-//! Promised, as clauses of `Store`, `Source` and `Sink` (sis_outside): each call is answered in
-//! their forms, and each that fails or misses is counted. The adapters tell no contents: what a
-//! real file or stream holds is trusted and not proved. Neither is how a save keeps the old file
+//! The clauses of `Store`, `Source` and `Sink` (sis_outside) promise the form of each answer, and
+//! that each call that fails or misses is counted. The adapters show no contents: what a real file
+//! or stream contains is trusted and not proved. Neither is how a save preserves the old file
 //! (`replacing`).
 #![tactic(auto)]
 

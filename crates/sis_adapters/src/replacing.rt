@@ -1,11 +1,11 @@
-//! Saving a file so that a failure loses no old one.
+//! Saving a file so that a failure does not lose the old one, if a new file may replace it. No
+//! clause says so; this is trusted code.
 //!
-//! The bytes go into a new file beside the old one, which takes the place of the old one once they
-//! are all written. So it is where no file has the name, or a regular one that has no other name,
-//! and where a file like it can be made beside it. Anything else is written in place: a device, a
-//! pipe, a link, a file of another owner, one in a folder in which no file may be made, one whose
-//! name is too long for another one beside it, or one with such a file beside it already. After a
-//! failure the new file is removed.
+//! The bytes go into a new file next to the old one, which replaces it once it is complete. This
+//! needs a name that no file has, or a regular file without another hard link, and that a file like
+//! it can be made next to it. Anything else is written in place: a device, a pipe, a link, a file
+//! of another owner or in a folder that allows no new file, or whose neighbor's name is too long or
+//! taken. A file that may not be written is not saved. After a failure the new file is removed.
 
 use crate::streams::write_whole;
 use std::fs;
@@ -21,11 +21,11 @@ enum Target<F: Drop> {
     Beside(F),
     /// Into the file itself.
     InPlace,
-    /// Nowhere, as something failed.
+    /// Nowhere, since something failed.
     Nowhere,
 }
 
-/// Saves a file, by a new one with the name `beside` where it may take its place; false if that
+/// Saves a file, by a new one with the name `beside` if that may replace it; false if the save
 /// failed.
 pub fn save_file<R: Files>(rt: &R, name: &str, beside: &str, bytes: &[u8]) -> bool {
     match begin(rt, name, beside) {
@@ -35,7 +35,7 @@ pub fn save_file<R: Files>(rt: &R, name: &str, beside: &str, bytes: &[u8]) -> bo
     }
 }
 
-/// Writes a file where it stands, or a new one.
+/// Writes a file in place, or a new one.
 fn write_in_place<R: Files>(rt: &R, name: &str, bytes: &[u8]) -> bool {
     match fs::create(rt, name) {
         Ok(mut file) => write_whole(&mut file, bytes),
@@ -43,7 +43,7 @@ fn write_in_place<R: Files>(rt: &R, name: &str, bytes: &[u8]) -> bool {
     }
 }
 
-/// Writes a new file, and has it take the place of the old one; else removes it.
+/// Writes a new file and renames it to the old one's name; on a failure, removes it.
 fn replace<R: Files>(rt: &R, name: &str, beside: &str, file: R::File, bytes: &[u8]) -> bool {
     let mut file = file;
     let done = write_whole(&mut file, bytes) && fs::rename(rt, beside, name).is_ok();
@@ -53,7 +53,7 @@ fn replace<R: Files>(rt: &R, name: &str, beside: &str, file: R::File, bytes: &[u
     done
 }
 
-/// Where the bytes of the file of a name go first.
+/// Decides where the bytes of the file of a name go first.
 fn begin<R: Files>(rt: &R, name: &str, beside: &str) -> Target<R::File> {
     match fs::symlink_metadata(rt, name) {
         Ok(old) if !is_plain(&old) => Target::InPlace,
@@ -63,7 +63,7 @@ fn begin<R: Files>(rt: &R, name: &str, beside: &str) -> Target<R::File> {
     }
 }
 
-/// Whether a file is a regular one that has no other name.
+/// Whether a file is a regular one without another hard link.
 fn is_plain(file: &Metadata) -> bool {
     file.is_file() && file.nlink() <= 1
 }
@@ -73,8 +73,8 @@ fn may_be_written<R: Files>(rt: &R, name: &str) -> bool {
     OpenOptions::new().write(true).open(rt, name).is_ok()
 }
 
-/// A new file, if it was made; else the old one is written in place where there may be no new one,
-/// and nowhere where making it failed.
+/// The new file, if it was made; otherwise in place if there may be no new one, and nowhere if
+/// making it failed.
 fn made<F: Drop>(file: Result<F, Error>) -> Target<F> {
     match file {
         Ok(file) => Target::Beside(file),
@@ -88,8 +88,8 @@ fn made<F: Drop>(file: Result<F, Error>) -> Target<F> {
     }
 }
 
-/// A new file of the owner, the group and the permissions of an old one; none is left if it cannot
-/// have them.
+/// A new file with the owner, the group and the permissions of an old one; none is left if it
+/// cannot have them.
 fn begin_like<R: Files>(rt: &R, beside: &str, old: &Metadata) -> Target<R::File> {
     match made(create_private(rt, beside)) {
         Target::Beside(file) if !is_made_like(&file, old) => {
@@ -100,7 +100,7 @@ fn begin_like<R: Files>(rt: &R, beside: &str, old: &Metadata) -> Target<R::File>
     }
 }
 
-/// A new file that its owner alone may read.
+/// A new file that only its owner may read.
 fn create_private<R: Files>(rt: &R, name: &str) -> Result<R::File, Error> {
     OpenOptions::new()
         .write(true)
@@ -109,8 +109,8 @@ fn create_private<R: Files>(rt: &R, name: &str) -> Result<R::File, Error> {
         .open(rt, name)
 }
 
-/// Gives a new file the permissions of an old one; false if that failed, or its owner or group is
-/// another.
+/// Gives a new file the permissions of an old one; false if that failed, or if its owner or group
+/// is different.
 fn is_made_like<F: OpenFile>(file: &F, old: &Metadata) -> bool {
     match file.metadata() {
         Ok(new) => {

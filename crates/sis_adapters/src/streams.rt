@@ -1,4 +1,9 @@
-//! The standard streams as a source and as sinks. They tell no bytes, and count their faults.
+//! The standard streams as a source and as sinks, which show no bytes and count their faults.
+//!
+//! A take reads at most 16 KiB, into a buffer that is allocated first, so nothing is lost if memory
+//! runs out. A put writes until the whole piece is written, or a write fails or accepts nothing.
+//! What a stream contains is trusted, not proved: the contracts bound the length of a piece and say
+//! when the count rises.
 
 ghost use Rattle.std.specs.Prelude.{◌≡◌, ◌≤◌, ◌^◌, ℕ, false, [], IsTrue};
 ghost use Rattle.sis_outside.specs.Calls.{SourceKeeps, SinkKeeps};
@@ -7,7 +12,7 @@ use sis_outside::{PutFault, Sink, Source, TakeFault};
 use std::alloc::Global;
 use std::io::{Read, Write};
 
-/// The most bytes that one take asks for.
+/// The greatest number of bytes that one take asks for.
 const PIECE: usize = 16_384;
 
 /// A source over a reader.
@@ -18,7 +23,7 @@ pub struct StdSource<R: Read> {
 }
 
 impl<R: Read> StdSource<R> {
-    /// The source of what the reader gives.
+    /// The source of the reader's bytes.
     pub fn new(reader: R) -> Self {
         StdSource { reader, faults: 0 }
     }
@@ -36,7 +41,7 @@ impl<R: Read> Source for StdSource<R> {
     ghost keeps = { λ old call new kept. kept };
 
     fn take(&mut self, alloc: Global, max: usize) -> Result<Vec<u8>, TakeFault> {
-        // The buffer comes first: where memory is wanting for it, nothing was read.
+        // The buffer comes first: if memory runs out for it, nothing was read.
         let Ok(mut piece) = Vec::from_elem(alloc, 0u8, max.min(PIECE)) else {
             return Err(TakeFault::Memory);
         };
@@ -61,7 +66,7 @@ pub struct StdSink<W: Write> {
 }
 
 impl<W: Write> StdSink<W> {
-    /// The sink that the writer takes.
+    /// The sink that the writer receives.
     pub fn new(writer: W) -> Self {
         StdSink { writer, faults: 0 }
     }
@@ -88,7 +93,7 @@ impl<W: Write> Sink for StdSink<W> {
     }
 }
 
-/// Writes all of a piece; false where a write failed or took nothing.
+/// Writes all of a piece; false if a write failed or accepted nothing.
 pub(crate) fn write_whole<W: Write>(writer: &mut W, piece: &[u8]) -> bool {
     let mut done = 0;
     while done < piece.len() {

@@ -1,18 +1,18 @@
--- Rows of covers as lists of optional bits, and what they say at a point.
--- Source: Brayton, Hachtel, McMullen, Sangiovanni-Vincentelli, "Logic Minimization Algorithms for VLSI
--- Synthesis" (cubes and covers); De Micheli, "Synthesis and Optimization of Digital Circuits", chapter 7.
--- A row has one place for each input: some bit where a literal stands (true the positive one, false the
--- negative), none for a dash. A point has one bit for each input; it is of a width where it has that many.
+-- Rows of covers as lists of optional bits, and their values at a point. Source: Brayton, Hachtel,
+-- McMullen, Sangiovanni-Vincentelli, "Logic Minimization Algorithms for VLSI Synthesis" (cubes and
+-- covers); De Micheli, "Synthesis and Optimization of Digital Circuits", chapter 7. A row has one
+-- column for each input: some bit for a literal (true the positive one, false the negative), none
+-- for a dash. A point has one bit for each input; it is of a width if it has that many.
 use Rattle.std.specs.Prelude.{◌≡◌, ℕ, Bool, true, false, not, ◌&&◌, ◌||◌, Option, Some, None, List, [], ◌∷◌, length}
 
--- a place agrees with a bit where it is a dash or that very bit
+-- a column agrees with a bit if it is a dash or that very bit
 abbrev pub agrees : Option Bool → Bool → Bool
 agrees None bit = true
 agrees (Some true) bit = bit
 agrees (Some false) bit = not bit
 
--- a row matches a point where each of its literals agrees with the point's bit; row and point are of one width
--- (places past the end of the shorter one do not count)
+-- a row matches a point if each of its literals agrees with the point's bit; row and point are of
+-- one width (columns past the end of the shorter one do not count)
 unfoldable pub matches : List (Option Bool) → List Bool → Bool
 matches [] point = true
 matches (place ∷ places) [] = true
@@ -23,7 +23,7 @@ unfoldable pub some_matches : List (List (Option Bool)) → List Bool → Bool
 some_matches [] point = false
 some_matches (row ∷ rows) point = matches row point || some_matches rows point
 
--- a phase, turned over unless a row matched
+-- a phase, complemented unless a row matched
 abbrev pub phase_value : Bool → Bool → Bool
 phase_value true matched = matched
 phase_value false matched = not matched
@@ -36,7 +36,7 @@ value_by_phase phase rows point = phase_value phase (some_matches rows point)
 abbrev pub IsPoint : ℕ → List Bool → Type 0
 IsPoint width point = length point ≡ width
 
--- each row has one place for each input
+-- each row has one column for each input
 unfoldable pub HasWidth : ℕ → List (List (Option Bool)) → Type 0
 HasWidth width [] = Unit {0}
 HasWidth width (row ∷ rows) = (length row ≡ width) × HasWidth width rows

@@ -1,14 +1,14 @@
--- Words and lines as a program writes them: words parted by one blank, each line ended by byte 10.
--- Source: the BLIF appendix of the SIS report (UCB/ERL M92/41): blanks part words, `#` begins a comment,
--- and a `\` as the last byte of a line joins the next one to it.
+-- Words and lines as a program writes them: words separated by one blank, each line ended by byte
+-- 10. Source: the BLIF appendix of the SIS report (UCB/ERL M92/41): blanks separate words, `#`
+-- begins a comment, and a `\` as the last byte of a line joins the next one to it.
 use Rattle.std.specs.Prelude.{ℕ, Bool, true, false, not, ◌&&◌, ◌||◌, ◌==◌, List, [], ◌∷◌, ◌++◌, flat_map, if◌then◌else◌}
 use Rattle.std.specs.List.{list_all}
 
--- tab, carriage return and space part words
+-- tab, carriage return and space separate words
 abbrev pub is_blank : ℕ → Bool
 is_blank byte = byte == 9 || byte == 13 || byte == 32
 
--- a byte that may stand in a word: no blank, no line end, no `#`
+-- a byte that may occur in a word: no blank, no line end, no `#`
 abbrev pub is_word_byte : ℕ → Bool
 is_word_byte byte = not (is_blank byte || byte == 10 || byte == 35)
 
@@ -17,7 +17,7 @@ abbrev pub is_empty : List ℕ → Bool
 is_empty [] = true
 is_empty (byte ∷ bytes) = false
 
--- a word: at least one byte, and each may stand in a word
+-- a word: at least one byte, and each may occur in a word
 unfoldable pub is_word : List ℕ → Bool
 is_word bytes = not (is_empty bytes) && list_all is_word_byte bytes
 
@@ -27,7 +27,7 @@ ends_open [] = false
 ends_open (byte ∷ []) = byte == 92
 ends_open (byte ∷ next ∷ bytes) = ends_open (next ∷ bytes)
 
--- how a line ends: byte 10, after one blank more where the last byte would be `\`
+-- how a line ends: byte 10, after one more blank if the last byte would be `\`
 unfoldable pub line_end : List ℕ → List ℕ
 line_end text = if ends_open text then 32 ∷ 10 ∷ [] else 10 ∷ []
 
@@ -35,7 +35,7 @@ line_end text = if ends_open text then 32 ∷ 10 ∷ [] else 10 ∷ []
 abbrev pub spaced : List ℕ → List ℕ
 spaced word = 32 ∷ word
 
--- the words of a line that is written: a first one and the others
+-- the words of a line to be written: a first one and the others
 pub record Written : Type 0 where
   pub first : List ℕ
   pub others : List (List ℕ)

@@ -1,13 +1,16 @@
-//! The base of the workspace: the owned list of which all list types of circuits are made, and exact copies.
+//! The base of the workspace: the owned lists of which all list types of circuits are made, and
+//! exact copies.
 //!
-//! A `Sequence<T>` is seen by every contract as the plain list of its items, also where it stands in
-//! another sequence or in a field of a struct; a clause compares such values by `≡`. So is a `Short<T, N>`,
-//! which keeps up to `N` items without an allocation; names are of this kind (`Name`), since nearly every
-//! word of a circuit is shorter than 22 bytes and allocating it costs more than all else that is done with
-//! it. `Copied` promises a copy that equals its source. A `Whole<T>` is let go in one call. The definitions of rows as lists of optional bits (`specs/Rows.antt`)
-//! stand here because circuits and covers both speak of them, and those of words and lines as a program
-//! writes them (`specs/Written.antt`, after the Berkeley Logic Interchange Format, appendix of the SIS
-//! report, UCB/ERL M92/41) because readers and writers do. `limits` has the name of each limit.
+//! Contracts see a `Sequence<T>` as the plain list of its items, also inside another sequence or a
+//! field of a struct, and compare such values by `≡`. A `Short<T, N>` is seen in the same way and
+//! keeps up to `N` items without an allocation. Names are of this kind (`Name`), since most of them
+//! have at most 22 bytes. `Copied` promises a copy that equals its source. A `Whole<T>` is dropped
+//! in one call.
+//!
+//! Two files of definitions are here because several crates share them: rows as lists of optional
+//! bits (`specs/Rows.antt`, used by circuits and covers), and words and lines as a program writes
+//! them (`specs/Written.antt`, used by readers and writers, after the Berkeley Logic Interchange
+//! Format, appendix of the SIS report, UCB/ERL M92/41). `limits` names each limit.
 #![tactic(auto)]
 
 pub mod limits;

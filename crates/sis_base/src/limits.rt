@@ -1,15 +1,15 @@
-//! The limits of the program: how large what it reads, holds and makes may be.
+//! The limits of the program: how large the objects that it reads, holds and makes may be.
 //!
-//! They are the project's own. Each has its one name here, which definitions, contracts and code
-//! share. What answers past a limit tells of it by its own variant.
+//! The limits are the project's own. Each has one name here, which definitions, contracts and code
+//! share. A function that meets a limit reports it by a variant of its own.
 
 /// Bytes of a name.
 pub const MAX_NAME: usize = 1_023;
 
-/// Tables, gates and latches of a circuit, those of its don't-care part with them.
+/// Tables, gates and latches of a circuit, including those of its don't-care part.
 pub const MAX_NODES: usize = 65_535;
 
-/// Rows of a table, and of each list of rows that a command makes of it.
+/// Rows of a table, and of each list of rows that a command computes from it.
 pub const MAX_ROWS: usize = 32_767;
 
 /// Inputs of a table.
@@ -30,13 +30,13 @@ pub const MAX_MACHINE_ROWS: usize = 32_767;
 /// States of a machine.
 pub const MAX_STATES: usize = 4_096;
 
-/// Gates of a library, entries of latches with them.
+/// Gates of a library, including entries of latches.
 pub const MAX_GATES: usize = 4_096;
 
 /// Pins of a gate.
 pub const MAX_PINS: usize = 15;
 
-/// Parentheses in one another in the expression of a gate.
+/// Nested parentheses in the expression of a gate.
 pub const MAX_NESTING: usize = 64;
 
 /// Literals of a gate that covers use.

@@ -1,4 +1,9 @@
-//! An owned list of any items. Its contents are the list of its items in order; room is not part of them.
+//! An owned list of any items, and the trait of values that can be copied exactly.
+//!
+//! A contract sees a `Sequence<T>` as the list of its items in order; its capacity is not part of
+//! the contents. `new`, `from_vec` and `into_vec` take no memory. A `push` that runs out of memory
+//! leaves the list as it was and gives the item back. `copy` makes a copy that equals its source;
+//! equality, hashing and `Debug` are those of the items, in order.
 
 ghost use Rattle.std.specs.Prelude.{◌≡◌, ◌==◌, ◌++◌, ◌∷◌, [], length, IfOk, OnOk, OnErr, IfErr};
 
@@ -7,9 +12,9 @@ use std::fmt;
 use std::hash::{Hash, Hasher};
 use std::marker::Model;
 
-/// A value that can be copied exactly, where memory is there for it.
+/// A value that can be copied exactly, if there is memory for it.
 pub trait Copied {
-    /// A copy that equals `self`; an error only for want of memory.
+    /// A copy that equals `self`.
     fn copy(&self, alloc: Global) -> Result<Self, AllocError>
         ensures { IfOk result (λ made. made ≡ self.now) };
 }
@@ -80,7 +85,7 @@ impl<T> Sequence<T> {
         self.items.is_empty()
     }
 
-    /// Puts an item behind the last; an error, which gives it back, only for want of memory.
+    /// Appends an item. On an error the list stays as it was, and the error gives the item back.
     pub fn push(&mut self, item: T) -> Result<(), AllocFailed<T>>
         ensures ok { OnOk result (self.new ≡ self.old ++ item ∷ []) }
         ensures err { OnErr result (self.new ≡ self.old) }

@@ -1,5 +1,10 @@
-//! An owned list that keeps up to `N` items in itself, and more than those in memory of its own: for names and rows,
-//! which are mostly short. Its contents are the list of its items in order; where they lie is not part of them.
+//! An owned list that keeps up to `N` items in itself and more than those in memory of its own: for
+//! names and rows, most of which are short.
+//!
+//! A contract sees a `Short<T, N>` as the list of its items in order; where they are stored is not
+//! part of the contents. `new` and `from_vec` take no memory. A `push` that runs out of memory
+//! leaves the list as it was and gives the item back. `Name`, the bytes of a word, keeps 22 of them
+//! in itself.
 
 ghost use Rattle.std.specs.Prelude.{◌≡◌, ◌==◌, ◌++◌, ◌∷◌, [], length, IfOk, OnOk, OnErr, IfErr};
 
@@ -11,12 +16,13 @@ use std::fmt;
 use std::hash::{Hash, Hasher};
 use std::marker::Model;
 
-/// An owned list, short ones without an allocation, which contracts see as the list of its items.
+/// An owned list, short ones without an allocation. Contracts see it as the list of its items.
 pub struct Short<T, const N: usize> {
     items: SmallVec<T, N>,
 }
 
-// By hand, so that letting a name go is one call in the functions that own names, and not a choice of where its items lie.
+// Written by hand, so that dropping a name is one call in the functions that own names, and not a
+// choice of where its items are stored.
 impl<T: Drop, const N: usize> Drop for Short<T, N> {
     fn drop(self) {
         let Short { items: _items } = self;
@@ -80,7 +86,7 @@ impl<T: MadeWith<Global> + Copy + Drop, const N: usize> Short<T, N> {
         }
     }
 
-    /// The list of a slice's items; an error only for want of memory.
+    /// The list of a slice's items.
     #[inline]
     pub fn from_slice(alloc: Global, items: &[T]) -> Result<Self, AllocError>
         ensures { IfOk result (λ made. made ≡ items.now) }
@@ -90,7 +96,7 @@ impl<T: MadeWith<Global> + Copy + Drop, const N: usize> Short<T, N> {
         })
     }
 
-    /// Puts an item behind the last; an error, which gives it back, only for want of memory.
+    /// Appends an item. On an error the list stays as it was, and the error gives the item back.
     #[inline]
     pub fn push(&mut self, item: T) -> Result<(), AllocFailed<T>>
         ensures ok { OnOk result (self.new ≡ self.old ++ item ∷ []) }

@@ -1,9 +1,9 @@
-//! A value that is let go in one call, whatever it is made of.
+//! A wrapper that drops a value of many parts in one call.
 
 ghost use Rattle.std.specs.Prelude.{◌≡◌};
 
-/// What is owned as a whole. A check goes through what is let go at each way out of a function, part by part; a value
-/// in here is one part.
+/// A value that is dropped as a whole. A check goes through what is dropped at each way out of a
+/// function, part by part; a value in here is one part.
 pub struct Whole<T: Drop> {
     /// The value.
     pub it: T,
@@ -16,7 +16,7 @@ impl<T: Drop> Drop for Whole<T> {
 }
 
 impl<T: Drop> Whole<T> {
-    /// The value, taken out.
+    /// Takes the value out.
     pub fn into_it(self) -> T
         ensures { result ≡ self.it }
     {

@@ -8,7 +8,7 @@ use Rattle.std.specs.FinMap.{find}
 abbrev pub File : Type 0
 File = List ℕ × List ℕ
 
--- the entries from a place on begin with the one that stands there
+-- the entries from an index on begin with the one of that index
 pub drop_from : (files : List File) (place : ℕ) (file : File) → place < length files → file ≡ get_or files place file → drop place files ≡ file ∷ drop (place + 1) files
 drop_from files place file below is =
     rw add-one (drop-cons files place file below ∙ ap (λ (first : File). first ∷ drop (suc place) files) (sym is))

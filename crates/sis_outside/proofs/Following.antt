@@ -75,7 +75,7 @@ pub sink_went : {S : Type 0} (tells : S → Bool) (written : S → List ℕ) (fa
     → (old new : S) (calls : List PutCall) → Follows goes old new calls → SinkWent tells written faults old new calls
 sink_went tells written faults goes keeps old new calls h = went_on tells written faults WrittenGoes put_failed goes keeps old new calls h
 
--- the file of a name where one was put
+-- the file of a name that was set
 file_put : (files : Files) (put name bytes : List ℕ) → file_at (with_file files put bytes) name ≡ cond (bytes_eq name put) (Some bytes) (file_at files name)
 file_put files put name bytes = get-insert nat_list_cmp_total files put bytes name ∙ ap (λ (same : Bool). cond same (Some bytes) (file_at files name)) (sym (texts_ties name put))
 

@@ -1,4 +1,4 @@
--- What a record of calls holds behind a list of calls.
+-- What a record of calls contains after a list of calls.
 use Rattle.std.proofs.Common.{◌≡◌, List, [], ◌∷◌, ◌++◌, map, refl, sym, ap, subst, ◌∙◌, inl, inr}
 use Rattle.std.specs.Prelude.{◌⊎◌, Option, Some, None, option_map, Result, Ok, Err, IfOk}
 use Rattle.std.specs.Global.{Vec}
@@ -6,7 +6,7 @@ use Rattle.std.proofs.lemmas.List.{append_assoc, append-nil, map-append}
 use Rattle.sis_outside.specs.Calls.{Follows}
 use Rattle.sis_outside.specs.Recording.{IsNoted, IsRecorded, Records, calls_in, entries_in}
 
--- one call behind a record is some calls behind it, in front of more
+-- one call after a record is the first of some calls after it
 recorded_more : {C : Type 0} (before middle now : Option (List C)) (call : C) (calls : List C) → IsRecorded before middle (call ∷ []) → IsRecorded middle now calls → IsRecorded before now (call ∷ calls)
 recorded_more before middle now call calls h (inl lost) = inl lost
 recorded_more before middle now call calls (inl lost) (inr grew) = inl (grew ∙ ap (option_map (λ log. log ++ calls)) lost)

@@ -10,11 +10,11 @@ use Rattle.std.specs.Coded.{Coded, coded_list, coded_ℕ}
 abbrev pub Files : Type 0
 Files = FinMap (slice_cmp nat_cmp) (List ℕ)
 
--- the contents of the file of a name, where there is one
+-- the contents of the file of a name, if there is one
 abbrev pub file_at : Files → List ℕ → Option (List ℕ)
 file_at files name = get files name
 
--- the files with one put in place, of an old one too; all others stay
+-- the files with one set, in place of an old one of that name too; all others stay
 abbrev pub with_file : Files → List ℕ → List ℕ → Files
 with_file files name bytes = insert files name bytes
 

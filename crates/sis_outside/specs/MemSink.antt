@@ -12,7 +12,7 @@ pub record SinkState : Type 0 where
   pub schedule : Schedule
   pub faults : ℕ
 
--- a call that is to fail does so after the bytes that pass, and no other call fails
+-- a call that is planned to fail does so after the bytes that pass, and no other call fails
 abbrev pub PutsByPlan : SinkState → List ℕ → Result (Unit {0}) PutFault → SinkState → Type 0
 PutsByPlan old piece (Ok _) new =
     (next_failure old.schedule ≡ None)

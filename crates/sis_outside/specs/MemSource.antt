@@ -14,8 +14,8 @@ pub record SourceState : Type 0 where
   pub schedule : Schedule
   pub faults : ℕ
 
--- a call that is to fail does so after the bytes that pass, and no other call fails; a piece is as long
--- as the bounds and the bytes allow
+-- a call that is planned to fail does so after the bytes that pass, and no other call fails; a
+-- piece is as long as the bounds and the bytes allow
 abbrev pub TakesByPlan : SourceState → ℕ → Result (Vec ℕ) TakeFault → SourceState → Type 0
 TakesByPlan old max (Ok piece) new =
     (next_failure old.schedule ≡ None)

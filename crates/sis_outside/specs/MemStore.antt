@@ -27,11 +27,12 @@ state_code =
     (λ p. record { files = p.0; schedule = p.1.0; faults = p.1.1.0; misses = p.1.1.1 })
     (λ _. refl)
 
--- one call more was made, and nothing else changed
+-- one more call was made, and nothing else changed
 abbrev pub called : StoreState → StoreState
 called state = record state { schedule = after_call state.schedule }
 
--- a load that is to fail does so, and no other load fails; what it gives is the store's own promise
+-- a load that is planned to fail does so, and no other load fails; the store's own promise says
+-- what it returns
 abbrev pub LoadsByPlan : {T : Type 0} → StoreState → Result T LoadFault → StoreState → Type 0
 LoadsByPlan old (Ok _) new = (next_failure old.schedule ≡ None) × (new ≡ called old)
 LoadsByPlan old (Err load.Missing) new =
@@ -43,7 +44,7 @@ LoadsByPlan old (Err load.Failed) new =
     × (new ≡ record (called old) { faults = one_more old.faults })
 LoadsByPlan old (Err load.Memory) new = new ≡ called old
 
--- a save that is to fail does so after the bytes that pass, and no other save fails
+-- a save that is planned to fail does so after the bytes that pass, and no other save fails
 abbrev pub SavesByPlan : StoreState → List ℕ → List ℕ → Result (Unit {0}) SaveFault → StoreState → Type 0
 SavesByPlan old name bytes (Ok _) new =
     (next_failure old.schedule ≡ None) × (new ≡ record (called old) { files = with_file old.files name bytes })

@@ -1,6 +1,6 @@
--- What an object keeps that records the calls made on it.
--- Source: the project's own doubles of the outside. Memory may be wanting for a record: then there is
--- none any more, and nothing else is different.
+-- The record that a recording object keeps of the calls made on it. Source: the project's own
+-- doubles of the outside. If memory runs out for a record, there is none any more, and nothing else
+-- changes.
 use Rattle.std.specs.Prelude.{◌≡◌, ◌⊎◌, ℕ, List, [], ◌∷◌, ◌++◌, map, Option, None, option_map, string_bytes, Result, Ok, Err}
 use Rattle.std.specs.Global.{Vec}
 use Rattle.sis_outside.specs.Calls.{StoreCall, Load, Save, TakeCall, PutCall, bytes_of, Follows}
@@ -20,24 +20,24 @@ take_call made = record { max = made.max; answer = bytes_of made.answer }
 abbrev pub put_call : PutEntry → PutCall
 put_call made = record { piece = made.piece.items; answer = made.answer }
 
--- the entries of a record, in order, where there is a record; and their calls
+-- the entries of a record, in order, if there is a record; and their calls
 abbrev pub entries_in : {E : Type 0} → Option (Vec E) → Option (List E)
 entries_in log = option_map (λ entries. entries.items) log
 
 abbrev pub calls_in : {E C : Type 0} → (E → C) → Option (Vec E) → Option (List C)
 calls_in call_of log = option_map (map call_of) (entries_in log)
 
--- a record grew by these calls, or memory was wanting for it
+-- a record grew by these calls, or memory ran out for it
 abbrev pub IsRecorded : {C : Type 0} → Option (List C) → Option (List C) → List C → Type 0
 IsRecorded before now calls = (now ≡ None) ⊎ (now ≡ option_map (λ log. log ++ calls) before)
 
--- an entry was put behind those of a record, or memory was wanting for it
+-- an entry was appended to a record, or memory ran out for it
 abbrev pub IsNoted : {E F : Type 0} → Option (Vec E) → Result E F → Option (Vec E) → Type 0
 IsNoted before (Ok entry) now = IsRecorded (entries_in before) (entries_in now) (entry ∷ [])
 IsNoted before (Err error) now = entries_in now ≡ None
 
--- an object that records goes by a call: its record grew by just this call, and the object inside went
--- by it
+-- a recording object makes a call: its record grew by exactly this call, and the object inside made
+-- it
 abbrev pub Records : {R S C : Type 0} → (R → Option (List C)) → (R → S) → (S → C → S → Type 0) → R → C → R → Type 0
 Records log inner goes old call new =
     IsRecorded (log old) (log new) (call ∷ []) × goes (inner old) call (inner new)

@@ -1,6 +1,5 @@
--- Objects in memory that never fail: what a store of theirs holds, and that a kind of object counts
--- no fault.
--- Source: the project's own doubles of the outside.
+-- Objects in memory that never fail: the files of such a store, and what it means that a kind of
+-- object never counts a fault. Source: the project's own doubles of the outside.
 use Rattle.std.specs.Prelude.{◌≡◌, ℕ, refl}
 use Rattle.std.specs.Coded.{Coded, code_by, coded×, coded_ℕ}
 use Rattle.sis_outside.specs.Files.{Files, files_code}

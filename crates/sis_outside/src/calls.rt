@@ -1,5 +1,6 @@
-//! Laws over lists of calls of the outside: what one call leaves and counts, of all of them
-//! together.
+//! Laws over lists of calls on the objects of the outside: what single calls leave and count,
+//! combined over the whole list. The laws of a trait follow from its clause `keeps`, so they hold
+//! of every store, source and sink.
 
 ghost use Rattle.std.specs.Prelude.{◌≡◌, ◌⊎◌, Some, List, ℕ};
 ghost use Rattle.sis_outside.specs.Calls.{StoreCall, TakeCall, PutCall, FilesGo, Follows, StoreWent, SourceWent, SinkWent, WasSaved};
@@ -13,27 +14,27 @@ use crate::sure_sink::SureSink;
 use crate::sure_source::SureSource;
 use crate::sure_store::SureStore;
 
-/// A list of calls of a store: files that are told go by the calls, and each count rose where some
-/// call was counted, and stayed where none was.
+/// For a list of calls of a store: files that are shown change as the calls say, and each count
+/// rose if some call was counted, and stayed if none was.
 pub fn stores_went<S: Store>()
     ensures { (old new : S) (calls : List StoreCall) → Follows S.calls old new calls
         → StoreWent S.tells S.files S.faults S.misses old new calls }
 {}
 
-/// The same of a source.
+/// The same for a source.
 pub fn sources_went<I: Source>()
     ensures { (old new : I) (calls : List TakeCall) → Follows I.calls old new calls
         → SourceWent I.tells I.left I.faults old new calls }
 {}
 
-/// The same of a sink.
+/// The same for a sink.
 pub fn sinks_went<O: Sink>()
     ensures { (old new : O) (calls : List PutCall) → Follows O.calls old new calls
         → SinkWent O.tells O.written O.faults old new calls }
 {}
 
-/// A file that is told is, behind some calls, as it was before them, or as some save among them
-/// left it under its name: whole where that save was done, a front where it failed.
+/// After some calls a file that is shown is as it was before them, or as some save among them left
+/// it under its name: whole if that save was done, a prefix if it failed.
 pub fn files_are_saved()
     ensures { (old new : Files) (calls : List StoreCall) → Follows FilesGo old new calls
         → (name : List ℕ)
@@ -41,7 +42,7 @@ pub fn files_are_saved()
         × (file_at new name ≡ Some left) × WasSaved calls name left) }
 {}
 
-/// The objects in memory that are sure count no fault, whatever is asked of them.
+/// The in-memory objects that never fail count no fault, whatever is asked of them.
 pub fn sure_objects_never_fail()
     ensures store { NeverFails ⟦<SureStore as Store>⟧.faults }
     ensures source { NeverFails ⟦<SureSource as Source>⟧.faults }

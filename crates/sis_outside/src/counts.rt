@@ -3,7 +3,8 @@
 ghost use Rattle.std.specs.Prelude.{ℕ, ◌≤◌};
 ghost use Rattle.sis_outside.specs.Counts.{Rose};
 
-/// A count that rose in some call has risen over a run of calls round it, since no count falls.
+/// A count that rose in one call has risen over any run of calls that contains it, since no count
+/// falls.
 pub fn risen_counts_stay()
     ensures later { (before middle now : ℕ) → Rose before middle → middle ≤ now → Rose before now }
     ensures earlier { (before middle now : ℕ) → before ≤ middle → Rose middle now

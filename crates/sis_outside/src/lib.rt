@@ -1,11 +1,11 @@
 //! What the program sees of the outside: a store of files, a source and a sink of bytes, as traits.
 //!
-//! A contract sees an object of the outside as what it holds, where the object tells it, and as
-//! counts of what went wrong, which are kept in 64 bits. Each trait promises, after POSIX's read
-//! and write, what an answer says of the contents, what a failed call leaves, and that a fault
-//! comes only where its count rose. `MemStore`, `MemSource` and `MemSink` keep those promises in
-//! memory, and fail at the calls that were planned; `SureStore`, `SureSource` and `SureSink` never
-//! fail: their count of faults is always 0.
+//! A contract sees an object of the outside as its contents, if the object shows them, and as
+//! counts of what went wrong, kept in 64 bits. Each trait promises, after POSIX's read and write,
+//! what an answer says of the contents, what a failed call leaves, and that a fault is reported
+//! only if its count rose. `MemStore`, `MemSource` and `MemSink` keep those promises in memory and
+//! fail at planned calls. `SureStore`, `SureSource` and `SureSink` never fail: their count of
+//! faults is always 0.
 #![tactic(auto)]
 
 mod calls;

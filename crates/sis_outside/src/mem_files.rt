@@ -1,4 +1,9 @@
-//! Files in memory: what the stores in memory keep.
+//! Files in memory, as the in-memory stores keep them.
+//!
+//! Contracts see the files as a finite map from names to contents (`specs/Files.antt`); names are
+//! compared byte by byte. The entries are a list whose first entry of a name counts, and a new file
+//! is inserted at its front. An old file of the same name keeps its entry, but no contract sees it.
+//! `copied_within` answers a load of at most `max` bytes.
 
 ghost use Rattle.std.specs.Prelude.{◌≡◌, ◌-◌, ◌^◌, ◌<◌, false, IfOk, OnOk, OnErr};
 ghost use Rattle.std.specs.Ordering.{nat_cmp};
@@ -12,7 +17,7 @@ use crate::store::LoadFault;
 use std::alloc::{AllocError, Global};
 use std::marker::Model;
 
-/// A file, which contracts see as its name's bytes and its bytes.
+/// A file. Contracts see it as the bytes of its name and its contents.
 #[derive(Drop)]
 struct Entry {
     name: String,
@@ -50,7 +55,7 @@ impl Entry {
     }
 }
 
-/// Files by name, which contracts see as the map from names to bytes.
+/// Files by name. Contracts see them as the map from names to contents.
 #[derive(Drop)]
 pub struct MemFiles {
     alloc: Global,
@@ -81,7 +86,7 @@ fn first_of<'a>(entries: &'a [Entry], name: &str) -> Option<&'a [u8]>
     None
 }
 
-/// A copy of a file's bytes, of which there are to be at most `max`.
+/// A copy of a file's bytes, or `TooLong` if there are more than `max`.
 pub fn copied_within(alloc: Global, bytes: &[u8], max: usize) -> Result<Vec<u8>, LoadFault>
     requires { max < 2 ^ 64 - 1 }
     ensures tells { Tells (Some bytes.now) max (bytes_of result) }
@@ -109,7 +114,7 @@ impl MemFiles {
         }
     }
 
-    /// Puts a file in place, of an old one of that name too.
+    /// Sets the file of a name, also in place of an old one.
     pub fn put(&mut self, name: &str, bytes: &[u8]) -> Result<(), AllocError>
         ensures ok { OnOk result (self.new ≡ with_file self.old name.now bytes.now) }
         ensures err { OnErr result (self.new ≡ self.old) }
@@ -119,7 +124,7 @@ impl MemFiles {
         Ok(())
     }
 
-    /// The bytes of the file of a name, where there is one.
+    /// The bytes of the file of a name, if there is one.
     pub fn find(&self, name: &str) -> Option<&[u8]>
         ensures { option_map (λ bytes. bytes.now) result ≡ file_at self.now name.now }
     {

@@ -1,4 +1,9 @@
-//! A sink in memory.
+//! A sink in memory that fails at planned calls: the test double of an output.
+//!
+//! The state is all bytes written, the plan of failures and a count of faults
+//! (`specs/MemSink.antt`). A planned `put` fails after a given number of bytes of its piece; no
+//! other call fails, except that memory may run out. Each answer is also within the promises of
+//! `Sink`.
 
 ghost use Rattle.std.specs.Prelude.{◌≡◌, [], true, OnOk, OnErr};
 ghost use Rattle.sis_outside.specs.Calls.{SinkKeeps};
@@ -10,7 +15,7 @@ use crate::sink::{PutFault, Sink};
 use std::alloc::{AllocError, Global};
 use std::marker::Model;
 
-/// A sink that keeps what is written, and fails at the calls that were planned.
+/// A sink that keeps what is written, and fails at planned calls.
 #[derive(Drop)]
 pub struct MemSink {
     written: Vec<u8>,
@@ -28,7 +33,7 @@ impl Model for MemSink {
 }
 
 impl MemSink {
-    /// A sink into which nothing was written, and of which no put is to fail; takes no memory.
+    /// A sink into which nothing was written, with no planned failure; takes no memory.
     pub fn new(alloc: Global) -> Self
         ensures { result ≡ record { written = []; schedule = nothing_planned; faults = 0 } }
     {
@@ -39,7 +44,7 @@ impl MemSink {
         }
     }
 
-    /// Has the put of this number, counted from 0, fail after `passes` bytes of its piece.
+    /// Plans that the put of this number, counted from 0, fails after `passes` bytes of its piece.
     pub fn fail_at(&mut self, call: usize, passes: usize) -> Result<(), AllocError>
         ensures ok { OnOk result (self.new ≡ record self.old
             { schedule = with_failure self.old.schedule call passes }) }
@@ -55,7 +60,7 @@ impl MemSink {
         self.written.as_slice()
     }
 
-    /// How many puts failed, at most the greatest `u64`.
+    /// The number of puts that failed, at most the greatest `u64`.
     pub fn faults(&self) -> u64
         ensures { result ≡ self.now.faults }
     {

@@ -1,4 +1,9 @@
-//! A source in memory.
+//! A source in memory that fails at planned calls: the test double of an input.
+//!
+//! The state is the bytes left, a limit on the length of a piece, the plan of failures and a count
+//! of faults (`specs/MemSource.antt`). The bytes taken are a prefix of those given, and the limit
+//! is at least 1. A planned `take` fails after a given number of bytes; no other call fails, except
+//! that memory may run out. Each answer is also within the promises of `Source`.
 
 ghost use Rattle.std.specs.Prelude.{◌≡◌, ◌-◌, ◌^◌, ◌≤◌, true, [], IfOk, OnOk, OnErr};
 ghost use Rattle.sis_outside.specs.Calls.{SourceKeeps, bytes_of};
@@ -10,7 +15,7 @@ use crate::source::{Source, TakeFault};
 use std::alloc::{AllocError, Global};
 use std::marker::Model;
 
-/// A source of bytes that are given to it, which fails at the calls that were planned.
+/// A source of given bytes, which fails at planned calls.
 #[derive(Drop)]
 pub struct MemSource {
     bytes: Vec<u8>,
@@ -33,8 +38,7 @@ impl Model for MemSource {
 }
 
 impl MemSource {
-    /// A source of these bytes, in pieces as long as they are asked for, of which no take is to
-    /// fail.
+    /// A source of these bytes, in pieces as long as is asked for, with no planned failure.
     pub fn new(alloc: Global, bytes: &[u8]) -> Result<Self, AllocError>
         ensures { IfOk result (λ made. made ≡ record
             { left = bytes.now; most = 2 ^ 64 - 1; schedule = nothing_planned; faults = 0 }) }
@@ -48,7 +52,7 @@ impl MemSource {
         })
     }
 
-    /// Has no piece be longer than `most` bytes from now on.
+    /// Limits each piece to `most` bytes from now on.
     pub fn limit_pieces(&mut self, most: usize)
         requires { 1 ≤ most }
         ensures { self.new ≡ record self.old { most = most } }
@@ -56,8 +60,8 @@ impl MemSource {
         self.most = most;
     }
 
-    /// Has the take of this number, counted from 0, fail after `passes` bytes are gone, or after as
-    /// many as are asked for where those are fewer.
+    /// Plans that the take of this number, counted from 0, fails after `passes` bytes are gone, or
+    /// after as many as are asked for if those are fewer.
     pub fn fail_at(&mut self, call: usize, passes: usize) -> Result<(), AllocError>
         ensures ok { OnOk result (self.new ≡ record self.old
             { schedule = with_failure self.old.schedule call passes }) }
@@ -73,7 +77,7 @@ impl MemSource {
         &self.bytes[self.taken..]
     }
 
-    /// How many takes failed, at most the greatest `u64`.
+    /// The number of takes that failed, at most the greatest `u64`.
     pub fn faults(&self) -> u64
         ensures { result ≡ self.now.faults }
     {

@@ -1,4 +1,9 @@
-//! A store in memory.
+//! A store in memory that fails at planned calls: the test double of a file system.
+//!
+//! The state is the files, the plan of failures and counts of faults and misses
+//! (`specs/MemStore.antt`). A planned load fails; a planned save fails after it has saved a prefix
+//! of its bytes. Loads and saves are numbered together, from 0. No other call fails, except that
+//! memory may run out. Each answer is also within the promises of `Store`.
 
 ghost use Rattle.std.specs.Prelude.{◌≡◌, ◌-◌, ◌^◌, ◌<◌, true, OnOk, OnErr};
 ghost use Rattle.std.specs.FinMap as map;
@@ -14,7 +19,7 @@ use crate::store::{LoadFault, SaveFault, Store};
 use std::alloc::{AllocError, Global};
 use std::marker::Model;
 
-/// A store that keeps its files, and fails at the calls that were planned.
+/// A store that keeps its files, and fails at planned calls.
 #[derive(Drop)]
 pub struct MemStore {
     files: MemFiles,
@@ -35,7 +40,7 @@ impl Model for MemStore {
 }
 
 impl MemStore {
-    /// A store without files, of which no call is to fail; takes no memory.
+    /// A store without files, with no planned failure; takes no memory.
     pub fn new(alloc: Global) -> Self
         ensures { result ≡ record
             { files = map.empty; schedule = nothing_planned; faults = 0; misses = 0 } }
@@ -48,7 +53,7 @@ impl MemStore {
         }
     }
 
-    /// Puts a file in place, of an old one of that name too; this is no call that a plan counts.
+    /// Sets the file of a name, also in place of an old one; the plan does not count this call.
     pub fn put_file(&mut self, name: &str, bytes: &[u8]) -> Result<(), AllocError>
         ensures ok { OnOk result (self.new ≡ record self.old
             { files = with_file self.old.files name.now bytes.now }) }
@@ -57,8 +62,8 @@ impl MemStore {
         self.files.put(name, bytes)
     }
 
-    /// Has the load or save of this number, counted from 0 over both, fail: a save after `passes`
-    /// of its bytes, a load without any.
+    /// Plans that the load or save of this number, counted from 0 over both, fails: a save after
+    /// `passes` of its bytes, a load without any.
     pub fn fail_at(&mut self, call: usize, passes: usize) -> Result<(), AllocError>
         ensures ok { OnOk result (self.new ≡ record self.old
             { schedule = with_failure self.old.schedule call passes }) }
@@ -67,21 +72,21 @@ impl MemStore {
         self.plan.add(call, passes)
     }
 
-    /// The bytes of the file of a name, where there is one.
+    /// The bytes of the file of a name, if there is one.
     pub fn file(&self, name: &str) -> Option<&[u8]>
         ensures { option_map (λ bytes. bytes.now) result ≡ file_at self.now.files name.now }
     {
         self.files.find(name)
     }
 
-    /// How many loads and saves failed, at most the greatest `u64`.
+    /// The number of loads and saves that failed, at most the greatest `u64`.
     pub fn faults(&self) -> u64
         ensures { result ≡ self.now.faults }
     {
         self.faults
     }
 
-    /// How many loads found no file of their name, at most the greatest `u64`.
+    /// The number of loads that found no file of their name, at most the greatest `u64`.
     pub fn misses(&self) -> u64
         ensures { result ≡ self.now.misses }
     {

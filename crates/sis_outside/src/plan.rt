@@ -1,4 +1,5 @@
-//! The calls of an object in memory that are to fail.
+//! The plan of the calls of an in-memory object that are to fail. Calls are numbered from 0 in the
+//! order in which they are made; the first entry for a call counts (`specs/Plan.antt`).
 
 ghost use Rattle.std.specs.Prelude.{◌≡◌, [], OnOk, OnErr};
 ghost use Rattle.sis_outside.specs.Plan.{next_failure, after_call, with_failure, nothing_planned, passes_at};
@@ -6,14 +7,14 @@ ghost use Rattle.sis_outside.specs.Plan.{next_failure, after_call, with_failure,
 use std::alloc::{AllocError, Global};
 use std::marker::Model;
 
-/// A call that is to fail, by its number, and how many bytes pass before.
+/// A planned failure: the number of the call, and how many bytes pass before it fails.
 #[derive(Clone, Copy, Debug)]
 pub struct Failure {
     pub call: usize,
     pub passes: usize,
 }
 
-/// Which calls are to fail, and how many were made.
+/// Which calls are planned to fail, and how many were made.
 #[derive(Drop)]
 pub struct Plan {
     failures: Vec<Failure>,
@@ -29,7 +30,7 @@ impl Model for Plan {
 }
 
 impl Plan {
-    /// No call is to fail, and none was made.
+    /// A plan without failures, and before any call.
     pub fn new(alloc: Global) -> Self
         ensures { result ≡ nothing_planned }
     {
@@ -39,7 +40,7 @@ impl Plan {
         }
     }
 
-    /// Has the call of this number fail after `passes` bytes.
+    /// Plans that the call of this number fails after `passes` bytes.
     pub fn add(&mut self, call: usize, passes: usize) -> Result<(), AllocError>
         ensures ok { OnOk result (self.new ≡ with_failure self.old call passes) }
         ensures err { OnErr result (self.new ≡ self.old) }
@@ -48,7 +49,7 @@ impl Plan {
         Ok(())
     }
 
-    /// Counts a call, and says how many bytes pass before it fails where it is to fail.
+    /// Counts a call, and returns how many bytes pass before it fails, if it is planned to fail.
     pub fn next_call(&mut self) -> Option<usize>
         ensures failure { result ≡ next_failure self.old }
         ensures counted { self.new ≡ after_call self.old }

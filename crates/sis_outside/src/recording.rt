@@ -1,10 +1,10 @@
 //! Objects of the outside that record the calls made on them.
 //!
-//! A recording object hands each call on to the object inside, and keeps the call with its answer,
-//! so that a contract over lists of calls becomes a list at hand. Promised by `calls` of each
-//! trait: the record grows by just the call, and the object inside goes by it (`specs/Recording`).
-//! Where memory is wanting for the record, there is none from then on; the answers are those of the
-//! object inside.
+//! A recording object passes each call on to the object inside and keeps the call with its answer,
+//! so that a contract over lists of calls becomes a list at hand. The relation `calls` of each
+//! trait promises that the record grows by exactly that call and that the object inside makes it
+//! (`specs/Recording.antt`). If memory runs out for the record, there is no record from then on;
+//! the answers remain those of the object inside.
 
 ghost use Rattle.std.specs.Prelude.{◌≡◌, [], ◌∷◌, Some, IfOk, List};
 ghost use Rattle.sis_outside.specs.Calls.{Follows, PutCall, StoreCall, StoreKeeps, SinkKeeps, SourceKeeps, TakeCall, Load, Save, bytes_of};
@@ -38,8 +38,8 @@ pub struct PutEntry {
     pub answer: Result<(), PutFault>,
 }
 
-/// An object that records its calls: the object inside, and the calls so far unless memory was
-/// wanting for them.
+/// An object that records its calls: the object inside, and the calls so far, unless memory ran out
+/// for them.
 #[derive(Drop)]
 pub struct Recording<T, C> {
     alloc: Global,
@@ -61,8 +61,7 @@ impl<T, C> Recording<T, C> {
     }
 }
 
-/// Puts a call behind those of a record; where memory is wanting for it, there is no record any
-/// more.
+/// Appends a call to a record; if memory runs out for it, there is no record any more.
 fn note<C: Drop>(log: &mut Option<Vec<C>>, entry: Result<C, AllocError>)
     ensures { IsNoted log.old entry log.new }
 {
@@ -74,7 +73,7 @@ fn note<C: Drop>(log: &mut Option<Vec<C>>, entry: Result<C, AllocError>)
     *log = None;
 }
 
-/// A copy of the bytes that a call gave.
+/// A copy of the bytes that a call returned.
 fn answer_copy<F: Copy>(
     alloc: Global,
     answer: &Result<Vec<u8>, F>,
@@ -223,8 +222,8 @@ impl<O: Sink> Sink for Recording<O, PutEntry> {
     }
 }
 
-/// What an object that records holds behind some calls: its record grew by just these, and the
-/// object inside went by them.
+/// A recording object after some calls: its record grew by exactly these, and the object inside
+/// made them.
 pub fn recordings_grow<S: Store, I: Source, O: Sink>()
     ensures store { (old new : Recording S StoreEntry) (calls : List StoreCall)
         → Follows (Records (λ r. calls_in store_call r.log) (λ r. r.inner) S.calls) old new calls

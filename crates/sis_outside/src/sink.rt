@@ -1,4 +1,5 @@
-//! A sink of bytes, put piece by piece.
+//! The trait of a sink of bytes, written piece by piece. Each call promises the relation `calls`;
+//! `keeps` says what follows from it for every sink.
 
 ghost use Rattle.std.specs.Prelude.{ℕ, Bool, List};
 ghost use Rattle.sis_outside.specs.Calls.{PutCall, SinkKeeps};
@@ -11,14 +12,14 @@ pub enum PutFault {
     /// The outside failed, and counted it.
     #[error("the output failed")]
     Failed,
-    /// Memory was wanting; nothing was written.
+    /// Memory ran out; nothing was written.
     #[error("out of memory")]
     Memory,
 }
 
-/// Bytes that are put behind one another.
+/// Bytes that are written one piece after the other.
 ///
-/// Contracts see whether the sink tells its bytes, those that were written where it does, and how
+/// Contracts see whether the sink shows its bytes (`tells`), the bytes written if it does, and how
 /// often it failed. `calls` and `keeps` are as in `Store`.
 pub trait Sink {
     ghost tells: { Self → Bool };
@@ -29,9 +30,9 @@ pub trait Sink {
 
     ghost calls: { Self → PutCall → Self → Type 0 };
 
-    /// Writes the whole piece behind what was written before.
+    /// Writes the whole piece after what was written before.
     ///
-    /// After `Failed`, which comes only where the faults rose, a front of the piece is written.
+    /// After `Failed`, which is answered only if the faults rose, a prefix of the piece is written.
     /// `Memory` writes nothing.
     fn put(&mut self, piece: &[u8]) -> Result<(), PutFault>
         ensures calls { calls self.old (record { piece = piece.now; answer = result }) self.new };

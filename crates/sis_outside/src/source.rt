@@ -1,4 +1,5 @@
-//! A source of bytes, taken piece by piece.
+//! The trait of a source of bytes, taken piece by piece. Each call promises the relation `calls`;
+//! `keeps` says what follows from it for every source.
 
 ghost use Rattle.std.specs.Prelude.{ℕ, ◌≤◌, Bool, List};
 ghost use Rattle.sis_outside.specs.Calls.{TakeCall, SourceKeeps, bytes_of};
@@ -6,20 +7,20 @@ ghost use Rattle.sis_outside.specs.Calls.{TakeCall, SourceKeeps, bytes_of};
 use std::alloc::Global;
 use thiserror::Error;
 
-/// Why a take gave no piece.
+/// Why a take returned no piece.
 #[derive(Clone, Copy, Debug, PartialEq, Eq, Error)]
 pub enum TakeFault {
     /// The outside failed, and counted it.
     #[error("the input failed")]
     Failed,
-    /// Memory was wanting; nothing was taken.
+    /// Memory ran out; nothing was taken.
     #[error("out of memory")]
     Memory,
 }
 
 /// Bytes that are taken from the front.
 ///
-/// Contracts see whether the source tells its bytes, those that are left where it does, and how
+/// Contracts see whether the source shows its bytes (`tells`), the bytes left if it does, and how
 /// often it failed. `calls` and `keeps` are as in `Store`.
 pub trait Source {
     ghost tells: { Self → Bool };
@@ -32,7 +33,7 @@ pub trait Source {
 
     /// The next bytes, at least one and at most `max`, or none exactly at the end.
     ///
-    /// After `Failed`, which comes only where the faults rose, at most `max` bytes are gone.
+    /// After `Failed`, which is answered only if the faults rose, at most `max` bytes are gone.
     /// `Memory` takes nothing.
     fn take(&mut self, alloc: Global, max: usize) -> Result<Vec<u8>, TakeFault>
         requires { 1 ≤ max }

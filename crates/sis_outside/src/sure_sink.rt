@@ -1,4 +1,5 @@
-//! A sink in memory that never fails.
+//! A sink in memory that never fails: its count of faults is always 0. Only memory may run out, and
+//! then nothing is written.
 
 ghost use Rattle.std.specs.Prelude.{◌≡◌, [], true};
 ghost use Rattle.sis_outside.specs.Calls.{SinkKeeps};
@@ -7,8 +8,8 @@ use crate::sink::{PutFault, Sink};
 use std::alloc::Global;
 use std::marker::Model;
 
-/// A sink that keeps what is written, and never fails but for want of memory. Contracts see it as
-/// the bytes that were written.
+/// A sink that keeps what is written, and never fails unless memory runs out. Contracts see it as
+/// the bytes written.
 #[derive(Drop)]
 pub struct SureSink {
     written: Vec<u8>,

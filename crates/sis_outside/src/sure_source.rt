@@ -1,4 +1,5 @@
-//! A source in memory that never fails.
+//! A source in memory that never fails: its count of faults is always 0. Only memory may run out,
+//! and then nothing is taken.
 
 ghost use Rattle.std.specs.Prelude.{◌≡◌, ◌≤◌, true, IfOk};
 ghost use Rattle.sis_outside.specs.Calls.{SourceKeeps, bytes_of};
@@ -7,8 +8,8 @@ use crate::source::{Source, TakeFault};
 use std::alloc::{AllocError, Global};
 use std::marker::Model;
 
-/// A source of bytes that are given to it, which never fails but for want of memory. Contracts see
-/// it as the bytes that are left.
+/// A source of given bytes, which never fails unless memory runs out. Contracts see it as the bytes
+/// that are left.
 #[derive(Drop)]
 pub struct SureSource {
     bytes: Vec<u8>,
@@ -26,7 +27,7 @@ impl Model for SureSource {
 }
 
 impl SureSource {
-    /// A source of these bytes, in pieces as long as they are asked for.
+    /// A source of these bytes, in pieces as long as is asked for.
     pub fn new(alloc: Global, bytes: &[u8]) -> Result<Self, AllocError>
         ensures { IfOk result (λ made. made ≡ bytes.now) }
     {

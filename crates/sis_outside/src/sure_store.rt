@@ -1,4 +1,5 @@
-//! A store in memory that never fails.
+//! A store in memory that never fails: its count of faults is always 0. A load may miss its file,
+//! and memory may run out.
 
 ghost use Rattle.std.specs.Prelude.{◌≡◌, ◌-◌, ◌^◌, ◌<◌, true, OnOk, OnErr};
 ghost use Rattle.std.specs.FinMap as map;
@@ -11,7 +12,7 @@ use crate::store::{LoadFault, SaveFault, Store};
 use std::alloc::{AllocError, Global};
 use std::marker::Model;
 
-/// A store that keeps its files, and never fails but for want of memory.
+/// A store that keeps its files, and never fails unless memory runs out.
 #[derive(Drop)]
 pub struct SureStore {
     files: MemFiles,
@@ -39,7 +40,7 @@ impl SureStore {
         }
     }
 
-    /// Puts a file in place, of an old one of that name too.
+    /// Sets the file of a name, also in place of an old one.
     pub fn put_file(&mut self, name: &str, bytes: &[u8]) -> Result<(), AllocError>
         ensures ok { OnOk result (self.new ≡ record self.old
             { files = with_file self.old.files name.now bytes.now }) }
@@ -48,14 +49,14 @@ impl SureStore {
         self.files.put(name, bytes)
     }
 
-    /// The bytes of the file of a name, where there is one.
+    /// The bytes of the file of a name, if there is one.
     pub fn file(&self, name: &str) -> Option<&[u8]>
         ensures { option_map (λ bytes. bytes.now) result ≡ file_at self.now.files name.now }
     {
         self.files.find(name)
     }
 
-    /// How many loads found no file of their name, at most the greatest `u64`.
+    /// The number of loads that found no file of their name, at most the greatest `u64`.
     pub fn misses(&self) -> u64
         ensures { result ≡ self.now.misses }
     {

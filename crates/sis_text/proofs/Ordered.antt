@@ -1,4 +1,4 @@
--- Words and parts lie in their text and stand in order.
+-- Words and parts are inside their text and in order.
 use Rattle.std.proofs.Common.{◌≡◌, ℕ, ◌+◌, ◌-◌, ◌≤◌, Bool, true, false, cond, List, [], ◌∷◌, ◌++◌, length, take, drop, refl, sym, ◌∙◌, ap, subst, eqb, map, not, ◌&&◌, arith, suc}
 use Rattle.std.specs.List.{filter, prefix_len, suffix_len, flat_map}
 use Rattle.std.proofs.lemmas.List.{length-take, append_assoc}
@@ -12,7 +12,7 @@ use Rattle.sis_text.specs.Lines.{cut_comment, trim_returns, content, cut_joint, 
 use Rattle.sis_text.specs.Pieces.{piece_at, line_pieces, pieces_from, pieces_of}
 use Rattle.sis_text.specs.Order.{AreInOrder, words_in}
 
--- from an earlier place on, up to a later limit
+-- from an earlier position on, up to a later limit
 pub order_wider : (low from limit high : ℕ) (spans : List Span) → low ≤ from → limit ≤ high → AreInOrder from limit spans → AreInOrder low high spans
 unfolding AreInOrder
 order_wider low from limit high [] l h o = tt

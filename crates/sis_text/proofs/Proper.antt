@@ -1,4 +1,4 @@
--- What stands in words: no blank, no mark at which the text was cut.
+-- The bytes of words: no blank, and no mark at which the text was cut.
 use Rattle.std.proofs.Common.{◌≡◌, ℕ, ◌-◌, ◌<◌, Bool, true, false, cond, List, [], ◌∷◌, ◌++◌, length, take, refl, sym, ◌∙◌, ap, subst, eqb, not, ◌&&◌, arith, suc, zero, get_or, ◌+◌}
 use Rattle.std.specs.List.{take_while, filter, prefix_len, suffix_len, flat_map, AllByRecursion}
 use Rattle.std.proofs.lemmas.List.Elements.{All-from_recursion}
@@ -156,7 +156,7 @@ pieces_are_plain source =
         let parts = parts_from 59 line.place true (cut_comment (bytes_at source line)) in
         all_flat (λ part. Pass (λ byte. is_of_line byte && not (eqb byte 59)) (bytes_at source part)) (λ span. IsWordOf is_script_plain (bytes_at source span)) (piece_words source) parts each_part (parts_pass is_of_line 59 source line.place true (cut_comment (bytes_at source line)) (cut_comment_stands source line) (cut_comment_pass (λ byte. not (eqb byte 10)) (bytes_at source line) h))
 
--- lines that are not read past have words
+-- lines that are not skipped have words
 kept_lines : (lines : List Line) → AllByRecursion (λ line. 0 < length line.words) (filter has_words lines)
 unfolding has_words
 kept_lines [] = tt

@@ -19,7 +19,7 @@ use Rattle.sis_text.proofs.Texts.{Stands, stands_rest, whole_stands, first_stand
 cons_same : {A : Type 0} {x y : A} {xs ys : List A} → x ≡ y → xs ≡ ys → x ∷ xs ≡ y ∷ ys
 cons_same e f = cc
 
--- the span of a text that stands at a place
+-- the span of a text that begins at a position
 abbrev span_at : ℕ → List ℕ → Span
 span_at place text = record { place = place; len = length text }
 
@@ -41,7 +41,7 @@ while_all p [] h = refl
 while_all p (x ∷ xs) h =
     take_while-cons p x xs ∙ ap (λ b. cond b (x ∷ take_while p xs) []) h.0 ∙ ap (λ ys. x ∷ ys) (while_all p xs h.1)
 
--- what stands in a written line before its end
+-- the text of a written line before its end
 abbrev is_inner : ℕ → Bool
 is_inner byte = not (eqb byte 10) && (not (eqb byte 35) && not (eqb byte 13))
 
@@ -113,7 +113,7 @@ blank_closed [] = refl
 blank_closed (byte ∷ []) = refl
 blank_closed (byte ∷ next ∷ bytes) = blank_closed (next ∷ bytes)
 
--- the blank that may stand at the end of a line
+-- the blank that may come before the end of a line
 abbrev blank_end : Bool → List ℕ
 blank_end true = 32 ∷ []
 blank_end false = []

@@ -1,4 +1,4 @@
--- Where a part of a text stands in it, and the bytes that a span of that part names.
+-- The position of a part of a text in it, and the bytes of a span of that part.
 use Rattle.std.proofs.Common.{◌≡◌, ℕ, ◌+◌, ◌≤◌, Bool, true, false, cond, List, [], ◌∷◌, ◌++◌, length, take, drop, refl, sym, ◌∙◌, ap, subst, eqb, not, arith, suc, ◌-◌}
 use Rattle.std.specs.List.{take_while, prefix_len, suffix_len}
 use Rattle.std.proofs.lemmas.List.{take-take, drop-take, drop-drop, take_min, length-take, length-append, take_all}
@@ -9,7 +9,7 @@ use Rattle.sis_text.specs.Words.{bytes_at}
 use Rattle.sis_base.specs.Written.{ends_open}
 use Rattle.sis_text.specs.Lines.{cut_comment, trim_returns, content, cut_joint}
 
--- a text stands in the source from a place on
+-- a text occurs in the source from a position on
 pub record Stands (source : List ℕ) (place : ℕ) (text : List ℕ) : Type 0 where
   pub is : take (length text) (drop place source) ≡ text
 
@@ -70,7 +70,7 @@ unfolding cut_comment
 cut_comment_stands source line =
     stands_front source line.place (bytes_at source line) (prefix_len (λ byte. not (eqb byte 35)) (bytes_at source line)) (stands_at source line)
 
--- what is kept of a line stands where the line does
+-- the content of a line is where the line is
 pub content_stands : (source : List ℕ) (line : Span) → Stands source line.place (cut_joint (content (bytes_at source line)))
 unfolding cut_joint trim_returns
 content_stands source line =

@@ -1,7 +1,7 @@
--- Decimal numbers as the library files of the mapper write them, in millionths.
--- Source: the genlib format of SIS (UCB/ERL M92/41): areas and delays are decimal numbers. At most nine digits,
--- then a point and at most six digits, or no point; at least one digit in all. So each is a whole number of
--- millionths.
+-- Decimal numbers as the library files of the mapper write them, in millionths. Source: the genlib
+-- format of SIS (UCB/ERL M92/41): areas and delays are decimal numbers. At most nine digits, then a
+-- point and at most six digits, or no point; at least one digit in all. So each is a whole number
+-- of millionths.
 use Rattle.std.specs.Prelude.{ℕ, ◌+◌, ◌-◌, ◌*◌, ◌/◌, ◌%◌, ◌^◌, ◌==◌, ◌&&◌, not, nat_le, nat_lt, Bool, Option, Some, None, List, [], ◌∷◌, ◌++◌, length, map, drop, decimal, if◌then◌else◌}
 use Rattle.std.specs.List.{take_while, list_all, fold}
 
@@ -9,11 +9,11 @@ use Rattle.std.specs.List.{take_while, list_all, fold}
 abbrev pub is_digit : ℕ → Bool
 is_digit byte = nat_le 48 byte && nat_le byte 57
 
--- the number that digits write
+-- the number that digits denote
 unfoldable pub number_of : List ℕ → ℕ
 number_of digits = fold (λ number digit. number * 10 + (digit - 48)) 0 digits
 
--- what stands before the first point, and what stands behind it
+-- the bytes before the first point, and those after it
 unfoldable pub whole_part : List ℕ → List ℕ
 whole_part word = take_while (λ byte. not (byte == 46)) word
 
@@ -26,11 +26,12 @@ are_parts whole fraction =
     list_all is_digit whole && list_all is_digit fraction && nat_le (length whole) 9 && nat_le (length fraction) 6
     && nat_lt 0 (length whole + length fraction)
 
--- the millionths that the parts say: a digit behind the point stands for a tenth of the one before it
+-- the millionths that the parts denote: a digit after the point is worth a tenth of the one before
+-- it
 unfoldable pub millionths_of : List ℕ → List ℕ → ℕ
 millionths_of whole fraction = number_of whole * 1000000 + number_of fraction * 10 ^ (6 - length fraction)
 
--- the number that a word writes, in millionths; none where it writes no number
+-- the number that a word denotes, in millionths; none if it denotes no number
 unfoldable pub decimal_of : List ℕ → Option ℕ
 decimal_of word =
     if are_parts (whole_part word) (fraction_part word)

@@ -1,5 +1,6 @@
--- Logical lines and pieces of scripts with the bytes of their words in place of spans: readers and writers speak of these.
--- Source: "Berkeley Logic Interchange Format (BLIF)", appendix of the SIS report (UCB/ERL M92/41).
+-- Logical lines and pieces of scripts with the bytes of their words instead of spans, as readers
+-- and writers use them. Source: "Berkeley Logic Interchange Format (BLIF)", appendix of the SIS
+-- report (UCB/ERL M92/41).
 use Rattle.std.specs.Prelude.{ℕ, List, map}
 use Rattle.sis_text.specs.declared.places.Line.{Line}
 use Rattle.sis_text.specs.Words.{bytes_at}
@@ -11,7 +12,7 @@ pub record Entry : Type 0 where
   pub number : ℕ
   pub words : List (List ℕ)
 
--- what a line with spans of a text says
+-- a line of spans of a text, with the bytes of the spans
 abbrev pub entry_at : List ℕ → Line → Entry
 entry_at source line = record { number = line.number; words = map (bytes_at source) line.words }
 

@@ -1,5 +1,5 @@
--- The logical lines of a text: comments cut, lines joined, words as spans of the text.
--- Source: "Berkeley Logic Interchange Format (BLIF)", appendix of the SIS report (UCB/ERL M92/41): `#`
+-- The logical lines of a text: comments cut, lines joined, words as spans of the text. Source:
+-- "Berkeley Logic Interchange Format (BLIF)", appendix of the SIS report (UCB/ERL M92/41): `#`
 -- begins a comment, a `\` at the end of a line joins the next one.
 use Rattle.std.specs.Prelude.{ℕ, ◌+◌, ◌-◌, ◌==◌, not, Bool, true, false, List, [], ◌∷◌, ◌++◌, length, take, if◌then◌else◌}
 use Rattle.std.specs.List.{take_while, suffix_len, filter}
@@ -8,15 +8,15 @@ use Rattle.sis_text.specs.declared.places.Span.{Span}
 use Rattle.sis_text.specs.declared.places.Line.{Line}
 use Rattle.sis_text.specs.Words.{bytes_at, words_from, parts_from}
 
--- the physical lines: parted at byte 10, numbered from 1 by their order
+-- the physical lines: split at byte 10, numbered from 1 in order
 abbrev pub physical_lines : List ℕ → List Span
 physical_lines source = parts_from 10 0 true source
 
--- what stands before the first `#`
+-- the bytes before the first `#`
 unfoldable pub cut_comment : List ℕ → List ℕ
 cut_comment line = take_while (λ byte. not (byte == 35)) line
 
--- without the carriage returns at its end
+-- a text without the carriage returns at its end
 unfoldable pub trim_returns : List ℕ → List ℕ
 trim_returns text = take (length text - suffix_len (λ byte. byte == 13) text) text
 
@@ -24,11 +24,11 @@ trim_returns text = take (length text - suffix_len (λ byte. byte == 13) text) t
 abbrev pub content : List ℕ → List ℕ
 content line = trim_returns (cut_comment line)
 
--- without a `\` at its end, which joins the next line
+-- a text without a `\` at its end, which joins the next line
 unfoldable pub cut_joint : List ℕ → List ℕ
 cut_joint text = if ends_open text then take (length text - 1) text else text
 
--- a line of this number whose words go before those of the first of the lines
+-- the words of a line of this number, put before those of the first of the lines
 unfoldable pub prepend : ℕ → List Span → List Line → List Line
 prepend number words [] = record { number = number; words = words } ∷ []
 prepend number words (line ∷ lines) = record { number = number; words = words ++ line.words } ∷ lines
@@ -37,8 +37,8 @@ prepend number words (line ∷ lines) = record { number = number; words = words 
 unfoldable pub words_at : List ℕ → Span → List Span
 words_at source line = words_from line.place true (cut_joint (content (bytes_at source line)))
 
--- Physical lines, numbered from `number` on, as logical ones: an open line takes the next one to itself,
--- and keeps its own number.
+-- physical lines, numbered from `number` on, as logical ones: an open line takes the words of the
+-- next one, and keeps its own number
 unfoldable pub join_lines : List ℕ → ℕ → List Span → List Line
 join_lines source number [] = []
 join_lines source number (line ∷ lines) =

@@ -1,5 +1,5 @@
--- How the words that are found lie in their text.
--- Source: "Berkeley Logic Interchange Format (BLIF)", appendix of the SIS report (UCB/ERL M92/41).
+-- The order and the bytes of the words that are found in a text. Source: "Berkeley Logic
+-- Interchange Format (BLIF)", appendix of the SIS report (UCB/ERL M92/41).
 use Rattle.std.specs.Prelude.{◌≡◌, ℕ, ◌+◌, ◌<◌, ◌≤◌, ◌==◌, ◌&&◌, not, Bool, true, List, [], ◌∷◌, length}
 use Rattle.std.specs.List.{All, flat_map}
 use Rattle.sis_base.specs.Written.{is_blank}
@@ -8,7 +8,8 @@ use Rattle.sis_text.specs.declared.places.Line.{Line}
 use Rattle.sis_text.specs.Words.{bytes_at}
 use Rattle.sis_text.specs.Entries.{Entry}
 
--- no span begins before the end of the one before it, the first not before `from`, and none ends behind `limit`
+-- no span begins before the end of the previous one, the first not before `from`, and none ends
+-- after `limit`
 unfoldable pub AreInOrder : ℕ → ℕ → List Span → Type 0
 AreInOrder from limit [] = Unit {0}
 AreInOrder from limit (span ∷ spans) =
@@ -18,7 +19,7 @@ AreInOrder from limit (span ∷ spans) =
 abbrev pub words_in : List Line → List Span
 words_in lines = flat_map (λ line. line.words) lines
 
--- a byte that is no blank
+-- a byte that is not a blank
 abbrev pub is_solid : ℕ → Bool
 is_solid byte = not (is_blank byte)
 
@@ -26,11 +27,11 @@ is_solid byte = not (is_blank byte)
 abbrev pub is_of_line : ℕ → Bool
 is_of_line byte = not (byte == 10) && not (byte == 35)
 
--- a byte that may stand in a word of a logical line
+-- a byte that may occur in a word of a logical line
 abbrev pub is_plain : ℕ → Bool
 is_plain byte = is_solid byte && is_of_line byte
 
--- a byte that may stand in a word of a script
+-- a byte that may occur in a word of a script
 abbrev pub is_script_plain : ℕ → Bool
 is_script_plain byte = is_solid byte && (is_of_line byte && not (byte == 59))
 
@@ -39,7 +40,7 @@ pub record IsWordOf (test : ℕ → Bool) (word : List ℕ) : Type 0 where
   pub some : 0 < length word
   pub passes : All (λ byte. test byte ≡ true) word
 
--- each span names a word
+-- each span is a word
 abbrev pub AreWordsOf : (ℕ → Bool) → List ℕ → List Span → Type 0
 AreWordsOf test source spans = All (λ span. IsWordOf test (bytes_at source span)) spans
 

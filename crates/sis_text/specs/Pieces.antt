@@ -1,6 +1,6 @@
--- How a script falls into pieces: at each line's end and at each `;`, a comment left out. No piece goes on behind a line's end.
--- Source: the command scripts of the SIS report (UCB/ERL M92/41): commands are parted by `;` and line
--- ends, `#` begins a comment.
+-- How a script is split into pieces: at each line end and at each `;`, without comments. No piece
+-- continues after a line end. Source: the command scripts of the SIS report (UCB/ERL M92/41):
+-- commands are separated by `;` and line ends, `#` begins a comment.
 use Rattle.std.specs.Prelude.{ℕ, ◌+◌, true, List, [], ◌∷◌, ◌++◌, map}
 use Rattle.std.specs.List.{filter}
 use Rattle.sis_text.specs.declared.places.Span.{Span}
@@ -22,6 +22,6 @@ unfoldable pub pieces_from : List ℕ → ℕ → List Span → List Line
 pieces_from source number [] = []
 pieces_from source number (line ∷ lines) = line_pieces source number line ++ pieces_from source (number + 1) lines
 
--- pieces without words are read past
+-- the pieces of a script that have words
 unfoldable pub pieces_of : List ℕ → List Line
 pieces_of source = filter has_words (pieces_from source 1 (physical_lines source))

@@ -1,12 +1,13 @@
--- What the logical lines of a text are that is written of lines of words.
--- Source: "Berkeley Logic Interchange Format (BLIF)", appendix of the SIS report (UCB/ERL M92/41). How such
--- lines are written stands in the base crate.
+-- The logical lines of a text that is written from lines of words. Source: "Berkeley Logic
+-- Interchange Format (BLIF)", appendix of the SIS report (UCB/ERL M92/41). The base crate defines
+-- how such lines are written.
 use Rattle.std.specs.Prelude.{◌≡◌, ℕ, ◌+◌, true, List, [], ◌∷◌}
 use Rattle.std.specs.List.{All}
 use Rattle.sis_base.specs.Written.{Written, is_word}
 use Rattle.sis_text.specs.Entries.{Entry}
 
--- each word of the line is a word: no reader takes a byte of it for a blank, a line end or a comment
+-- each word of the line is a word: no reader takes a byte of it for a blank, a line end or a
+-- comment
 abbrev pub IsLineOfWords : Written → Type 0
 IsLineOfWords line = All (λ word. is_word word ≡ true) (line.first ∷ line.others)
 

@@ -1,11 +1,13 @@
 //! Decimal numbers of library files, kept exactly in millionths.
 //!
-//! Source: the genlib format of SIS (UCB/ERL M92/41). Promised: just the numbers of `specs/Decimals.antt`
-//! are read, and what is written is read as the same number where it is below 10^15 millionths.
+//! Source: the genlib format of SIS (UCB/ERL M92/41). `Decimal::parse` accepts exactly the numbers
+//! of `specs/Decimals.antt`: at most nine digits before the point and six after it, so each is
+//! below 10^15 millionths. `Decimal::print` writes six digits after the point. A number below 10^15
+//! millionths is read back from its text unchanged.
 
 ghost use Rattle.std.specs.Prelude.{◌≡◌, option_map, ◌^◌, ◌<◌, ◌≤◌, ◌++◌, true, Some, length, IfOk, IfSome, ◌+◌, ◌-◌, ◌*◌, ◌/◌, ◌%◌, ◌==◌, not};
 ghost use Rattle.std.specs.List.{list_all, take_while};
-ghost use Rattle.sis_text.specs.declared.decimal.Decimal.{Decimal as TheDecimal};
+ghost use Rattle.sis_text.specs.declared.decimal.Decimal.{Decimal};
 ghost use Rattle.sis_text.specs.Decimals.{is_digit, number_of, whole_part, fraction_part, are_parts, millionths_of, decimal_of, decimal_text, six_digits};
 
 use std::alloc::{AllocError, Global};
@@ -22,15 +24,15 @@ fn is_digit(byte: u8) -> bool
 }
 
 /// Whether all bytes are decimal digits.
-fn are_digits(bytes: &[u8]) -> bool
+pub fn are_digits(bytes: &[u8]) -> bool
     ensures { result ≡ list_all is_digit bytes.now }
 {
     bytes.iter().all(|byte| is_digit(*byte))
 }
 
-/// The number that digits write.
+/// The number that digits denote.
 #[tactic(auto, using(crate::proofs::DecimalSteps::small))]
-fn number_of(digits: &[u8]) -> u128
+pub fn number_of(digits: &[u8]) -> u128
     requires few { length digits.now ≤ 9 }
     requires digits { list_all is_digit digits.now ≡ true }
     ensures value { result ≡ number_of digits.now }
@@ -43,7 +45,7 @@ fn number_of(digits: &[u8]) -> u128
     number
 }
 
-/// How many bytes stand before the first point.
+/// The number of bytes before the first point.
 fn whole_len(word: &[u8]) -> usize
     ensures value { result ≡ length (take_while (λ byte. not (byte == 46)) word.now) }
     ensures within { result ≤ length word.now }
@@ -51,7 +53,7 @@ fn whole_len(word: &[u8]) -> usize
     word.iter().take_while(|byte| **byte != b'.').count()
 }
 
-/// The millionths of a number that so many digits behind the point write.
+/// The millionths of a fraction, given as a number and the count of its digits after the point.
 #[tactic(auto, using(crate::proofs::DecimalSteps::scaled_fits))]
 fn scaled(number: u128, len: usize) -> u128
     requires few { len ≤ 6 }
@@ -62,7 +64,7 @@ fn scaled(number: u128, len: usize) -> u128
     number * 10_u128.pow((6 - len) as u32)
 }
 
-/// What stands before the first point.
+/// The bytes before the first point.
 #[tactic(auto, unfolding(crate::specs::Decimals::whole_part), using(crate::proofs::Steps::front_taken, std::proofs::lemmas::Grind::common_steps))]
 fn whole_part(word: &[u8]) -> &[u8]
     ensures { result.now ≡ whole_part word.now }
@@ -70,7 +72,7 @@ fn whole_part(word: &[u8]) -> &[u8]
     &word[..whole_len(word)]
 }
 
-/// What stands behind the first point.
+/// The bytes after the first point.
 #[tactic(auto, unfolding(crate::specs::Decimals::whole_part, crate::specs::Decimals::fraction_part), using(std::proofs::lemmas::List::drop_min, std::proofs::lemmas::Grind::common_steps))]
 fn fraction_part(word: &[u8]) -> &[u8]
     ensures { result.now ≡ fraction_part word.now }
@@ -79,7 +81,7 @@ fn fraction_part(word: &[u8]) -> &[u8]
     &word[start..]
 }
 
-/// Whether both parts are digits, few enough and some.
+/// Whether both parts are digits, neither too many nor none in all.
 #[tactic(auto, unfolding(crate::specs::Decimals::are_parts))]
 fn are_parts(whole: &[u8], fraction: &[u8]) -> bool
     ensures value { result ≡ are_parts whole.now fraction.now }
@@ -94,7 +96,7 @@ fn are_parts(whole: &[u8], fraction: &[u8]) -> bool
     are_digits(whole) && are_digits(fraction) && whole.len() + fraction.len() > 0
 }
 
-/// The millionths that both parts say.
+/// The millionths that both parts denote.
 #[tactic(auto, unfolding(crate::specs::Decimals::millionths_of))]
 fn millionths_of(whole: &[u8], fraction: &[u8]) -> u128
     requires whole_digits { list_all is_digit whole.now ≡ true }
@@ -130,7 +132,7 @@ fn six_digits(number: u128) -> [u8; 6]
     ]
 }
 
-/// How a number of millionths is written.
+/// A number of millionths as text.
 #[tactic(auto, unfolding(crate::specs::Decimals::decimal_text))]
 fn decimal_text(alloc: Global, millionths: u128) -> Result<Vec<u8>, AllocError>
     ensures { IfOk result (λ text. text.items ≡ decimal_text millionths) }
@@ -145,12 +147,13 @@ fn decimal_text(alloc: Global, millionths: u128) -> Result<Vec<u8>, AllocError>
 }
 
 impl Decimal {
-    /// The number that a word writes: at most nine digits, then a point and at most six digits, or no point;
-    /// at least one digit in all. None for any other word. Takes no memory.
+    /// The number that a word denotes: at most nine digits, then a point and at most six digits, or
+    /// no point; at least one digit in all. None for any other word. Takes no memory.
     #[tactic(auto, unfolding(crate::specs::Decimals::decimal_of))]
     pub fn parse(word: &[u8]) -> Option<Decimal>
-        ensures value { option_map (λ (decimal : TheDecimal). decimal.0) result ≡ decimal_of word.now }
-        ensures bound { IfSome result (λ (decimal : TheDecimal). decimal.0 < 10 ^ 15) }
+        ensures value { option_map (λ (decimal : Decimal). decimal.0) result
+            ≡ decimal_of word.now }
+        ensures bound { IfSome result (λ (decimal : Decimal). decimal.0 < 10 ^ 15) }
     {
         let whole = whole_part(word);
         let fraction = fraction_part(word);
@@ -160,11 +163,12 @@ impl Decimal {
         Some(Decimal(millionths_of(whole, fraction)))
     }
 
-    /// The number as text, six digits behind the point; an error only for want of memory. Below 10^15
-    /// millionths the text is read as the same number.
+    /// The number as text, with six digits after the point. Below 10^15 millionths the text is read
+    /// back as the same number.
     pub fn print(&self, alloc: Global) -> Result<Vec<u8>, AllocError>
         ensures value { IfOk result (λ text. text.items ≡ decimal_text self.now.0) }
-        ensures read_back { IfOk result (λ text. self.now.0 < 10 ^ 15 → decimal_of text.items ≡ Some self.now.0) }
+        ensures read_back { IfOk result (λ text. self.now.0 < 10 ^ 15 → decimal_of text.items
+            ≡ Some self.now.0) }
     {
         decimal_text(alloc, self.0)
     }

@@ -1,4 +1,10 @@
-//! Logical lines: comments cut, lines joined, lines without words read past.
+//! The logical lines of a text: comments are cut, lines joined and lines without words skipped.
+//!
+//! Source: "Berkeley Logic Interchange Format (BLIF)", appendix of the SIS report (UCB/ERL M92/41).
+//! `logical_lines` splits the text at byte 10, cuts each physical line before its first `#`, drops
+//! carriage returns at its end and joins the next line to one that ends in `\`. The result is
+//! exactly `lines_of` of `specs/Lines.antt`. Callers rely on its words: spans of the text, in
+//! order, without overlap, none empty, and each line has at least one.
 
 ghost use Rattle.std.specs.Prelude.{◌≡◌, List, map, ◌==◌, ◌+◌, ◌^◌, ◌<◌, ◌≤◌, ◌++◌, ◌∷◌, [], not, true, length, IfOk, OnOk};
 ghost use Rattle.std.specs.List.{take_while, suffix_len, filter};
@@ -15,14 +21,14 @@ use crate::places::{Line, Lines, Span, Spans, bytes_at};
 use sis_base::Sequence;
 use std::alloc::{AllocError, AllocFailed, Global};
 
-/// How many bytes stand before the first `#`.
+/// The number of bytes before the first `#`.
 fn front_len(line: &[u8]) -> usize
     ensures { result ≡ length (take_while (λ byte. not (byte == 35)) line.now) }
 {
     line.iter().take_while(|byte| **byte != b'#').count()
 }
 
-/// What stands before the first `#`.
+/// The bytes before the first `#`.
 #[tactic(auto, unfolding(crate::specs::Lines::cut_comment), using(crate::proofs::Steps::front_taken, std::proofs::lemmas::Grind::common_steps))]
 pub(crate) fn cut_comment(line: &[u8]) -> &[u8]
     ensures value { result.now ≡ cut_comment line.now }
@@ -31,7 +37,7 @@ pub(crate) fn cut_comment(line: &[u8]) -> &[u8]
     &line[..front_len(line)]
 }
 
-/// How many carriage returns stand at the end.
+/// The number of carriage returns at the end.
 fn returns_len(text: &[u8]) -> usize
     ensures value { result ≡ suffix_len (λ byte. byte == 13) text.now }
     ensures within { result ≤ length text.now }
@@ -50,7 +56,7 @@ fn trim_returns(text: &[u8]) -> &[u8]
 
 /// Whether the last byte is a `\`.
 #[tactic(auto, using(crate::proofs::Steps::open_tested, crate::proofs::Steps::none_open))]
-fn ends_open(text: &[u8]) -> bool
+pub fn ends_open(text: &[u8]) -> bool
     ensures value { result ≡ ends_open text.now }
     ensures some { result ≡ true → 1 ≤ length text.now }
 {
@@ -78,7 +84,7 @@ fn content_at(source: &[u8], line: Span) -> &[u8]
     trim_returns(cut_comment(bytes_at(source, line)))
 }
 
-/// The line that has begun, or one with this number.
+/// The open line, or a new one with this number.
 #[tactic(auto, unfolding(crate::specs::Joining::current_line))]
 fn current_line(alloc: Global, begun: Option<Line>, number: usize) -> Line
     ensures { result ≡ current_line begun number }
@@ -92,7 +98,7 @@ fn current_line(alloc: Global, begun: Option<Line>, number: usize) -> Line
     }
 }
 
-/// Puts `line` behind `lines`, unless it has no words.
+/// Appends `line` to `lines`, unless it has no words.
 #[tactic(auto, unfolding(crate::specs::Lines::has_words), using(crate::proofs::Steps::empty_tested))]
 pub(crate) fn finish(lines: &mut Lines, line: Line) -> Result<(), AllocFailed<Line>>
     ensures { OnOk result (lines.new ≡ lines.old ++ filter has_words (line ∷ [])) }
@@ -104,7 +110,8 @@ pub(crate) fn finish(lines: &mut Lines, line: Line) -> Result<(), AllocFailed<Li
     }
 }
 
-/// Takes one physical line to the line that has begun, and hands back the line that has begun then.
+/// Adds one physical line to the open line, or to a new one, and returns the line that is open
+/// after it.
 fn take_line(
     lines: &mut Lines,
     alloc: Global,
@@ -113,7 +120,9 @@ fn take_line(
     source: &[u8],
     line: Span,
 ) -> Result<Option<Line>, AllocError>
-    ensures { IfOk result (λ next. (rest : List Span) → lines.new ++ filter has_words (resume next (join_lines source.now (number + 1) rest)) ≡ lines.old ++ filter has_words (resume begun (join_lines source.now number (line ∷ rest)))) }
+    ensures { IfOk result (λ next. (rest : List Span) → lines.new ++ filter has_words
+        (resume next (join_lines source.now (number + 1) rest)) ≡ lines.old ++ filter has_words
+        (resume begun (join_lines source.now number (line ∷ rest)))) }
 {
     let text = content_at(source, line);
     let mut taken = current_line(alloc, begun, number);
@@ -125,7 +134,7 @@ fn take_line(
     Ok(None)
 }
 
-/// Puts the line that has begun, if there is one, behind `lines`.
+/// Appends the open line, if there is one, to `lines`.
 #[tactic(auto, unfolding(crate::specs::Joining::resume, crate::specs::Lines::prepend))]
 fn finish_last(lines: &mut Lines, begun: Option<Line>) -> Result<(), AllocFailed<Line>>
     ensures { OnOk result (lines.new ≡ lines.old ++ filter has_words (resume begun [])) }
@@ -159,10 +168,10 @@ fn found_lines(alloc: Global, source: &[u8]) -> Result<Lines, AllocError>
     join(alloc, source, physical.as_slice())
 }
 
-/// The logical lines of a text: comments cut, lines joined by `\` at the end, lines without words read
-/// past. Spans are places in `source`; numbers of physical lines begin at 1. The words of all lines stand
-/// in order and do not overlap; none is empty or has a blank, a line end or a `#`. An error only for want
-/// of memory.
+/// The logical lines of a text: comments are cut, lines joined by `\` at their end, and lines
+/// without words skipped. Spans are positions in `source`; physical lines are numbered from 1. The
+/// words of all lines are in order and do not overlap; none is empty or has a blank, a line end or
+/// a `#`.
 pub fn logical_lines(alloc: Global, source: &[u8]) -> Result<Lines, AllocError>
     ensures value { IfOk result (λ lines. lines ≡ lines_of source.now) }
     ensures entries { IfOk result (λ lines. map (entry_at source.now) lines ≡ entries_of source.now) }

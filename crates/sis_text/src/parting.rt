@@ -1,4 +1,9 @@
-//! Parts of a text between marks, and words of a line.
+//! The words of a line, and the parts of a text between marks, as spans of the text.
+//!
+//! Source: the BLIF appendix of the SIS report (UCB/ERL M92/41): tabs, carriage returns and spaces
+//! separate words. `words` returns the longest runs of other bytes, in order and without overlap.
+//! `parts` splits a text at a mark; there is no part after a mark at the very end. Both results are
+//! exactly those of `specs/Words.antt`.
 
 ghost use Rattle.std.specs.Prelude.{◌≡◌, ◌==◌, ◌+◌, ◌*◌, ◌^◌, ◌<◌, ◌++◌, not, true, length, IfOk, OnOk};
 ghost use Rattle.sis_base.specs.Written.{is_blank};
@@ -16,7 +21,7 @@ fn is_blank(byte: u8) -> bool
     byte == b'\t' || byte == b'\r' || byte == b' '
 }
 
-/// How many bytes stand before the first blank.
+/// The number of bytes before the first blank.
 #[tactic(auto, unfolding(crate::specs::Words::word_len))]
 fn word_len(bytes: &[u8]) -> usize
     ensures { result ≡ word_len bytes.now }
@@ -24,7 +29,7 @@ fn word_len(bytes: &[u8]) -> usize
     bytes.iter().take_while(|byte| !is_blank(**byte)).count()
 }
 
-/// How many bytes stand before the first mark.
+/// The number of bytes before the first mark.
 #[tactic(auto, unfolding(crate::specs::Words::part_len))]
 fn part_len(mark: u8, bytes: &[u8]) -> usize
     ensures { result ≡ part_len mark bytes.now }
@@ -32,7 +37,7 @@ fn part_len(mark: u8, bytes: &[u8]) -> usize
     bytes.iter().take_while(|byte| **byte != mark).count()
 }
 
-/// Puts the words of `line`, whose bytes stand from `place` on, behind `found`.
+/// Appends the words of `line`, whose bytes begin at position `place`, to `found`.
 #[tactic(auto, using(crate::proofs::Steps::words_more, crate::proofs::Steps::words_done, std::proofs::lemmas::Grind::common_steps))]
 pub(crate) fn add_words(
     found: &mut Spans,
@@ -56,7 +61,7 @@ pub(crate) fn add_words(
     Ok(())
 }
 
-/// Puts the parts of `text` between marks, whose bytes stand from `place` on, behind `found`.
+/// Appends the parts of `text` between marks, whose bytes begin at position `place`, to `found`.
 #[tactic(auto, using(crate::proofs::Steps::parts_more, crate::proofs::Steps::parts_done, std::proofs::lemmas::Grind::common_steps))]
 pub(crate) fn add_parts(
     found: &mut Spans,
@@ -89,8 +94,8 @@ fn found_words(alloc: Global, line: &[u8]) -> Result<Spans, AllocError>
     Ok(found)
 }
 
-/// The words of one line, as spans of it: the longest runs of bytes other than tab, carriage return and
-/// space. They stand in order, do not overlap, and each is such a run. An error only for want of memory.
+/// The words of one line, as spans of it: the longest runs of bytes other than tab, carriage return
+/// and space. They are in order and do not overlap, and each is such a run.
 pub fn words(alloc: Global, line: &[u8]) -> Result<Spans, AllocError>
     ensures value { IfOk result (λ found. found ≡ words_of line.now) }
     ensures in_order { IfOk result (λ found. AreInOrder 0 (length line.now) found) }
@@ -99,7 +104,7 @@ pub fn words(alloc: Global, line: &[u8]) -> Result<Spans, AllocError>
     found_words(alloc, line)
 }
 
-/// The parts of a text between marks, as spans of it; an error only for want of memory.
+/// The parts of a text between marks, as spans of it.
 pub(crate) fn parts(alloc: Global, mark: u8, text: &[u8]) -> Result<Spans, AllocError>
     ensures { IfOk result (λ found. found ≡ parts_from mark 0 true text.now) }
 {

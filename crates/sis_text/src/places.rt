@@ -1,4 +1,5 @@
-//! Places in a text.
+//! Spans of a text and lines of spans. A span is a position and a length; it borrows nothing, and
+//! `bytes_at` and `texts_at` look up its bytes in the text, without any past the end.
 
 ghost use Rattle.std.specs.Prelude.{◌≡◌, length, take, drop, map, IfOk};
 ghost use Rattle.sis_text.specs.Words.{bytes_at};
@@ -6,7 +7,7 @@ ghost use Rattle.sis_text.specs.Words.{bytes_at};
 use sis_base::Sequence;
 use std::alloc::{AllocError, Global};
 
-/// A part of a text: `len` bytes from `place` on.
+/// A part of a text: `len` bytes from position `place` on.
 #[derive(Clone, Copy, PartialEq, Eq, Debug)]
 pub struct Span {
     pub place: usize,
@@ -26,7 +27,7 @@ pub struct Line {
 /// Lines in order.
 pub type Lines = Sequence<Line>;
 
-/// The bytes of `source` that `span` names; those past its end are left out.
+/// The bytes of `source` in `span`; those past its end are left out.
 #[tactic(auto, using(std::proofs::lemmas::List::take_min, std::proofs::lemmas::List::drop_min, std::proofs::lemmas::Grind::common_steps))]
 pub fn bytes_at(source: &[u8], span: Span) -> &[u8]
     ensures { result.now ≡ take span.len (drop span.place source.now) }
@@ -35,13 +36,14 @@ pub fn bytes_at(source: &[u8], span: Span) -> &[u8]
     &rest[..span.len.min(rest.len())]
 }
 
-/// The bytes of `source` that each of `spans` names, in order; an error only for want of memory.
+/// The bytes of `source` in each of `spans`, in order.
 pub fn texts_at<'a>(
     alloc: Global,
     source: &'a [u8],
     spans: &[Span],
 ) -> Result<Vec<&'a [u8]>, AllocError>
-    ensures { IfOk result (λ texts. map (λ text. text.now) texts.items ≡ map (bytes_at source.now) spans.now) }
+    ensures { IfOk result (λ texts. map (λ text. text.now) texts.items ≡ map
+        (bytes_at source.now) spans.now) }
 {
     let mut texts = Vec::with_capacity(alloc, spans.len())?;
     for span in spans {

@@ -1,4 +1,9 @@
-//! Pieces of a script: physical lines without comments, parted at `;`, pieces without words read past.
+//! The pieces of a command script: physical lines without comments, split at `;`.
+//!
+//! Source: the command scripts of the SIS report (UCB/ERL M92/41). No lines are joined, and pieces
+//! without words are skipped. The result is exactly `pieces_of` of `specs/Pieces.antt`: each piece
+//! has the number of its physical line, from 1 on. Callers rely on the words: spans in order,
+//! without overlap, each nonempty and without a blank, a line end, a `#` or a `;`.
 
 ghost use Rattle.std.specs.Prelude.{◌≡◌, ◌+◌, ◌++◌, ◌∷◌, [], length, map, IfOk, OnOk};
 ghost use Rattle.std.specs.List.{filter};
@@ -13,7 +18,7 @@ use crate::places::{Line, Lines, Span, bytes_at};
 use sis_base::Sequence;
 use std::alloc::{AllocError, Global};
 
-/// Puts one piece behind `lines`, unless it has no words.
+/// Appends one piece to `lines`, unless it has no words.
 #[tactic(auto, unfolding(crate::specs::Pieces::piece_at))]
 fn add_piece(
     lines: &mut Lines,
@@ -22,7 +27,8 @@ fn add_piece(
     source: &[u8],
     part: Span,
 ) -> Result<(), AllocError>
-    ensures { OnOk result (lines.new ≡ lines.old ++ filter has_words (piece_at source.now number part ∷ [])) }
+    ensures { OnOk result (lines.new ≡ lines.old ++ filter has_words
+        (piece_at source.now number part ∷ [])) }
 {
     let mut words = Sequence::new(alloc);
     add_words(&mut words, part.place, bytes_at(source, part))?;
@@ -30,7 +36,7 @@ fn add_piece(
     Ok(())
 }
 
-/// Puts the pieces that these parts are behind `lines`.
+/// Appends the pieces of these parts to `lines`.
 #[tactic(auto, using(crate::proofs::Steps::kept_more, crate::proofs::Steps::kept_done, std::proofs::lemmas::Grind::common_steps))]
 fn add_pieces(
     lines: &mut Lines,
@@ -39,7 +45,8 @@ fn add_pieces(
     source: &[u8],
     parts: &[Span],
 ) -> Result<(), AllocError>
-    ensures { OnOk result (lines.new ≡ lines.old ++ filter has_words (map (piece_at source.now number) parts.now)) }
+    ensures { OnOk result (lines.new ≡ lines.old ++ filter has_words
+        (map (piece_at source.now number) parts.now)) }
 {
     for i in 0..parts.len() {
         add_piece(lines, alloc, number, source, parts[i])?;
@@ -47,7 +54,7 @@ fn add_pieces(
     Ok(())
 }
 
-/// Puts the pieces of one physical line behind `lines`.
+/// Appends the pieces of one physical line to `lines`.
 #[tactic(auto, unfolding(crate::specs::Pieces::line_pieces))]
 fn add_line(
     lines: &mut Lines,
@@ -56,7 +63,8 @@ fn add_line(
     source: &[u8],
     line: Span,
 ) -> Result<(), AllocError>
-    ensures { OnOk result (lines.new ≡ lines.old ++ filter has_words (line_pieces source.now number line)) }
+    ensures { OnOk result (lines.new ≡ lines.old ++ filter has_words
+        (line_pieces source.now number line)) }
 {
     let mut found = Sequence::new(alloc);
     add_parts(
@@ -72,7 +80,8 @@ fn add_line(
 /// The pieces of these physical lines.
 #[tactic(auto, using(crate::proofs::Steps::pieces_more, crate::proofs::Steps::pieces_done, std::proofs::lemmas::Grind::common_steps))]
 fn pieces(alloc: Global, source: &[u8], physical: &[Span]) -> Result<Lines, AllocError>
-    ensures { IfOk result (λ lines. lines ≡ filter has_words (pieces_from source.now 1 physical.now)) }
+    ensures { IfOk result (λ lines. lines ≡ filter has_words
+        (pieces_from source.now 1 physical.now)) }
 {
     let mut lines = Sequence::new(alloc);
     for i in 0..physical.len() {
@@ -90,13 +99,14 @@ fn found_pieces(alloc: Global, source: &[u8]) -> Result<Lines, AllocError>
     pieces(alloc, source, physical.as_slice())
 }
 
-/// The pieces of a script, each with the number of its physical line, from 1 on: lines are cut before the
-/// first `#` and parted at `;`; nothing is joined, and pieces without words are read past. Spans are places
-/// in `source`. The words of all pieces stand in order and do not overlap; none is empty or has a blank, a
-/// line end, a `#` or a `;`. An error only for want of memory.
+/// The pieces of a script, each with the number of its physical line, from 1 on. Lines are cut
+/// before the first `#` and split at `;`; nothing is joined, and pieces without words are skipped.
+/// Spans are positions in `source`. The words of all pieces are in order and do not overlap; none
+/// is empty or has a blank, a line end, a `#` or a `;`.
 pub fn script_pieces(alloc: Global, source: &[u8]) -> Result<Lines, AllocError>
     ensures value { IfOk result (λ lines. lines ≡ pieces_of source.now) }
-    ensures entries { IfOk result (λ lines. map (entry_at source.now) lines ≡ script_entries_of source.now) }
+    ensures entries { IfOk result (λ lines. map (entry_at source.now) lines
+        ≡ script_entries_of source.now) }
     ensures in_order { IfOk result (λ lines. AreInOrder 0 (length source.now) (words_in lines)) }
     ensures plain { IfOk result (λ lines. AreWordsOf is_script_plain source.now (words_in lines)) }
     ensures have_words { IfOk result (λ lines. HaveWords lines) }

@@ -1,4 +1,5 @@
-//! A word of the command line or of a script: text that is owned.
+//! A word of the command line or of a script, as owned text. Contracts see it as the list of its
+//! bytes, and a copy equals its source.
 
 ghost use Rattle.std.specs.Prelude.{◌≡◌, IfOk};
 
@@ -21,7 +22,7 @@ impl Model for Word {
 }
 
 impl Word {
-    /// The word of a text; an error only for want of memory.
+    /// The word of a text.
     pub fn new(alloc: Global, text: &str) -> Result<Self, AllocError>
         ensures { IfOk result (λ word. word ≡ text.now) }
     {
@@ -37,7 +38,7 @@ impl Word {
         self.text.as_str()
     }
 
-    /// A copy; an error only for want of memory.
+    /// A copy.
     pub fn copy(&self, alloc: Global) -> Result<Self, AllocError>
         ensures { IfOk result (λ word. word ≡ self.now) }
     {

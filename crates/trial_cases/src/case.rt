@@ -1,4 +1,9 @@
 //! The cases of an input, and the answers to them.
+//!
+//! `cases` splits an input at the lines `==` and drops remarks; lines after the last `==` are no
+//! case. `answers` lets a `Trial` answer each case in turn. If the lines of a case do not fit its
+//! call, its answer is `bad case`, whatever was written of it so far; want of memory ends all.
+//! These functions have no contracts: the expected outputs check them.
 
 use crate::fault::CaseFault;
 use crate::texts::put_line;
@@ -11,7 +16,7 @@ pub struct Case<'a> {
     pub lines: Vec<&'a str>,
 }
 
-// By hand, so that letting a case go is one call.
+// Written by hand, so that dropping a case is one call.
 impl<'a> Drop for Case<'a> {
     fn drop(self) {
         let Case {
@@ -23,12 +28,12 @@ impl<'a> Drop for Case<'a> {
 }
 
 impl<'a> Case<'a> {
-    /// The word at a place; no word where there is none.
+    /// The word of an index; the empty one if there is none.
     pub fn word(&self, place: usize) -> &'a str {
         self.words.get(place).copied().unwrap_or("")
     }
 
-    /// The line at a place below the first; an empty one where there is none.
+    /// The line of an index below the first; an empty one if there is none.
     pub fn line(&self, place: usize) -> &'a str {
         self.lines.get(place).copied().unwrap_or("")
     }
@@ -41,7 +46,7 @@ fn case_of<'a>(alloc: Global, head: &'a str, below: &[&'a str]) -> Result<Case<'
     Ok(Case { head, words, lines })
 }
 
-/// Puts the case of some lines behind others; none where there is no line.
+/// Appends the case of some lines to others; none if there is no line.
 fn put_case<'a>(
     alloc: Global,
     found: &mut Vec<Case<'a>>,
@@ -54,7 +59,7 @@ fn put_case<'a>(
     Ok(())
 }
 
-/// The cases of an input, in order; an error only for want of memory.
+/// The cases of an input, in order.
 pub fn cases(alloc: Global, input: &str) -> Result<Vec<Case<'_>>, AllocError> {
     let mut found = Vec::new(alloc);
     let mut lines = Vec::new(alloc);
@@ -69,14 +74,16 @@ pub fn cases(alloc: Global, input: &str) -> Result<Vec<Case<'_>>, AllocError> {
     Ok(found)
 }
 
-/// Puts the first line of a case behind other answers, and gives the place at which its answer begins.
+/// Appends the first line of a case to other answers, and returns the position at which its answer
+/// begins.
 pub fn begin_answer(out: &mut Vec<u8>, head: &str) -> Result<usize, AllocError> {
     out.extend_from_slice(b"> ")?;
     put_line(out, head.as_bytes())?;
     Ok(out.len())
 }
 
-/// Ends the answer that begins at a place: where the lines of the case do not fit, that is told in place of it.
+/// Ends the answer that begins at a position: if the lines of the case do not fit, `bad case`
+/// replaces it.
 pub fn end_answer(
     out: &mut Vec<u8>,
     start: usize,
@@ -92,13 +99,13 @@ pub fn end_answer(
     }
 }
 
-/// What answers cases.
+/// A program that answers cases.
 pub trait Trial {
-    /// Puts the answer to a case behind a text.
+    /// Appends the answer to a case to a text.
     fn answer(alloc: Global, out: &mut Vec<u8>, case: &Case<'_>) -> Result<(), CaseFault>;
 }
 
-/// The answers to the cases of an input; an error only for want of memory.
+/// The answers to the cases of an input.
 pub fn answers<T: Trial>(alloc: Global, input: &str) -> Result<Vec<u8>, AllocError> {
     let mut out = Vec::new(alloc);
     for case in &cases(alloc, input)? {

@@ -7,7 +7,7 @@ use std::alloc::{AllocError, AllocFailed};
 pub enum CaseFault {
     /// Its lines do not fit its call.
     Bad,
-    /// Memory was wanting.
+    /// Memory ran out.
     Memory,
 }
 

@@ -1,13 +1,14 @@
-//! The cases that a trial program answers, as they stand in its input.
+//! The cases that a trial program answers, in the form of its input.
 //!
-//! A case is a line of words, which say the call and its arguments, then lines of any form, up to a line `==`. Lines
-//! that begin with `//` are remarks. A program prints for each case its first line, with `> ` before it, and the answer;
-//! where the lines do not fit the call, `bad case`. What is in the input and in the output that is held beside it is
-//! worked out by hand, from the definitions or from their sources.
+//! A case is a line of words, which give the call and its arguments, then lines of any form, up to
+//! a line `==`. Lines that begin with `//` are remarks. A program prints for each case its first
+//! line, with `> ` before it, and the answer; or `bad case`, if the lines do not fit the call. The
+//! expected output, like the input, is worked out by hand, from the definitions or from their
+//! sources.
 //!
-//! A text is written as lines of which each stands for its bytes without a line end: `\n`, `\r`, `\t` are those bytes,
-//! `\s` a blank, and `\` before another character is that character. A line `*COUNT REST` is the bytes of REST as often
-//! as the number says.
+//! A text is written as lines of which each gives its bytes without a line end: `\n`, `\r`, `\t`
+//! are those bytes, `\s` a blank, and `\` before another character is that character. A line
+//! `*COUNT REST` is the bytes of REST as often as the number says.
 #![tactic(auto)]
 
 mod case;

@@ -1,10 +1,11 @@
-//! Texts as a case writes them, and lines of an answer.
+//! Texts as a case writes them, and the lines of an answer. The escapes are those of the head of
+//! the crate.
 
 use crate::fault::CaseFault;
 use std::alloc::{AllocError, Global};
 use std::fmt::Debug;
 
-/// The byte that stands behind a `\`.
+/// The byte that an escape denotes, by the character after the `\`.
 fn escaped(byte: u8) -> u8 {
     match byte {
         b'n' => b'\n',
@@ -15,7 +16,7 @@ fn escaped(byte: u8) -> u8 {
     }
 }
 
-/// The bytes for which a written text stands; an error only for want of memory.
+/// The bytes of a text with escapes.
 pub fn unescaped(alloc: Global, text: &str) -> Result<Vec<u8>, AllocError> {
     let mut bytes = Vec::new(alloc);
     let mut behind = false;
@@ -32,12 +33,12 @@ pub fn unescaped(alloc: Global, text: &str) -> Result<Vec<u8>, AllocError> {
     Ok(bytes)
 }
 
-/// The number that a word writes.
+/// The number that a word denotes.
 pub fn number_of(word: &str) -> Result<usize, CaseFault> {
     word.parse::<usize>().map_err(|_| CaseFault::Bad)
 }
 
-/// Puts the bytes of a line `COUNT REST` behind a text.
+/// Appends the bytes of a line `COUNT REST` to a text.
 fn put_times(alloc: Global, out: &mut Vec<u8>, line: &str) -> Result<(), CaseFault> {
     let (count, rest) = line.split_once(' ').ok_or(CaseFault::Bad)?;
     let part = unescaped(alloc, rest)?;
@@ -59,19 +60,19 @@ pub fn text_of(alloc: Global, lines: &[&str]) -> Result<Vec<u8>, CaseFault> {
     Ok(text)
 }
 
-/// Puts a line behind a text.
+/// Appends a line to a text.
 pub fn put_line(out: &mut Vec<u8>, line: &[u8]) -> Result<(), AllocError> {
     out.extend_from_slice(line)?;
     out.push(b'\n')?;
     Ok(())
 }
 
-/// Puts a number behind a text.
+/// Appends a number to a text.
 pub fn put_number(alloc: Global, out: &mut Vec<u8>, number: usize) -> Result<(), AllocError> {
     out.extend_from_slice(format!(in alloc; "{number}")?.as_bytes())
 }
 
-/// Puts a value behind a text, as it is shown for debugging, on a line.
+/// Appends the debug form of a value to a text, as a line.
 pub fn put_shown<T: Debug>(alloc: Global, out: &mut Vec<u8>, value: &T) -> Result<(), AllocError> {
     put_line(out, format!(in alloc; "{value:?}")?.as_bytes())
 }
