@@ -1,4 +1,4 @@
--- Products of cubes and cubes without some literals, read place by place.
+-- Products of cubes and cubes without some literals, column by column.
 use Rattle.std.proofs.Common.{◌≡◌, ℕ, ◌+◌, ◌<◌, zero, suc, Bool, Option, Some, None, List, [], ◌∷◌, ◌++◌, length, get_or, take, drop, set, replicate, refl, sym, ap, ◌∙◌, arith, inl, inr, ◌⊎◌}
 use Rattle.std.proofs.lemmas.List.{ext_get_or}
 use Rattle.cube_cover.specs.Literals.{literal_product}
@@ -40,7 +40,7 @@ length-strip [] r = refl
 length-strip (x ∷ xs) [] = refl
 length-strip (x ∷ xs) (y ∷ ys) = ap suc (length-strip xs ys)
 
--- rows of one length with the same places
+-- rows of one length with the same literals
 pub ext : (x y : List (Option Bool)) → length x ≡ length y → ((i : ℕ) → get_or x i None ≡ get_or y i None) → x ≡ y
 ext x y e h = ext_get_or None x y e (λ i lt. h i)
 
@@ -93,7 +93,7 @@ length-support v (k ∷ ks) h =
     let e : length (times v k) ≡ length v = length-times v k (h k (inl refl)) in
     length-support (times v k) ks (λ r m. e ∙ h r (inr m)) ∙ e
 
--- a list that is written place by place over another of its length
+-- a list that is overwritten, item by item, by another of its length
 fill-suc : {X : Type 0} (xs ys : List X) (i : ℕ) (d : X) → i < length xs → length ys ≡ length xs → set (take i xs ++ drop i ys) i (get_or xs i d) ≡ take (suc i) xs ++ drop (suc i) ys
 fill-suc [] ys i d h e = absurd (omega arith)
 fill-suc (x ∷ xs) [] i d h e = absurd (omega arith)

@@ -1,4 +1,5 @@
--- Laws of division: quotient, divisor and remainder make up the cubes that were divided, and one list is the quotient.
+-- Laws of division: quotient, divisor and remainder make up the dividend, and the quotient is
+-- unique.
 use Rattle.std.proofs.Common.{◌≡◌, ℕ, ◌+◌, ◌≤◌, Bool, true, false, if◌then◌else◌, Option, Some, None, List, [], ◌∷◌, ◌++◌, length, get_or, refl, sym, ap, ◌∙◌, subst, arith, inl, inr, ◌⊎◌, ◌↔◌, is_some, true≢false, append_assoc}
 use Rattle.std.specs.List.{position_from}
 use Rattle.cube_cover.specs.Literals.{literal_product}

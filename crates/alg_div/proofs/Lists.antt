@@ -154,7 +154,7 @@ has-position row rows h = cases (position_from (row_eq row) 0 rows) refl h
     cases None e k = absurd (true≢false (sym k))
     cases (Some i) e k = position-here 0 i row rows e
 
--- a list that grows by what one more element gives, while the rest goes by
+-- a list that grows by what one more element gives, while the rest shrinks
 pub grow : {X : Type 0} (made more rest now all : List X) → made ++ (more ++ rest) ≡ all → now ≡ made ++ more → now ++ rest ≡ all
 grow made more rest now all h e = ap (λ (l : List _). l ++ rest) e ∙ append_assoc made more rest ∙ h
 

@@ -1,4 +1,4 @@
--- What a map from rows to numbers has at any row, also at one that no key is made of.
+-- The value of a map from rows to numbers at any row, also at one that is no key.
 use Rattle.std.proofs.Common.{◌≡◌, ℕ, Bool, true, false, cond, Option, Some, None, List, refl, sym, ap, ◌∙◌, subst, inl, inr, true≢false, is_some}
 use Rattle.std.specs.HashMap.{HashMap, UpdatesBy}
 use Rattle.std.specs.Map.{lookup, IsKeyTest, AreApart, KeepsOthers}
@@ -40,7 +40,7 @@ last_some : (x : Option ℕ) (t : Bool) (n : ℕ) → is_some x ≡ true → or_
 last_some None t n h = absurd (true≢false (sym h))
 last_some (Some i) t n h = refl
 
--- a row is put in with its number where it is new, else the map stays
+-- a row is inserted with its number if it is new; else the map stays
 pub added-new : {Y S : Type 0} (m n : HashMap (Vec (Option Bool) Y) ℕ S) (last : List (Option Bool)) (i : ℕ) → number_in m last ≡ None → UpdatesBy (λ x y. row_eq x.items y.items) (λ key. row_eq last key.items) m n (Some i)
     → (r : List (Option Bool)) → number_in n r ≡ or_last (number_in m r) (row_eq r last) i
 added-new m n last i none h r = updates_row m n last (Some i) h r ∙ sym (elim (bool_cases (row_eq last r)) as (λ _. or_last (number_in m r) (row_eq r last) i ≡ cond (row_eq last r) (Some i) (number_in m r)) [

@@ -1,4 +1,5 @@
--- The cubes of a quotient: which cube a row of f can come from, and the list of them as rows are taken in turn.
+-- The cubes of a quotient: the cube from which a row of f comes, and the list of them over the
+-- rows.
 use Rattle.std.proofs.Common.{◌≡◌, ℕ, ◌+◌, ◌<◌, ◌≤◌, Bool, Option, Some, None, List, [], ◌∷◌, ◌++◌, length, get_or, replicate, refl, sym, ap, ◌∙◌, subst, arith, inl, inr, ◌⊎◌}
 use Rattle.std.proofs.lemmas.Bool.{cases_lt}
 use Rattle.sis_base.specs.Rows.{HasWidth}
@@ -17,7 +18,8 @@ some_none b x h k = cc
 below_or : (i j : ℕ) → j < i + 1 → (j < i) ⊎ (j ≡ i)
 below_or i j lt = elim (cases_lt j i) as (λ _. (j < i) ⊎ (j ≡ i)) [ inl h ↦ inl h | inr h ↦ inr (omega arith) ]
 
--- a cube without d's variables that makes the row r with one of d's cubes is r without those variables
+-- a cube without d's variables whose product with one of d's cubes is the row r is r without those
+-- variables
 pub term-is : (w : ℕ) (d : List (List (Option Bool))) (c k r : List (Option Bool)) → length c ≡ length r → IsApart c d → Has k d → times c k ≡ r → strip (support w d) r ≡ c
 term-is w d c k r len apart m e =
     ext (strip (support w d) r) c (length-strip (support w d) r ∙ sym len) (λ i. get_or-strip (support w d) r i ∙ at i (get_or (support w d) i None) refl)
@@ -50,7 +52,7 @@ term-only w f d k r c i m e len t = term-is w d c k r (t.0.wide ∙ sym len) t.0
     plus : i ≡ 0 + i
     plus = omega arith
 
--- the list of terms as the rows are taken in turn
+-- the list of terms over the first rows
 pub part-zero : (w : ℕ) (f : List (List (Option Bool))) (k : List (Option Bool)) (d : List (List (Option Bool))) → IsPart w f k d 0 []
 unfolding Rises
 part-zero w f k d = record { only = λ c h. absurd h; every = λ c j t lt. absurd (omega arith); order = omega arith }

@@ -1,7 +1,7 @@
--- Membership in a list, and products of cubes place by place.
--- Source: De Micheli, "Synthesis and Optimization of Digital Circuits", chapter 8 (the algebraic model);
--- Brayton, Rudell, Sangiovanni-Vincentelli, Wang, "MIS: A Multiple-Level Logic Optimization System" (1987).
--- A cube is a row: some bit where it has a literal, none where it has not.
+-- Membership in a list, and products of cubes, column by column. Source: De Micheli, "Synthesis and
+-- Optimization of Digital Circuits", chapter 8 (the algebraic model); Brayton, Rudell,
+-- Sangiovanni-Vincentelli, Wang, "MIS: A Multiple-Level Logic Optimization System" (1987). A cube
+-- is a row: some bit for a literal, none for a dash.
 use Rattle.std.specs.Prelude.{◌≡◌, ◌⊎◌, Bool, Option, List, [], ◌∷◌, ◌++◌}
 use Rattle.std.specs.Bool.{beq}
 use Rattle.std.specs.Option.{option_eq}
@@ -13,7 +13,7 @@ abbrev pub Has : {X : Type 0} → X → List X → Type 0
 Has x [] = ⊥
 Has x (y ∷ ys) = (x ≡ y) ⊎ Has x ys
 
--- the product of two cubes that contradict nowhere: the literals of both
+-- the product of two cubes that nowhere contradict: the literals of both
 unfoldable pub times : List (Option Bool) → List (Option Bool) → List (Option Bool)
 times [] row = row
 times (literal ∷ literals) [] = literal ∷ literals

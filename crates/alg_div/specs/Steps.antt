@@ -1,7 +1,7 @@
--- What the steps of a division compute: the support of the divisor, cubes without it, and the rows of a sum by their
--- first positions. No public clause of `divide` needs these definitions; `literals_in` and `strip` stand in those of the
--- calls on rows as vectors.
--- Source: Brayton, Rudell, Sangiovanni-Vincentelli, Wang, "MIS: A Multiple-Level Logic Optimization System" (1987).
+-- The steps of a division: the support of the divisor, cubes without it, and the rows of a sum by
+-- their first positions. No public clause of `divide` needs these definitions; `literals_in` and
+-- `strip` occur in those of the calls on rows as vectors. Source: Brayton, Rudell,
+-- Sangiovanni-Vincentelli, Wang, "MIS: A Multiple-Level Logic Optimization System" (1987).
 use Rattle.std.specs.Prelude.{◌≡◌, ℕ, ◌<◌, Bool, if◌then◌else◌, is_some, true, Option, Some, None, List, [], ◌∷◌, map, replicate}
 use Rattle.std.specs.HashMap.{HashMap, get_by}
 use Rattle.std.specs.declared.vec.Vec.{Vec}
@@ -13,12 +13,12 @@ use Rattle.alg_div.specs.Quotient.{IsTerm, Rises}
 abbrev pub literals_in : {Y : Type 0} → List (Vec (Option Bool) Y) → List (List (Option Bool))
 literals_in rows = map (λ literals. literals.items) rows
 
--- a dash where the mask has a literal, else what stands there
+-- a dash if the mask has a literal, else the literal
 abbrev pub without : Option Bool → Option Bool → Option Bool
 without None literal = literal
 without (Some mask) literal = None
 
--- a row without its literals at the places where the mask has one
+-- a row without its literals in the columns where the mask has one
 unfoldable pub strip : List (Option Bool) → List (Option Bool) → List (Option Bool)
 strip [] row = row
 strip (mask ∷ masks) [] = []
@@ -29,15 +29,15 @@ unfoldable pub support_from : List (Option Bool) → List (List (Option Bool)) �
 support_from mask [] = mask
 support_from mask (row ∷ rows) = support_from (times mask row) rows
 
--- the support of rows of a width: a literal at each place where some row has one
+-- the support of rows of a width: a literal in each column where some row has one
 abbrev pub support : ℕ → List (List (Option Bool)) → List (Option Bool)
 support width rows = support_from (replicate width None) rows
 
--- what a map from rows to numbers has at a row
+-- the number to which a map from rows to numbers maps a row
 abbrev pub number_in : {Y S : Type 0} → HashMap (Vec (Option Bool) Y) ℕ S → List (Option Bool) → Option ℕ
 number_in index row = get_by (λ key. row_eq row key.items) index
 
--- the number, or where there is none the given one if the test holds
+-- the number; if there is none and the test holds, the given one
 abbrev pub or_last : Option ℕ → Bool → ℕ → Option ℕ
 or_last (Some i) t n = Some i
 or_last None t n = if t then Some n else None
@@ -46,16 +46,16 @@ or_last None t n = if t then Some n else None
 abbrev pub HasProducts : {Y S : Type 0} → HashMap (Vec (Option Bool) Y) ℕ S → List (Option Bool) → List (List (Option Bool)) → Type 0
 HasProducts index cube rows = (row : List (Option Bool)) → Has row rows → is_some (number_in index (times cube row)) ≡ true
 
--- a cube of the quotient whose product with k is first at number i in f
+-- a cube of the quotient whose product with k has its first occurrence in f at index i
 abbrev pub IsTermAt : ℕ → List (List (Option Bool)) → List (Option Bool) → List (List (Option Bool)) → ℕ → List (Option Bool) → Type 0
 IsTermAt width f k d i cube = IsTerm width f d cube × (position_from (row_eq (times cube k)) 0 f ≡ Some i)
 
--- the one such cube, or none where there is none
+-- the only such cube, or none if there is none
 abbrev pub IsTheTerm : ℕ → List (List (Option Bool)) → List (Option Bool) → List (List (Option Bool)) → ℕ → Option (List (Option Bool)) → Type 0
 IsTheTerm width f k d i None = (cube : List (Option Bool)) → IsTermAt width f k d i cube → ⊥
 IsTheTerm width f k d i (Some cube) = IsTermAt width f k d i cube
 
--- the quotient's cubes as far as they come from the rows before number i
+-- the quotient's cubes that come from the rows before index i
 pub record IsPart (width : ℕ) (f : List (List (Option Bool))) (k : List (Option Bool)) (d : List (List (Option Bool))) (i : ℕ) (q : List (List (Option Bool))) : Type 0 where
   pub only : (cube : List (Option Bool)) → Has cube q → IsTerm width f d cube
   pub every : (cube : List (Option Bool)) (j : ℕ) → IsTermAt width f k d j cube → j < i → Has cube q

@@ -1,10 +1,11 @@
-//! Weak (algebraic) division of covers: the quotient and the remainder of one sum of cubes by another, as
-//! Brayton, Rudell, Sangiovanni-Vincentelli and Wang define them ("MIS: A Multiple-Level Logic Optimization
-//! System", 1987); De Micheli, "Synthesis and Optimization of Digital Circuits", chapter 8.
+//! Weak (algebraic) division of covers: the quotient and the remainder of one sum of cubes by
+//! another, as defined by Brayton, Rudell, Sangiovanni-Vincentelli and Wang ("MIS: A Multiple-Level
+//! Logic Optimization System", 1987); De Micheli, "Synthesis and Optimization of Digital Circuits",
+//! chapter 8.
 //!
-//! Promised: `divide` gives all cubes of the quotient and no other, each once, in order, and the remainder in
-//! order; it fails only for want of memory. `quotient_parts` says that quotient, divisor and remainder make up the
-//! cubes that were divided, and `quotient_one` that no second list is the quotient.
+//! Promised: `divide` returns all cubes of the quotient and no others, each once, in order, and the
+//! remainder in order. `quotient_parts` states that quotient, divisor and remainder make up the
+//! dividend, and `quotient_one` that the quotient is unique.
 
 #![tactic(auto)]
 

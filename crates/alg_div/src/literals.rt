@@ -1,4 +1,5 @@
-//! Rows as vectors of optional literals, and back.
+//! Conversions between rows and vectors of optional literals, which division and the search for
+//! kernels work on. Each conversion keeps literals and order.
 
 ghost use Rattle.std.specs.Prelude.{◌≡◌, ℕ, Bool, Option, None, List, length, map, IfOk};
 ghost use Rattle.sis_base.specs.Rows.{HasWidth};
@@ -8,7 +9,7 @@ ghost use Rattle.alg_div.specs.Steps.{literals_in};
 use cube_cover::{Cover, Row};
 use std::alloc::{AllocError, Global};
 
-/// What stands at the places of a row, in order; an error only for want of memory.
+/// The literals and dashes of a row, in order.
 pub fn literals_of<R: Row>(alloc: Global, row: &R) -> Result<Vec<Option<bool>>, AllocError>
     ensures { IfOk result (λ literals. literals.items ≡ R.literals row.now) }
 {
@@ -20,7 +21,7 @@ pub fn literals_of<R: Row>(alloc: Global, row: &R) -> Result<Vec<Option<bool>>, 
     Ok(literals)
 }
 
-/// What stands at the places of each row, in order; an error only for want of memory.
+/// The literals and dashes of each row, in order.
 pub fn all_literals_of<R: Row>(
     alloc: Global,
     rows: &[R],
@@ -34,7 +35,7 @@ pub fn all_literals_of<R: Row>(
     Ok(made)
 }
 
-/// A copy of a row's literals; an error only for want of memory.
+/// A copy of a row's literals.
 pub fn copy_of(alloc: Global, literals: &[Option<bool>]) -> Result<Vec<Option<bool>>, AllocError>
     ensures { IfOk result (λ made. made.items ≡ literals.now) }
 {
@@ -45,7 +46,7 @@ pub fn copy_of(alloc: Global, literals: &[Option<bool>]) -> Result<Vec<Option<bo
     Ok(made)
 }
 
-/// The row with the given literals at its places; an error only for want of memory.
+/// The row with the given literals.
 #[tactic(auto, using(crate::proofs::Cubes::fill_more))]
 pub fn row_of<R: Row>(alloc: Global, literals: &[Option<bool>]) -> Result<R, AllocError>
     ensures { IfOk result (λ row. R.literals row ≡ literals.now) }
@@ -68,7 +69,7 @@ fn rows_of<R: Row>(alloc: Global, rows: &[Vec<Option<bool>>]) -> Result<Vec<R>, 
     Ok(made)
 }
 
-/// The cover of rows with the given literals, `width` in each; an error only for want of memory.
+/// The cover of rows with the given literals; each row has `width` columns.
 pub fn cover_of<R: Row>(
     alloc: Global,
     width: usize,

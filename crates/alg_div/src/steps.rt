@@ -1,4 +1,11 @@
 //! The steps of a division, on rows as vectors of optional literals.
+//!
+//! Source: Brayton, Rudell, Sangiovanni-Vincentelli and Wang, "MIS: A Multiple-Level Logic
+//! Optimization System" (1987). A cube of the quotient is a row of the dividend without the
+//! divisor's support, provided that its products with all cubes of the divisor are rows of the
+//! dividend. Rows are looked up in a hash map from rows to their first indices. Invariant: all rows
+//! have one width. `quotient_of` returns exactly the quotient of `specs/Quotient.antt`, and
+//! `others_of` the rows that are left.
 
 ghost use Rattle.std.specs.Prelude.{◌≡◌, ℕ, ◌<◌, ◌++◌, ◌∷◌, ◌↔◌, Bool, Option, Some, None, List, length, map, replicate, slice_index_or, IfOk, OnOk, option_map, IsTrue, IsSome};
 ghost use Rattle.std.specs.List.{position_from};
@@ -12,7 +19,7 @@ use crate::literals::copy_of;
 use std::alloc::{AllocError, Global};
 use std::collections::HashMap;
 
-// The first literal, or where it is a dash the other.
+// The first literal, or the other if the first is a dash.
 fn product_literal(first: Option<bool>, other: Option<bool>) -> Option<bool>
     ensures { result ≡ literal_product first other }
 {
@@ -22,7 +29,7 @@ fn product_literal(first: Option<bool>, other: Option<bool>) -> Option<bool>
     }
 }
 
-// The product of a cube and a row place by place.
+// The product of a cube and a row, column by column.
 #[tactic(auto, unfolding(crate::specs::Cubes::times))]
 pub fn product_of(
     alloc: Global,
@@ -39,7 +46,7 @@ pub fn product_of(
     Ok(made)
 }
 
-// A dash where the mask has a literal, else what stands there.
+// A dash if the mask has a literal, else the literal.
 fn literal_without(mask: Option<bool>, literal: Option<bool>) -> Option<bool>
     ensures { result ≡ without mask literal }
 {
@@ -49,7 +56,7 @@ fn literal_without(mask: Option<bool>, literal: Option<bool>) -> Option<bool>
     }
 }
 
-/// A row without its literals where the mask has one; an error only for want of memory.
+/// A row without its literals in the columns where the mask has one.
 #[tactic(auto, unfolding(crate::specs::Steps::strip))]
 pub fn strip_row(
     alloc: Global,
@@ -77,7 +84,7 @@ fn dashes(alloc: Global, width: usize) -> Result<Vec<Option<bool>>, AllocError>
     Ok(made)
 }
 
-// The support of rows: a literal at each place where some row has one.
+// The support of rows: a literal in each column where some row has one.
 #[tactic(auto, unfolding(crate::specs::Steps::support_from))]
 pub fn support_of(
     alloc: Global,
@@ -94,14 +101,15 @@ pub fn support_of(
     Ok(mask)
 }
 
-// Puts a row in with its number, unless it is there.
+// Adds a row with its index, unless the row is in the map.
 fn add_number(
     alloc: Global,
     index: &mut HashMap<Vec<Option<bool>>, usize>,
     row: &[Option<bool>],
     number: usize,
 ) -> Result<(), AllocError>
-    ensures { OnOk result ((other : List (Option Bool)) → number_in index.new other ≡ or_last (number_in index.old other) (row_eq other row.now) number) }
+    ensures { OnOk result ((other : List (Option Bool)) → number_in index.new other ≡ or_last
+        (number_in index.old other) (row_eq other row.now) number) }
 {
     if index.contains_key(row) {
         return Ok(());
@@ -111,12 +119,13 @@ fn add_number(
     Ok(())
 }
 
-// The number of the first of each of the rows.
+// Maps each row to its first index.
 pub fn numbers_of(
     alloc: Global,
     rows: &[Vec<Option<bool>>],
 ) -> Result<HashMap<Vec<Option<bool>>, usize>, AllocError>
-    ensures { IfOk result (λ index. (row : List (Option Bool)) → number_in index row ≡ position_from (row_eq row) 0 (literals_in rows.now)) }
+    ensures { IfOk result (λ index. (row : List (Option Bool)) → number_in index row ≡ position_from
+        (row_eq row) 0 (literals_in rows.now)) }
 {
     let mut index = HashMap::new(alloc);
     for (number, row) in rows.iter().enumerate() {
@@ -125,7 +134,7 @@ pub fn numbers_of(
     Ok(index)
 }
 
-// Whether all products of a cube with the rows have a number.
+// Whether the map has all products of a cube with the rows.
 pub fn has_products(
     alloc: Global,
     index: &HashMap<Vec<Option<bool>>, usize>,
@@ -133,7 +142,8 @@ pub fn has_products(
     rows: &[Vec<Option<bool>>],
 ) -> Result<bool, AllocError>
     requires { HasWidth (length cube.now) (literals_in rows.now) }
-    ensures { IfOk result (λ answer. IsTrue answer ↔ HasProducts index.now cube.now (literals_in rows.now)) }
+    ensures { IfOk result (λ answer. IsTrue answer ↔ HasProducts index.now cube.now
+        (literals_in rows.now)) }
 {
     for row in rows {
         let product = product_of(alloc, cube, row.as_slice())?;
@@ -144,7 +154,8 @@ pub fn has_products(
     Ok(true)
 }
 
-// The cube of the quotient of f by d whose product with d's cube `first` is first at a number in f.
+// The cube of the quotient of f by d whose product with d's cube `first` has its first occurrence
+// in f at index `number`; `None` if there is none.
 pub fn term_at(
     alloc: Global,
     f: &[Vec<Option<bool>>],
@@ -159,8 +170,10 @@ pub fn term_at(
     requires divisor { HasWidth (length mask.now) (literals_in d.now) }
     requires mask { mask.now ≡ support (length mask.now) (literals_in d.now) }
     requires first { Has first.now (literals_in d.now) }
-    requires index { (row : List (Option Bool)) → number_in index.now row ≡ position_from (row_eq row) 0 (literals_in f.now) }
-    ensures { IfOk result (λ term. IsTheTerm (length mask.now) (literals_in f.now) first.now (literals_in d.now) number (option_map (λ cube. cube.items) term)) }
+    requires index { (row : List (Option Bool)) → number_in index.now row ≡ position_from
+        (row_eq row) 0 (literals_in f.now) }
+    ensures { IfOk result (λ term. IsTheTerm (length mask.now) (literals_in f.now) first.now
+        (literals_in d.now) number (option_map (λ cube. cube.items) term)) }
 {
     let cube = strip_row(alloc, mask, f[number].as_slice())?;
     let product = product_of(alloc, cube.as_slice(), first)?;
@@ -178,7 +191,7 @@ pub fn term_at(
     Ok(Some(cube))
 }
 
-// The cubes of the quotient of f by d, in the order of the rows of f that they make with d's cube `first`.
+// The cubes of the quotient of f by d, in the order of their products with d's cube `first` in f.
 pub fn terms_of(
     alloc: Global,
     f: &[Vec<Option<bool>>],
@@ -190,7 +203,8 @@ pub fn terms_of(
     requires divisor { HasWidth (length mask.now) (literals_in d.now) }
     requires mask { mask.now ≡ support (length mask.now) (literals_in d.now) }
     requires first { Has first.now (literals_in d.now) }
-    ensures { IfOk result (λ terms. IsQuotientBy (length mask.now) (literals_in f.now) first.now (literals_in d.now) (literals_in terms.items)) }
+    ensures { IfOk result (λ terms. IsQuotientBy (length mask.now) (literals_in f.now) first.now
+        (literals_in d.now) (literals_in terms.items)) }
 {
     let index = numbers_of(alloc, f)?;
     let mut terms = Vec::new(alloc);
@@ -212,7 +226,8 @@ pub fn quotient_of(
 ) -> Result<Vec<Vec<Option<bool>>>, AllocError>
     requires width { HasWidth width (literals_in f.now) }
     requires divisor { HasWidth width (literals_in d.now) }
-    ensures { IfOk result (λ terms. IsQuotient width (literals_in f.now) (literals_in d.now) (literals_in terms.items)) }
+    ensures { IfOk result (λ terms. IsQuotient width (literals_in f.now) (literals_in d.now)
+        (literals_in terms.items)) }
 {
     if d.is_empty() {
         return Ok(Vec::new(alloc));
@@ -222,7 +237,7 @@ pub fn quotient_of(
     Ok(terms)
 }
 
-// Puts the products of a cube with the rows behind the others.
+// Appends the products of a cube with the rows.
 #[tactic(auto, unfolding(crate::specs::Cubes::products_by))]
 fn add_products(
     alloc: Global,
@@ -231,7 +246,8 @@ fn add_products(
     rows: &[Vec<Option<bool>>],
 ) -> Result<(), AllocError>
     requires { HasWidth (length cube.now) (literals_in rows.now) }
-    ensures { OnOk result (literals_in made.new.items ≡ literals_in made.old.items ++ products_by cube.now (literals_in rows.now)) }
+    ensures { OnOk result (literals_in made.new.items
+        ≡ literals_in made.old.items ++ products_by cube.now (literals_in rows.now)) }
 {
     for row in rows {
         made.push(product_of(alloc, cube, row.as_slice())?)?;
@@ -249,7 +265,8 @@ pub fn products_of(
 ) -> Result<Vec<Vec<Option<bool>>>, AllocError>
     requires cubes { HasWidth width (literals_in cubes.now) }
     requires rows { HasWidth width (literals_in rows.now) }
-    ensures { IfOk result (λ made. literals_in made.items ≡ products (literals_in cubes.now) (literals_in rows.now)) }
+    ensures { IfOk result (λ made. literals_in made.items ≡ products (literals_in cubes.now)
+        (literals_in rows.now)) }
 {
     let mut made = Vec::new(alloc);
     for cube in cubes {
@@ -258,14 +275,15 @@ pub fn products_of(
     Ok(made)
 }
 
-// The rows that are none of the others, in order.
+// The rows that are not among the others, in order.
 #[tactic(auto, unfolding(crate::specs::Quotient::others))]
 pub fn others_of(
     alloc: Global,
     rows: &[Vec<Option<bool>>],
     taken: &[Vec<Option<bool>>],
 ) -> Result<Vec<Vec<Option<bool>>>, AllocError>
-    ensures { IfOk result (λ made. literals_in made.items ≡ others (literals_in rows.now) (literals_in taken.now)) }
+    ensures { IfOk result (λ made. literals_in made.items ≡ others (literals_in rows.now)
+        (literals_in taken.now)) }
 {
     let index = numbers_of(alloc, taken)?;
     let mut made = Vec::new(alloc);

@@ -1,4 +1,5 @@
-//! Division, and what its results say of one another.
+//! Division, and the laws of its results: the parts make up the dividend, and the quotient is
+//! unique.
 
 ghost use Rattle.std.specs.Prelude.{◌≡◌, ◌↔◌, ◌⊎◌, Bool, Option, List, IfOk};
 ghost use Rattle.cube_cover.specs.Covers.{Shape};
@@ -10,18 +11,21 @@ use crate::steps::{others_of, products_of, quotient_of};
 use cube_cover::{Cover, Row};
 use std::alloc::{AllocError, Global};
 
-/// The quotient and the remainder of f by d, covers of one width. The quotient's cubes stand in the order of the
-/// rows of f that they make with d's first cube, the remainder's in the order of f; without a cube in d the
-/// quotient is empty. An error only for want of memory.
+/// The quotient and the remainder of f by d; both covers must have one width. The quotient's cubes
+/// are in the order of their products with d's first cube in f, the remainder's in the order of f.
+/// If d has no cube, the quotient is empty.
 pub fn divide<R: Row>(
     alloc: Global,
     f: &Cover<R>,
     d: &Cover<R>,
 ) -> Result<(Cover<R>, Cover<R>), AllocError>
     requires { f.now.width ≡ d.now.width }
-    ensures widths { IfOk result (λ both. (both.0.width ≡ f.now.width) × (both.1.width ≡ f.now.width)) }
-    ensures quotient { IfOk result (λ both. IsQuotient f.now.width f.now.rows d.now.rows both.0.rows) }
-    ensures remainder { IfOk result (λ both. IsRemainder f.now.rows d.now.rows both.0.rows both.1.rows) }
+    ensures widths { IfOk result (λ both. (both.0.width ≡ f.now.width)
+        × (both.1.width ≡ f.now.width)) }
+    ensures quotient { IfOk result (λ both. IsQuotient f.now.width f.now.rows d.now.rows
+        both.0.rows) }
+    ensures remainder { IfOk result (λ both. IsRemainder f.now.rows d.now.rows both.0.rows
+        both.1.rows) }
 {
     let width = f.width();
     let rows = all_literals_of(alloc, f.rows())?;
@@ -34,16 +38,18 @@ pub fn divide<R: Row>(
     Ok((quotient, remainder))
 }
 
-/// A law, which computes nothing: the products of the quotient's and the divisor's cubes and the rows of the
-/// remainder are just the rows of f, and no row of the remainder is such a product.
+/// A law, which computes nothing: the products of the quotient's and the divisor's cubes and the
+/// rows of the remainder are exactly the rows of f, and no row of the remainder is such a product.
 pub fn quotient_parts<R: Row>(f: &Cover<R>, d: &Cover<R>, quotient: &Cover<R>, remainder: &Cover<R>)
     requires quotient { IsQuotient f.now.width f.now.rows d.now.rows quotient.now.rows }
     requires remainder { IsRemainder f.now.rows d.now.rows quotient.now.rows remainder.now.rows }
-    ensures all { (row : List (Option Bool)) → Has row f.now.rows ↔ (Has row (products quotient.now.rows d.now.rows) ⊎ Has row remainder.now.rows) }
-    ensures apart { (row : List (Option Bool)) → Has row (products quotient.now.rows d.now.rows) → Has row remainder.now.rows → ⊥ }
+    ensures all { (row : List (Option Bool)) → Has row f.now.rows
+        ↔ (Has row (products quotient.now.rows d.now.rows) ⊎ Has row remainder.now.rows) }
+    ensures apart { (row : List (Option Bool)) → Has row (products quotient.now.rows d.now.rows)
+        → Has row remainder.now.rows → ⊥ }
 {}
 
-/// A law, which computes nothing: one list of rows is the quotient.
+/// A law, which computes nothing: the quotient is unique.
 pub fn quotient_one<R: Row>(f: &Cover<R>, d: &Cover<R>, quotient: &Cover<R>, other: &Cover<R>)
     requires quotient { IsQuotient f.now.width f.now.rows d.now.rows quotient.now.rows }
     requires other { IsQuotient f.now.width f.now.rows d.now.rows other.now.rows }

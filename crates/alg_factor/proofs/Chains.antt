@@ -1,4 +1,4 @@
--- Products with a form behind them: one more at the end, and what they are together.
+-- Products followed by a form: one more at the end, and what they are together.
 use Rattle.std.proofs.Common.{◌≡◌, ℕ, ◌<◌, Bool, Option, List, [], ◌∷◌, ◌++◌, length, refl, ap, subst, arith}
 use Rattle.cube_cover.specs.Literals.{cover_literals}
 use Rattle.alg_factor.specs.Forms.{Form, Split, with_literal, no_literal, IsChosen, NoneShared, IsFactored, Sum}

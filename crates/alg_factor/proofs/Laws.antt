@@ -1,4 +1,5 @@
--- What holds of each factored form: it expands to the rows, saves literals just where one is shared, and is the only one.
+-- Laws of factored forms: each expands to the rows, saves literals exactly if one is shared, and is
+-- the only one.
 use Rattle.std.proofs.Common.{◌≡◌, ℕ, ◌+◌, ◌<◌, ◌≤◌, zero, suc, Bool, true, false, if◌then◌else◌, Option, Some, None, List, [], ◌∷◌, ◌++◌, get_or, set, refl, sym, ap, ◌∙◌, arith, ◌↔◌}
 use Rattle.std.proofs.lemmas.List.{length-set}
 use Rattle.std.specs.List.Sorted.{IsPermutation}
@@ -7,7 +8,7 @@ use Rattle.sis_base.specs.Rows.{HasWidth}
 use Rattle.cube_cover.specs.Literals.{has_literal, literal_number, row_literals, cover_literals, literal_count, literal_occurrences}
 use Rattle.alg_factor.specs.Forms.{Form, Sum, Split, with_literal, no_literal, rank, IsChosen, NoneShared, SomeShared, IsFactored, put_literal, expansion_of, form_literals}
 
--- a literal counts once where it stands
+-- a literal counts once where it occurs
 pub count_literal : (b : Bool) (x : Option Bool) → has_literal x b ≡ true → literal_count b x ≡ 1
 count_literal b None h = cc
 count_literal true (Some true) h = refl
@@ -42,7 +43,7 @@ literals-set [] i b h = cc
 literals-set (x ∷ xs) zero b h = let e : literal_number x ≡ 1 = ap literal_number h in omega arith
 literals-set (x ∷ xs) (suc i) b h = omega (arith, literals-set xs i b h)
 
--- the two parts of rows, the first with its literal put back, are the rows in some order
+-- the two parts of rows, the first with its literal restored, are the rows in some order
 pub parts : (i : ℕ) (b : Bool) (rows : List (List (Option Bool))) → IsPermutation rows (put_literal i b (with_literal i b rows) ++ no_literal i b rows)
 unfolding with_literal no_literal
 parts i b [] = IsPermutation-refl []
@@ -60,7 +61,8 @@ parts i b (row ∷ rows) = cases (has_literal (get_or row i None) b) refl (parts
         (IsPermutation-append (row ∷ []) (row ∷ []) _ _ (IsPermutation-refl (row ∷ [])) rest)
         (IsPermutation-sym _ _ (IsPermutation-middle (put_literal i b (with_literal i b rows)) row (no_literal i b rows)))
 
--- and their literals are those of both parts, and the one that was taken out of each of the first
+-- and their literals are those of both parts, and the one that was removed from each row of the
+-- first
 pub literals-parts : (i : ℕ) (b : Bool) (rows : List (List (Option Bool))) → cover_literals rows ≡ literal_occurrences i b rows + cover_literals (with_literal i b rows) + cover_literals (no_literal i b rows)
 unfolding with_literal no_literal literal_occurrences cover_literals
 literals-parts i b [] = refl
@@ -97,7 +99,7 @@ unfolding IsFactored form_literals
 equal_where rows (Sum sum) h none = ap cover_literals h.0
 equal_where rows (Split i b q r) h none = absurd (omega (arith, h.0.two, none i b))
 
--- ranks tell literals apart
+-- ranks distinguish literals
 pub rank-one : (i j : ℕ) (b d : Bool) → rank i b ≡ rank j d → (i ≡ j) × (b ≡ d)
 rank-one i j false false h = (omega arith, refl)
 rank-one i j true true h = (omega arith, refl)

@@ -1,4 +1,4 @@
--- Rows parted by a literal, a row more at the end.
+-- Rows divided by a literal, with one more row at the end.
 use Rattle.std.proofs.Common.{◌≡◌, ℕ, Bool, true, false, if◌then◌else◌, Option, None, List, [], ◌∷◌, ◌++◌, get_or, set, map, refl, ap}
 use Rattle.cube_cover.specs.Literals.{has_literal}
 use Rattle.alg_factor.specs.Forms.{with_literal, no_literal}

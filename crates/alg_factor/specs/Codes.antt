@@ -1,11 +1,12 @@
--- How a model stores a form: as the list of its parts from the outside to the inside.
--- Source: the prefix (Polish) notation of Lukasiewicz; Knuth, "The Art of Computer Programming", volume 1, section 2.3.
+-- How contracts encode a form: as the list of its parts from the outside to the inside. Source: the
+-- prefix (Polish) notation of Lukasiewicz; Knuth, "The Art of Computer Programming", volume 1,
+-- section 2.3.
 use Rattle.std.specs.Prelude.{◌≡◌, ℕ, Bool, Option, List, [], ◌∷◌, ◌⊎◌, refl}
 use Rattle.std.proofs.Common.{inl, inr, ap, ◌∙◌}
 use Rattle.std.specs.Coded.{Coded, code_by, coded×, coded⊎, coded_list, coded_option, coded_bool, coded_ℕ}
 use Rattle.alg_factor.specs.Forms.{Form, Sum, Split, Factors}
 
--- a literal with two parts after it, or a sum
+-- a literal followed by two forms, or a sum
 abbrev pub Part : Type 0
 Part = (ℕ × Bool) ⊎ List (List (Option Bool))
 
@@ -14,13 +15,13 @@ abbrev pub parts_before : Form → List Part → List Part
 parts_before (Sum rows) parts = inr rows ∷ parts
 parts_before (Split place bit quotient rest) parts = inl (place, bit) ∷ parts_before quotient (parts_before rest parts)
 
--- the first two of some forms as the quotient and the rest of one
+-- the first two forms joined as the quotient and the rest of one form
 abbrev pub split_first : ℕ → Bool → List Form → List Form
 split_first place bit [] = []
 split_first place bit (quotient ∷ []) = []
 split_first place bit (quotient ∷ rest ∷ forms) = Split place bit quotient rest ∷ forms
 
--- the forms that stand one after the other
+-- the forms that a list of parts encodes, in order
 abbrev pub forms_of : List Part → List Form
 forms_of [] = []
 forms_of (inr rows ∷ parts) = Sum rows ∷ forms_of parts
@@ -31,19 +32,19 @@ abbrev pub first_form : List Form → Form
 first_form [] = Sum []
 first_form (form ∷ forms) = form
 
--- a law that the code needs: the parts of a form lead back to it
+-- the parts of a form decode to it
 pub forms_of-parts_before : (form : Form) (parts : List Part) → forms_of (parts_before form parts) ≡ form ∷ forms_of parts
 forms_of-parts_before (Sum rows) parts = refl
 forms_of-parts_before (Split place bit quotient rest) parts =
     ap (split_first place bit) (forms_of-parts_before quotient (parts_before rest parts) ∙ ap (λ forms. quotient ∷ forms) (forms_of-parts_before rest parts))
 
--- forms, coded as lists of parts
+-- forms, encoded as lists of parts
 abbrev pub form_code : Coded Form
 form_code =
     code_by (List Part) (coded_list (coded⊎ (coded× coded_ℕ coded_bool) (coded_list (coded_list (coded_option coded_bool)))))
     (λ form. parts_before form []) (λ parts. first_form (forms_of parts)) (λ form. ap first_form (forms_of-parts_before form []))
 
--- factors, coded as a width and a form
+-- factors, encoded as a width and a form
 abbrev pub factors_code : Coded Factors
 factors_code =
     code_by (ℕ × Form) (coded× coded_ℕ form_code) (λ f. (f.width, f.form)) (λ p. record { width = p.0; form = p.1 }) (λ _. refl)

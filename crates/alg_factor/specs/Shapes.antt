@@ -1,5 +1,4 @@
--- What the trees of the code stand for.
--- Source: the project's own representation.
+-- The forms that the trees of the code represent. Source: the project's own representation.
 use Rattle.std.specs.Prelude.{Bool, Option, List, map}
 use Rattle.alg_factor.specs.Forms.{Form, Sum, Split}
 use Rattle.alg_factor.specs.declared.form.Tree.{Tree, Rows, Term'}

@@ -1,15 +1,21 @@
-//! The literal that stands in most rows.
+//! The literal that occurs in most rows, and the division of rows by it.
+//!
+//! Source: Brayton, Rudell, Sangiovanni-Vincentelli and Wang, "MIS: A Multiple-Level Logic
+//! Optimization System" (1987), best literal. Literals are ranked by column, then 0 before 1; of
+//! those in as many rows the first is chosen, so that the choice is unique. `best_literal` returns
+//! none if no literal occurs in two rows. `part_rows` keeps the order of rows and removes the
+//! literal from those that have it.
 
 ghost use Rattle.std.specs.Prelude.{◌≡◌, ℕ, ◌+◌, ◌*◌, ◌^◌, ◌<◌, ◌≤◌, Bool, true, false, Option, None, List, length, map, slice_index_or, slice_set, IfOk, MatchOption};
 ghost use Rattle.sis_base.specs.Rows.{HasWidth};
-ghost use Rattle.cube_cover.specs.Literals.{has_literal, literal_occurrences, literal_count};
+ghost use Rattle.cube_cover.specs.Literals.{literal_occurrences, literal_count};
 ghost use Rattle.alg_factor.specs.Forms.{with_literal, no_literal, rank, IsChosen, NoneShared};
 ghost use Rattle.alg_factor.specs.Choices.{IsBest, greater};
 
-use cube_cover::Row;
+use cube_cover::{Row, is_literal};
 use std::alloc::{AllocError, Global};
 
-/// A literal, by its place and its bit, and the number of rows that have it.
+/// A literal, by its column and its bit, and the number of rows that have it.
 #[derive(Clone, Copy)]
 pub struct Best {
     pub place: usize,
@@ -17,14 +23,14 @@ pub struct Best {
     pub count: usize,
 }
 
-/// In how many rows the negative and the positive literal of a place stand.
+/// The numbers of rows with the negative and with the positive literal of a column.
 #[derive(Clone, Copy)]
 pub(crate) struct PolarityCounts {
     negative: usize,
     positive: usize,
 }
 
-// One more of the polarity that a literal has.
+// Adds one to the count of the literal's polarity.
 fn add_literal(counts: PolarityCounts, literal: Option<bool>) -> PolarityCounts
     requires negative { counts.negative + 1 < 2 ^ 64 }
     requires positive { counts.positive + 1 < 2 ^ 64 }
@@ -44,7 +50,7 @@ fn add_literal(counts: PolarityCounts, literal: Option<bool>) -> PolarityCounts
     }
 }
 
-// In how many rows both literals of a place stand.
+// The numbers of rows with each literal of a column.
 #[tactic(auto, using(cube_cover::proofs::Points::width_read), unfolding(cube_cover::specs::Literals::literal_occurrences))]
 fn polarity_counts_at<R: Row>(width: usize, rows: &[R], place: usize) -> PolarityCounts
     requires widths { HasWidth width (map R.literals rows.now) }
@@ -62,7 +68,7 @@ fn polarity_counts_at<R: Row>(width: usize, rows: &[R], place: usize) -> Polarit
     counts
 }
 
-// The later literal where it stands in two rows and in more than the best so far, else the best so far.
+// The next literal if it occurs in two rows and in more than the best so far, else the best so far.
 fn greater_of(best: Option<Best>, next: Best) -> Option<Best>
     ensures { result ≡ greater best next }
 {
@@ -78,7 +84,7 @@ fn greater_of(best: Option<Best>, next: Best) -> Option<Best>
     }
 }
 
-// The best literal after both literals of one more place.
+// The best literal after both literals of one more column.
 fn best_after<R: Row>(width: usize, rows: &[R], place: usize, best: Option<Best>) -> Option<Best>
     requires widths { HasWidth width (map R.literals rows.now) }
     requires place { place < width }
@@ -104,11 +110,13 @@ fn best_after<R: Row>(width: usize, rows: &[R], place: usize, best: Option<Best>
     )
 }
 
-/// The literal in most rows, by place and then 0 before 1 among equals; none where no literal stands in two rows.
+/// The literal in most rows; of those in as many, the first by column and then 0 before 1. `None`
+/// if no literal occurs in two rows.
 #[tactic(auto, using(crate::proofs::Choosing::best_answer))]
 pub fn best_literal<R: Row>(width: usize, rows: &[R]) -> Option<Best>
     requires { HasWidth width (map R.literals rows.now) }
-    ensures { MatchOption result (NoneShared (map R.literals rows.now)) (λ best. (best.place < width) × IsChosen best.place best.bit (map R.literals rows.now)) }
+    ensures { MatchOption result (NoneShared (map R.literals rows.now))
+        (λ best. (best.place < width) × IsChosen best.place best.bit (map R.literals rows.now)) }
 {
     let mut best = None;
     for place in 0..width {
@@ -124,16 +132,6 @@ pub struct Parts<R: Row> {
     pub others: Vec<R>,
 }
 
-// Whether a literal is that of a bit.
-fn is_literal(literal: Option<bool>, bit: bool) -> bool
-    ensures { result ≡ has_literal literal bit }
-{
-    match literal {
-        None => false,
-        Some(other) => other == bit,
-    }
-}
-
 // A row without its literal at a place.
 fn clear_literal<R: Row>(row: R, place: usize) -> R
     requires { place < length (R.literals row) }
@@ -144,7 +142,7 @@ fn clear_literal<R: Row>(row: R, place: usize) -> R
     made
 }
 
-/// Parts rows by a literal, in order; an error only for want of memory.
+/// Divides rows by a literal, in order.
 #[tactic(auto, using(cube_cover::proofs::Points::width_read, crate::proofs::PartedRows::with_keep, crate::proofs::PartedRows::with_skip, crate::proofs::PartedRows::others_keep, crate::proofs::PartedRows::others_skip), unfolding(crate::specs::Forms::with_literal, crate::specs::Forms::no_literal))]
 pub fn part_rows<R: Row>(
     alloc: Global,
@@ -155,8 +153,10 @@ pub fn part_rows<R: Row>(
 ) -> Result<Parts<R>, AllocError>
     requires widths { HasWidth width (map R.literals rows.items) }
     requires place { place < width }
-    ensures with { IfOk result (λ parts. map R.literals parts.with.items ≡ with_literal place bit (map R.literals rows.items)) }
-    ensures others { IfOk result (λ parts. map R.literals parts.others.items ≡ no_literal place bit (map R.literals rows.items)) }
+    ensures with { IfOk result (λ parts. map R.literals parts.with.items ≡ with_literal place bit
+        (map R.literals rows.items)) }
+    ensures others { IfOk result (λ parts. map R.literals parts.others.items ≡ no_literal place bit
+        (map R.literals rows.items)) }
 {
     let mut with = Vec::new(alloc);
     let mut others = Vec::new(alloc);

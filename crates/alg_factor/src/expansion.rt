@@ -1,4 +1,5 @@
-//! A form multiplied out.
+//! The expansion of a form: its products multiplied out, in the order of `specs/Forms.antt`.
+//! Recursion goes into quotients only.
 
 ghost use Rattle.std.specs.Prelude.{◌≡◌, ℕ, ◌<◌, ◌++◌, Bool, Option, Some, List, length, map, slice_set, IfOk};
 ghost use Rattle.sis_base.specs.Rows.{HasWidth};
@@ -9,9 +10,10 @@ use crate::form::Tree;
 use cube_cover::Row;
 use std::alloc::{AllocError, Global};
 
-// Rows, and copies of others behind them.
+// Rows followed by copies of others.
 fn followed_by<R: Row>(alloc: Global, first: Vec<R>, others: &[R]) -> Result<Vec<R>, AllocError>
-    ensures { IfOk result (λ made. map R.literals made.items ≡ map R.literals first.items ++ map R.literals others.now) }
+    ensures { IfOk result (λ made. map R.literals made.items
+        ≡ map R.literals first.items ++ map R.literals others.now) }
 {
     let mut made = first;
     for row in others {
@@ -20,7 +22,7 @@ fn followed_by<R: Row>(alloc: Global, first: Vec<R>, others: &[R]) -> Result<Vec
     Ok(made)
 }
 
-// A row with a literal at a place.
+// A row with a literal set in a column.
 fn with_one<R: Row>(row: R, place: usize, bit: bool) -> R
     requires { place < length (R.literals row) }
     ensures { R.literals result ≡ slice_set (R.literals row) place (Some bit) }
@@ -30,7 +32,7 @@ fn with_one<R: Row>(row: R, place: usize, bit: bool) -> R
     made
 }
 
-// Rows, and others behind them with a literal more.
+// Rows followed by others with one literal more.
 #[tactic(auto, using(cube_cover::proofs::Points::width_read))]
 fn followed_with<R: Row>(
     width: usize,
@@ -41,7 +43,8 @@ fn followed_with<R: Row>(
 ) -> Result<Vec<R>, AllocError>
     requires widths { HasWidth width (map R.literals others.items) }
     requires place { place < width }
-    ensures { IfOk result (λ made. map R.literals made.items ≡ map R.literals first.items ++ put_literal place bit (map R.literals others.items)) }
+    ensures { IfOk result (λ made. map R.literals made.items
+        ≡ map R.literals first.items ++ put_literal place bit (map R.literals others.items)) }
 {
     let mut made = first;
     for row in others {
@@ -50,7 +53,7 @@ fn followed_with<R: Row>(
     Ok(made)
 }
 
-/// The rows of a tree multiplied out; an error only for want of memory.
+/// The rows of a tree, multiplied out.
 #[tactic(auto, unfolding(crate::specs::Forms::expansion_of))]
 pub(crate) fn expand_rows<R: Row>(
     alloc: Global,
@@ -58,7 +61,8 @@ pub(crate) fn expand_rows<R: Row>(
     tree: &Tree<R>,
 ) -> Result<Vec<R>, AllocError>
     requires { IsOver width (shape R.literals tree.now) }
-    ensures rows { IfOk result (λ made. map R.literals made.items ≡ expansion_of (shape R.literals tree.now)) }
+    ensures rows { IfOk result (λ made. map R.literals made.items ≡ expansion_of
+        (shape R.literals tree.now)) }
     ensures widths { IfOk result (λ made. HasWidth width (map R.literals made.items)) }
 {
     let mut made = Vec::new(alloc);

@@ -1,4 +1,7 @@
-//! The factored form of a cover.
+//! The factored form of a cover, by literal factoring (Brayton, Rudell, Sangiovanni-Vincentelli and
+//! Wang, "MIS: A Multiple-Level Logic Optimization System", 1987). The form of `factor` is the only
+//! one that the rule gives, yields the rows when multiplied out, and has no more literals than they
+//! have.
 
 ghost use Rattle.std.specs.Prelude.{◌≡◌, ℕ, ◌<◌, ◌≤◌, ◌↔◌, Option, Bool, List, map, IfOk};
 ghost use Rattle.std.specs.List.Sorted.{IsPermutation};
@@ -14,7 +17,7 @@ use cube_cover::{Cover, Row};
 use sis_base::Copied;
 use std::alloc::{AllocError, Global};
 
-// A literal and the tree that it is multiplied with.
+// A literal and the tree that it multiplies.
 #[derive(Drop)]
 struct Product<R: Row> {
     place: usize,
@@ -22,13 +25,14 @@ struct Product<R: Row> {
     quotient: Tree<R>,
 }
 
-// The sum of products and rows as one tree.
+// The sum of products and rows, as one tree.
 fn chain<R: Row>(
     alloc: Global,
     products: Vec<Product<R>>,
     rest: Vec<R>,
 ) -> Result<Tree<R>, AllocError>
-    ensures { IfOk result (λ tree. shape R.literals tree ≡ chain_form R.literals products.items (Sum (map R.literals rest.items))) }
+    ensures { IfOk result (λ tree. shape R.literals tree ≡ chain_form R.literals products.items
+        (Sum (map R.literals rest.items))) }
 {
     let mut left = products;
     let mut tree = Tree::Rows(rest);
@@ -48,8 +52,8 @@ fn chain<R: Row>(
     Ok(tree)
 }
 
-// The factored form of rows. The rows without the chosen literal are left to the loop, so calls nest only into
-// quotients, which have no literal of the place any more.
+// The factored form of rows. The loop takes the rows without the chosen literal, so recursion goes
+// into quotients only, which no longer have a literal of that column.
 fn factored_rows<R: Row>(alloc: Global, width: usize, rows: Vec<R>) -> Result<Tree<R>, AllocError>
     requires { HasWidth width (map R.literals rows.items) }
     ensures { IfOk result (λ tree. IsFactored (map R.literals rows.items) (shape R.literals tree)) }
@@ -69,17 +73,20 @@ fn factored_rows<R: Row>(alloc: Global, width: usize, rows: Vec<R>) -> Result<Tr
     chain(alloc, products, rest)
 }
 
-/// The factored form of a cover's rows: where no literal stands in two rows their sum; else, for the literal in most
-/// rows (of equals the first, by place and then 0 before 1), the literal times the form of the rows that have it,
-/// without it, and the form of the others. An error only for want of memory.
+/// The factored form of a cover's rows: their sum, if no literal occurs in two rows. Otherwise, for
+/// the literal in most rows (of those in as many, the first by column and then 0 before 1): the
+/// literal times the form of the rows that have it, without it, plus the form of the others.
 pub fn factor<R: Row>(alloc: Global, f: &Cover<R>) -> Result<Factored<R>, AllocError>
     ensures width { IfOk result (λ made. made.width ≡ f.now.width) }
     ensures form { IfOk result (λ made. IsFactored f.now.rows made.form) }
-    ensures only { IfOk result (λ made. (other : Form) → IsFactored f.now.rows other → other ≡ made.form) }
+    ensures only { IfOk result (λ made. (other : Form) → IsFactored f.now.rows other → other
+        ≡ made.form) }
     ensures rows { IfOk result (λ made. IsPermutation f.now.rows (expansion_of made.form)) }
     ensures most { IfOk result (λ made. form_literals made.form ≤ cover_literals f.now.rows) }
-    ensures fewer { IfOk result (λ made. form_literals made.form < cover_literals f.now.rows ↔ SomeShared f.now.rows) }
-    ensures equal { IfOk result (λ made. NoneShared f.now.rows → form_literals made.form ≡ cover_literals f.now.rows) }
+    ensures fewer { IfOk result (λ made. form_literals made.form < cover_literals f.now.rows
+        ↔ SomeShared f.now.rows) }
+    ensures equal { IfOk result (λ made. NoneShared f.now.rows → form_literals made.form
+        ≡ cover_literals f.now.rows) }
 {
     let copied = f.copy(alloc)?;
     let width = copied.width();

@@ -1,4 +1,8 @@
 //! The factored form and its tree.
+//!
+//! A `Tree` is a sum of rows, or a literal times a tree, plus a tree. `Factored` adds the number of
+//! inputs; its invariant is that all rows and literals are over these inputs. `expand`, `literals`
+//! and `print` are exact for the form that contracts see (`specs/Forms.antt`, `specs/Texts.antt`).
 
 ghost use Rattle.std.specs.Prelude.{◌≡◌, ℕ, ◌^◌, ◌<◌, List, length, map, IfOk};
 ghost use Rattle.alg_factor.specs.Forms.{Factors, IsOver, form_literals, expansion_of};
@@ -13,7 +17,7 @@ use cube_cover::{Cover, Row};
 use std::alloc::{AllocError, Global};
 use std::marker::Model;
 
-/// A sum of rows; or a literal by its place and its bit, times a tree, and a tree that is added.
+/// A sum of rows; or a literal, by its column and its bit, times a tree, plus a tree.
 pub(crate) enum Tree<R: Row> {
     Rows(Vec<R>),
     Term(usize, bool, Box<Tree<R>>, Box<Tree<R>>),
@@ -61,24 +65,24 @@ impl<R: Row> Factored<R> {
         Factored { width, tree }
     }
 
-    /// How many inputs the form is over.
+    /// The number of inputs.
     pub fn width(&self) -> usize
         ensures { result ≡ self.now.width }
     {
         self.width
     }
 
-    /// The form multiplied out: of a literal times a form each row of that form with the literal, then the rows that
-    /// are added. An error only for want of memory.
+    /// The form multiplied out: each row of the quotient with the literal, followed by the rows of
+    /// the rest.
     pub fn expand(&self, alloc: Global) -> Result<Cover<R>, AllocError>
-        ensures { IfOk result (λ made. made ≡ record { width = self.now.width; rows = expansion_of self.now.form }) }
+        ensures { IfOk result (λ made. made ≡ record
+            { width = self.now.width; rows = expansion_of self.now.form }) }
     {
         let rows = expand_rows(alloc, self.width, &self.tree)?;
         Ok(Cover::of(self.width, rows))
     }
 
-    /// How many literals are written in the form, of which the caller knows that they are fewer than 2^64; takes no
-    /// memory.
+    /// The number of literals in the form, which must be below 2^64; allocates nothing.
     pub fn literals(&self) -> u64
         requires { form_literals self.now.form < 2 ^ 64 }
         ensures { result ≡ form_literals self.now.form }
@@ -86,9 +90,9 @@ impl<R: Row> Factored<R> {
         tree_literals(&self.tree)
     }
 
-    /// The text of the form, with a name for each input: a positive literal is its name and a negative one has `!`
-    /// before it, `*` stands in products and ` + ` in sums; a sum inside a product is in parentheses, a row without
-    /// literals is `1`, and no row at all `0`. An error only for want of memory.
+    /// The text of the form, with a name for each input. A negative literal has `!` before its
+    /// name, `*` separates factors and ` + ` summands; a sum as a factor is in parentheses, a row
+    /// without literals is `1`, and a sum without rows `0`.
     pub fn print(&self, alloc: Global, names: &[Name]) -> Result<Vec<u8>, AllocError>
         requires { length names.now ≡ self.now.width }
         ensures { IfOk result (λ text. text.items ≡ form_text names.now self.now.form) }

@@ -1,4 +1,5 @@
-//! How many literals a form has.
+//! The number of literals of a form, counted on its tree without expansion. The caller knows that
+//! it is below 2^64, so that no sum overflows.
 
 ghost use Rattle.std.specs.Prelude.{◌≡◌, ℕ, ◌+◌, ◌^◌, ◌<◌, ◌≤◌, Bool, Option, List, map};
 ghost use Rattle.cube_cover.specs.Literals.{literal_number, row_literals, cover_literals};
@@ -18,7 +19,7 @@ fn literal_count(literal: Option<bool>) -> u64
     }
 }
 
-// The literals of a row.
+// The number of a row's literals.
 #[tactic(auto, unfolding(cube_cover::specs::Literals::row_literals))]
 fn row_count<R: Row>(row: &R) -> u64
     requires { row_literals (R.literals row.now) < 2 ^ 64 }
@@ -31,7 +32,7 @@ fn row_count<R: Row>(row: &R) -> u64
     count
 }
 
-// The literals of rows.
+// The number of literals of rows.
 #[tactic(auto, unfolding(cube_cover::specs::Literals::cover_literals))]
 fn rows_count<R: Row>(rows: &[R]) -> u64
     requires { cover_literals (map R.literals rows.now) < 2 ^ 64 }
@@ -44,7 +45,7 @@ fn rows_count<R: Row>(rows: &[R]) -> u64
     count
 }
 
-/// The literals of a tree, of which there are fewer than 2^64.
+/// The number of literals of a tree, which must be below 2^64.
 #[tactic(auto, unfolding(crate::specs::Forms::form_literals))]
 pub(crate) fn tree_literals<R: Row>(tree: &Tree<R>) -> u64
     requires { form_literals (shape R.literals tree.now) < 2 ^ 64 }

@@ -1,4 +1,9 @@
-//! How a factored form is printed.
+//! The text of a factored form.
+//!
+//! The signs `!`, `*` and `+` are those of the equations of SIS (report UCB/ERL M92/41); factored
+//! forms are those of De Micheli, "Synthesis and Optimization of Digital Circuits", chapter 8. Each
+//! function appends its part of the text to a buffer; the text is exactly that of
+//! `specs/Texts.antt`. Parentheses are written only around a factor of two summands or more.
 
 ghost use Rattle.std.specs.Prelude.{◌≡◌, ℕ, ◌+◌, ◌<◌, ◌++◌, ◌∷◌, [], ltb, Bool, not, slice_index_or, Option, List, length, map, codes, ◌↔◌, IsTrue, IfOk, OnOk};
 ghost use Rattle.sis_base.specs.Rows.{HasWidth};
@@ -12,7 +17,7 @@ use circuit_model::Name;
 use cube_cover::Row;
 use std::alloc::{AllocError, Global};
 
-// Puts a text behind another, or nothing.
+// Appends a text, if it is wanted.
 fn put_if(text: &mut Vec<u8>, wanted: bool, more: &[u8]) -> Result<(), AllocError>
     ensures { OnOk result (text.new.items ≡ text.old.items ++ written_if wanted more.now) }
 {
@@ -22,7 +27,7 @@ fn put_if(text: &mut Vec<u8>, wanted: bool, more: &[u8]) -> Result<(), AllocErro
     text.extend_from_slice(more)
 }
 
-// Puts a literal behind a text.
+// Appends a literal.
 fn put_literal(text: &mut Vec<u8>, name: &Name, bit: bool) -> Result<(), AllocError>
     ensures { OnOk result (text.new.items ≡ text.old.items ++ literal_text bit name.now) }
 {
@@ -30,15 +35,18 @@ fn put_literal(text: &mut Vec<u8>, name: &Name, bit: bool) -> Result<(), AllocEr
     text.extend_from_slice(name.as_slice())
 }
 
-// Puts the literal of a place behind a text, if there is one, after a sign if it is not the first; and tells whether
-// there is none yet.
+// Appends the literal of a column, if it has one, after a sign unless it is the first. Returns
+// whether there is still none.
 fn put_literal_at(
     text: &mut Vec<u8>,
     first: bool,
     name: &Name,
     literal: Option<bool>,
 ) -> Result<bool, AllocError>
-    ensures { IfOk result (λ none_yet. (texts : List (List ℕ)) → text.new.items ++ left_text none_yet (codes "1") (codes "*") texts ≡ text.old.items ++ left_text first (codes "1") (codes "*") (texts_at name.now literal ++ texts)) }
+    ensures { IfOk result (λ none_yet. (texts : List (List ℕ))
+        → text.new.items ++ left_text none_yet (codes "1") (codes "*") texts
+        ≡ text.old.items ++ left_text first (codes "1") (codes "*")
+        (texts_at name.now literal ++ texts)) }
 {
     let Some(bit) = literal else {
         return Ok(first);
@@ -48,11 +56,12 @@ fn put_literal_at(
     Ok(false)
 }
 
-// Puts a row behind a text.
+// Appends a row.
 #[tactic(auto, unfolding(crate::specs::Texts::literal_texts))]
 fn put_row<R: Row>(text: &mut Vec<u8>, row: &R, names: &[Name]) -> Result<(), AllocError>
     requires { length names.now ≡ length (R.literals row.now) }
-    ensures { OnOk result (text.new.items ≡ text.old.items ++ row_text names.now (R.literals row.now)) }
+    ensures { OnOk result (text.new.items ≡ text.old.items ++ row_text names.now
+        (R.literals row.now)) }
 {
     let mut first = true;
     for (place, name) in names.iter().enumerate() {
@@ -61,7 +70,8 @@ fn put_row<R: Row>(text: &mut Vec<u8>, row: &R, names: &[Name]) -> Result<(), Al
     put_if(text, first, b"1")
 }
 
-// Puts the last summands behind a text, each after a sign if it is not the first, or `0` where there is none at all.
+// Appends the remaining summands, each after a sign unless it is the first, or `0` if there are
+// none at all.
 #[tactic(auto, using(cube_cover::proofs::Points::width_read))]
 fn put_rows<R: Row>(
     text: &mut Vec<u8>,
@@ -70,7 +80,8 @@ fn put_rows<R: Row>(
     names: &[Name],
 ) -> Result<(), AllocError>
     requires { HasWidth (length names.now) (map R.literals rows.now) }
-    ensures { OnOk result (text.new.items ≡ text.old.items ++ left_text first (codes "0") (codes " + ") (map (row_text names.now) (map R.literals rows.now))) }
+    ensures { OnOk result (text.new.items ≡ text.old.items ++ left_text first (codes "0")
+        (codes " + ") (map (row_text names.now) (map R.literals rows.now))) }
 {
     let mut none_yet = first;
     for row in rows {
@@ -81,11 +92,12 @@ fn put_rows<R: Row>(
     put_if(text, none_yet, b"0")
 }
 
-/// The text of a sum of rows, with a name for each input: of each row its literals with `*` between, or `1` where it has
-/// none, with ` + ` between rows; `0` where there are no rows. An error only for want of memory.
+/// The text of a sum of rows, with a name for each input: the literals of a row with `*` between
+/// them, or `1` if it has none; ` + ` between rows; `0` if there are no rows.
 pub fn sum_text<R: Row>(alloc: Global, names: &[Name], rows: &[R]) -> Result<Vec<u8>, AllocError>
     requires { HasWidth (length names.now) (map R.literals rows.now) }
-    ensures { IfOk result (λ text. text.items ≡ sum_text (map (row_text names.now) (map R.literals rows.now))) }
+    ensures { IfOk result (λ text. text.items ≡ sum_text
+        (map (row_text names.now) (map R.literals rows.now))) }
 {
     let mut text = Vec::new(alloc);
     put_rows(&mut text, true, rows, names)?;
@@ -103,7 +115,7 @@ fn has_summand<R: Row>(tree: &Tree<R>) -> bool
     }
 }
 
-// Whether a form has two summands or more.
+// Whether a form has at least two summands.
 #[tactic(auto, unfolding(crate::specs::Writing::summands))]
 fn is_sum<R: Row>(tree: &Tree<R>) -> bool
     ensures { result ≡ ltb 1 (summands (shape R.literals tree.now)) }
@@ -114,7 +126,8 @@ fn is_sum<R: Row>(tree: &Tree<R>) -> bool
     }
 }
 
-// Puts the literal of a summand behind a text, after a sign if it is not the first, and the sign of the product.
+// Appends the literal of a summand, after a sign unless it is the first, and the sign of the
+// product.
 fn put_head(
     text: &mut Vec<u8>,
     first: bool,
@@ -123,21 +136,24 @@ fn put_head(
     bit: bool,
 ) -> Result<(), AllocError>
     requires { place < length names.now }
-    ensures { OnOk result (text.new.items ≡ text.old.items ++ (written_if (not first) (codes " + ") ++ (literal_text bit (slice_index_or names.now place []) ++ codes "*"))) }
+    ensures { OnOk result (text.new.items ≡ text.old.items ++
+        (written_if (not first) (codes " + ") ++ (literal_text bit
+        (slice_index_or names.now place []) ++ codes "*"))) }
 {
     put_if(text, !first, b" + ")?;
     put_literal(text, &names[place], bit)?;
     text.extend_from_slice(b"*")
 }
 
-/// Puts a form behind a text; an error only for want of memory.
+/// Appends a form.
 pub(crate) fn put_tree<R: Row>(
     text: &mut Vec<u8>,
     tree: &Tree<R>,
     names: &[Name],
 ) -> Result<(), AllocError>
     requires { IsOver (length names.now) (shape R.literals tree.now) }
-    ensures { OnOk result (text.new.items ≡ text.old.items ++ form_text names.now (shape R.literals tree.now)) }
+    ensures { OnOk result (text.new.items ≡ text.old.items ++ form_text names.now
+        (shape R.literals tree.now)) }
 {
     let mut first = true;
     let mut here = tree;

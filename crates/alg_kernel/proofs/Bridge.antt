@@ -1,4 +1,4 @@
--- The search's kernels of the rising rows are the kernels of the sum.
+-- The kernels that the search finds for the sorted rows are the kernels of the sum.
 use Rattle.std.proofs.Common.{◌≡◌, ℕ, ◌<◌, ◌≤◌, Bool, true, false, if◌then◌else◌, Option, Some, None, List, [], ◌∷◌, length, get_or, refl, sym, ap, ◌∙◌, subst, arith, inl, inr, ◌⊎◌, ◌↔◌, Ordering, Equal}
 use Rattle.std.specs.Ordering.{bool_cmp, ordering_then}
 use Rattle.std.specs.Option.{option_cmp}

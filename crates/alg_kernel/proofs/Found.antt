@@ -103,7 +103,8 @@ first-of : (rs : List (List (Option Bool))) → 0 < length rs → (r : List (Opt
 first-of [] lt = absurd (omega arith)
 first-of (row ∷ rows) lt = (row, inl refl)
 
--- a quotient by a cube that is free of common literals goes through any cube that its rows have too
+-- a cube-free quotient by c is the quotient, by the rest of c, of the quotient by u, if each row
+-- that has the literals of c has those of u too
 pub through : (w : ℕ) (h : List (List (Option Bool))) (c u : List (Option Bool)) → HasWidth w h → length c ≡ w → length u ≡ w
     → ((r : List (Option Bool)) → Has r h → holds c r ≡ true → holds u r ≡ true) → IsCubeFree (over c h) → over (strip u c) (over u h) ≡ over c h
 through w h c u wide lc lu both free = over-over u (strip u c) h apart ∙ ap (λ (x : List (Option Bool)). over x h) whole

@@ -1,4 +1,4 @@
--- Rising lists: what one has, how it grows, and that two of the same elements are one.
+-- Increasing lists: their members, how they grow, and that two with the same elements are equal.
 use Rattle.std.proofs.Common.{◌≡◌, ℕ, ◌≤◌, zero, suc, Bool, true, false, Option, Some, None, List, [], ◌∷◌, ◌++◌, length, take, drop, refl, sym, ◌∙◌, subst, arith, inl, inr, ◌⊎◌, Ordering, Less, Equal, Greater}
 use Rattle.std.specs.Cmp.{IsTotalOrder, bool_cmp_total}
 use Rattle.std.specs.Cmp.Lexicographic.{options_total, lists_total}
@@ -106,7 +106,7 @@ module _ {X : Type 0} (R : X → X → Ordering) (o : IsTotalOrder R) where
     ]) in omega (arith, rest))
   ]
 
-  -- an element put in between what is below and what is above it
+  -- an element inserted between those below it and those above it
   pub insert-ascends : (xs : List X) (i : ℕ) (y : X) → Ascends R xs → i ≤ length xs → ((z : X) → Has z (take i xs) → R z y ≡ Less) → ((z : X) → Has z (drop i xs) → R y z ≡ Less) → Ascends R (take i xs ++ y ∷ drop i xs)
   unfolding Ascends
   insert-ascends xs zero y h lt below above = (above, h)

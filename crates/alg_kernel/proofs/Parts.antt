@@ -1,5 +1,7 @@
--- The rows that have a cube, without it; what rows share; and how one such step follows another.
+-- The rows that contain a cube, without it; the common literals of rows; and the composition of two
+-- such steps.
 use Rattle.std.proofs.Common.{◌≡◌, ℕ, ◌<◌, ◌≤◌, zero, suc, Bool, true, false, ◌&&◌, if◌then◌else◌, Option, Some, None, List, [], ◌∷◌, ◌++◌, length, get_or, take, drop, map, refl, sym, ap, ◌∙◌, arith, inl, inr, ◌⊎◌, true≢false}
+use Rattle.std.proofs.lemmas.Bool.{and_from}
 use Rattle.sis_base.specs.Rows.{HasWidth}
 use Rattle.alg_div.specs.Cubes.{Has, times}
 use Rattle.alg_div.specs.Steps.{without, strip}
@@ -22,9 +24,6 @@ and_left false y h = h
 pub and_right : (x y : Bool) → (x && y) ≡ true → y ≡ true
 and_right true y h = h
 and_right false y h = cc
-
-and_both : (x y : Bool) → x ≡ true → y ≡ true → (x && y) ≡ true
-and_both x y h k = rw (h, k) refl
 
 -- a place and a literal
 pub has_literal-is : (x : Option Bool) (b : Bool) → has_literal x b ≡ true → x ≡ Some b
@@ -60,8 +59,8 @@ holds-at (x ∷ xs) (y ∷ ys) (suc i) b h e = holds-at xs ys i b (and_right (wi
 pub holds-from : (c r : List (Option Bool)) → ((i : ℕ) (b : Bool) → get_or c i None ≡ Some b → get_or r i None ≡ Some b) → holds c r ≡ true
 unfolding holds
 holds-from [] r h = refl
-holds-from (x ∷ xs) [] h = and_both _ _ (is-within x None (λ b e. h 0 b e)) (holds-from xs [] (λ i b e. h (suc i) b e))
-holds-from (x ∷ xs) (y ∷ ys) h = and_both _ _ (is-within x y (λ b e. h 0 b e)) (holds-from xs ys (λ i b e. h (suc i) b e))
+holds-from (x ∷ xs) [] h = and_from _ _ (is-within x None (λ b e. h 0 b e)) (holds-from xs [] (λ i b e. h (suc i) b e))
+holds-from (x ∷ xs) (y ∷ ys) h = and_from _ _ (is-within x y (λ b e. h 0 b e)) (holds-from xs ys (λ i b e. h (suc i) b e))
 
 -- two tests that hold of the same are equal
 pub same-test : (x y : Bool) → (x ≡ true → y ≡ true) → (y ≡ true → x ≡ true) → x ≡ y
@@ -227,7 +226,7 @@ strip-strip a u r = ext (strip u (strip a r)) (strip (times a u) r) (length-stri
     at : (i : ℕ) → get_or (strip u (strip a r)) i None ≡ get_or (strip (times a u) r) i None
     at i = get_or-strip u (strip a r) i ∙ ap (without (get_or u i None)) (get_or-strip a r i) ∙ places (get_or a i None) (get_or u i None) (get_or r i None) ∙ ap (λ (x : Option Bool). without x (get_or r i None)) (sym (get_or-times a u i)) ∙ sym (get_or-strip (times a u) r i)
 
--- no literals at one place
+-- two cubes have no literals in the same column
 abbrev pub AreApart : List (Option Bool) → List (Option Bool) → Type 0
 AreApart a u = (i : ℕ) (b : Bool) → get_or u i None ≡ Some b → get_or a i None ≡ None
 
@@ -241,7 +240,7 @@ holds-holds a u r apart = same-test _ _
       | inl h ↦ holds-at a r i b (and_left (holds a r) (holds u (strip a r)) t) h
       | inr h ↦ (without-is (get_or a i None) _ b (sym (get_or-strip a r i) ∙ holds-at u (strip a r) i b (and_right (holds a r) (holds u (strip a r)) t) h.1)).1
     ]))
-    (λ t. and_both _ _
+    (λ t. and_from _ _
     (holds-from a r (λ i b e. holds-at (times a u) r i b t (get_or-times a u i ∙ ap (λ (x : Option Bool). literal_product x (get_or u i None)) e)))
     (holds-from u (strip a r) (λ i b e. get_or-strip a r i ∙ ap (λ (x : Option Bool). without x (get_or r i None)) (apart i b e) ∙ holds-at (times a u) r i b t (get_or-times a u i ∙ ap (λ (x : Option Bool). literal_product x (get_or u i None)) (apart i b e) ∙ e))))
 
@@ -300,7 +299,7 @@ pub common_cube-last : (c : List (Option Bool)) (rows : List (List (Option Bool)
 unfolding common_cube_from
 common_cube-last c rows e = ap (common_cube_from c) e
 
--- a list that is written over place by place
+-- a list that is overwritten item by item
 pub get_or-filled : {X : Type 0} (xs ys : List X) (i : ℕ) (d : X) → i < length xs → length ys ≡ length xs → get_or (take i xs ++ drop i ys) i d ≡ get_or ys i d
 get_or-filled [] ys i d h e = absurd (omega arith)
 get_or-filled (x ∷ xs) [] i d h e = absurd (omega arith)

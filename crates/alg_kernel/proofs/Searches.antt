@@ -1,4 +1,4 @@
--- How a search goes on: what is entered, what is explored, and what it has found at its end.
+-- The progress of a search: what is entered, what is explored, and what it has found at its end.
 use Rattle.std.proofs.Common.{◌≡◌, ℕ, ◌+◌, ◌<◌, ◌≤◌, zero, suc, Bool, true, false, if◌then◌else◌, Option, None, List, [], ◌∷◌, ◌++◌, length, get_or, take, drop, map, refl, sym, ap, ◌∙◌, subst, arith, inl, inr, ◌⊎◌}
 use Rattle.std.proofs.lemmas.List.{length-append, length-take, length-drop}
 use Rattle.std.proofs.lemmas.Bool.{cases_lt}
@@ -59,7 +59,7 @@ more-as P Q f s t s' t' a = record {
 pub many-as : (P Q : List (List (Option Bool)) → Type 0) → ((k : List (List (Option Bool))) → P k → Q k) → (s : List (List (List (Option Bool)))) → TooMany P s → TooMany Q s
 many-as P Q f s (ks, more, order, from) = (ks, more, order, λ k m. elim (from k m) as (λ _. Has k s ⊎ Q k) [ inl n ↦ inl n | inr p ↦ inr (f k p) ])
 
--- elements of a list with one put in
+-- the elements of a list with one inserted
 insert-old : {X : Type 0} (xs : List X) (i : ℕ) (y z : X) → Has z xs → Has z (take i xs ++ y ∷ drop i xs)
 insert-old xs i y z m = elim (Has-parts z xs i m) as (λ _. Has z (take i xs ++ y ∷ drop i xs)) [ inl a ↦ Has-left z (take i xs) (y ∷ drop i xs) a | inr b ↦ Has-right z (take i xs) (y ∷ drop i xs) (inr b) ]
 
@@ -171,7 +171,7 @@ search-done w f s wide a = record {
   order = a.order;
 }
 
--- literals past the width stand nowhere
+-- literals past the width occur nowhere
 pub holding_rows-beyond : (w i : ℕ) (b : Bool) (rs : List (List (Option Bool))) → HasWidth w rs → w ≤ i → length (holding_rows i b rs) ≡ 0
 unfolding holding_rows HasWidth
 holding_rows-beyond w i b [] h le = refl
@@ -182,7 +182,7 @@ holding_rows-beyond w i b (row ∷ rows) h le = ap (λ (x : Option Bool). length
     past (x ∷ xs) zero le = absurd (omega arith)
     past (x ∷ xs) (suc i) le = past xs i (omega arith)
 
--- all literals below the width are all that stand in two rows
+-- the literals below the width are all that occur in two rows
 pub explored-all : (w : ℕ) (seen : List (List (List (Option Bool)))) (k : List (List (Option Bool))) (n : ℕ) → HasWidth w k → w ≤ n → IsExploredTo n seen k → IsExplored seen k
 explored-all w seen k n wide le to i bit two = elim (cases_lt i n) as (λ _. Has (kernel_at i bit k) seen) [ inl lt ↦ to i bit lt two | inr ge ↦ absurd (omega (arith, two, holding_rows-beyond w i bit k wide (omega arith))) ]
 

@@ -1,6 +1,7 @@
--- What the steps of a search for kernels compute, on a sum whose rows rise. No public clause needs these definitions.
--- Source: Brayton and McMullen, "The Decomposition and Factorization of Boolean Expressions" (1982);
--- De Micheli, "Synthesis and Optimization of Digital Circuits", chapter 8 (kernels by recursion over literals).
+-- The steps of a search for kernels, on a sum whose rows are in increasing order. No public clause
+-- needs these definitions. Source: Brayton and McMullen, "The Decomposition and Factorization of
+-- Boolean Expressions" (1982); De Micheli, "Synthesis and Optimization of Digital Circuits",
+-- chapter 8 (kernels by recursion over literals).
 use Rattle.std.specs.Prelude.{◌≡◌, ℕ, ◌+◌, ◌<◌, ◌≤◌, ◌↔◌, ◌⊎◌, Bool, true, false, not, ◌&&◌, if◌then◌else◌, Option, Some, None, List, [], ◌∷◌, map, length, slice_index_or}
 use Rattle.std.proofs.Common.{take, drop}
 use Rattle.std.specs.declared.cmp.Ordering.TheVariants.{Less}
@@ -15,18 +16,18 @@ use Rattle.sis_base.specs.declared.limits.TheConstants.{MAX_KERNELS}
 abbrev pub kernels_in : {Y Z : Type 0} → List (Vec (Vec (Option Bool) Y) Z) → List (List (List (Option Bool)))
 kernels_in kernels = map (λ kernel. literals_in kernel.items) kernels
 
--- the second literal is the first one, where that is no dash
+-- the second literal equals the first one, unless that is a dash
 abbrev pub within : Option Bool → Option Bool → Bool
 within None literal = true
 within (Some bit) literal = has_literal literal bit
 
--- the row has each literal of the cube
+-- whether a row has each literal of a cube
 unfoldable pub holds : List (Option Bool) → List (Option Bool) → Bool
 holds [] row = true
 holds (literal ∷ literals) [] = within literal None && holds literals []
 holds (literal ∷ literals) (other ∷ others) = within literal other && holds literals others
 
--- the rows that have the cube, without it
+-- the rows that contain the cube's literals, without them
 unfoldable pub over : List (Option Bool) → List (List (Option Bool)) → List (List (Option Bool))
 over cube [] = []
 over cube (row ∷ rows) = if holds cube row then strip cube row ∷ over cube rows else over cube rows
@@ -36,12 +37,12 @@ unfoldable pub holding_rows : ℕ → Bool → List (List (Option Bool)) → Lis
 holding_rows i bit [] = []
 holding_rows i bit (row ∷ rows) = if has_literal (slice_index_or row i None) bit then row ∷ holding_rows i bit rows else holding_rows i bit rows
 
--- the literal that two places share, if they do
+-- the literal that both have, if it is the same
 abbrev pub both : Option Bool → Option Bool → Option Bool
 both None other = None
 both (Some bit) other = if has_literal other bit then Some bit else None
 
--- what two rows have in common
+-- the literals that two rows have in common
 unfoldable pub both_rows : List (Option Bool) → List (Option Bool) → List (Option Bool)
 both_rows [] row = []
 both_rows (literal ∷ literals) [] = []
@@ -65,25 +66,26 @@ IsCubeFree k = (2 ≤ length k) × NoCommon k
 abbrev pub AreSame : List (List (Option Bool)) → List (List (Option Bool)) → Type 0
 AreSame f g = (row : List (Option Bool)) → Has row f ↔ Has row g
 
--- a kernel of a sum whose rows rise
+-- a kernel of a sum whose rows are in increasing order
 pub record IsFound (width : ℕ) (f k : List (List (Option Bool))) : Type 0 where
   pub cube : (c : List (Option Bool)) × (length c ≡ width) × (k ≡ over c f)
   pub free : IsCubeFree k
 
--- the kernel that the rows with a literal make, without all that they share
+-- the kernel of the rows with a literal, without their common cube
 abbrev pub kernel_at : ℕ → Bool → List (List (Option Bool)) → List (List (Option Bool))
 kernel_at i bit k = over (common_cube (holding_rows i bit k)) k
 
--- that kernel where two rows or more have the literal, else none
+-- that kernel if at least two rows have the literal, else none
 abbrev pub IsKernelAt : List (List (Option Bool)) → ℕ → Bool → Option (List (List (Option Bool))) → Type 0
 IsKernelAt k i bit None = length (holding_rows i bit k) < 2
 IsKernelAt k i bit (Some kernel) = (2 ≤ length (holding_rows i bit k)) × (kernel ≡ kernel_at i bit k)
 
--- the kernels of each literal that stands in two rows are seen
+-- the kernels of each literal that occurs in two rows are seen
 abbrev pub IsExplored : List (List (List (Option Bool))) → List (List (Option Bool)) → Type 0
 IsExplored seen k = (i : ℕ) (bit : Bool) → 2 ≤ length (holding_rows i bit k) → Has (kernel_at i bit k) seen
 
--- a search: kernels of f in rising order, each explored or open, among them f without what all its rows share
+-- a search: kernels of f in increasing order, each explored or open, among them f without its
+-- common cube
 pub record IsSearch (width : ℕ) (f : List (List (Option Bool))) (seen open_ : List (List (List (Option Bool)))) : Type 0 where
   pub found : (k : List (List (Option Bool))) → Has k seen → IsFound width f k
   pub order : Ascends rows_cmp seen
@@ -95,7 +97,8 @@ pub record IsSearch (width : ℕ) (f : List (List (Option Bool))) (seen open_ : 
 abbrev pub IsStep : List (List (Option Bool)) → List (List (Option Bool)) → Type 0
 IsStep h k = (i : ℕ) × (bit : Bool) × (2 ≤ length (holding_rows i bit h)) × (k ≡ kernel_at i bit h)
 
--- the seen and the open lists after some of what P says were entered, each that was new in both
+-- the seen and the open lists after some kernels that satisfy P were entered; each new one is in
+-- both
 pub record IsMore (P : List (List (Option Bool)) → Type 0) (seen open_ after open_after : List (List (List (Option Bool)))) : Type 0 where
   pub kept : (k : List (List (Option Bool))) → Has k seen → Has k after
   pub only : (k : List (List (Option Bool))) → Has k after → Has k seen ⊎ P k
@@ -107,27 +110,28 @@ pub record IsMore (P : List (List (Option Bool)) → Type 0) (seen open_ after o
   pub balance : length open_after + length seen ≡ length open_ + length after
   pub grows : length seen ≤ length after
 
--- more than are listed, each seen or as P says
+-- there are more than the limit that are seen or satisfy P
 abbrev pub TooMany : (List (List (Option Bool)) → Type 0) → List (List (List (Option Bool))) → Type 0
 TooMany P seen =
     (ks : List (List (List (Option Bool)))) × (MAX_KERNELS < length ks) × Ascends rows_cmp ks × ((k : List (List (Option Bool))) → Has k ks → Has k seen ⊎ P k)
 
--- all kernels of a sum whose rows rise and no other, each once, in rising order
+-- all kernels of a sum whose rows are in increasing order and no others, each once, in increasing
+-- order
 pub record AreFound (width : ℕ) (f : List (List (Option Bool))) (ks : List (List (List (Option Bool)))) : Type 0 where
   pub only : (k : List (List (Option Bool))) → Has k ks → IsFound width f k
   pub every : (k : List (List (Option Bool))) → IsFound width f k → Has k ks
   pub order : Ascends rows_cmp ks
 
--- more than the MAX_KERNELS are found
+-- there are more than MAX_KERNELS kernels
 abbrev pub MoreFound : ℕ → List (List (Option Bool)) → Type 0
 MoreFound width f =
     (ks : List (List (List (Option Bool)))) × (MAX_KERNELS < length ks) × Ascends rows_cmp ks × ((k : List (List (Option Bool))) → Has k ks → IsFound width f k)
 
--- the kernels of the literals below a place are seen
+-- the kernels of the literals in the columns below n are seen
 abbrev pub IsExploredTo : ℕ → List (List (List (Option Bool))) → List (List (Option Bool)) → Type 0
 IsExploredTo n seen k = (i : ℕ) (bit : Bool) → i < n → 2 ≤ length (holding_rows i bit k) → Has (kernel_at i bit k) seen
 
--- a place in the seen list between what is below a kernel and what is above it
+-- an index in the seen list, after the kernels below a kernel and before those above it
 abbrev pub IsBetween : List (List (List (Option Bool))) → ℕ → List (List (Option Bool)) → Type 0
 IsBetween seen i k =
     (i ≤ length seen) × ((other : List (List (Option Bool))) → Has other (take i seen) → rows_cmp other k ≡ Less) × ((other : List (List (Option Bool))) → Has other (drop i seen) → rows_cmp k other ≡ Less)

@@ -1,11 +1,10 @@
-//! Kernels of covers: what division by a cube leaves, where it is more than one cube and cube-free, as Brayton and
-//! McMullen define them ("The Decomposition and Factorization of Boolean Expressions", 1982); De Micheli,
-//! "Synthesis and Optimization of Digital Circuits", chapter 8.
+//! Kernels of covers: the cube-free quotients by a cube that have more than one cube, as defined by
+//! Brayton and McMullen ("The Decomposition and Factorization of Boolean Expressions", 1982); De
+//! Micheli, "Synthesis and Optimization of Digital Circuits", chapter 8.
 //!
-//! Promised: `kernels` gives each kernel once and nothing else, in rising order, its rows in rising order, where
-//! there are at most `MAX_KERNELS`; just where there are more it is refused by `KernelLimit`. Else
-//! it fails only for want of
-//! memory.
+//! Promised: `kernels` returns each kernel once and nothing else, in increasing order, its rows in
+//! increasing order, if there are at most `MAX_KERNELS`. It fails with `KernelLimit` exactly if
+//! there are more.
 
 #![tactic(auto)]
 

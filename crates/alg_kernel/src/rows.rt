@@ -1,4 +1,9 @@
-//! Rows with a literal, what rows share, and rows without it.
+//! Operations on rows for the search for kernels: the rows with a literal, the common cube of rows,
+//! and rows made cube-free.
+//!
+//! Source: Brayton and McMullen, "The Decomposition and Factorization of Boolean Expressions"
+//! (1982). Rows are vectors of optional literals of one width. `sort_rows` makes their normal form:
+//! increasing, each once.
 
 ghost use Rattle.std.specs.Prelude.{◌≡◌, ℕ, ◌<◌, Bool, Option, None, List, length, map, slice_index_or, IfOk};
 ghost use Rattle.sis_base.specs.Rows.{HasWidth};
@@ -8,9 +13,10 @@ ghost use Rattle.cube_cover.specs.Literals.{has_literal};
 ghost use Rattle.alg_kernel.specs.Search.{holding_rows, both, both_rows, common_cube, AreSame};
 
 use alg_div::{copy_of, strip_row};
+use cube_cover::is_literal;
 use std::alloc::{AllocError, Global};
 
-// The rows in rising order, each once.
+// Sorts rows in increasing order, each once.
 pub fn sort_rows(rows: Vec<Vec<Option<bool>>>) -> Vec<Vec<Option<bool>>>
     ensures order { Ascends row_cmp (literals_in result.items) }
     ensures same { AreSame (literals_in rows.items) (literals_in result.items) }
@@ -21,16 +27,6 @@ pub fn sort_rows(rows: Vec<Vec<Option<bool>>>) -> Vec<Vec<Option<bool>>>
     sorted
 }
 
-// Whether a literal is that of a bit.
-fn is_literal(literal: Option<bool>, bit: bool) -> bool
-    ensures { result ≡ has_literal literal bit }
-{
-    match literal {
-        None => false,
-        Some(other) => other == bit,
-    }
-}
-
 // Whether a row has a literal.
 fn row_has_literal(row: &[Option<bool>], place: usize, bit: bool) -> bool
     requires { place < length row.now }
@@ -39,7 +35,7 @@ fn row_has_literal(row: &[Option<bool>], place: usize, bit: bool) -> bool
     is_literal(row[place], bit)
 }
 
-// How many rows have a literal.
+// The number of rows with a literal.
 #[tactic(auto, unfolding(crate::specs::Search::holding_rows))]
 pub fn count_at(width: usize, rows: &[Vec<Option<bool>>], place: usize, bit: bool) -> usize
     requires width { HasWidth width (literals_in rows.now) }
@@ -66,7 +62,8 @@ pub fn rows_at(
 ) -> Result<Vec<Vec<Option<bool>>>, AllocError>
     requires width { HasWidth width (literals_in rows.now) }
     requires place { place < width }
-    ensures { IfOk result (λ made. literals_in made.items ≡ holding_rows place bit (literals_in rows.now)) }
+    ensures { IfOk result (λ made. literals_in made.items ≡ holding_rows place bit
+        (literals_in rows.now)) }
 {
     let mut made = Vec::new(alloc);
     for row in rows {
@@ -91,7 +88,7 @@ pub fn copies_of(
     Ok(made)
 }
 
-// The literal that two places share.
+// The literal that both have, if it is the same.
 fn shared_literal(literal: Option<bool>, other: Option<bool>) -> Option<bool>
     ensures { result ≡ both literal other }
 {
@@ -107,7 +104,7 @@ fn shared_literal(literal: Option<bool>, other: Option<bool>) -> Option<bool>
     }
 }
 
-// Leaves of a cube the literals that a row has too.
+// Removes from a cube the literals that a row lacks.
 fn meet(cube: &mut Vec<Option<bool>>, row: &[Option<bool>])
     requires { length cube.old.items ≡ length row.now }
     ensures { cube.new.items ≡ both_rows cube.old.items row.now }
@@ -117,7 +114,7 @@ fn meet(cube: &mut Vec<Option<bool>>, row: &[Option<bool>])
     }
 }
 
-// The literals that all rows share, of which there is one or more.
+// The common cube of rows, of which there must be at least one.
 pub fn common_of(
     alloc: Global,
     width: usize,
@@ -134,7 +131,7 @@ pub fn common_of(
     Ok(cube)
 }
 
-// The rows without the literals that all of them share, of which there is one or more.
+// The rows without their common cube. There must be at least one row.
 pub fn make_cube_free(
     alloc: Global,
     width: usize,
@@ -142,7 +139,8 @@ pub fn make_cube_free(
 ) -> Result<Vec<Vec<Option<bool>>>, AllocError>
     requires width { HasWidth width (literals_in rows.now) }
     requires some { 0 < length rows.now }
-    ensures { IfOk result (λ made. literals_in made.items ≡ map (strip (common_cube (literals_in rows.now))) (literals_in rows.now)) }
+    ensures { IfOk result (λ made. literals_in made.items ≡ map
+        (strip (common_cube (literals_in rows.now))) (literals_in rows.now)) }
 {
     let cube = common_of(alloc, width, rows)?;
     let mut made = Vec::with_capacity(alloc, rows.len())?;

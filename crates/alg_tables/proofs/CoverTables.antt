@@ -1,5 +1,5 @@
--- The table of a cover: it fits where its names are signals, and is worth what the cover is; and it is split off the tables that are
--- divided by it.
+-- The table of a cover: it fits if its names are signals, and has the cover's value; and it is
+-- split off the tables that are divided by it.
 use Rattle.std.proofs.Common.{◌≡◌, ◌⊎◌, ℕ, Bool, true, false, Option, Some, List, [], ◌∷◌, map, length, bytes_eq, nat_cmp, refl, sym, ap, ◌∙◌, subst, inl, inr}
 use Rattle.std.specs.List.{list_all, AllByRecursion}
 use Rattle.std.specs.List.Sorted.{IsStrictlySortedBy}

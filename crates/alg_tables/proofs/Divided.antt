@@ -1,8 +1,9 @@
 -- How the code comes to a divided table, and to the table of a cover.
-use Rattle.std.proofs.Common.{◌≡◌, ℕ, ◌+◌, ◌<◌, zero, suc, Bool, true, false, not, ◌||◌, if◌then◌else◌, Option, Some, None, List, [], ◌∷◌, ◌++◌, map, length, get_or, drop, eqb, ne_eqb, nat_cmp, Ordering, Equal, refl, sym, ap, ap₂, ◌∙◌, subst, arith, append_assoc}
+use Rattle.std.proofs.Common.{◌≡◌, ℕ, ◌+◌, ◌<◌, zero, suc, Bool, true, false, not, ◌||◌, if◌then◌else◌, Option, Some, None, List, [], ◌∷◌, ◌++◌, map, length, get_or, drop, eqb, ne_eqb, nat_cmp, Ordering, Equal, sym, ap, ap₂, ◌∙◌, subst, arith, append_assoc}
 use Rattle.std.specs.Cmp.Lexicographic.{slice_cmp, nat_list_cmp_total}
 use Rattle.std.specs.Ordering.{ordering_then}
 use Rattle.std.proofs.lemmas.List.{length-map}
+use Rattle.std.proofs.Math.Bool.{or-true}
 use Rattle.sis_base.specs.Rows.{HasWidth}
 use Rattle.circuit_model.specs.declared.circuit.Table.{Table}
 use Rattle.cube_cover.specs.Covers.{Shape}
@@ -13,7 +14,7 @@ use Rattle.cover_names.specs.Cubes.{literal_of, row_over, is_over, names_in}
 use Rattle.cover_names.specs.declared.literal.Literal.{Literal}
 use Rattle.cover_names.proofs.Orders.{IsOrder, literal_order}
 use Rattle.net_core.specs.Tables.{places_of, characters_of, named, IsOverInputs}
-use Rattle.net_core.specs.declared.table.Table.{Table as TheTable}
+use Rattle.net_core.specs.declared.table.CoverTable.{CoverTable}
 use Rattle.net_core.proofs.Rows.{all_places_back}
 use Rattle.circuit_tables.specs.Tidy.{tidied}
 use Rattle.alg_tables.specs.Dividing.{quotient, rejoined, has_no_cube, quotient_by, is_undivided, divided, sorted_names, cover_table}
@@ -108,10 +109,6 @@ unread_stays name bit cover table e =
     (quotient (length table.inputs) (map places_of table.rows)
     (map (row_over table.inputs) cover)))) e
 
-or_true : (b : Bool) → (b || true) ≡ true
-or_true true = refl
-or_true false = refl
-
 -- one whose quotient has no cube stays too
 pub undivided_stays : (name : List ℕ) (bit : Bool) (cover : NamedCover) (table : Table)
     → has_no_cube (quotient (length table.inputs) (map places_of table.rows)
@@ -123,7 +120,7 @@ undivided_stays name bit cover table e =
     (quotient (length table.inputs) (map places_of table.rows)
     (map (row_over table.inputs) cover))))
     (ap (λ (b : Bool). not (is_over table.inputs cover) || b) e
-    ∙ or_true (not (is_over table.inputs cover)))
+    ∙ or-true (not (is_over table.inputs cover)))
 
 -- another one is the tidy rejoined table
 pub turned_is : (name : List ℕ) (bit : Bool) (cover : NamedCover) (table : Table)
@@ -141,7 +138,7 @@ turned_is name bit cover table over some =
     (quotient (length table.inputs) (map places_of table.rows)
     (map (row_over table.inputs) cover)))) over some
 
-module _ {R : Type 0} (table : TheTable R) (name : List ℕ) (bit : Bool) (cover : NamedCover) where
+module _ {R : Type 0} (table : CoverTable R) (name : List ℕ) (bit : Bool) (cover : NamedCover) where
   pub unread : (inputs : List (List ℕ)) (answer : Bool) → answer ≡ is_over inputs cover
       → inputs ≡ table.inputs → answer ≡ false
       → (output : List ℕ) → divided name bit cover (named output table) ≡ named output table
@@ -174,7 +171,7 @@ module _ {R : Type 0} (table : TheTable R) (name : List ℕ) (bit : Bool) (cover
       (ap has_no_cube (sym (quotient_named divisor q output over wide same is))
       ∙ none_of f xs q answer read long ∙ none)
 
-  -- whether the cover divides the table, as the code comes to it
+  -- whether the cover divides the table, as the code computes it
   pub unread_whole : (inputs : List (List ℕ)) (answer : Bool) → answer ≡ is_over inputs cover
       → inputs ≡ table.inputs → answer ≡ false
       → (output : List ℕ) → true ≡ is_undivided cover (named output table)
@@ -204,7 +201,7 @@ module _ {R : Type 0} (table : TheTable R) (name : List ℕ) (bit : Bool) (cover
   empty_whole f xs answer divisor q over wide same is read long none output =
       sym (ap (λ (b : Bool). not (is_over (named output table).inputs cover) || b)
       (no_cube f xs answer divisor q over wide same is read long output ∙ none)
-      ∙ or_true (not (is_over (named output table).inputs cover)))
+      ∙ or-true (not (is_over (named output table).inputs cover)))
 
   pub turned_whole : {X : Type 0} (f : X → List (Option Bool)) (xs : List X)
       (inputs : List (List ℕ)) (over_all answer : Bool) (divisor : Shape)
@@ -222,7 +219,7 @@ module _ {R : Type 0} (table : TheTable R) (name : List ℕ) (bit : Bool) (cover
       (sym placed) ∙ sym reads ∙ all)
       (no_cube f xs answer divisor q over wide same is read long output ∙ some))
 
-  rejoined_named : (made : TheTable R) (divisor : Shape) (q r : List (List (Option Bool)))
+  rejoined_named : (made : CoverTable R) (divisor : Shape) (q r : List (List (Option Bool)))
       (output : List ℕ) → divisor.rows ≡ map (row_over table.inputs) cover
       → r ≡ others table.cover.rows (products q divisor.rows)
       → made.inputs ≡ table.inputs ++ name ∷ [] → made.cover.rows
@@ -253,7 +250,7 @@ module _ {R : Type 0} (table : TheTable R) (name : List ℕ) (bit : Bool) (cover
 
   pub turned : {X : Type 0} (f : X → List (Option Bool)) (xs : List X) (inputs : List (List ℕ))
       (over_all answer : Bool) (divisor : Shape) (q r : List (List (Option Bool)))
-      (made tidy : TheTable R) → IsOverInputs table
+      (made tidy : CoverTable R) → IsOverInputs table
       → HasWidth table.cover.width table.cover.rows
       → divisor.rows ≡ map (row_over table.inputs) cover
       → IsQuotient table.cover.width table.cover.rows divisor.rows q
@@ -278,7 +275,7 @@ module _ {R : Type 0} (table : TheTable R) (name : List ℕ) (bit : Bool) (cover
 
 -- ---- the table of a cover
 
--- the order of names is total, and tells them apart
+-- the order of names is total, and distinguishes them
 same_names : (one other : List ℕ) → slice_cmp nat_cmp one other ≡ Equal → one ≡ other
 same_names one other h =
     ap (λ (literal : Literal). literal.name) (literal_order.same (record { name = one; bit = true })

@@ -1,4 +1,4 @@
--- What a divided table is worth, and what it reads.
+-- The value of a divided table, and what it reads.
 use Rattle.std.proofs.Common.{◌≡◌, ◌⊎◌, ℕ, suc, ◌+◌, Bool, true, false, not, ◌&&◌, ◌||◌, if◌then◌else◌, Option, Some, None, List, [], ◌∷◌, ◌++◌, map, length, get_or, refl, sym, ap, ap₂, ◌∙◌, subst, inl, inr, arith}
 use Rattle.std.proofs.Math.Bool.{and-false, and-true}
 use Rattle.std.proofs.lemmas.Bool.{or_cases, or_left, or_right, false≢true}
@@ -22,6 +22,7 @@ use Rattle.circuit_tables.proofs.Tidied.{tidied_value, tidied_output, tidied_onc
 use Rattle.alg_tables.specs.Dividing.{quotient, rejoined, has_no_cube, divided}
 use Rattle.alg_tables.proofs.Taken.{characters_wide}
 use Rattle.alg_tables.proofs.Quotients.{quotient_is}
+use Rattle.cover_names.proofs.Worth.{same_bits}
 
 -- ---- products at a point
 
@@ -42,11 +43,6 @@ or_over : (a b m : Bool) → ((a && m) || (b && m)) ≡ ((a || b) && m)
 or_over true b true = refl
 or_over true b false = and-false b
 or_over false b m = refl
-
-same_bits : (one other : Bool) → (one ≡ true → other ≡ true) → (other ≡ true → one ≡ true) → one ≡ other
-same_bits true other f g = sym (f refl)
-same_bits false true f g = g refl
-same_bits false false f g = refl
 
 -- no literal stands in both cubes at one place
 abbrev pub AreApart : List (Option Bool) → List (Option Bool) → Type 0
@@ -125,7 +121,7 @@ parts_match width f d q point h = same_bits _ _ to back
           | inr b ↦ or_right (some_matches (products q d) point) (some_matches (others f (products q d)) point) (found_match (others f (products q d)) point row b here)
         ]
 
--- ---- rows with one place more
+-- ---- rows with one more column
 
 pub ended_matches : (row : List (Option Bool)) (point : List Bool) (place : Option Bool) (bit : Bool) → length row ≡ length point → matches (row ++ place ∷ []) (point ++ bit ∷ []) ≡ (matches row point && agrees place bit)
 unfolding matches
@@ -206,7 +202,8 @@ module _ (name : List ℕ) (bit : Bool) (cover : NamedCover) (table : Table) whe
       (characters_wide (suc (length table.inputs)) (joined_rows bit rows_of divisor found)
       (joined_wide (length table.inputs) bit rows_of divisor found (width_of_characters (length table.inputs) table.rows wide) (rejoined_is wide)))
 
-  -- what holds of the table, and of the tidy rejoined one where the table reads all that the cover reads, holds of the divided one
+  -- what holds of the table, and of the tidy rejoined one if the table reads all that the cover
+  -- reads, holds of the divided one
   pub divided_either : (P : Table → Type 0) → P table → (is_over table.inputs cover ≡ true → P (tidied (rejoined name bit table divisor found))) → P (divided name bit cover table)
   unfolding divided
   divided_either P stays turns = cases (is_over table.inputs cover) (has_no_cube found) turns

@@ -1,4 +1,4 @@
--- Where names stand among others, and the inputs of two tables joined.
+-- The indices of names among others, and the joined inputs of two tables.
 use Rattle.std.proofs.Common.{◌≡◌, ℕ, ◌+◌, ◌-◌, ◌<◌, suc, Bool, true, false, not, cond, ltb, eqb, Option, Some, None, List, [], ◌∷◌, ◌++◌, length, get_or, take, drop, bytes_eq, position, option_map, refl, sym, ap, ◌∙◌, subst, arith}
 use Rattle.std.specs.List.{position_or_len}
 use Rattle.std.proofs.lemmas.Bool.{eqb-true, lt-ltb, le-ltb, ltb-true, ltb-false, or_left, or_from, or_parts, false_from_ne_true}
@@ -8,7 +8,7 @@ use Rattle.circuit_laws.proofs.Names.{same_name, name_apart, has_tail, has_apart
 use Rattle.cover_ops.specs.Composed.{AreEntries, is_entry, count_new}
 use Rattle.alg_tables.specs.Taking.{entries, lacking, joined}
 
--- where the first item stands that passes a test
+-- the index of the first item that passes a test
 position_next : {X : Type 0} (p : X → Bool) (x : X) (xs : List X) → position p (x ∷ xs) ≡ cond (p x) (Some 0) (option_map suc (position p xs))
 position_next p x xs = cases (p x)
   where
@@ -23,7 +23,7 @@ position_next p x xs = cases (p x)
     cases true = let z : ltb 0 (suc (length xs)) ≡ true = lt-ltb 0 (suc (length xs)) (omega arith) in rw z refl
     cases false = later (ltb len (length xs)) refl
 
--- the place of a name, at which it stands, where it is among names; none where it is not
+-- the index of a name if it is among names; none if it is not
 abbrev pub IsFound : List (List ℕ) → List ℕ → Option ℕ → Type 0
 IsFound names name None = has names name ≡ false
 IsFound names name (Some at) = (at < length names) × (get_or names at [] ≡ name) × (has names name ≡ true)
@@ -38,7 +38,7 @@ found (first ∷ names) name =
     cases false e None h = has_apart first names name e h
     cases false e (Some at) h = (omega (arith, h.0), h.1, has_tail first names name h.2)
 
--- different other names lead to different places, and not to that of a name which is not among them
+-- different other names have different indices, and none has that of a name which is not among them
 no_entry : (names others : List (List ℕ)) (place : ℕ) → has others (get_or names place []) ≡ false → is_entry place (entries names others) ≡ false
 unfolding is_entry
 no_entry names [] place h = refl
@@ -69,7 +69,7 @@ entries_are names (other ∷ others) place different apart =
       rest,
     )
 
--- the other names without a place are those that names lack
+-- the other names without an index are those that names lack
 pub count-entries : (names others : List (List ℕ)) → count_new (entries names others) ≡ length (lacking names others)
 unfolding count_new
 count-entries names [] = refl

@@ -59,7 +59,7 @@ pub all_from : {X : Type 0} (test : X → Bool) (xs : List X) → ((x : X) → H
 all_from test [] h = refl
 all_from test (first ∷ xs) h = and_from (test first) (list_all test xs) (h first (inl refl)) (all_from test xs (λ x m. h x (inr m)))
 
--- ---- rows that rise by their places
+-- ---- rows whose positions increase
 
 rises_lower : (low least high : ℕ) (p : List (Option Bool) → Option ℕ) (xs : List (List (Option Bool))) → least ≤ low → Rises low high p xs → Rises least high p xs
 unfolding Rises
@@ -71,7 +71,7 @@ unfolding Rises
 rises_bound low high p [] h = h
 rises_bound low high p (x ∷ xs) (i, lt, at, rest) = omega (arith, lt, rises_bound (i + 1) high p xs rest)
 
--- a part of them rises, and by other places that are the same there
+-- part of them is increasing too, and also by other positions that agree there
 pub rises_kept : (low high : ℕ) (p q : List (Option Bool) → Option ℕ) (test : List (Option Bool) → Bool) (xs : List (List (Option Bool)))
     → ((x : List (Option Bool)) → test x ≡ true → q x ≡ p x) → Rises low high p xs → Rises low high q (filter test xs)
 unfolding Rises
@@ -82,14 +82,14 @@ rises_kept low high p q test (x ∷ xs) same (i, lt, at, rest) = cases (test x) 
     cases true e more = (i, lt, same x e ∙ at, more)
     cases false e more = rises_lower (i + 1) low high q (filter test xs) (omega (arith, lt)) more
 
--- and so do images, by places that are the same at them
+-- so are images, by positions that agree at them
 pub rises_image : (low high : ℕ) (p q : List (Option Bool) → Option ℕ) (f : List (Option Bool) → List (Option Bool)) (xs : List (List (Option Bool)))
     → ((x : List (Option Bool)) → Has x xs → q (f x) ≡ p x) → Rises low high p xs → Rises low high q (map f xs)
 unfolding Rises
 rises_image low high p q f [] same h = h
 rises_image low high p q f (x ∷ xs) same (i, lt, at, rest) = (i, lt, same x (inl refl) ∙ at, rises_image (i + 1) high p q f xs (λ y m. same y (inr m)) rest)
 
--- ---- rows, each where it comes first
+-- ---- the distinct rows
 
 eq_turned : (one other : List (Option Bool)) → row_eq one other ≡ false → row_eq other one ≡ false
 eq_turned one other h = false_from_ne_true (row_eq other one) (λ e. false≢true (sym h ∙ eq_from_same one other (sym (same_from_eq other one e))))
@@ -137,7 +137,8 @@ module _ (width : ℕ) (f : List (List (Option Bool))) (k : List (Option Bool)) 
   makes : List (Option Bool) → Bool
   makes = is_made width f k (k ∷ ks)
 
-  -- a row that is made is the product of its cube and the first cube, and has all the products beside it
+  -- a row that is made is the product of its cube and the first cube, and has all the products
+  -- beside it
   made_row : (row : List (Option Bool)) → makes row ≡ true → (times (cube_of row) k ≡ row) × ((other : List (Option Bool)) → Has other (k ∷ ks) → Has (times (cube_of row) other) f)
   unfolding makes cube_of
   made_row row h =

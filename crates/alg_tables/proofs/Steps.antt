@@ -1,4 +1,5 @@
--- How the code comes to it: names with their places, one after the other, and the composed table with its limits.
+-- How the code computes it: names with their indices, one after the other, and the composed table
+-- with its limits.
 use Rattle.std.proofs.Common.{◌≡◌, ℕ, ◌+◌, ◌-◌, ◌<◌, ◌≤◌, zero, suc, Bool, true, false, not, ◌&&◌, ◌||◌, cond, ltb, if◌then◌else◌, Option, Some, None, is_none, List, [], ◌∷◌, ◌++◌, length, get_or, take, map, bytes_eq, position, refl, sym, ap, ap₂, ◌∙◌, subst, arith, inl, inr, ◌⊎◌}
 use Rattle.std.specs.Option.{option_map_or}
 use Rattle.std.proofs.lemmas.Bool.{false≢true, lt-ltb, le-ltb, ltb-true, or_left, or_right, or_from, false_from_ne_true}
@@ -12,12 +13,12 @@ use Rattle.cube_cover.specs.Covers.{Shape}
 use Rattle.cover_ops.specs.Shannon.{list_rows}
 use Rattle.cover_ops.specs.Composed.{AreEntries, asks, count_new, composition, IsTooLong}
 use Rattle.net_core.specs.Tables.{characters_of, named, IsOverInputs}
-use Rattle.net_core.specs.declared.table.Table.{Table as TheTable}
+use Rattle.net_core.specs.declared.table.CoverTable.{CoverTable}
 use Rattle.net_core.proofs.Rows.{all_places_back}
 use Rattle.circuit_tables.specs.Tidy.{tidied}
-use Rattle.alg_tables.specs.declared.taking.TakeFault.{TakeFault}
-use Rattle.alg_tables.specs.declared.taking.TakeFault.TheVariants.{CubeLimit, TooWide, Memory}
-use Rattle.alg_tables.specs.Taking.{shape_of, entries, lacking, joined, composed_at, taken_in, is_list_long, is_cube_long, refusal_at, take_refusal}
+use Rattle.alg_tables.specs.declared.taking.ComposeFault.{ComposeFault}
+use Rattle.alg_tables.specs.declared.taking.ComposeFault.TheVariants.{CubeLimit, TooWide, Memory}
+use Rattle.alg_tables.specs.Taking.{shape_of, entries, lacking, joined, composed_at, composed_into, is_list_long, is_cube_long, refusal_at, take_refusal}
 use Rattle.alg_tables.proofs.Places.{IsFound, found, entries_are, length-joined}
 use Rattle.alg_tables.proofs.Taken.{has_at}
 use Rattle.sis_base.specs.declared.limits.TheConstants.{MAX_INPUTS}
@@ -76,11 +77,11 @@ pub entries_good : (names others : List (List ℕ)) (places : List (Option ℕ))
 entries_good names others places place once apart is = subst (AreEntries (length names) place) (sym is) (entries_are names others place once apart)
 
 -- the composed table
-named_shape : {R : Type 0} (table : TheTable R) (name : List ℕ) → IsOverInputs table → shape_of (named name table) ≡ table.cover
+named_shape : {R : Type 0} (table : CoverTable R) (name : List ℕ) → IsOverInputs table → shape_of (named name table) ≡ table.cover
 unfolding named
 named_shape table name over = ap₂ (λ (width : ℕ) (rows : List (List (Option Bool))). record { width = width; rows = rows }) (sym over) (all_places_back table.cover.rows)
 
-pub composed_named : {R : Type 0} (place : ℕ) (inner outer : TheTable R) (inputs : List (List ℕ)) (cover : Shape) (places : List (Option ℕ)) (name output : List ℕ) → IsOverInputs inner → IsOverInputs outer
+pub composed_named : {R : Type 0} (place : ℕ) (inner outer : CoverTable R) (inputs : List (List ℕ)) (cover : Shape) (places : List (Option ℕ)) (name output : List ℕ) → IsOverInputs inner → IsOverInputs outer
     → places ≡ entries outer.inputs inner.inputs → inputs ≡ joined place outer.inputs inner.inputs → cover ≡ composition outer.cover place inner.cover inner.phase places
     → named {R = R} output (record { inputs = inputs; cover = cover; phase = outer.phase }) ≡ composed_at place (named name inner) (named output outer)
 unfolding named composed_at
@@ -90,14 +91,14 @@ composed_named place inner outer inputs cover places name output inner_over oute
     (made ∙ ap (composition outer.cover place inner.cover inner.phase) at
     ∙ ap₂ (λ (first second : Shape). composition first place second inner.phase (entries outer.inputs inner.inputs)) (sym (named_shape outer output outer_over)) (sym (named_shape inner name inner_over))))
 
-pub composed_over : {R : Type 0} (place : ℕ) (inner outer : TheTable R) (inputs : List (List ℕ)) (cover : Shape) (places : List (Option ℕ)) → IsOverInputs outer → place < length outer.inputs
+pub composed_over : {R : Type 0} (place : ℕ) (inner outer : CoverTable R) (inputs : List (List ℕ)) (cover : Shape) (places : List (Option ℕ)) → IsOverInputs outer → place < length outer.inputs
     → places ≡ entries outer.inputs inner.inputs → inputs ≡ joined place outer.inputs inner.inputs → cover ≡ composition outer.cover place inner.cover inner.phase places → cover.width ≡ length inputs
 composed_over place inner outer inputs cover places over lt at is made =
     ap (λ (shape : Shape). shape.width) made ∙ ap₂ (λ (width : ℕ) (ps : List (Option ℕ)). width + count_new ps - 1) over at
     ∙ sym (ap length is ∙ length-joined place outer.inputs inner.inputs lt)
 
 -- when a list or the result is too long
-cube_test : {R : Type 0} (list_limit row_limit place : ℕ) (inner outer : TheTable R) (places : List (Option ℕ)) (name output : List ℕ) → IsOverInputs inner → IsOverInputs outer → places ≡ entries outer.inputs inner.inputs
+cube_test : {R : Type 0} (list_limit row_limit place : ℕ) (inner outer : CoverTable R) (places : List (Option ℕ)) (name output : List ℕ) → IsOverInputs inner → IsOverInputs outer → places ≡ entries outer.inputs inner.inputs
     → is_cube_long list_limit row_limit place (named name inner) (named output outer)
     ≡ ((asks place (not inner.phase) outer.cover.rows && ltb list_limit (length (list_rows inner.cover.width false inner.cover.rows)))
     || ltb row_limit (length (composition outer.cover place inner.cover inner.phase places).rows))
@@ -123,21 +124,21 @@ short_test a n m k l none =
     cases true is false e = refl
     cases false is b e = refl
 
-pub composed_long : {R : Type 0} (list_limit row_limit place : ℕ) (inner outer : TheTable R) (places : List (Option ℕ)) → IsOverInputs inner → IsOverInputs outer → places ≡ entries outer.inputs inner.inputs
+pub composed_long : {R : Type 0} (list_limit row_limit place : ℕ) (inner outer : CoverTable R) (places : List (Option ℕ)) → IsOverInputs inner → IsOverInputs outer → places ≡ entries outer.inputs inner.inputs
     → IsTooLong list_limit row_limit outer.cover place inner.cover inner.phase places → (name output : List ℕ) → is_cube_long list_limit row_limit place (named name inner) (named output outer) ≡ true
 composed_long list_limit row_limit place inner outer places inner_over outer_over at long name output =
     cube_test list_limit row_limit place inner outer places name output inner_over outer_over at
     ∙ long_test (asks place (not inner.phase) outer.cover.rows) list_limit (length (list_rows inner.cover.width false inner.cover.rows)) row_limit
     (length (composition outer.cover place inner.cover inner.phase places).rows) long
 
-pub composed_short : {R : Type 0} (list_limit row_limit place : ℕ) (inner outer : TheTable R) (places : List (Option ℕ)) → IsOverInputs inner → IsOverInputs outer → places ≡ entries outer.inputs inner.inputs
+pub composed_short : {R : Type 0} (list_limit row_limit place : ℕ) (inner outer : CoverTable R) (places : List (Option ℕ)) → IsOverInputs inner → IsOverInputs outer → places ≡ entries outer.inputs inner.inputs
     → (IsTooLong list_limit row_limit outer.cover place inner.cover inner.phase places → ⊥) → (name output : List ℕ) → is_cube_long list_limit row_limit place (named name inner) (named output outer) ≡ false
 composed_short list_limit row_limit place inner outer places inner_over outer_over at short name output =
     cube_test list_limit row_limit place inner outer places name output inner_over outer_over at
     ∙ short_test (asks place (not inner.phase) outer.cover.rows) list_limit (length (list_rows inner.cover.width false inner.cover.rows)) row_limit
     (length (composition outer.cover place inner.cover inner.phase places).rows) short
 
-pub long_fault : {R : Type 0} (list_limit row_limit place : ℕ) (inner outer : TheTable R) (places : List (Option ℕ)) (fault : TakeFault) → IsOverInputs inner → IsOverInputs outer
+pub long_fault : {R : Type 0} (list_limit row_limit place : ℕ) (inner outer : CoverTable R) (places : List (Option ℕ)) (fault : ComposeFault) → IsOverInputs inner → IsOverInputs outer
     → places ≡ entries outer.inputs inner.inputs → (fault ≡ Memory) ⊎ ((fault ≡ CubeLimit) × IsTooLong list_limit row_limit outer.cover place inner.cover inner.phase places)
     → (fault ≡ Memory) ⊎ ((fault ≡ CubeLimit) × ((name output : List ℕ) → is_cube_long list_limit row_limit place (named name inner) (named output outer) ≡ true))
 long_fault list_limit row_limit place inner outer places fault inner_over outer_over at (inl memory) = inl memory
@@ -145,18 +146,18 @@ long_fault list_limit row_limit place inner outer places fault inner_over outer_
     inr (long.0, composed_long list_limit row_limit place inner outer places inner_over outer_over at long.1)
 
 -- when the result is too wide
-made_wide : {R : Type 0} (made : TheTable R) (place width : ℕ) (inner outer : Table) (output : List ℕ) → named output made ≡ composed_at place inner outer → width ≡ length made.inputs → length (composed_at place inner outer).inputs ≡ width
+made_wide : {R : Type 0} (made : CoverTable R) (place width : ℕ) (inner outer : Table) (output : List ℕ) → named output made ≡ composed_at place inner outer → width ≡ length made.inputs → length (composed_at place inner outer).inputs ≡ width
 unfolding named
 made_wide made place width inner outer output is long = ap (λ (table : Table). length table.inputs) (sym is) ∙ sym long
 
-pub refused_wide : {R : Type 0} (list_limit row_limit place width : ℕ) (made : TheTable R) (inner outer : Table) (output : List ℕ) → is_cube_long list_limit row_limit place inner outer ≡ false
+pub refused_wide : {R : Type 0} (list_limit row_limit place width : ℕ) (made : CoverTable R) (inner outer : Table) (output : List ℕ) → is_cube_long list_limit row_limit place inner outer ≡ false
     → named output made ≡ composed_at place inner outer → width ≡ length made.inputs → MAX_INPUTS < width → refusal_at list_limit row_limit place inner outer ≡ Some (TooWide width)
 refused_wide list_limit row_limit place width made inner outer output short is long wide =
     ap (λ (b : Bool). if b then Some CubeLimit else (if ltb MAX_INPUTS (length (composed_at place inner outer).inputs) then Some (TooWide (length (composed_at place inner outer).inputs)) else None)) short
     ∙ ap (λ (n : ℕ). if ltb MAX_INPUTS n then Some (TooWide n) else None) (made_wide made place width inner outer output is long)
     ∙ ap (λ (b : Bool). if b then Some (TooWide width) else None) (lt-ltb MAX_INPUTS width wide)
 
-pub refused_none : {R : Type 0} (list_limit row_limit place width : ℕ) (made : TheTable R) (inner outer : Table) (output : List ℕ) → is_cube_long list_limit row_limit place inner outer ≡ false
+pub refused_none : {R : Type 0} (list_limit row_limit place width : ℕ) (made : CoverTable R) (inner outer : Table) (output : List ℕ) → is_cube_long list_limit row_limit place inner outer ≡ false
     → named output made ≡ composed_at place inner outer → width ≡ length made.inputs → width ≤ MAX_INPUTS → refusal_at list_limit row_limit place inner outer ≡ None
 refused_none list_limit row_limit place width made inner outer output short is long narrow =
     ap (λ (b : Bool). if b then Some CubeLimit else (if ltb MAX_INPUTS (length (composed_at place inner outer).inputs) then Some (TooWide (length (composed_at place inner outer).inputs)) else None)) short
@@ -167,22 +168,22 @@ refused_none list_limit row_limit place width made inner outer output short is l
 pub place_read : (names : List (List ℕ)) (name : List ℕ) (place : ℕ) → position (bytes_eq name) names ≡ Some place → (place < length names) × (get_or names place [] ≡ name)
 place_read names name place at = let f = subst (IsFound names name) at (found names name) in (f.0, f.1)
 
-pub taken_there : {R : Type 0} (name output : List ℕ) (inner outer : TheTable R) (place : ℕ) → position (bytes_eq name) outer.inputs ≡ Some place
-    → taken_in (named name inner) (named output outer) ≡ tidied (composed_at place (named name inner) (named output outer))
-unfolding named taken_in
+pub taken_there : {R : Type 0} (name output : List ℕ) (inner outer : CoverTable R) (place : ℕ) → position (bytes_eq name) outer.inputs ≡ Some place
+    → composed_into (named name inner) (named output outer) ≡ tidied (composed_at place (named name inner) (named output outer))
+unfolding named composed_into
 taken_there name output inner outer place at = ap (λ (o : Option ℕ). option_map_or (λ p. tidied (composed_at p (named name inner) (named output outer))) o (named output outer)) at
 
-pub taken_nowhere : {R : Type 0} (name output : List ℕ) (inner outer : TheTable R) → position (bytes_eq name) outer.inputs ≡ None → taken_in (named name inner) (named output outer) ≡ named output outer
-unfolding named taken_in
+pub taken_nowhere : {R : Type 0} (name output : List ℕ) (inner outer : CoverTable R) → position (bytes_eq name) outer.inputs ≡ None → composed_into (named name inner) (named output outer) ≡ named output outer
+unfolding named composed_into
 taken_nowhere name output inner outer at = ap (λ (o : Option ℕ). option_map_or (λ p. tidied (composed_at p (named name inner) (named output outer))) o (named output outer)) at
 
-pub refusal_there : {R : Type 0} (list_limit row_limit : ℕ) (name output : List ℕ) (inner outer : TheTable R) (place : ℕ) → position (bytes_eq name) outer.inputs ≡ Some place
+pub refusal_there : {R : Type 0} (list_limit row_limit : ℕ) (name output : List ℕ) (inner outer : CoverTable R) (place : ℕ) → position (bytes_eq name) outer.inputs ≡ Some place
     → take_refusal list_limit row_limit (named name inner) (named output outer) ≡ refusal_at list_limit row_limit place (named name inner) (named output outer)
 unfolding named take_refusal
 refusal_there list_limit row_limit name output inner outer place at =
     ap (λ (o : Option ℕ). option_map_or (λ p. refusal_at list_limit row_limit p (named name inner) (named output outer)) o None) at
 
-pub refusal_nowhere : {R : Type 0} (list_limit row_limit : ℕ) (name output : List ℕ) (inner outer : TheTable R) → position (bytes_eq name) outer.inputs ≡ None
+pub refusal_nowhere : {R : Type 0} (list_limit row_limit : ℕ) (name output : List ℕ) (inner outer : CoverTable R) → position (bytes_eq name) outer.inputs ≡ None
     → take_refusal list_limit row_limit (named name inner) (named output outer) ≡ None
 unfolding named take_refusal
 refusal_nowhere list_limit row_limit name output inner outer at =
@@ -191,7 +192,7 @@ refusal_nowhere list_limit row_limit name output inner outer at =
 pub apart_there : (names others : List (List ℕ)) (name : List ℕ) (place : ℕ) → position (bytes_eq name) names ≡ Some place → has others name ≡ false → has others (get_or names place []) ≡ false
 apart_there names others name place at apart = subst (λ (n : List ℕ). has others n ≡ false) (sym (place_read names name place at).1) apart
 
-pub fault_there : {R : Type 0} (list_limit row_limit : ℕ) (name : List ℕ) (inner outer : TheTable R) (place : ℕ) (fault : TakeFault) → position (bytes_eq name) outer.inputs ≡ Some place
+pub fault_there : {R : Type 0} (list_limit row_limit : ℕ) (name : List ℕ) (inner outer : CoverTable R) (place : ℕ) (fault : ComposeFault) → position (bytes_eq name) outer.inputs ≡ Some place
     → (fault ≡ Memory) ⊎ ((other output : List ℕ) → refusal_at list_limit row_limit place (named other inner) (named output outer) ≡ Some fault)
     → (fault ≡ Memory) ⊎ ((output : List ℕ) → take_refusal list_limit row_limit (named name inner) (named output outer) ≡ Some fault)
 fault_there list_limit row_limit name inner outer place fault at (inl memory) = inl memory

@@ -1,4 +1,4 @@
--- A table that was taken into another one: what comes out, and how the code comes to it.
+-- A table into which another one was eliminated: the result, and how the code computes it.
 use Rattle.std.proofs.Common.{◌≡◌, ℕ, ◌<◌, zero, suc, Bool, true, false, not, cond, Option, Some, None, List, [], ◌∷◌, ◌++◌, length, get_or, take, drop, map, bytes_eq, position, refl, sym, ap, ◌∙◌, subst, arith, inl, inr, ◌⊎◌}
 use Rattle.std.specs.Option.{option_map_or}
 use Rattle.std.proofs.lemmas.Bool.{false≢true, or_left, or_cases}
@@ -15,26 +15,27 @@ use Rattle.net_core.specs.Tables.{character_of, characters_of, HasCharacters}
 use Rattle.net_core.proofs.Rows.{width_of_characters}
 use Rattle.circuit_tables.specs.Tidy.{IsWide, tidied}
 use Rattle.circuit_tables.proofs.Tidied.{tidied_value, tidied_output, tidied_reads, tidied_once, tidied_shaped}
-use Rattle.alg_tables.specs.Taking.{shape_of, entries, lacking, joined, composed_at, taken_in}
+use Rattle.alg_tables.specs.Taking.{shape_of, entries, lacking, joined, composed_at, composed_into}
 use Rattle.alg_tables.proofs.Places.{IsFound, found, length-joined}
 use Rattle.alg_tables.proofs.Values.{split_at, composed_value}
 
--- what holds of the tidy composition where the signal is read, and of the table itself where it is not, holds of what comes out
+-- what holds of the tidy composition if the signal is read, and of the table itself if it is not,
+-- holds of the result
 pub taken_either : (P : Table → Type 0) (inner outer : Table) → ((place : ℕ) → place < length outer.inputs → get_or outer.inputs place [] ≡ inner.output → P (tidied (composed_at place inner outer)))
-    → (has outer.inputs inner.output ≡ false → P outer) → P (taken_in inner outer)
-unfolding taken_in
+    → (has outer.inputs inner.output ≡ false → P outer) → P (composed_into inner outer)
+unfolding composed_into
 taken_either P inner outer read unread = cases (position (bytes_eq inner.output) outer.inputs) (found outer.inputs inner.output)
   where
     cases : (o : Option ℕ) → IsFound outer.inputs inner.output o → P (option_map_or (λ place. tidied (composed_at place inner outer)) o outer)
     cases None f = unread f
     cases (Some place) f = read place f.0 f.1
 
-pub taken_output : (inner outer : Table) → (taken_in inner outer).output ≡ outer.output
+pub taken_output : (inner outer : Table) → (composed_into inner outer).output ≡ outer.output
 unfolding composed_at
 taken_output inner outer =
     taken_either (λ (made : Table). made.output ≡ outer.output) inner outer (λ place lt at. tidied_output (composed_at place inner outer)) (λ unread. refl)
 
-pub taken_once : (inner outer : Table) → all_different outer.inputs ≡ true → all_different (taken_in inner outer).inputs ≡ true
+pub taken_once : (inner outer : Table) → all_different outer.inputs ≡ true → all_different (composed_into inner outer).inputs ≡ true
 taken_once inner outer once =
     taken_either (λ (made : Table). all_different made.inputs ≡ true) inner outer (λ place lt at. tidied_once (composed_at place inner outer)) (λ unread. once)
 
@@ -51,7 +52,7 @@ composed_wide place inner outer wide lt =
     (composition (shape_of outer) place (shape_of inner) inner.phase (entries outer.inputs inner.inputs)).rows
     (HasWidth-composition (shape_of outer) place (shape_of inner) inner.phase (entries outer.inputs inner.inputs) (width_of_characters (length outer.inputs) outer.rows wide) lt))
 
-pub taken_shaped : (inner outer : Table) → IsShaped outer → IsShaped (taken_in inner outer)
+pub taken_shaped : (inner outer : Table) → IsShaped outer → IsShaped (composed_into inner outer)
 taken_shaped inner outer shaped =
     taken_either IsShaped inner outer (λ place lt at. tidied_shaped (composed_at place inner outer) (composed_wide place inner outer shaped.0 lt)) (λ unread. shaped)
 
@@ -90,7 +91,7 @@ has_at [] place lt = absurd (omega (arith, lt))
 has_at (first ∷ names) zero lt = has_head first names
 has_at (first ∷ names) (suc place) lt = has_tail first names (get_or names place []) (has_at names place (omega (arith, lt)))
 
-pub taken_reads : (inner outer : Table) (name : List ℕ) → has (taken_in inner outer).inputs name ≡ true
+pub taken_reads : (inner outer : Table) (name : List ℕ) → has (composed_into inner outer).inputs name ≡ true
     → (has outer.inputs name ≡ true) ⊎ ((has outer.inputs inner.output ≡ true) × (has inner.inputs name ≡ true))
 unfolding composed_at
 taken_reads inner outer name =
@@ -116,7 +117,7 @@ joined_lacks place names others lt different apart =
         (subst (λ (xs : List (List ℕ)). all_different xs ≡ true) (split_at names place [] lt) different)
 
 -- it does not read the signal any more
-pub taken_unread : (inner outer : Table) → all_different outer.inputs ≡ true → has inner.inputs inner.output ≡ false → has (taken_in inner outer).inputs inner.output ≡ false
+pub taken_unread : (inner outer : Table) → all_different outer.inputs ≡ true → has inner.inputs inner.output ≡ false → has (composed_into inner outer).inputs inner.output ≡ false
 unfolding composed_at
 taken_unread inner outer once apart =
     taken_either (λ (made : Table). has made.inputs inner.output ≡ false) inner outer
@@ -127,7 +128,7 @@ taken_unread inner outer once apart =
     (λ unread. unread)
 
 -- where it is not read, nothing changes
-pub taken_apart : (inner outer : Table) → has outer.inputs inner.output ≡ false → taken_in inner outer ≡ outer
+pub taken_apart : (inner outer : Table) → has outer.inputs inner.output ≡ false → composed_into inner outer ≡ outer
 taken_apart inner outer apart =
     taken_either (λ (made : Table). made ≡ outer) inner outer
     (λ place lt at. absurd (false≢true (sym apart ∙ subst (λ (n : List ℕ). has outer.inputs n ≡ true) at (has_at outer.inputs place lt))))
@@ -135,7 +136,7 @@ taken_apart inner outer apart =
 
 -- the value stays where the signal has the inner table's value
 pub taken_value : (inner outer : Table) (value : List ℕ → Bool) → IsShaped inner → IsShaped outer → all_different inner.inputs ≡ true → has inner.inputs inner.output ≡ false
-    → value inner.output ≡ driven_value (Some inner) value → driven_value (Some (taken_in inner outer)) value ≡ driven_value (Some outer) value
+    → value inner.output ≡ driven_value (Some inner) value → driven_value (Some (composed_into inner outer)) value ≡ driven_value (Some outer) value
 taken_value inner outer value inner_shaped outer_shaped once apart is =
     taken_either (λ (made : Table). driven_value (Some made) value ≡ driven_value (Some outer) value) inner outer
     (λ place lt at.

@@ -1,4 +1,4 @@
--- The value of a composed table: from the places of its inputs to their names.
+-- The value of a composed table: from the columns of its inputs to their names.
 use Rattle.std.proofs.Common.{◌≡◌, ◌≢◌, ℕ, ◌+◌, ◌-◌, ◌<◌, ◌≤◌, zero, suc, Bool, true, false, not, cond, ltb, if◌then◌else◌, Option, Some, None, List, [], ◌∷◌, ◌++◌, length, get_or, take, drop, map, bytes_eq, position, refl, sym, ap, ap₂, ◌∙◌, subst, arith}
 use Rattle.std.proofs.lemmas.Bool.{ltb-true, ltb-false}
 use Rattle.std.proofs.lemmas.List.{length-map, length-append, length-take-le, length-drop, map-append, append_assoc, get_or_append_left, get_or-append_right, get_or-take, get_or-drop, get_or-map}
@@ -78,7 +78,7 @@ outer_values value place names others lt =
         ∙ sym (append_assoc (map value (take place names)) (map value (lacking names others)) (map value (drop (suc place) names))))
         ∙ back_dropped (map value (take place names) ++ map value (lacking names others)) (map value (drop (suc place) names)) (place + count_new (entries names others)) long
 
--- what stands at the new place of an outer input
+-- the bit read at the new column of an outer input
 outer_read : (value : List ℕ → Bool) (place : ℕ) (names others : List (List ℕ)) → place < length names → (at : ℕ) → at < length names → at ≢ place
     → get_or (map value (joined place names others)) (outer_place place (count_new (entries names others)) at) false ≡ value (get_or names at [])
 outer_read value place names others lt at within apart = cases (ltb at place) refl
@@ -152,7 +152,8 @@ inner_values value place names others lt are =
     (ap (drop place) (joined_values value place names others)
     ∙ back_dropped (map value (take place names)) (map value (lacking names others) ++ map value (drop (suc place) names)) place (front_long value place names lt))
 
--- the composed table has the outer table's value where the signal that gave way has the inner table's value
+-- the composed table has the outer table's value where the replaced signal has the inner table's
+-- value
 pub composed_value : (place : ℕ) (inner outer : Table) (value : List ℕ → Bool) → IsWide inner → IsWide outer → all_different inner.inputs ≡ true → place < length outer.inputs
     → has inner.inputs (get_or outer.inputs place []) ≡ false → value (get_or outer.inputs place []) ≡ driven_value (Some inner) value
     → driven_value (Some (composed_at place inner outer)) value ≡ driven_value (Some outer) value

@@ -1,7 +1,7 @@
--- A table divided by a cover of literals by name, whose signal then stands for it.
--- Source: Brayton, Rudell, Sangiovanni-Vincentelli and Wang, "MIS: A Multiple-Level Logic
--- Optimization System" (1987): weak division and resubstitution; De Micheli, "Synthesis and
--- Optimization of Digital Circuits", chapter 8 (algebraic division, extraction).
+-- The division of a table by a cover of literals by name, which a signal then replaces. Source:
+-- Brayton, Rudell, Sangiovanni-Vincentelli and Wang, "MIS: A Multiple-Level Logic Optimization
+-- System" (1987): weak division and resubstitution; De Micheli, "Synthesis and Optimization of
+-- Digital Circuits", chapter 8 (algebraic division, extraction).
 use Rattle.std.specs.Prelude.{ℕ, Bool, true, false, not, ◌&&◌, ◌||◌, if◌then◌else◌, Option, Some, None, List, [], ◌∷◌, ◌++◌, map, filter, length}
 use Rattle.std.specs.List.{list_all, list_any}
 use Rattle.std.specs.Ordering.{nat_cmp}
@@ -15,13 +15,13 @@ use Rattle.cover_names.specs.Cubes.{row_over, is_over, names_in}
 use Rattle.net_core.specs.Tables.{places_of, characters_of}
 use Rattle.circuit_tables.specs.Tidy.{tidied}
 
--- the rows, each where it comes first
+-- the distinct rows, in the order of their first occurrence
 unfoldable pub firsts : List (List (Option Bool)) → List (List (Option Bool))
 firsts [] = []
 firsts (row ∷ rows) = row ∷ filter (λ other. not (row_eq row other)) (firsts rows)
 
--- whether a row of f is the product of a cube, which is the row without the divisor's variables,
--- and the divisor's first cube, and the products of that cube and the divisor's other cubes are
+-- whether a row of f is the product of the divisor's first cube and a cube, which is the row
+-- without the divisor's variables, and the products of that cube and the divisor's other cubes are
 -- rows of f as well
 abbrev pub is_made : ℕ → List (List (Option Bool)) → List (Option Bool) → List (List (Option Bool))
     → List (Option Bool) → Bool
@@ -30,15 +30,15 @@ is_made width f first d row =
     row_eq (times cube first) row && list_all (λ other. list_any (row_eq (times cube other)) f) d
 
 -- the quotient of rows f by rows d, in the order in which f has the products with the first row of
--- d; alg_div says what a quotient is
+-- d; alg_div defines what a quotient is
 unfoldable pub quotient : ℕ → List (List (Option Bool)) → List (List (Option Bool))
     → List (List (Option Bool))
 quotient width f [] = []
 quotient width f (first ∷ d) = map (strip (support width (first ∷ d)))
     (filter (is_made width f first (first ∷ d)) (firsts f))
 
--- a table whose quotient's cubes stand with the literal of a signal, its last input, and then the
--- rows that are left
+-- a table of the quotient's cubes with the literal of a signal, its last input, followed by the
+-- rows of the remainder
 unfoldable pub rejoined : List ℕ → Bool → Table → List (List (Option Bool))
     → List (List (Option Bool)) → Table
 rejoined name bit table d q = record table {
@@ -52,7 +52,7 @@ abbrev pub has_no_cube : List (List (Option Bool)) → Bool
 has_no_cube [] = true
 has_no_cube (row ∷ rows) = false
 
--- the quotient of a table's rows by a cover, which is over the table's inputs
+-- the quotient of a table's rows by a cover over the table's inputs
 abbrev pub quotient_by : NamedCover → Table → List (List (Option Bool))
 quotient_by cover table =
     quotient (length table.inputs) (map places_of table.rows) (map (row_over table.inputs) cover)
@@ -62,20 +62,20 @@ quotient_by cover table =
 abbrev pub is_undivided : NamedCover → Table → Bool
 is_undivided cover table = not (is_over table.inputs cover) || has_no_cube (quotient_by cover table)
 
--- a table divided by a cover, for which the literal of a signal then stands: the tidy rejoined
--- table; the table itself where the cover does not divide it
+-- a table divided by a cover, which the literal of a signal then replaces: the tidy rejoined table;
+-- the table itself if the cover does not divide it
 unfoldable pub divided : List ℕ → Bool → NamedCover → Table → Table
 divided name bit cover table =
     if is_undivided cover table then table
     else tidied (rejoined name bit table (map (row_over table.inputs) cover)
     (quotient_by cover table))
 
--- the names of a cover, byte for byte in order, each once
+-- the names of a cover, sorted byte for byte, each once
 abbrev pub sorted_names : NamedCover → List (List ℕ)
 sorted_names cover = sorted (slice_cmp nat_cmp) (names_in cover)
 
--- the table of a cover, which drives a signal: its inputs are the cover's names in order, its rows
--- the cubes in the cover's order
+-- the table of a cover, which drives a signal: its inputs are the cover's names, sorted; its rows
+-- are the cubes in the cover's order
 unfoldable pub cover_table : List ℕ → NamedCover → Table
 cover_table name cover = record {
   inputs = sorted_names cover;

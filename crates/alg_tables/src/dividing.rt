@@ -1,4 +1,11 @@
-//! A table divided by a cover of literals by name, and the table of such a cover.
+//! The division of a table by a cover of literals by name, and the table of such a cover.
+//!
+//! Source: Brayton, Rudell, Sangiovanni-Vincentelli and Wang, "MIS: A Multiple-Level Logic
+//! Optimization System" (1987): weak division and resubstitution. `divided_table` divides the
+//! table's rows by the cover over the table's inputs (alg_div), multiplies the quotient by the
+//! literal of a signal, the new last input, adds the remainder and tidies. It returns `None`
+//! exactly if the cover does not divide the table. The rows of a table must be over its inputs;
+//! those of the result are.
 
 ghost use Rattle.std.specs.Prelude.{◌≡◌, ℕ, suc, Bool, true, Option, Some, None, is_none, List, [], ◌∷◌, ◌++◌, length, map, IfOk, IfSome, OnOk};
 ghost use Rattle.std.specs.List.{list_all};
@@ -6,30 +13,23 @@ ghost use Rattle.std.specs.Ordering.{nat_cmp};
 ghost use Rattle.std.specs.Cmp.Lexicographic.{slice_cmp};
 ghost use Rattle.circuit_model.specs.Names.{has};
 ghost use Rattle.alg_div.specs.Steps.{literals_in};
-ghost use Rattle.cover_names.specs.Cubes.{row_over as row_from, is_over, names_in};
-ghost use Rattle.cover_names.specs.declared.literal.Literal.{Literal as TheLiteral};
+ghost use Rattle.cover_names.specs.Cubes.{row_over, is_over, names_in};
+ghost use Rattle.cover_names.specs.declared.literal.Literal.{Literal};
 ghost use Rattle.net_core.specs.Tables.{named, IsOverInputs};
-ghost use Rattle.alg_tables.specs.Dividing.{is_undivided, divided, sorted_names, cover_table as table_of};
+ghost use Rattle.alg_tables.specs.Dividing.{is_undivided, divided, sorted_names, cover_table};
 
 use alg_div::{cover_of, divide, literals_of};
-use circuit_model::{Name, Names};
+use circuit_model::{Name, Names, has_name};
 use cover_names::{Cube, Literal, row_over};
 use cube_cover::{Cover, Row};
-use net_core::{Table, tidy};
+use net_core::{CoverTable, tidy};
 use sis_base::{Copied, Sequence};
 use std::alloc::{AllocError, Global};
 use std::cmp::Ordering;
 
-// Whether a name is among names.
-fn has_name(names: &[Name], name: &Name) -> bool
-    ensures { result ≡ has names.now name.now }
-{
-    names.iter().any(|other| *name == *other)
-}
-
 // Whether all literals of a cube are of names.
 fn is_cube_over(names: &[Name], cube: &[Literal]) -> bool
-    ensures { result ≡ list_all (λ (literal : TheLiteral). has names.now literal.name) cube.now }
+    ensures { result ≡ list_all (λ (literal : Literal). has names.now literal.name) cube.now }
 {
     for literal in cube {
         if !has_name(names, &literal.name) {
@@ -39,7 +39,7 @@ fn is_cube_over(names: &[Name], cube: &[Literal]) -> bool
     true
 }
 
-// Whether all literals of a cover are of names.
+// Whether all literals of a cover are of the names.
 fn is_cover_over(names: &[Name], cover: &[Cube]) -> bool
     ensures { result ≡ is_over names.now cover.now }
 {
@@ -57,7 +57,7 @@ fn rows_over(
     names: &[Name],
     cover: &[Cube],
 ) -> Result<Vec<Vec<Option<bool>>>, AllocError>
-    ensures { IfOk result (λ rows. literals_in rows.items ≡ map (row_from names.now) cover.now) }
+    ensures { IfOk result (λ rows. literals_in rows.items ≡ map (row_over names.now) cover.now) }
 {
     let mut rows = Vec::with_capacity(alloc, cover.len())?;
     for cube in cover {
@@ -66,8 +66,8 @@ fn rows_over(
     Ok(rows)
 }
 
-// Puts rows, with one place more at the end, behind others.
-fn push_ended<R: Row>(
+// Appends rows, each with one more column at its end.
+fn push_with_column<R: Row>(
     alloc: Global,
     made: &mut Vec<Vec<Option<bool>>>,
     rows: &[R],
@@ -84,8 +84,8 @@ fn push_ended<R: Row>(
     Ok(())
 }
 
-// The quotient's rows with a literal at a new last place, and behind them the remainder's rows with
-// none there.
+// The quotient's rows with a literal in a new last column, followed by the remainder's rows with a
+// dash there.
 fn ended_cover<R: Row>(
     alloc: Global,
     width: usize,
@@ -102,22 +102,22 @@ fn ended_cover<R: Row>(
     }) }
 {
     let mut rows = Vec::new(alloc);
-    push_ended(alloc, &mut rows, quotient.rows(), Some(bit))?;
-    push_ended(alloc, &mut rows, remainder.rows(), None)?;
+    push_with_column(alloc, &mut rows, quotient.rows(), Some(bit))?;
+    push_with_column(alloc, &mut rows, remainder.rows(), None)?;
     let cover = cover_of(alloc, width, rows.as_slice())?;
     Ok(cover)
 }
 
-// A table with the rows of a quotient and a remainder, and a signal as its last input; nothing is
-// tidied yet.
+// A table with the rows of a quotient and a remainder, and a signal as its last input; not tidied
+// yet.
 fn rejoined_table<R: Row>(
     alloc: Global,
-    table: &Table<R>,
+    table: &CoverTable<R>,
     name: &Name,
     bit: bool,
     quotient: &Cover<R>,
     remainder: &Cover<R>,
-) -> Result<Table<R>, AllocError>
+) -> Result<CoverTable<R>, AllocError>
     requires quotient { quotient.now.width ≡ length table.now.inputs }
     requires remainder { remainder.now.width ≡ length table.now.inputs }
     ensures inputs { IfOk result (λ made. made.inputs ≡ table.now.inputs ++ name.now ∷ []) }
@@ -130,25 +130,24 @@ fn rejoined_table<R: Row>(
     let mut inputs = table.inputs.copy(alloc)?;
     inputs.push(name.copy(alloc)?)?;
     let cover = ended_cover(alloc, inputs.len(), bit, quotient, remainder)?;
-    Ok(Table {
+    Ok(CoverTable {
         inputs,
         cover,
         phase: table.phase,
     })
 }
 
-/// What a table becomes where it is divided by a cover, for which the literal of `name` then
-/// stands, the positive one where `bit` is true: the quotient's cubes with that literal and the
-/// rows that are left, tidy. `None` exactly where the cover does not divide it, and it stays as it
-/// is: it does not read all that the cover reads, or the quotient has no cube. An error only for
-/// want of memory.
+/// The table divided by a cover, which the literal of `name` then replaces, the positive one if
+/// `bit` is true: the quotient's cubes with that literal and the remainder's rows, tidy. `None`
+/// exactly if the cover does not divide it, so that it stays as it is: it does not read all that
+/// the cover reads, or the quotient has no cube.
 pub fn divided_table<R: Row>(
     alloc: Global,
-    table: &Table<R>,
+    table: &CoverTable<R>,
     name: &Name,
     bit: bool,
     cover: &[Cube],
-) -> Result<Option<Table<R>>, AllocError>
+) -> Result<Option<CoverTable<R>>, AllocError>
     requires { IsOverInputs table.now }
     ensures some { IfOk result (λ found. IfSome found (λ made. (output : List ℕ)
         → named output made ≡ divided name.now bit cover.now (named output table.now))) }
@@ -173,10 +172,10 @@ pub fn divided_table<R: Row>(
     Ok(Some(tidy_table))
 }
 
-// Puts copies of the names of a cube's literals behind the last.
+// Appends copies of the names of a cube's literals.
 fn push_cube_names(alloc: Global, names: &mut Vec<Name>, cube: &[Literal]) -> Result<(), AllocError>
     ensures { OnOk result (names.new.items ≡ names.old.items
-        ++ map (λ (literal : TheLiteral). literal.name) cube.now) }
+        ++ map (λ (literal : Literal). literal.name) cube.now) }
 {
     for literal in cube {
         names.push(literal.name.copy(alloc)?)?;
@@ -184,7 +183,7 @@ fn push_cube_names(alloc: Global, names: &mut Vec<Name>, cube: &[Literal]) -> Re
     Ok(())
 }
 
-// The names of a cover's literals, in their order.
+// The names of a cover's literals, in their order, with repetitions.
 fn all_names(alloc: Global, cover: &[Cube]) -> Result<Vec<Name>, AllocError>
     ensures { IfOk result (λ names. names.items ≡ names_in cover.now) }
 {
@@ -195,14 +194,14 @@ fn all_names(alloc: Global, cover: &[Cube]) -> Result<Vec<Name>, AllocError>
     Ok(names)
 }
 
-// How two names stand, byte for byte.
+// The order of two names, byte for byte.
 fn compare_names(one: &Name, other: &Name) -> Ordering
     ensures { result ≡ slice_cmp nat_cmp one.now other.now }
 {
     one.as_slice().cmp(other.as_slice())
 }
 
-// The names of a cover, in order, each once.
+// The names of a cover, sorted, each once.
 fn names_of(alloc: Global, cover: &[Cube]) -> Result<Names, AllocError>
     ensures { IfOk result (λ names. names ≡ sorted_names cover.now) }
 {
@@ -212,17 +211,17 @@ fn names_of(alloc: Global, cover: &[Cube]) -> Result<Names, AllocError>
     Ok(Sequence::from_vec(names))
 }
 
-/// The table of a cover: its inputs are the cover's names in order, each once, its rows the cubes
-/// in the cover's order. An error only for want of memory.
-pub fn cover_table<R: Row>(alloc: Global, cover: &[Cube]) -> Result<Table<R>, AllocError>
+/// The table of a cover: its inputs are the cover's names, sorted, each once; its rows are the
+/// cubes in the cover's order.
+pub fn cover_table<R: Row>(alloc: Global, cover: &[Cube]) -> Result<CoverTable<R>, AllocError>
     ensures table { IfOk result (λ made. (name : List ℕ)
-        → named name made ≡ table_of name cover.now) }
+        → named name made ≡ cover_table name cover.now) }
     ensures over { IfOk result IsOverInputs }
 {
     let inputs = names_of(alloc, cover)?;
     let rows = rows_over(alloc, inputs.as_slice(), cover)?;
     let made = cover_of(alloc, inputs.len(), rows.as_slice())?;
-    Ok(Table {
+    Ok(CoverTable {
         inputs,
         cover: made,
         phase: true,

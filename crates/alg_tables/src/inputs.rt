@@ -1,4 +1,9 @@
-//! Where names stand among the inputs of a table, and the inputs of two tables joined.
+//! The columns of names among the inputs of a table, and the joined inputs of two tables.
+//!
+//! Up to 32 names are searched one by one, more are looked up in a hash set; both ways give the
+//! first index. `joined_names` gives the inputs of a composition (De Micheli, "Synthesis and
+//! Optimization of Digital Circuits", chapter 8, elimination): the outer inputs, in which the new
+//! inputs of the inner table replace its signal.
 
 ghost use Rattle.std.specs.Prelude.{◌≡◌, ℕ, ◌<◌, true, not, List, [], ◌∷◌, ◌++◌, length, map, take, position, bytes_eq, is_none, if◌then◌else◌, IfOk, OnOk};
 ghost use Rattle.circuit_model.specs.Names.{has, all_different};
@@ -9,24 +14,24 @@ use indexmap::IndexSet;
 use sis_base::Copied;
 use std::alloc::{AllocError, Global};
 
-// Up to how many names they are looked through one after the other.
+// Up to this many names are searched one by one.
 const FEW_NAMES: usize = 32;
 
-/// The place of a name among names.
+/// The index of a name among names.
 pub fn place_among(names: &[Name], name: &Name) -> Option<usize>
     ensures { result ≡ position (bytes_eq name.now) names.now }
 {
     names.iter().position(|other| *name == *other)
 }
 
-// The place of a name in a set.
+// The index of a name in a set.
 fn place_in(names: &IndexSet<Name>, name: &Name) -> Option<usize>
     ensures { result ≡ position (bytes_eq name.now) names.now.keys }
 {
     names.get_index_of(name)
 }
 
-// The set of different names, in their order.
+// The set of the names, which must be different, in their order.
 fn set_of(alloc: Global, names: &[Name]) -> Result<IndexSet<Name>, AllocError>
     requires { all_different names.now ≡ true }
     ensures { IfOk result (λ set. set.keys ≡ names.now) }
@@ -38,7 +43,7 @@ fn set_of(alloc: Global, names: &[Name]) -> Result<IndexSet<Name>, AllocError>
     Ok(set)
 }
 
-// The place of each other name among names, by looking through them.
+// The index of each other name among names, by linear search.
 fn places_among(
     alloc: Global,
     names: &[Name],
@@ -53,7 +58,7 @@ fn places_among(
     Ok(places)
 }
 
-// The place of each other name in a set.
+// The index of each other name in a set.
 fn places_in(
     alloc: Global,
     names: &IndexSet<Name>,
@@ -68,7 +73,7 @@ fn places_in(
     Ok(places)
 }
 
-/// The place of each other name among different names; an error only for want of memory.
+/// The index of each other name among names, which must be different.
 pub fn places_of(
     alloc: Global,
     names: &[Name],
@@ -85,7 +90,7 @@ pub fn places_of(
     Ok(places)
 }
 
-// Puts copies of names behind the last.
+// Appends copies of names.
 fn push_names(alloc: Global, names: &mut Names, more: &[Name]) -> Result<(), AllocError>
     ensures { OnOk result (names.new ≡ names.old ++ more.now) }
 {
@@ -95,7 +100,7 @@ fn push_names(alloc: Global, names: &mut Names, more: &[Name]) -> Result<(), All
     Ok(())
 }
 
-// Puts a copy of a name behind the last where it has no place.
+// Appends a copy of a name that has no index.
 fn push_new(
     alloc: Global,
     names: &mut Names,
@@ -110,7 +115,7 @@ fn push_new(
     Ok(())
 }
 
-// Puts copies of the other names that have no place among names behind the last.
+// Appends copies of those other names that have no index.
 fn push_lacking(
     alloc: Global,
     made: &mut Names,
@@ -118,7 +123,8 @@ fn push_lacking(
     others: &[Name],
 ) -> Result<(), AllocError>
     requires { length places.now ≡ length others.now }
-    ensures { OnOk result ((names : List (List ℕ)) → places.now ≡ entries names others.now → made.new ≡ made.old ++ lacking names others.now) }
+    ensures { OnOk result ((names : List (List ℕ)) → places.now ≡ entries names others.now
+        → made.new ≡ made.old ++ lacking names others.now) }
 {
     for (i, name) in others.iter().enumerate() {
         push_new(alloc, made, places[i], name)?;
@@ -126,8 +132,7 @@ fn push_lacking(
     Ok(())
 }
 
-/// Copies of names, in which the other names that have no place among them take the place of one; an error only for want of
-/// memory.
+/// Copies of names, in which those other names that are not among them replace the one at an index.
 pub(crate) fn joined_names(
     alloc: Global,
     place: usize,

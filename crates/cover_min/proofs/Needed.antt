@@ -1,11 +1,12 @@
--- Rows that are left where each has a point of its own.
+-- Rows that are kept, each of which has a point of its own.
 use Rattle.std.proofs.Common.{◌≡◌, ℕ, Bool, true, false, not, ◌&&◌, ◌||◌, if◌then◌else◌, Option, List, [], ◌∷◌, ◌++◌, refl, sym, ap, ◌∙◌, subst, ◌⊎◌, inl, inr}
 use Rattle.std.specs.List.{AllByRecursion}
+use Rattle.std.proofs.lemmas.Bool.{or_left, or_right, and_from}
 use Rattle.sis_base.specs.Rows.{matches, some_matches, HasWidth, IsPoint}
-use Rattle.cube_cover.proofs.Points.{and_left, and_right, and_both, bool_cases, HasWidth-push, value-append}
+use Rattle.cube_cover.proofs.Points.{and_left, and_right, bool_cases, HasWidth-push, value-append}
 use Rattle.cover_min.specs.Points.{has_own_point, PointOf}
 use Rattle.cover_min.specs.Minimum.{with_needed, needed_behind}
-use Rattle.cover_min.proofs.Points.{or_first, or_second, has_point_found, has_point_same, no_point_at}
+use Rattle.cover_min.proofs.Points.{has_point_found, has_point_same, no_point_at}
 
 -- what holds of each row holds of each that is left
 pub all_needed : (P : List (Option Bool) → Type 0) (on : List Bool → Bool) (kept rows : List (List (Option Bool))) → AllByRecursion P kept → AllByRecursion P rows → AllByRecursion P (needed_behind on kept rows)
@@ -30,7 +31,7 @@ HasWidth-needed on w kept (row ∷ rest) h k = cases (has_own_point on row (kept
     cases true stays goes = stays
     cases false stays goes = goes
 
--- a row behind the kept ones, before the rest
+-- a row after the kept ones, before the rest
 pub value_between : (kept rest : List (List (Option Bool))) (row : List (Option Bool)) (p : List Bool) → some_matches ((kept ++ row ∷ []) ++ rest) p ≡ some_matches (kept ++ row ∷ rest) p
 unfolding some_matches
 value_between [] rest row p = refl
@@ -64,7 +65,7 @@ on-needed on w kept (row ∷ rest) p wide d o h =
         owned : (some_matches (kept ++ rest) p ≡ true) ⊎ (some_matches (kept ++ rest) p ≡ false) → some_matches (kept ++ rest) p ≡ true
         owned (inl t) = t
         owned (inr t) =
-            let there : (on p && not (some_matches (kept ++ rest) p)) ≡ true = and_both _ _ o (ap not t) in
+            let there : (on p && not (some_matches (kept ++ rest) p)) ≡ true = and_from _ _ o (ap not t) in
             let clash : true ≡ false = sym there ∙ no_point_at (λ point. on point && not (some_matches (kept ++ rest) point)) row p none (d ∙ sym wide.0) e in absurd cc
 
     cases : (t : Bool) → has_own_point on row (kept ++ rest) ≡ t
@@ -74,7 +75,8 @@ on-needed on w kept (row ∷ rest) p wide d o h =
     cases true e stays goes = stays (value_between kept rest row p ∙ h)
     cases false e stays goes = goes (covered e (some_matches kept p) (matches row p) (some_matches rest p) refl others whole)
 
--- a point of a row at which the function must be 1 and that others do not have is one that fewer others do not have
+-- a point of a row at which the function must be 1 and that others do not have is one that fewer
+-- others do not have
 pub own_of_fewer : (on others fewer : List Bool → Bool) (row : List (Option Bool)) → ((p : List Bool) → fewer p ≡ true → others p ≡ true) → PointOf (λ p. on p && not (others p)) row → PointOf (λ p. on p && not (fewer p)) row
 own_of_fewer on others fewer row h found = record {
   point = found.point;
@@ -87,9 +89,10 @@ own_of_fewer on others fewer row h found = record {
     cases (inl t) =
         let there : not (others found.point) ≡ true = and_right (on found.point) _ found.holds in
         let clash : false ≡ true = sym (ap not (h found.point t)) ∙ there in absurd cc
-    cases (inr t) = and_both _ _ (and_left _ _ found.holds) (ap not t)
+    cases (inr t) = and_from _ _ (and_left _ _ found.holds) (ap not t)
 
--- each row has a point at which the function must be 1 and that no other row has, nor what is before them or behind them
+-- each row has a point at which the function must be 1 and that no other row has, nor what is
+-- before or after them
 abbrev pub EachNeeded : (List Bool → Bool) → (List Bool → Bool) → List (List (Option Bool)) → (List Bool → Bool) → Type 0
 EachNeeded on before [] behind = Unit {0}
 EachNeeded on before (row ∷ rows) behind =
@@ -114,7 +117,7 @@ or_turned : (a b c : Bool) → (a || (b || c)) ≡ ((a || b) || c)
 or_turned true b c = refl
 or_turned false b c = refl
 
--- a row of which that holds goes behind
+-- a row of which that holds is appended
 pub each_pushed : (on before behind : List Bool → Bool) (rows : List (List (Option Bool))) (row : List (Option Bool))
     → EachNeeded on before rows (λ p. matches row p || behind p) → PointOf (λ p. on p && not ((before p || some_matches rows p) || behind p)) row → EachNeeded on before (rows ++ row ∷ []) behind
 unfolding some_matches
@@ -135,7 +138,7 @@ each_pushed on before behind (first ∷ rows) row h own = (
 
 pub each_found : (on before behind : List Bool → Bool) (rows after : List (List (Option Bool))) (row : List (Option Bool)) → EachNeeded on before (rows ++ row ∷ after) behind → PointOf (λ p. on p && not (before p || some_matches (rows ++ after) p)) row
 unfolding some_matches
-each_found on before behind [] after row h = own_of_fewer on _ _ row (λ p t. or_kept (before p) _ _ (λ s. or_first _ (behind p) s) t) h.0
+each_found on before behind [] after row h = own_of_fewer on _ _ row (λ p t. or_kept (before p) _ _ (λ s. or_left _ (behind p) s) t) h.0
 each_found on before behind (first ∷ rows) after row h =
     own_of_fewer on _ _ row (λ p t. sym (or_turned (before p) (matches first p) (some_matches (rows ++ after) p)) ∙ t) (each_found on (λ p. before p || matches first p) behind rows after row h.1)
 
@@ -153,7 +156,7 @@ each-needed on kept (row ∷ rest) h =
         → (EachNeeded on (λ p. false) kept (some_matches rest) → EachNeeded on (λ p. false) (needed_behind on kept rest) (λ p. false))
         → EachNeeded on (λ p. false) (needed_behind on (if t then kept ++ row ∷ [] else kept) rest) (λ p. false)
     cases true e stays goes = stays (each_pushed on (λ p. false) (some_matches rest) kept row h (own e))
-    cases false e stays goes = goes (each_of_fewer on _ _ _ kept (λ p t. or_second (matches row p) _ t) h)
+    cases false e stays goes = goes (each_of_fewer on _ _ _ kept (λ p t. or_right (matches row p) _ t) h)
 
 pub irredundant-needed : (on : List Bool → Bool) (rows before after : List (List (Option Bool))) (row : List (Option Bool)) → needed_behind on [] rows ≡ before ++ row ∷ after → PointOf (λ p. on p && not (some_matches (before ++ after) p)) row
 irredundant-needed on rows before after row e =

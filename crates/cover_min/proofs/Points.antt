@@ -1,16 +1,9 @@
 -- A test holds at some point where there is such a point; and what is kept when the test or the row changes.
-use Rattle.std.proofs.Common.{◌≡◌, ℕ, zero, suc, Bool, true, false, ◌&&◌, ◌||◌, Option, List, [], ◌∷◌, length, refl, sym, ap, ◌∙◌, ◌↔◌, ◌⊎◌, inl, inr, arith}
-use Rattle.std.proofs.lemmas.Bool.{or_cases}
+use Rattle.std.proofs.Common.{◌≡◌, ℕ, zero, suc, Bool, true, false, ◌&&◌, Option, List, [], ◌∷◌, length, refl, sym, ap, ◌∙◌, ◌↔◌, ◌⊎◌, inl, inr, arith}
+use Rattle.std.proofs.lemmas.Bool.{or_cases, or_left, or_right, and_from}
 use Rattle.sis_base.specs.Rows.{matches, IsPoint}
-use Rattle.cube_cover.proofs.Points.{and_left, and_right, and_both, bool_cases}
+use Rattle.cube_cover.proofs.Points.{and_left, and_right, bool_cases}
 use Rattle.cover_min.specs.Points.{some_point, has_point, PointOf}
-
-pub or_first : (a b : Bool) → a ≡ true → (a || b) ≡ true
-or_first a b h = rw h refl
-
-pub or_second : (a b : Bool) → b ≡ true → (a || b) ≡ true
-or_second true b h = refl
-or_second false b h = h
 
 -- a point of a width at which a test holds
 pub some_point_found : (n : ℕ) (test : List Bool → Bool) → some_point n test ≡ true → (p : List Bool) × IsPoint n p × (test p ≡ true)
@@ -30,8 +23,8 @@ unfolding some_point
 some_point_at zero test [] d t = t
 some_point_at zero test (b ∷ p) d t = absurd (omega (arith, d))
 some_point_at (suc n) test [] d t = absurd (omega (arith, d))
-some_point_at (suc n) test (false ∷ p) d t = or_first _ _ (some_point_at n (λ p. test (false ∷ p)) p (omega (arith, d)) t)
-some_point_at (suc n) test (true ∷ p) d t = or_second _ _ (some_point_at n (λ p. test (true ∷ p)) p (omega (arith, d)) t)
+some_point_at (suc n) test (false ∷ p) d t = or_left _ _ (some_point_at n (λ p. test (false ∷ p)) p (omega (arith, d)) t)
+some_point_at (suc n) test (true ∷ p) d t = or_right _ _ (some_point_at n (λ p. test (true ∷ p)) p (omega (arith, d)) t)
 
 -- tests that are the same at each point of the width
 pub some_point_same : (n : ℕ) (test other : List Bool → Bool) → ((p : List Bool) → IsPoint n p → test p ≡ other p) → some_point n test ≡ some_point n other
@@ -50,7 +43,7 @@ has_point_found test row h =
 
 pub has_point_at : (test : List Bool → Bool) (row : List (Option Bool)) → PointOf test row → has_point test row ≡ true
 unfolding has_point
-has_point_at test row h = some_point_at (length row) (λ p. matches row p && test p) h.point h.wide (and_both _ _ h.within h.holds)
+has_point_at test row h = some_point_at (length row) (λ p. matches row p && test p) h.point h.wide (and_from _ _ h.within h.holds)
 
 pub has_point_is_point : (test : List Bool → Bool) (row : List (Option Bool)) → has_point test row ≡ true ↔ PointOf test row
 has_point_is_point test row = (has_point_found test row, has_point_at test row)

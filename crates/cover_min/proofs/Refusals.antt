@@ -1,4 +1,4 @@
--- Tests that are refused while literals go, and while rows do.
+-- Tests that are refused while literals are removed, and while rows are.
 use Rattle.std.proofs.Common.{◌≡◌, ℕ, ◌<◌, ◌+◌, zero, suc, Bool, true, Option, None, List, [], ◌∷◌}
 use Rattle.std.proofs.Common.{◌++◌, length, get_or, set, map, Contains, refl, sym, ap, ◌∙◌, subst}
 use Rattle.std.proofs.Common.{◌⊎◌, inl, inr, ◌↔◌, arith}
@@ -15,7 +15,7 @@ use Rattle.cover_min.specs.Refusals.{RefusesRow, RefusesMinimum}
 use Rattle.cover_min.specs.Trimming.{RefusesAt, IsSpreading}
 use Rattle.cover_min.proofs.Widened.{length-widened_to, later-widened_to}
 
--- the literal of a row at a place is tested when those before it went where they could
+-- the literal of a row in a column is tested after those before it were removed where possible
 pub asked_at : (m : Meaning) (r : Refusals) (row : List (Option Bool)) (i n : ℕ) → i < n
     → RefusesAt r (widened_to m.off row i) i → RefusesTo m r row n
 asked_at m r row i n lt h = record {
@@ -25,7 +25,7 @@ asked_at m r row i n lt h = record {
   refused = h.refused;
 }
 
--- one place further
+-- one column further
 pub not_further : (m : Meaning) (r : Refusals) (row : List (Option Bool)) (i : ℕ)
     → (RefusesTo m r row i → ⊥) → (RefusesAt r (widened_to m.off row i) i → ⊥)
     → RefusesTo m r row (i + 1) → ⊥
@@ -106,7 +106,7 @@ row_same m n r s kept coming alike same = (
       },
 )
 
--- a row whose literals went where they could, at its first places
+-- a row whose literals in its first columns were removed where possible
 pub widening_more : (m n : Meaning) (row made next : List (Option Bool)) (i : ℕ) → n ≡ m
     → made ≡ widened_to m.off row i → next ≡ widened_at n.off made i
     → next ≡ widened_to m.off row (i + 1)

@@ -1,4 +1,4 @@
--- What holds while the rows of a cover are gone through, with one in hand.
+-- The invariant while the rows of a cover are tested, with one held apart.
 use Rattle.std.proofs.Common.{◌≡◌, ℕ, ◌<◌, ◌≤◌, ◌+◌, zero, suc, Bool, true, false, ◌||◌, Option}
 use Rattle.std.proofs.Common.{Some, None, List, [], ◌∷◌, ◌++◌, length, get_or, set, take, drop, map}
 use Rattle.std.proofs.Common.{option_map, refl, sym, ap, ◌∙◌, subst, ◌↔◌, arith}
@@ -33,7 +33,7 @@ HasWidth-set w [] i row h e = tt
 HasWidth-set w (first ∷ rows) zero row h e = (e, h.1)
 HasWidth-set w (first ∷ rows) (suc i) row h e = (h.0, HasWidth-set w rows i row h.1 e)
 
--- the rows of a vector from which one was taken, and into which one was put
+-- the rows of a vector from which one was removed, and in which one was set
 pub map_taken : {X : Type 0} (f : X → List (Option Bool)) (rows made : List X) (all : List (List (Option Bool))) (i : ℕ) → map f rows ≡ all → made ≡ take i rows ++ drop (i + 1) rows → map f made ≡ take i all ++ drop (i + 1) all
 map_taken f rows made all i e m =
     ap (map f) m ∙ map-append f (take i rows) (drop (i + 1) rows)
@@ -56,7 +56,7 @@ place_below f rows all i e le other =
 pub read_through : {X : Type 0} (rows : List X) (i : ℕ) (row other : X) → row ≡ other → other ≡ get_or rows i other → row ≡ get_or rows i row
 read_through rows i row other e h = subst (λ x. x ≡ get_or rows i x) (sym e) h
 
--- the row at a place is taken in hand
+-- the row at an index is removed and held
 pub holds_taken : (all : List (List (Option Bool))) (i : ℕ) (row : List (Option Bool)) (new : Shape) → i < length all → row ≡ get_or all i row → new.rows ≡ take i all ++ drop (i + 1) all → Holds (take i all) (drop i all) new i (Some row)
 holds_taken all i row new lt r e =
     let long : length (take i all) ≡ i = omega (arith, length-take i all, lt) in
@@ -69,7 +69,7 @@ holds_taken all i row new lt r e =
       last = λ h. cc;
     }
 
--- a row goes in at a place, and the one that stood there is taken in hand
+-- a row is set at an index, and the one that was there is held
 pub holds_put : (all : List (List (Option Bool))) (i : ℕ) (row next : List (Option Bool)) (new : Shape) → i < length all → next ≡ get_or all i next → new.rows ≡ set all i row → Holds (take i all ++ row ∷ []) (drop i all) new (i + 1) (Some next)
 holds_put all i row next new lt r e =
     let rest : drop (i + 1) new.rows ≡ drop (i + 1) all = ap (drop (i + 1)) e ∙ drop-set-lt (i + 1) all i row (omega arith) in
@@ -111,7 +111,7 @@ pub width_in_hand : (m : Meaning) (r : Refusals) (all : List (List (Option Bool)
 unfolding HasWidth
 width_in_hand m r all others i row t = t.widths.0
 
--- where the tests that are refused of rows still to come are those of all rows
+-- the tests that are refused of rows still to come are those of all rows
 refuses_same : (m : Meaning) (r : Refusals) (all kept made coming rest : List (List (Option Bool)))
     → kept ≡ made → coming ≡ rest
     → RefusesRow m r made rest ↔ RefusesRow m r [] all → RefusesRow m r kept coming

@@ -1,13 +1,13 @@
--- Rows whose literals went where they could.
+-- Rows whose literals were removed where possible.
 use Rattle.std.proofs.Common.{◌≡◌, ℕ, ◌<◌, ◌≤◌, zero, suc, Bool, true, false, not, ◌||◌, if◌then◌else◌, Option, Some, None, is_some, List, [], ◌∷◌, length, get_or, set, map, refl, sym, ap, ◌∙◌, subst, ◌⊎◌, inl, inr, arith}
 use Rattle.std.proofs.lemmas.List.{length-set, set-set, set-get_or, get_or-set_other}
-use Rattle.std.proofs.lemmas.Bool.{cases_eq}
+use Rattle.std.proofs.lemmas.Bool.{cases_eq, or_right, and_from}
 use Rattle.sis_base.specs.Rows.{agrees, matches, some_matches, HasWidth, IsPoint}
-use Rattle.cube_cover.proofs.Points.{and_right, and_both, and_left}
+use Rattle.cube_cover.proofs.Points.{and_right, and_left}
 use Rattle.cover_min.specs.Points.{has_point}
 use Rattle.cover_min.specs.Minimum.{Meaning, widened_at, widened_to, widened}
 use Rattle.cover_min.specs.Primes.{IsPrime}
-use Rattle.cover_min.proofs.Points.{or_second, has_point_found, has_point_at, has_point_wider, has_point_same}
+use Rattle.cover_min.proofs.Points.{has_point_found, has_point_at, has_point_wider, has_point_same}
 
 -- a row without a literal has the points that it had
 pub matches_without : (row : List (Option Bool)) (i : ℕ) (p : List Bool) → matches row p ≡ true → matches (set row i None) p ≡ true
@@ -16,7 +16,7 @@ matches_without [] i p h = h
 matches_without (l ∷ ls) zero [] h = refl
 matches_without (l ∷ ls) (suc i) [] h = refl
 matches_without (l ∷ ls) zero (b ∷ bs) h = and_right (agrees l b) (matches ls bs) h
-matches_without (l ∷ ls) (suc i) (b ∷ bs) h = and_both _ _ (and_left _ _ h) (matches_without ls i bs (and_right (agrees l b) _ h))
+matches_without (l ∷ ls) (suc i) (b ∷ bs) h = and_from _ _ (and_left _ _ h) (matches_without ls i bs (and_right (agrees l b) _ h))
 
 pub matches_without_both : (row : List (Option Bool)) (i j : ℕ) (p : List Bool) → matches (set row i None) p ≡ true → matches (set (set row j None) i None) p ≡ true
 unfolding matches
@@ -27,7 +27,7 @@ matches_without_both (l ∷ ls) (suc i) zero [] h = refl
 matches_without_both (l ∷ ls) (suc i) (suc j) [] h = refl
 matches_without_both (l ∷ ls) zero (suc j) (b ∷ bs) h = matches_without ls j bs h
 matches_without_both (l ∷ ls) (suc i) zero (b ∷ bs) h = and_right (agrees l b) _ h
-matches_without_both (l ∷ ls) (suc i) (suc j) (b ∷ bs) h = and_both _ _ (and_left _ _ h) (matches_without_both ls i j bs (and_right (agrees l b) _ h))
+matches_without_both (l ∷ ls) (suc i) (suc j) (b ∷ bs) h = and_from _ _ (and_left _ _ h) (matches_without_both ls i j bs (and_right (agrees l b) _ h))
 
 pub get_without : (row : List (Option Bool)) (i : ℕ) → get_or (set row i None) i None ≡ None
 get_without [] i = refl
@@ -64,14 +64,14 @@ widened_dash off row i None none e s n = sym (widened_at_dash off row i (sym e))
 widened_dash off row i (Some bit) true e s n = cc
 widened_dash off row i (Some bit) false e s n = cc
 
--- a literal that was taken away and goes
+-- a literal that was removed and stays away
 pub widened_goes : (off : List Bool → Bool) (row without : List (Option Bool)) (i : ℕ) → without ≡ set row i None → has_point off without ≡ false → without ≡ widened_at off row i
 unfolding widened_at
 widened_goes off row without i e h =
     let test : has_point off (set row i None) ≡ false = ap (has_point off) (sym e) ∙ h in
     rw test e
 
--- and one that was put back
+-- a literal that was set again
 pub widened_stays : (off : List Bool → Bool) (row without back : List (Option Bool)) (i : ℕ) (literal : Option Bool)
     → without ≡ set row i None → literal ≡ get_or row i None → has_point off without ≡ true → back ≡ set without i literal → back ≡ widened_at off row i
 unfolding widened_at
@@ -101,7 +101,7 @@ off-widened_to off row (suc n) h = cases (has_point off (set (widened_to off row
     cases true e k = k
     cases false e k = e
 
--- a place that was not come to is as it was
+-- a column that was not reached is as it was
 pub later-widened_to : (off : List Bool → Bool) (row : List (Option Bool)) (n i : ℕ) → n ≤ i → get_or (widened_to off row n) i None ≡ get_or row i None
 unfolding widened_to widened_at
 later-widened_to off row zero i h = refl
@@ -111,7 +111,7 @@ later-widened_to off row (suc n) i h = cases (has_point off (set (widened_to off
     cases true k = k
     cases false k = get_or-set_other (widened_to off row n) n i None None (λ e. omega (arith, e, h)) ∙ k
 
--- a literal that is left at one of the first places is needed
+-- a literal that is left in one of the first columns is needed
 pub needed-widened_to : (off : List Bool → Bool) (row : List (Option Bool)) (n i : ℕ) (b : Bool) → i < n → get_or (widened_to off row n) i None ≡ Some b → has_point off (set (widened_to off row n) i None) ≡ true
 unfolding widened_to widened_at
 needed-widened_to off row zero i b lt e = absurd (omega (arith, lt))
@@ -137,7 +137,8 @@ needed-widened_to off row (suc n) i b lt e =
     cases true t e rest = last (cases_eq i n) t e rest
     cases false t e rest = dropped (cases_eq i n) e rest
 
--- with just the literals that must stay a row is prime, where it had no point at which the function must be 0
+-- a row with only the literals that must stay is prime, if it had no point at which the function
+-- must be 0
 pub prime-widened : (m : Meaning) (row : List (Option Bool)) → has_point m.off row ≡ false → IsPrime m (widened m.off row)
 prime-widened m row h = record {
   implicant = λ found. let clash : true ≡ false = sym (has_point_at m.off (widened m.off row) found) ∙ off-widened_to m.off row (length row) h in absurd cc;
@@ -157,7 +158,7 @@ matches-widened off (row ∷ rows) p h = cases (matches row p) refl h (λ k. mat
   where
     cases : (t : Bool) → matches row p ≡ t → (t || some_matches rows p) ≡ true → (some_matches rows p ≡ true → some_matches (map (widened off) rows) p ≡ true) → (matches (widened off row) p || some_matches (map (widened off) rows) p) ≡ true
     cases true e k rest = rw (matches-widened_to off row (length row) p e) refl
-    cases false e k rest = or_second (matches (widened off row) p) _ (rest k)
+    cases false e k rest = or_right (matches (widened off row) p) _ (rest k)
 
 -- tests that are the same at each point of the width widen alike
 pub widened_same : (off other : List Bool → Bool) (row : List (Option Bool)) (n : ℕ) → ((p : List Bool) → IsPoint (length row) p → off p ≡ other p) → widened_to off row n ≡ widened_to other row n

@@ -1,7 +1,9 @@
-//! The minimum of a cover: literals go, then rows.
+//! The minimum of a cover: each row is expanded to a prime, then redundant rows are removed.
 //!
-//! Each literal and each row costs one test of the oracle. While rows go, one is in hand and the others stand in order in the cover
-//! that the oracle is shown; a row that stays changes places with the next one, in constant time.
+//! Source: Brayton et al., "Logic Minimization Algorithms for VLSI Synthesis" (expand and
+//! irredundant). Each literal and each row costs one test of the oracle. While rows are removed,
+//! one row is held apart and the others are in order in the cover that the oracle is shown. A row
+//! that is kept is exchanged with the next one, in constant time; no clause says so.
 
 ghost use Rattle.std.specs.Prelude.{◌≡◌, ◌<◌, ◌≤◌, Err, ◌∷◌, ◌++◌, [], length, map, take, drop, option_map, IfOk, OnOk};
 ghost use Rattle.sis_base.specs.Rows.{HasWidth};
@@ -14,10 +16,12 @@ use cube_cover::{Cover, Row};
 use std::alloc::{AllocError, Global};
 use std::mem;
 
-/// The minimum of a cover of the oracle's width: all rows are widened as far as the points allow at
-/// which the function must be 0, and then rows go that no point needs at which it must be 1; what
-/// stands earlier is judged earlier. `Refused` just where the oracle refuses one of the questions;
-/// `Memory` only for want of memory. With an error the cover is lost, and the oracle is still ready.
+/// The minimum of a cover of the oracle's width. First each row is expanded: its literals are
+/// removed, in order, as long as the row has no point at which the function must be 0. Then rows
+/// are removed, in order, that no point needs at which the function must be 1.
+///
+/// `Refused` exactly if the oracle refuses one of these tests. On an error the cover is lost, and
+/// the oracle is still ready.
 pub fn prime_irredundant<R: Row, O: Oracle<R>>(
     alloc: Global,
     cover: Cover<R>,
@@ -37,7 +41,7 @@ pub fn prime_irredundant<R: Row, O: Oracle<R>>(
     needed_of(alloc, primes, oracle)
 }
 
-// The literal at a place goes, where it can; a dash is not tested.
+// Removes the literal in a column, if possible; a dash is not tested.
 fn widen_at<R: Row, O: Oracle<R>>(
     alloc: Global,
     row: &mut R,
@@ -48,7 +52,8 @@ fn widen_at<R: Row, O: Oracle<R>>(
     requires width { length (R.literals row.old) ≡ (O.meaning oracle.old).width }
     requires place { place < length (R.literals row.old) }
     ensures stays { O.Stays oracle.old oracle.new }
-    ensures widened { OnOk result (R.literals row.new ≡ widened_at (O.meaning oracle.old).off (R.literals row.old) place) }
+    ensures widened { OnOk result (R.literals row.new ≡ widened_at (O.meaning oracle.old).off
+        (R.literals row.old) place) }
     ensures passed { OnOk result (RefusesAt (O.refusals oracle.old) (R.literals row.old) place → ⊥) }
     ensures refused { result ≡ Err OracleFault.Refused
         → RefusesAt (O.refusals oracle.old) (R.literals row.old) place }
@@ -64,7 +69,7 @@ fn widen_at<R: Row, O: Oracle<R>>(
     Ok(())
 }
 
-// The row with just the literals that must stay.
+// The expanded row: only the literals that must stay.
 fn prime_of<R: Row, O: Oracle<R>>(
     alloc: Global,
     mut row: R,
@@ -73,7 +78,8 @@ fn prime_of<R: Row, O: Oracle<R>>(
     requires ready { O.IsReady oracle.old }
     requires width { length (R.literals row) ≡ (O.meaning oracle.old).width }
     ensures stays { O.Stays oracle.old oracle.new }
-    ensures widened { IfOk result (λ prime. R.literals prime ≡ widened (O.meaning oracle.old).off (R.literals row)) }
+    ensures widened { IfOk result (λ prime. R.literals prime ≡ widened (O.meaning oracle.old).off
+        (R.literals row)) }
     ensures passed { OnOk result
         (RefusesTo (O.meaning oracle.old) (O.refusals oracle.old) (R.literals row)
         (length (R.literals row)) → ⊥) }
@@ -87,7 +93,7 @@ fn prime_of<R: Row, O: Oracle<R>>(
     Ok(row)
 }
 
-// The rows of a cover with just the literals that must stay.
+// The cover with each row expanded.
 fn primes_of<R: Row, O: Oracle<R>>(
     alloc: Global,
     cover: Cover<R>,
@@ -96,7 +102,8 @@ fn primes_of<R: Row, O: Oracle<R>>(
     requires ready { O.IsReady oracle.old }
     requires width { cover.width ≡ (O.meaning oracle.old).width }
     ensures stays { O.Stays oracle.old oracle.new }
-    ensures widened { IfOk result (λ primes. primes ≡ record cover { rows = map (widened (O.meaning oracle.old).off) cover.rows }) }
+    ensures widened { IfOk result (λ primes. primes
+        ≡ record cover { rows = map (widened (O.meaning oracle.old).off) cover.rows }) }
     ensures widths { HasWidth cover.width cover.rows }
     ensures passed { OnOk result (
         RefusesLiteral (O.meaning oracle.old) (O.refusals oracle.old) cover.rows → ⊥) }
@@ -110,7 +117,8 @@ fn primes_of<R: Row, O: Oracle<R>>(
     Ok(primes)
 }
 
-// The rows that were kept and, from a place on, those still to come, without the first of these, which is in hand.
+// The rows that were kept and, from index `place` on, those still to come, without the first of
+// these, which is held in `hand`.
 #[derive(Drop)]
 struct Held<R: Row> {
     others: Cover<R>,
@@ -118,10 +126,11 @@ struct Held<R: Row> {
     hand: Option<R>,
 }
 
-// Takes the row at a place in hand, where there is one.
+// Removes the row at an index and holds it, if there is one.
 fn taken_out<R: Row>(others: Cover<R>, place: usize) -> Held<R>
     requires { place ≤ length others.rows }
-    ensures held { Holds (take place others.rows) (drop place others.rows) result.others result.place (option_map R.literals result.hand) }
+    ensures held { Holds (take place others.rows) (drop place others.rows) result.others
+        result.place (option_map R.literals result.hand) }
     ensures width { result.others.width ≡ others.width }
     ensures widths { HasWidth others.width others.rows }
 {
@@ -142,11 +151,12 @@ fn taken_out<R: Row>(others: Cover<R>, place: usize) -> Held<R>
     }
 }
 
-// Puts a row at a place and takes the one that stood there in hand, where there is one.
+// Sets a row at an index and holds the row that was there, if there was one.
 fn put_in<R: Row>(mut others: Cover<R>, place: usize, row: R) -> Result<Held<R>, AllocError>
     requires place { place ≤ length others.rows }
     requires width { length (R.literals row) ≡ others.width }
-    ensures held { IfOk result (λ held. Holds (take place others.rows ++ R.literals row ∷ []) (drop place others.rows) held.others held.place (option_map R.literals held.hand)) }
+    ensures held { IfOk result (λ held. Holds (take place others.rows ++ R.literals row ∷ [])
+        (drop place others.rows) held.others held.place (option_map R.literals held.hand)) }
     ensures width { IfOk result (λ held. held.others.width ≡ others.width) }
 {
     if place == others.rows().len() {
@@ -167,7 +177,7 @@ fn put_in<R: Row>(mut others: Cover<R>, place: usize, row: R) -> Result<Held<R>,
     })
 }
 
-// Keeps the row that was in hand, or lets it go, and takes the next.
+// Keeps the held row, or drops it, and holds the next.
 fn judged<R: Row, O: Oracle<R>>(
     alloc: Global,
     others: Cover<R>,
@@ -180,7 +190,9 @@ fn judged<R: Row, O: Oracle<R>>(
     requires width { others.width ≡ (O.meaning oracle.old).width }
     requires row { length (R.literals row) ≡ (O.meaning oracle.old).width }
     ensures stays { O.Stays oracle.old oracle.new }
-    ensures held { IfOk result (λ held. Holds (with_needed (O.meaning oracle.old).on (take place others.rows) (R.literals row) (drop place others.rows)) (drop place others.rows) held.others held.place (option_map R.literals held.hand)) }
+    ensures held { IfOk result (λ held. Holds (with_needed (O.meaning oracle.old).on
+        (take place others.rows) (R.literals row) (drop place others.rows))
+        (drop place others.rows) held.others held.place (option_map R.literals held.hand)) }
     ensures width { IfOk result (λ held. held.others.width ≡ others.width) }
     ensures passed { OnOk result ((O.refusals oracle.old).own (R.literals row) others.rows → ⊥) }
     ensures refused { result ≡ Err OracleFault.Refused
@@ -193,7 +205,7 @@ fn judged<R: Row, O: Oracle<R>>(
     }
 }
 
-// The rows that are left of a cover, each of which is needed.
+// The rows of a cover that are needed.
 fn needed_of<R: Row, O: Oracle<R>>(
     alloc: Global,
     cover: Cover<R>,
@@ -202,7 +214,8 @@ fn needed_of<R: Row, O: Oracle<R>>(
     requires ready { O.IsReady oracle.old }
     requires width { cover.width ≡ (O.meaning oracle.old).width }
     ensures stays { O.Stays oracle.old oracle.new }
-    ensures needed { IfOk result (λ left. left ≡ record cover { rows = needed_behind (O.meaning oracle.old).on [] cover.rows }) }
+    ensures needed { IfOk result (λ left. left ≡ record cover
+        { rows = needed_behind (O.meaning oracle.old).on [] cover.rows }) }
     ensures passed { OnOk result (
         RefusesRow (O.meaning oracle.old) (O.refusals oracle.old) [] cover.rows → ⊥) }
     ensures refused { result ≡ Err OracleFault.Refused

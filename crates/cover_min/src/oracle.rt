@@ -1,4 +1,6 @@
-//! What is asked of a function with free points.
+//! The questions asked of an incompletely specified function: whether a row meets the off-set, and
+//! whether it has a point of the on-set that no other row has. Callers rely on exact answers, and
+//! on `Stays`: a question changes neither the meaning nor the refusals.
 
 ghost use Rattle.std.specs.Prelude.{◌≡◌, length, IfOk, OnOk, Err};
 ghost use Rattle.cover_min.specs.Points.{has_point, has_own_point};
@@ -11,7 +13,7 @@ use std::alloc::{AllocError, Global};
 /// Why an oracle does not answer.
 #[derive(Clone, Copy, Debug, PartialEq, Eq, Drop)]
 pub enum OracleFault {
-    /// It refuses the test.
+    /// The oracle refuses the test.
     Refused,
     /// There is not enough memory.
     Memory,
@@ -28,11 +30,11 @@ impl From<AllocError> for OracleFault {
     }
 }
 
-/// A function of which some points are free, seen by contracts as its meaning.
+/// A function with don't-care points, which contracts see as its meaning.
 ///
-/// An oracle that is ready answers. To ask it keeps what `Stays` says, also where there is no answer:
-/// the meaning, the refusals and the readiness at least, and more of an oracle that was lent what it
-/// asks. A question is refused just where the refusals say so.
+/// An oracle that is ready answers. A question preserves what `Stays` says, even if there is no
+/// answer: at least the meaning, the refusals and the readiness, and more for an oracle over a
+/// borrowed object. A question is refused exactly if the refusals say so.
 pub trait Oracle<R: Row> {
     ghost meaning: { Self → Meaning };
 
@@ -42,7 +44,8 @@ pub trait Oracle<R: Row> {
 
     ghost Stays: { Self → Self → Type 0 };
 
-    /// Whether the row, which has the function's width, has a point at which the function must be 0.
+    /// Whether the row has a point at which the function must be 0. The row has the function's
+    /// width.
     fn meets_off(&mut self, alloc: Global, row: &R) -> Result<bool, OracleFault>
         requires ready { IsReady self.old }
         requires width { length (R.literals row.now) ≡ (meaning self.old).width }
@@ -53,8 +56,8 @@ pub trait Oracle<R: Row> {
         ensures refused { result ≡ Err OracleFault.Refused
             → (refusals self.old).off (R.literals row.now) };
 
-    /// Whether the row has a point at which the function must be 1 and that no row of the others has;
-    /// all of the function's width.
+    /// Whether the row has a point at which the function must be 1 and that no row of the others
+    /// has. All have the function's width.
     fn has_own_point(
         &mut self,
         alloc: Global,

@@ -104,7 +104,7 @@ module _ (names : List (List ℕ)) (rows : List (List (Option Bool))) where
     λ k. contains_has row (map (row_over names) (cover_over names rows)) (rows_kept h wide row (has_contains row rows k)),
   )
 
--- ---- what a cover over names is worth by its rows
+-- ---- the value of a cover over names by its rows
 
 -- in each cube of a cover the names are different
 abbrev pub all_apart : NamedCover → Bool
@@ -124,7 +124,8 @@ rows_over_worth value names (cube ∷ cover) apart over =
     let second = and_parts (list_all (λ (literal : Literal). has names literal.name) cube) (is_over names cover) over in
     ap₂ (λ (a b : Bool). a || b) (row_over_worth value names cube first.0 second.0) (rows_over_worth value names cover first.1 second.1)
 
--- the sorted cover of rows over names is over them, and its cubes have different names where those are different
+-- the sorted cover of rows over names has literals of these names only, and its cubes have
+-- different names if those are different
 all_cubes_over : (names : List (List ℕ)) (rows : List (List (Option Bool))) → is_over names (map (λ row. sorted_cube (cube_over names row)) rows) ≡ true
 all_cubes_over names [] = refl
 all_cubes_over names (row ∷ rows) =

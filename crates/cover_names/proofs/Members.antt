@@ -1,4 +1,4 @@
--- What stands in a list: by recursion, and as std says it, by a place.
+-- Membership in a list: by recursion, and as std defines it, by an index.
 use Rattle.std.proofs.Common.{◌≡◌, ◌⊎◌, ℕ, ◌<◌, zero, suc, List, [], ◌∷◌, length, get_or, Contains, refl, sym, subst, arith, inl, inr}
 
 -- an item of a list

@@ -1,4 +1,4 @@
--- Total orders that tell any two values apart: those of literals, cubes and covers.
+-- Total orders that distinguish any two values: those of literals, cubes and covers.
 use Rattle.std.proofs.Common.{◌≡◌, ◌⊎◌, ◌<◌, ◌+◌, ℕ, length, inl, inr, arith, lt-ltb, le-ltb, eq-eqb, ne_eqb, Bool, true, false, List, [], ◌∷◌, Ordering, Less, Equal, Greater, is_lt, is_gt, nat_cmp, refl, sym, ap, ap₂, ◌∙◌, true≢false}
 use Rattle.std.specs.Cmp.{IsTotalOrder}
 use Rattle.std.specs.Cmp.Lexicographic.{slice_cmp}
@@ -8,7 +8,7 @@ use Rattle.cover_names.specs.Literals.{literal_cmp, cube_cmp, cover_cmp}
 use Rattle.cover_names.specs.Orders.{literal_total}
 use Rattle.cover_names.specs.declared.literal.Literal.{Literal}
 
--- a total order, and what it does not tell apart is the same
+-- a total order in which values that compare equal are equal
 pub record IsOrder {X : Type 0} (cmp : X → X → Ordering) : Type 0 where
   pub total : IsTotalOrder cmp
   pub same : (x y : X) → cmp x y ≡ Equal → x ≡ y

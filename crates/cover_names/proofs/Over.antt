@@ -1,9 +1,9 @@
--- Rows over names and their cubes, place by place.
+-- Rows over names and their cubes, column by column.
 use Rattle.std.proofs.Common.{◌≡◌, ◌⊎◌, ℕ, Bool, Option, Some, None, List, [], ◌∷◌, ◌++◌, map, refl, sym, ap, ap₂, ◌∙◌, append_assoc, append-nil, inl, inr}
 use Rattle.cover_names.specs.Cubes.{cube_over}
 use Rattle.cover_names.specs.declared.literal.Literal.{Literal}
 
--- the cube of a name and a place, and behind it that of the others
+-- the cube of a name and a literal, followed by that of the others
 pub cube_over_cons : (name : List ℕ) (names : List (List ℕ)) (place : Option Bool) (row : List (Option Bool))
     → cube_over (name ∷ names) (place ∷ row) ≡ cube_over (name ∷ []) (place ∷ []) ++ cube_over names row
 unfolding cube_over
@@ -17,7 +17,7 @@ cube_over_none (name ∷ names) [] h = refl
 cube_over_none (name ∷ names) (place ∷ row) (inl e) = absurd cc
 cube_over_none (name ∷ names) (place ∷ row) (inr e) = absurd cc
 
--- a loop that puts the literals of names and places behind one another
+-- a loop that appends the literals of names
 pub over_more : (name : List ℕ) (place : Option Bool) (names rest : List (List ℕ)) (row left : List (Option Bool)) (before after whole : List Literal)
     → after ≡ before ++ cube_over (name ∷ []) (place ∷ []) → names ≡ name ∷ rest → row ≡ place ∷ left → before ++ cube_over names row ≡ whole → after ++ cube_over rest left ≡ whole
 over_more name place names rest row left before after whole put first second h =

@@ -1,4 +1,5 @@
--- What `sorted` gives: the items of the list, rising; and no other list has the same items and rises.
+-- The result of `sorted`: the items of the list, strictly increasing; no other list with the same
+-- items is strictly increasing.
 use Rattle.std.proofs.Common.{◌≡◌, ◌⊎◌, List, [], ◌∷◌, Ordering, Less, Equal, Greater, refl, sym, ap, ap₂, ◌∙◌, subst, inl, inr}
 use Rattle.std.specs.List.{AllByRecursion}
 use Rattle.std.specs.List.Sorted.{IsStrictlySortedBy}
@@ -8,7 +9,7 @@ use Rattle.cover_names.proofs.Orders.{IsOrder, not_below_itself}
 use Rattle.cover_names.proofs.Members.{Has}
 
 module _ {X : Type 0} {cmp : X → X → Ordering} (order : IsOrder cmp) where
-  -- what a list with an item put in has
+  -- the items of a list with one item inserted
   pub put_has : (item : X) (xs : List X) (x : X) → Has x (put_in cmp item xs) → (x ≡ item) ⊎ Has x xs
   unfolding put_in
   put_has item [] x m = m

@@ -1,4 +1,4 @@
--- What rows, cubes and covers are worth.
+-- The values of rows, cubes and covers.
 use Rattle.std.proofs.Common.{◌≡◌, ℕ, Bool, true, false, not, ◌&&◌, ◌||◌, cond, Option, Some, None, List, [], ◌∷◌, map, bytes_eq, Ordering, Less, Equal, Greater, refl, sym, ap, ap₂, ◌∙◌, subst, inl, inr, option_map, find}
 use Rattle.std.specs.List.{list_all, list_any, AllByRecursion}
 use Rattle.std.proofs.lemmas.Bool.{and_parts, and_from, or_cases, or_parts, not-true, false≢true}
@@ -10,7 +10,7 @@ use Rattle.cover_names.specs.Cubes.{cube_over, literal_of, row_over, cover_over,
 use Rattle.cover_names.specs.declared.literal.Literal.{Literal}
 use Rattle.cover_names.proofs.Orders.{IsOrder, literal_order, cube_order}
 
--- ---- a test of all or of some items does not see their order, nor how often each stands
+-- ---- a test of all or of some items does not depend on their order, nor on how often each occurs
 
 and_turned : (a b c : Bool) → (b && (a && c)) ≡ (a && (b && c))
 and_turned true b c = refl
@@ -135,7 +135,7 @@ all_has test (first ∷ names) name h m =
       | inr n ↦ all_has test names name parts.1 n
     ]
 
--- where all places of names agree, a cube is true whose literals stand at them
+-- a cube is true if all names agree with its literals
 cube_if_places : (value : List ℕ → Bool) (names : List (List ℕ)) (place_of : List ℕ → Option Bool) (cube : Cube)
     → AllByRecursion (λ (literal : Literal). place_of literal.name ≡ Some literal.bit) cube → list_all (λ (literal : Literal). has names literal.name) cube ≡ true
     → list_all (λ name. agrees (place_of name) (value name)) names ≡ true → cube_value value cube ≡ true
@@ -150,7 +150,7 @@ cube_if_places value names place_of (literal ∷ cube) stands over h =
 abbrev pub names_of : Cube → List (List ℕ)
 names_of cube = map (λ (literal : Literal). literal.name) cube
 
--- another literal before those that stand at their places, none of them of its name
+-- another literal before those of the names, none of them of its name
 stand_behind : (literal : Literal) (whole cube : Cube) → has (names_of cube) literal.name ≡ false
     → AllByRecursion (λ (other : Literal). literal_of whole other.name ≡ Some other.bit) cube → AllByRecursion (λ (other : Literal). literal_of (literal ∷ whole) other.name ≡ Some other.bit) cube
 stand_behind literal whole [] apart stands = tt
@@ -170,7 +170,7 @@ literals_stand (literal ∷ cube) h =
       stand_behind literal cube cube (not-true (has (names_of cube) literal.name) parts.0) (literals_stand cube parts.1),
     )
 
-same_bits : (one other : Bool) → (one ≡ true → other ≡ true) → (other ≡ true → one ≡ true) → one ≡ other
+pub same_bits : (one other : Bool) → (one ≡ true → other ≡ true) → (other ≡ true → one ≡ true) → one ≡ other
 same_bits true other f g = sym (f refl)
 same_bits false true f g = g refl
 same_bits false false f g = refl

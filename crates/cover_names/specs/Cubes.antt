@@ -1,5 +1,5 @@
--- Rows over inputs and cubes of literals by name, each from the other, and what a cube and a cover are worth.
--- Source: De Micheli, "Synthesis and Optimization of Digital Circuits", chapters 7 and 8.
+-- Rows over inputs and cubes of literals by name, each from the other, and the values of cubes and
+-- covers. Source: De Micheli, "Synthesis and Optimization of Digital Circuits", chapters 7 and 8.
 use Rattle.std.specs.Prelude.{ℕ, Bool, Option, Some, None, List, [], ◌∷◌, map, find, flat_map, bytes_eq, option_map}
 use Rattle.std.specs.List.{list_all, list_any}
 use Rattle.sis_base.specs.Rows.{agrees}
@@ -22,7 +22,7 @@ literal_of cube name = option_map (λ (literal : Literal). literal.bit) (find (�
 abbrev pub row_over : List (List ℕ) → Cube → List (Option Bool)
 row_over names cube = map (literal_of cube) names
 
--- the sorted cover of rows over names: each cube sorted, the cubes in order, each once
+-- the sorted cover of rows over names: each cube sorted, and the cubes sorted, each once
 abbrev pub cover_over : List (List ℕ) → List (List (Option Bool)) → NamedCover
 cover_over names rows = sorted cube_cmp (map (λ row. sorted_cube (cube_over names row)) rows)
 
@@ -30,11 +30,11 @@ cover_over names rows = sorted cube_cmp (map (λ row. sorted_cube (cube_over nam
 abbrev pub names_in : NamedCover → List (List ℕ)
 names_in cover = flat_map (λ (cube : Cube). map (λ (literal : Literal). literal.name) cube) cover
 
--- whether all literals of a cover are of names
+-- whether all literals of a cover are of the given names
 abbrev pub is_over : List (List ℕ) → NamedCover → Bool
 is_over names cover = list_all (λ (cube : Cube). list_all (λ (literal : Literal). has names literal.name) cube) cover
 
--- what a cube and a cover are worth where signals have values
+-- the values of a cube and of a cover, if signals have values
 abbrev pub cube_value : (List ℕ → Bool) → Cube → Bool
 cube_value value cube = list_all (λ (literal : Literal). agrees (Some literal.bit) (value literal.name)) cube
 

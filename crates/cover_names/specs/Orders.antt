@@ -1,4 +1,4 @@
--- The laws that the order of literals keeps. No public clause needs them.
+-- The laws of the order of literals. No public clause needs them.
 use Rattle.std.specs.Prelude.{◌≡◌, ◌&&◌, Bool, true, false, nat_eq}
 use mathlib.Core.Path.{refl}
 use Rattle.std.specs.Bool.{beq}
@@ -8,7 +8,7 @@ use Rattle.std.specs.Ordering.{eq_by_cmp, as_partial_cmp, bool_cmp, nat_cmp, is_
 use Rattle.cover_names.specs.Literals.{literal_cmp}
 use Rattle.cover_names.specs.declared.literal.Literal.{Literal}
 
--- literals of one name and one bit
+-- literals of the same name and bit
 abbrev pub literal_eq : Literal → Literal → Bool
 literal_eq one other = pointwise nat_eq one.name other.name && beq one.bit other.bit
 

@@ -1,8 +1,13 @@
-//! Cubes of rows and rows of cubes.
+//! Cubes of rows and rows of cubes, and their normal form.
+//!
+//! A cube lists the literals of a row by name, so that cubes of tables with different inputs can be
+//! compared (MIS, 1987: cubes are sets of literals). In normal form the literals of a cube, and the
+//! cubes of a cover, are sorted and occur once. `cover_over` makes the normal form of a table's
+//! rows; `row_over` goes back. `laws` states that values are kept and that the rows come back.
 
 ghost use Rattle.std.specs.Prelude.{◌≡◌, ◌++◌, ◌∷◌, [], map, IfOk, OnOk};
-ghost use Rattle.cover_names.specs.Literals.{cube_cmp as cube_order, cover_cmp as cover_order, sorted, sorted_cube as cube_in_order};
-ghost use Rattle.cover_names.specs.Cubes.{cube_over as cube_from, literal_of as literal_in, row_over as row_from, cover_over as cover_from};
+ghost use Rattle.cover_names.specs.Literals.{cube_cmp, cover_cmp, sorted, sorted_cube};
+ghost use Rattle.cover_names.specs.Cubes.{cube_over, literal_of, row_over, cover_over};
 
 use crate::literal::{Cube, Literal, NamedCover};
 use circuit_model::Name;
@@ -10,14 +15,15 @@ use sis_base::{Copied, Sequence};
 use std::alloc::{AllocError, Global};
 use std::cmp::Ordering;
 
-// Puts the literal of a name behind others, if the place has one.
+// Appends the literal of a name, if the column has one.
 fn add_literal(
     alloc: Global,
     literals: &mut Vec<Literal>,
     name: &Name,
     place: Option<bool>,
 ) -> Result<(), AllocError>
-    ensures { OnOk result (literals.new.items ≡ literals.old.items ++ cube_from (name.now ∷ []) (place ∷ [])) }
+    ensures { OnOk result (literals.new.items ≡ literals.old.items ++ cube_over (name.now ∷ [])
+        (place ∷ [])) }
 {
     if let Some(bit) = place {
         literals.push(Literal {
@@ -28,9 +34,9 @@ fn add_literal(
     Ok(())
 }
 
-/// The literals of a row over names, in the order of the names; an error only for want of memory.
+/// The literals of a row over names, in the order of the names.
 pub fn cube_over(alloc: Global, names: &[Name], row: &[Option<bool>]) -> Result<Cube, AllocError>
-    ensures { IfOk result (λ cube. cube ≡ cube_from names.now row.now) }
+    ensures { IfOk result (λ cube. cube ≡ cube_over names.now row.now) }
 {
     let mut literals = Vec::new(alloc);
     for (name, place) in names.iter().zip(row) {
@@ -41,20 +47,20 @@ pub fn cube_over(alloc: Global, names: &[Name], row: &[Option<bool>]) -> Result<
 
 // The bit of the first literal of a name, if there is one.
 fn literal_of(cube: &[Literal], name: &Name) -> Option<bool>
-    ensures { result ≡ literal_in cube.now name.now }
+    ensures { result ≡ literal_of cube.now name.now }
 {
     cube.iter()
         .find(|literal| literal.name == *name)
         .map(|literal| literal.bit)
 }
 
-/// The row of a cube over names; an error only for want of memory.
+/// The row of a cube over names: for each name the bit of its first literal, or a dash.
 pub fn row_over(
     alloc: Global,
     names: &[Name],
     cube: &[Literal],
 ) -> Result<Vec<Option<bool>>, AllocError>
-    ensures { IfOk result (λ row. row.items ≡ row_from names.now cube.now) }
+    ensures { IfOk result (λ row. row.items ≡ row_over names.now cube.now) }
 {
     let mut row = Vec::with_capacity(alloc, names.len())?;
     for name in names {
@@ -63,9 +69,9 @@ pub fn row_over(
     Ok(row)
 }
 
-/// A cube with its literals in order, each once.
+/// A cube with its literals sorted, each once.
 pub fn sorted_cube(cube: Cube) -> Cube
-    ensures { result ≡ cube_in_order cube }
+    ensures { result ≡ sorted_cube cube }
 {
     let mut literals = cube.into_vec();
     literals.sort_unstable();
@@ -73,16 +79,16 @@ pub fn sorted_cube(cube: Cube) -> Cube
     Sequence::from_vec(literals)
 }
 
-/// How two cubes stand in the order of cubes.
+/// The order of two cubes.
 pub fn compare_cubes(one: &Cube, other: &Cube) -> Ordering
-    ensures { result ≡ cube_order one.now other.now }
+    ensures { result ≡ cube_cmp one.now other.now }
 {
     one.as_slice().cmp(other.as_slice())
 }
 
-/// How two covers stand in the order of covers.
+/// The order of two covers.
 pub fn compare_covers(one: &NamedCover, other: &NamedCover) -> Ordering
-    ensures { result ≡ cover_order one.now other.now }
+    ensures { result ≡ cover_cmp one.now other.now }
 {
     for (cube, next) in one.as_slice().iter().zip(other.as_slice()) {
         let order = compare_cubes(cube, next);
@@ -93,9 +99,9 @@ pub fn compare_covers(one: &NamedCover, other: &NamedCover) -> Ordering
     one.len().cmp(&other.len())
 }
 
-/// A cover with its cubes in order, each once; the literals of each cube stay as they are.
+/// A cover with its cubes sorted, each once; the literals within each cube stay as they are.
 pub fn sorted_cover(cover: NamedCover) -> NamedCover
-    ensures { result ≡ sorted cube_order cover }
+    ensures { result ≡ sorted cube_cmp cover }
 {
     let mut cubes = cover.into_vec();
     cubes.sort_unstable_by(compare_cubes);
@@ -103,13 +109,14 @@ pub fn sorted_cover(cover: NamedCover) -> NamedCover
     Sequence::from_vec(cubes)
 }
 
-// The cubes of rows over names, each in order.
+// The cubes of rows over names, each sorted.
 fn cubes_over(
     alloc: Global,
     names: &[Name],
     rows: &[Vec<Option<bool>>],
 ) -> Result<NamedCover, AllocError>
-    ensures { IfOk result (λ cubes. cubes ≡ map (λ row. cube_in_order (cube_from names.now row.items)) rows.now) }
+    ensures { IfOk result (λ cubes. cubes ≡ map (λ row. sorted_cube
+        (cube_over names.now row.items)) rows.now) }
 {
     let mut cubes = Vec::with_capacity(alloc, rows.len())?;
     for row in rows {
@@ -118,13 +125,13 @@ fn cubes_over(
     Ok(Sequence::from_vec(cubes))
 }
 
-/// The sorted cover of rows over names: each cube in order, the cubes in order, each once; an error only for want of memory.
+/// The sorted cover of rows over names: each cube sorted, and the cubes sorted, each once.
 pub fn cover_over(
     alloc: Global,
     names: &[Name],
     rows: &[Vec<Option<bool>>],
 ) -> Result<NamedCover, AllocError>
-    ensures { IfOk result (λ cover. cover ≡ cover_from names.now (map (λ row. row.items) rows.now)) }
+    ensures { IfOk result (λ cover. cover ≡ cover_over names.now (map (λ row. row.items) rows.now)) }
 {
     let cubes = cubes_over(alloc, names, rows)?;
     Ok(sorted_cover(cubes))

@@ -1,10 +1,12 @@
-//! Cubes and covers of literals by name, sorted, so that what tables share can be told whichever inputs they have.
+//! Cubes and covers of literals by name, sorted, so that tables with different inputs can be
+//! compared for what they share.
 //!
-//! Source: Brayton, Rudell, Sangiovanni-Vincentelli and Wang, "MIS: A Multiple-Level Logic Optimization System" (1987).
-//! `specs/Literals.antt` has the orders, `specs/Cubes.antt` the ways between rows over inputs and cubes. Promised: each call gives just
-//! what its definition says; each error is want of memory. `laws`: the orders are total; a sorted list rises, has what was sorted and
-//! nothing else, and is told by its items; rows, cubes and covers are worth the same whichever of them is taken; rows come back from
-//! their cubes.
+//! Source: Brayton, Rudell, Sangiovanni-Vincentelli and Wang, "MIS: A Multiple-Level Logic
+//! Optimization System" (1987). `specs/Literals.antt` has the orders, `specs/Cubes.antt` the
+//! conversions between rows over inputs and cubes. Promised: each call gives exactly what its
+//! definition says. `laws`: the orders are total; a sorted list is strictly increasing, has the
+//! items that were sorted and no others, and depends on these items alone; rows, cubes and covers
+//! have the same value in each form; rows are recovered from their cubes.
 #![tactic(auto)]
 
 mod cubes;

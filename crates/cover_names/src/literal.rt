@@ -1,11 +1,12 @@
-//! Literals of signals by their names, and their order.
+//! Literals of signals by name, and their order: by name, byte for byte, and of one name the
+//! negative literal first.
 
 use circuit_model::Name;
 use sis_base::{Copied, Sequence};
 use std::alloc::{AllocError, Global};
 use std::cmp::Ordering;
 
-/// The positive literal of a signal where `bit` is true, else the negative one.
+/// The positive literal of a signal if `bit` is true, else the negative one.
 #[derive(Debug, PartialEq, Eq, Hash, Drop)]
 pub struct Literal {
     pub name: Name,

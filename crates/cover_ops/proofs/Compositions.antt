@@ -1,4 +1,4 @@
--- The value of a composed cover: the outer cover's, with the inner table's value in its input's place.
+-- The value of a composed cover: the outer cover's, with the inner table's value for its input.
 use Rattle.std.proofs.Common.{◌≡◌, ◌≢◌, ℕ, ◌<◌, ◌≤◌, ◌+◌, ◌-◌, zero, suc, Bool, true, false, not, ◌&&◌, ◌||◌, if◌then◌else◌, Option, Some, None, List, [], ◌∷◌, ◌++◌, length, get_or, set, take, drop, map, replicate, refl, sym, ap, ◌∙◌, subst, arith, ◌⊎◌, inl, inr, add-one, ltb, eqb, length-append}
 use Rattle.std.proofs.lemmas.Bool.{eqb-true, eqb-false, ltb-true, ltb-false, false_from_ne_true}
 use Rattle.std.proofs.Math.Bool.{and-false, or-false, and-true, and_comm}
@@ -12,7 +12,7 @@ use Rattle.cover_ops.specs.Shannon.{bits_equal, list_rows}
 use Rattle.cover_ops.specs.Composed.{AreBelow, count_new, is_entry, AreEntries, outer_place, targets, outer_row, inner_row, row_products, composed_row, composed_rows, cover_for, asks, placed_rows, composition, inner_point, outer_point}
 use Rattle.cover_ops.proofs.Joins.{list_value, HasWidth-list_rows}
 
--- a literal put at a dash
+-- a literal set in place of a dash
 matches-set : (row : List (Option Bool)) (p : List Bool) (i : ℕ) (l : Option Bool) → i < length row → length p ≡ length row → get_or row i None ≡ None → matches (set row i l) p ≡ (agrees l (get_or p i false) && matches row p)
 unfolding matches
 matches-set [] p i l lt e n = absurd (omega arith)
@@ -272,7 +272,7 @@ HasWidth-cover_for inner phase bit h = cases (bits_equal bit phase)
     cases true = h
     cases false = HasWidth-list_rows inner.width false inner.rows
 
--- the composed cover's value is the outer cover's with the inner table's value in its place
+-- the composed cover's value is the outer cover's with the inner table's value for x
 pub value-composition : (outer : Shape) (x : ℕ) (inner : Shape) (phase : Bool) (places : List (Option ℕ)) (p : List Bool) → HasWidth outer.width outer.rows → HasWidth inner.width inner.rows → x < outer.width → length places ≡ inner.width
     → AreEntries outer.width x places → length p ≡ (composition outer x inner phase places).width
     → some_matches (composition outer x inner phase places).rows p ≡ some_matches outer.rows (outer_point x (count_new places) (value_by_phase phase inner.rows (inner_point (targets x (count_new places) x places) p)) p)
@@ -285,7 +285,7 @@ value-composition outer x inner phase places p h k lt d entries e =
     (value-inner_row _ 0 _ _ p below apart e (subst (λ (n : ℕ). HasWidth n (cover_for inner phase true)) (sym many) (HasWidth-cover_for inner phase true k)) ∙ value_for inner phase _ there)
     (value-inner_row _ 0 _ _ p below apart e (subst (λ (n : ℕ). HasWidth n (cover_for inner phase false)) (sym many) (HasWidth-cover_for inner phase false k)) ∙ value_against inner phase _ there)
 
--- what the code of the composition reads and writes, one place or one row after the other
+-- what the code of the composition reads and writes, one column or one row after the other
 pub opened_front : (x added q : ℕ) (row : List (Option Bool)) → x < length row → q < x → get_or (outer_row x added row) q None ≡ get_or row q None
 opened_front x added q row h lt =
     get_or_append_left (take x row ++ replicate added None) (drop (suc x) row) None q (simp (length-append, length-take) (omega arith))

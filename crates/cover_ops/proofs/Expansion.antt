@@ -1,10 +1,11 @@
 -- Laws of Shannon lists: the list is a cover of its function, and functions are the same exactly where their lists are.
 use Rattle.std.proofs.Common.{◌≡◌, ℕ, zero, suc, Bool, true, false, ◌&&◌, ◌||◌, if◌then◌else◌, Option, Some, None, List, [], ◌∷◌, ◌++◌, length, map, refl, sym, ap, ◌∙◌, arith}
 use Rattle.std.proofs.Math.Bool.{or-false}
+use Rattle.std.proofs.lemmas.Bool.{and_from}
 use Rattle.sis_base.specs.Rows.{agrees, matches, some_matches}
 use Rattle.cover_ops.specs.Shannon.{bits_equal, same, shannon}
 use Rattle.cover_ops.specs.Halves.{constant_list}
-use Rattle.cube_cover.proofs.Points.{and_left, and_right, and_both, value-append}
+use Rattle.cube_cover.proofs.Points.{and_left, and_right, value-append}
 
 pub equal_bits : (a b : Bool) → bits_equal a b ≡ true → a ≡ b
 equal_bits true b h = sym h
@@ -28,7 +29,7 @@ pub points_same : (n : ℕ) (f g : List Bool → Bool) → ((p : List Bool) → 
 unfolding same
 points_same zero f g h = bits_same (f []) (g []) (h [] refl)
 points_same (suc n) f g h =
-    and_both _ _ (points_same n (λ q. f (false ∷ q)) (λ q. g (false ∷ q)) (λ p e. h (false ∷ p) (ap suc e))) (points_same n (λ q. f (true ∷ q)) (λ q. g (true ∷ q)) (λ p e. h (true ∷ p) (ap suc e)))
+    and_from _ _ (points_same n (λ q. f (false ∷ q)) (λ q. g (false ∷ q)) (λ p e. h (false ∷ p) (ap suc e))) (points_same n (λ q. f (true ∷ q)) (λ q. g (true ∷ q)) (λ p e. h (true ∷ p) (ap suc e)))
 
 pub same_respects : (n : ℕ) (f g h k : List Bool → Bool) → ((p : List Bool) → length p ≡ n → f p ≡ h p) → ((p : List Bool) → length p ≡ n → g p ≡ k p) → same n f g ≡ same n h k
 unfolding same

@@ -1,4 +1,5 @@
--- The list from a place on: where it is constant, where no row has a literal at the place, and from its two halves.
+-- The list from a column on: where it is constant, where no row has a literal in the column, and
+-- from its two halves.
 use Rattle.std.proofs.Common.{◌≡◌, ℕ, ◌<◌, ◌≤◌, ◌+◌, zero, suc, Bool, true, false, not, ◌&&◌, ◌||◌, if◌then◌else◌, Option, Some, None, List, [], ◌∷◌, ◌++◌, length, get_or, set, drop, map, replicate, refl, sym, ap, ◌∙◌, subst, arith, ◌-◌, add-one, inl, inr, length-append}
 use Rattle.std.proofs.lemmas.List.{length-map, length-replicate, replicate-append-replicate, map-append}
 use Rattle.sis_base.specs.Rows.{agrees, matches, some_matches, phase_value, value_by_phase, HasWidth}
@@ -10,7 +11,7 @@ use Rattle.cube_cover.specs.Covers.{agreeing_rows}
 use Rattle.cover_ops.specs.Halves.{constant_list, list_from, marked_rows, IsJoined}
 use Rattle.cover_ops.proofs.Expansion.{same_respects, same_points, lists_same, shannon_respects, shannon_constant, value_shannon}
 
--- the function that rows give from a place on
+-- the function that rows give from a column on
 abbrev pub rest_value : ℕ → Bool → List (List (Option Bool)) → List Bool → Bool
 rest_value place phase rows point = value_by_phase phase (map (drop place) rows) point
 
@@ -45,13 +46,13 @@ no_places zero (l ∷ ls) e = absurd (omega arith)
 no_places (suc i) [] e = absurd (omega arith)
 no_places (suc i) (l ∷ ls) e = no_places i ls (omega arith)
 
--- behind the last place each row is without literals
+-- after the last column each row is without literals
 pub all_free : (w : ℕ) (rows : List (List (Option Bool))) → HasWidth w rows → 0 < length rows → some_dashes (map (drop w) rows) ≡ true
 unfolding some_dashes all_dashes HasWidth
 all_free w [] h lt = absurd (omega arith)
 all_free w (row ∷ rows) h lt = rw (no_places w row h.0) refl
 
--- one place on
+-- one column further
 drop_row : (i : ℕ) (row : List (Option Bool)) → i < length row → drop i row ≡ get_or row i None ∷ drop (suc i) row
 drop_row zero [] h = absurd (omega arith)
 drop_row zero (l ∷ ls) h = refl
@@ -77,7 +78,7 @@ HasWidth-part w i b (row ∷ rows) h = cases (agrees (get_or row i None) b) (Has
     cases true rest = (h.0, rest)
     cases false rest = rest
 
--- where no row has a literal at the place, both parts are all rows
+-- if no row has a literal in the column, both parts are all rows
 part_all : (i : ℕ) (b : Bool) (rows : List (List (Option Bool))) → some_literal i rows ≡ false → agreeing_rows i b rows ≡ rows
 unfolding agreeing_rows some_literal
 part_all i b [] h = refl
@@ -183,7 +184,7 @@ sum_of_halves w i n phase rows h lt ne =
     rw (sym (joined_list w i n phase rows (marked_rows i false (list_from (suc i) n phase (agreeing_rows i false rows)) ++ marked_rows i true (list_from (suc i) n phase (agreeing_rows i true rows))) h lt (inr (ne, refl))))
     (simp (length-append, length-map) refl)
 
--- from the first place the list is that of the function
+-- from the first column the list is that of the function
 prefixed_none : (rows : List (List (Option Bool))) → prefixed 0 rows ≡ rows
 prefixed_none [] = refl
 prefixed_none (row ∷ rows) = ap (λ (xs : List (List (Option Bool))). row ∷ xs) (prefixed_none rows)
@@ -201,7 +202,7 @@ unfolding HasWidth
 HasWidth-cons n l [] h = tt
 HasWidth-cons n l (row ∷ rows) h = (ap suc h.0, HasWidth-cons n l rows h.1)
 
--- each row of a Shannon list has a place for each input
+-- each row of a Shannon list has a column for each input
 pub HasWidth-shannon : (n : ℕ) (f : List Bool → Bool) → HasWidth n (shannon n f)
 unfolding shannon HasWidth
 HasWidth-shannon zero f = cases (f [])
@@ -225,14 +226,14 @@ pub HasWidth-list_from : (w i n : ℕ) (phase : Bool) (rows : List (List (Option
 unfolding list_from
 HasWidth-list_from w i n phase rows e = subst (λ (k : ℕ). HasWidth k (list_from i n phase rows)) e (HasWidth-prefixed i n _ (HasWidth-shannon n (λ p. value_by_phase phase (map (drop i) rows) p)))
 
--- what two reads at one place of equal lists give
+-- what two reads at one index of equal lists give
 pub same_read : {X Y : Type 0} (f : X → Y) (low high : List X) (i : ℕ) (x y : X) → i < length low → i < length high → x ≡ get_or low i x → y ≡ get_or high i y → map f low ≡ map f high → f x ≡ f y
 same_read f [] high i x y lt le a b e = absurd (omega arith)
 same_read f (v ∷ low) [] i x y lt le a b e = absurd (omega arith)
 same_read f (v ∷ low) (w ∷ high) zero x y lt le a b e = let first : f v ≡ f w = cc in ap f a ∙ first ∙ sym (ap f b)
 same_read f (v ∷ low) (w ∷ high) (suc i) x y lt le a b e = let rest : map f low ≡ map f high = cc in same_read f low high i x y (omega arith) (omega arith) a b rest
 
--- the same for the code's numbers: `left` places from `i` on
+-- the same for the code's numbers: `left` columns from `i` on
 pub empty_at : (w i left : ℕ) (phase : Bool) (rows : List (List (Option Bool))) → rows ≡ [] → i + left ≡ w → list_from i left phase rows ≡ constant_list w (not phase)
 empty_at w i left phase rows e s = ap (list_from i left phase) e ∙ empty_list i left phase ∙ ap (λ (k : ℕ). constant_list k (not phase)) s
 

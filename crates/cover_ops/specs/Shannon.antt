@@ -1,22 +1,24 @@
--- The list of rows of a function by Shannon's expansion, said of the function's value alone.
--- Source: Brayton, Hachtel, McMullen, Sangiovanni-Vincentelli, "Logic Minimization Algorithms for VLSI Synthesis"
--- (Shannon expansion of a cover); De Micheli, "Synthesis and Optimization of Digital Circuits", chapter 7.
+-- The list of rows of a function by Shannon's expansion, defined by the function's value alone.
+-- Source: Brayton, Hachtel, McMullen, Sangiovanni-Vincentelli, "Logic Minimization Algorithms for
+-- VLSI Synthesis" (Shannon expansion of a cover); De Micheli, "Synthesis and Optimization of
+-- Digital Circuits", chapter 7.
 use Rattle.std.specs.Prelude.{ℕ, zero, suc, Bool, true, false, not, ◌&&◌, if◌then◌else◌, Option, Some, None, List, [], ◌∷◌, ◌++◌, map}
 use Rattle.sis_base.specs.Rows.{value_by_phase}
 
--- the same bit
+-- whether two bits are equal
 abbrev pub bits_equal : Bool → Bool → Bool
 bits_equal true bit = bit
 bits_equal false bit = not bit
 
--- two functions agree on all points of a width
+-- whether two functions agree on all points of a width
 unfoldable pub same : ℕ → (List Bool → Bool) → (List Bool → Bool) → Bool
 same zero f g = bits_equal (f []) (g [])
 same (suc width) f g =
     same width (λ point. f (false ∷ point)) (λ point. g (false ∷ point)) && same width (λ point. f (true ∷ point)) (λ point. g (true ∷ point))
 
--- one row of dashes for constant 1, no row for constant 0; a dash at an input on which the function does not depend;
--- else the list of the half at 0 with literal 0, and then that of the half at 1 with literal 1
+-- one row of dashes for the constant 1, no row for the constant 0. An input on which the function
+-- does not depend gets a dash; otherwise the list of the half at 0 with literal 0 comes before that
+-- of the half at 1 with literal 1.
 unfoldable pub shannon : ℕ → (List Bool → Bool) → List (List (Option Bool))
 shannon zero f = if f [] then [] ∷ [] else []
 shannon (suc width) f =

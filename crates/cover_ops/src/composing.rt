@@ -1,17 +1,25 @@
-//! One table's cover put into another's.
+//! The composition of one table's cover into another's (elimination of a node into a fanout).
+//!
+//! Source: SIS report, UCB/ERL M92/41 (eliminate, collapse); De Micheli, "Synthesis and
+//! Optimization of Digital Circuits", chapter 8. The outer cover has the inner table's signal as
+//! input x. Inputs that only the inner table has take x's columns, in order. Rows without a literal
+//! of x stay, and the others are multiplied by the inner rows for their literal, of which empty
+//! products are dropped. Where the inner phase does not give these rows, the list of `on_list`
+//! does. `compose` promises the exact rows and the value at every point, and `CubeLimit` exactly
+//! where a limit is exceeded.
 
 ghost use Rattle.std.specs.Prelude.{[], ◌∷◌, ◌≡◌, ◌≢◌, ℕ, ◌+◌, ◌-◌, ◌^◌, ◌<◌, ◌≤◌, ◌↔◌, Bool, true, false, not, Option, None, List, ◌++◌, length, map, replicate, slice_index_or, IfSome, IfOk, OnOk, IsTrue};
 ghost use Rattle.sis_base.specs.Rows.{HasWidth, IsPoint, some_matches, value_by_phase};
 ghost use Rattle.cube_cover.specs.Covers.{Intersects};
-ghost use Rattle.cube_cover.specs.Literals.{has_literal, rows_intersect};
+ghost use Rattle.cube_cover.specs.Literals.{rows_intersect};
 ghost use Rattle.cover_ops.specs.Shannon.{bits_equal, list_rows};
 ghost use Rattle.cover_ops.specs.Composed.{AreBelow, AreEntries, IsTooLong, count_new, outer_place, targets, outer_row, inner_row, row_products, composed_row, composed_rows, cover_for, asks, placed_rows, composition, inner_point, outer_point};
 
 use crate::list::{ListFault, on_list};
-use cube_cover::{Cover, Row};
+use cube_cover::{Cover, Row, is_literal};
 use std::alloc::{AllocError, Global};
 
-// How many inputs the outer cover lacks.
+// The number of inputs that the outer cover lacks.
 #[tactic(auto, unfolding(crate::specs::Composed::count_new))]
 fn new_inputs(places: &[Option<usize>]) -> usize
     ensures count { result ≡ count_new places.now }
@@ -24,7 +32,7 @@ fn new_inputs(places: &[Option<usize>]) -> usize
     added
 }
 
-// One for an input that the outer cover lacks.
+// 1 for an input that the outer cover lacks, else 0.
 #[tactic(auto, unfolding(crate::specs::Composed::count_new))]
 fn one_if_new(place: Option<usize>) -> usize
     ensures count { result ≡ count_new (place ∷ []) }
@@ -36,7 +44,7 @@ fn one_if_new(place: Option<usize>) -> usize
     }
 }
 
-// How many inputs the result has, where that is a number of the machine.
+// The number of inputs of the result, if it fits a machine word.
 fn result_width(width: usize, added: usize) -> Option<usize>
     requires { 0 < width }
     ensures { IfSome result (λ made. (made ≡ width + added - 1) × (width + added < 2 ^ 64)) }
@@ -47,7 +55,7 @@ fn result_width(width: usize, added: usize) -> Option<usize>
     }
 }
 
-// Where a place of the outer cover stands in the result.
+// The column in the result of a column of the outer cover other than x.
 fn moved_place(x: usize, added: usize, place: usize) -> usize
     requires fits { place + added < 2 ^ 64 }
     requires apart { place ≢ x }
@@ -56,7 +64,7 @@ fn moved_place(x: usize, added: usize, place: usize) -> usize
     if place < x { place } else { place + added - 1 }
 }
 
-// Where each input of the inner table stands in the result.
+// The column in the result of each input of the inner table.
 #[tactic(auto, unfolding(crate::specs::Composed::targets, crate::specs::Composed::AreEntries, crate::specs::Composed::count_new))]
 fn target_list(
     alloc: Global,
@@ -87,7 +95,7 @@ fn target_list(
     Ok(list)
 }
 
-// What stands at a place of an outer row in the result.
+// The literal that an outer row has in a column of the result.
 #[tactic(auto, using(crate::proofs::Compositions::opened_front, crate::proofs::Compositions::opened_middle, crate::proofs::Compositions::opened_back))]
 fn opened_place<R: Row>(row: &R, x: usize, added: usize, place: usize) -> Option<bool>
     requires x { x < length (R.literals row.now) }
@@ -104,7 +112,7 @@ fn opened_place<R: Row>(row: &R, x: usize, added: usize, place: usize) -> Option
     row.at(place - added + 1)
 }
 
-// An outer row in the result.
+// An outer row over the inputs of the result, without its literal of x.
 fn opened_row<R: Row>(
     alloc: Global,
     row: &R,
@@ -124,7 +132,7 @@ fn opened_row<R: Row>(
     Ok(made)
 }
 
-// An inner row in the result.
+// An inner row over the inputs of the result.
 #[tactic(auto, using(crate::proofs::Compositions::below_at), unfolding(crate::specs::Composed::inner_row))]
 fn placed_row<R: Row>(
     alloc: Global,
@@ -134,7 +142,8 @@ fn placed_row<R: Row>(
 ) -> Result<R, AllocError>
     requires many { length (R.literals row.now) ≡ length places.now }
     requires below { AreBelow width places.now }
-    ensures { IfOk result (λ made. R.literals made ≡ inner_row (replicate width None) places.now (R.literals row.now)) }
+    ensures { IfOk result (λ made. R.literals made ≡ inner_row (replicate width None) places.now
+        (R.literals row.now)) }
 {
     let mut made = R::dashes(alloc, width)?;
     for (i, place) in places.iter().enumerate() {
@@ -143,9 +152,9 @@ fn placed_row<R: Row>(
     Ok(made)
 }
 
-/// Rows with each literal put at another place of a row of a width: `places` has a place for each input of the rows, all below the
-/// width. Where no place stands twice they match a point of that width exactly where the rows match its bits at these places. An
-/// error only for want of memory.
+/// Moves the literals of rows to other columns, in rows of the given width: `places` has for each
+/// input of the rows its new column, below the width. If no column occurs twice, the new rows match
+/// a point of that width exactly if the rows match its bits in these columns.
 #[tactic(auto, using(cube_cover::proofs::Points::width_read))]
 pub fn place_rows<R: Row>(
     alloc: Global,
@@ -155,23 +164,14 @@ pub fn place_rows<R: Row>(
 ) -> Result<Vec<R>, AllocError>
     requires widths { HasWidth (length places.now) (map R.literals rows.now) }
     requires below { AreBelow width places.now }
-    ensures { IfOk result (λ made. map R.literals made.items ≡ placed_rows width places.now (map R.literals rows.now)) }
+    ensures { IfOk result (λ made. map R.literals made.items ≡ placed_rows width places.now
+        (map R.literals rows.now)) }
 {
     let mut made = Vec::new(alloc);
     for row in rows {
         made.push(placed_row(alloc, row, places, width)?)?;
     }
     Ok(made)
-}
-
-// Whether a literal is that of a bit.
-fn is_literal(literal: Option<bool>, bit: bool) -> bool
-    ensures { result ≡ has_literal literal bit }
-{
-    match literal {
-        None => false,
-        Some(other) => bit == other,
-    }
 }
 
 // Whether some row has the literal of a bit at a place.
@@ -199,7 +199,7 @@ fn are_intersecting<R: Row>(row: &R, other: &R) -> bool
     row.intersects(other)
 }
 
-// A list with the products of a row and other rows behind it, contradictions left out.
+// Appends the products of a row with other rows; empty products are dropped.
 #[tactic(auto, using(cube_cover::proofs::Points::width_read), unfolding(crate::specs::Composed::row_products))]
 fn with_products<R: Row>(
     alloc: Global,
@@ -210,9 +210,12 @@ fn with_products<R: Row>(
 ) -> Result<Vec<R>, ListFault>
     requires widths { HasWidth (length (R.literals row.now)) (map R.literals others.now) }
     requires within { length list.items ≤ limit }
-    ensures ok { IfOk result (λ made. map R.literals made.items ≡ map R.literals list.items ++ row_products (R.literals row.now) (map R.literals others.now)) }
+    ensures ok { IfOk result (λ made. map R.literals made.items
+        ≡ map R.literals list.items ++ row_products (R.literals row.now)
+        (map R.literals others.now)) }
     ensures within { IfOk result (λ made. length made.items ≤ limit) }
-    ensures limit { result ≡ Err ListFault.CubeLimit → limit < length list.items + length (row_products (R.literals row.now) (map R.literals others.now)) }
+    ensures limit { result ≡ Err ListFault.CubeLimit → limit < length list.items + length
+        (row_products (R.literals row.now) (map R.literals others.now)) }
 {
     let mut made = list;
     for other in others {
@@ -227,9 +230,10 @@ fn with_products<R: Row>(
     Ok(made)
 }
 
-// A list with a row behind it.
+// Appends a row.
 fn with_row<R: Row>(list: Vec<R>, row: R, limit: usize) -> Result<Vec<R>, ListFault>
-    ensures ok { IfOk result (λ made. map R.literals made.items ≡ map R.literals list.items ++ R.literals row ∷ []) }
+    ensures ok { IfOk result (λ made. map R.literals made.items
+        ≡ map R.literals list.items ++ R.literals row ∷ []) }
     ensures within { IfOk result (λ made. length made.items ≤ limit) }
     ensures limit { result ≡ Err ListFault.CubeLimit → limit < length list.items + 1 }
 {
@@ -241,7 +245,7 @@ fn with_row<R: Row>(list: Vec<R>, row: R, limit: usize) -> Result<Vec<R>, ListFa
     Ok(made)
 }
 
-// A list with what an outer row becomes behind it.
+// Appends the rows that an outer row becomes.
 fn with_composed<R: Row>(
     alloc: Global,
     list: Vec<R>,
@@ -257,9 +261,13 @@ fn with_composed<R: Row>(
     requires on { HasWidth (length (R.literals row.now) + added - 1) (map R.literals on.now) }
     requires off { HasWidth (length (R.literals row.now) + added - 1) (map R.literals off.now) }
     requires within { length list.items ≤ limit }
-    ensures ok { IfOk result (λ made. map R.literals made.items ≡ map R.literals list.items ++ composed_row (slice_index_or (R.literals row.now) x None) (outer_row x added (R.literals row.now)) (map R.literals on.now) (map R.literals off.now)) }
+    ensures ok { IfOk result (λ made. map R.literals made.items
+        ≡ map R.literals list.items ++ composed_row (slice_index_or (R.literals row.now) x None)
+        (outer_row x added (R.literals row.now)) (map R.literals on.now) (map R.literals off.now)) }
     ensures within { IfOk result (λ made. length made.items ≤ limit) }
-    ensures limit { result ≡ Err ListFault.CubeLimit → limit < length list.items + length (composed_row (slice_index_or (R.literals row.now) x None) (outer_row x added (R.literals row.now)) (map R.literals on.now) (map R.literals off.now)) }
+    ensures limit { result ≡ Err ListFault.CubeLimit → limit < length list.items + length
+        (composed_row (slice_index_or (R.literals row.now) x None)
+        (outer_row x added (R.literals row.now)) (map R.literals on.now) (map R.literals off.now)) }
 {
     let width = row.width() + added - 1;
     let wide = opened_row(alloc, row, x, added, width)?;
@@ -270,7 +278,7 @@ fn with_composed<R: Row>(
     }
 }
 
-// What all outer rows become.
+// The rows that all outer rows become.
 fn all_composed<R: Row>(
     alloc: Global,
     rows: &[R],
@@ -286,9 +294,13 @@ fn all_composed<R: Row>(
     requires fits { width + added < 2 ^ 64 }
     requires on { HasWidth (width + added - 1) (map R.literals on.now) }
     requires off { HasWidth (width + added - 1) (map R.literals off.now) }
-    ensures ok { IfOk result (λ made. map R.literals made.items ≡ composed_rows x added (map R.literals on.now) (map R.literals off.now) (map R.literals rows.now)) }
-    ensures within { OnOk result (length (composed_rows x added (map R.literals on.now) (map R.literals off.now) (map R.literals rows.now)) ≤ limit) }
-    ensures limit { result ≡ Err ListFault.CubeLimit → limit < length (composed_rows x added (map R.literals on.now) (map R.literals off.now) (map R.literals rows.now)) }
+    ensures ok { IfOk result (λ made. map R.literals made.items ≡ composed_rows x added
+        (map R.literals on.now) (map R.literals off.now) (map R.literals rows.now)) }
+    ensures within { OnOk result (length (composed_rows x added (map R.literals on.now)
+        (map R.literals off.now) (map R.literals rows.now)) ≤ limit) }
+    ensures limit { result ≡ Err ListFault.CubeLimit → limit < length
+        (composed_rows x added (map R.literals on.now) (map R.literals off.now)
+        (map R.literals rows.now)) }
 {
     let mut made = Vec::new(alloc);
     for row in rows {
@@ -297,7 +309,8 @@ fn all_composed<R: Row>(
     Ok(made)
 }
 
-// The inner rows for a value, in the result; no row where no literal asks for them.
+// The inner rows for a value, over the inputs of the result; none if no outer row has that literal
+// of x.
 fn inner_rows<R: Row>(
     alloc: Global,
     outer: &Cover<R>,
@@ -312,11 +325,15 @@ fn inner_rows<R: Row>(
     requires x { x < outer.now.width }
     requires many { length places.now ≡ inner.now.width }
     requires below { AreBelow width places.now }
-    ensures ok { IfOk result (λ made. asks x bit outer.now.rows ≡ true → map R.literals made.items ≡ placed_rows width places.now (cover_for inner.now phase bit)) }
+    ensures ok { IfOk result (λ made. asks x bit outer.now.rows ≡ true → map R.literals made.items
+        ≡ placed_rows width places.now (cover_for inner.now phase bit)) }
     ensures widths { IfOk result (λ made. HasWidth width (map R.literals made.items)) }
     ensures inner { HasWidth inner.now.width inner.now.rows }
-    ensures within { OnOk result (asks x bit outer.now.rows ≡ true → bits_equal bit phase ≡ false → length (list_rows inner.now.width false inner.now.rows) ≤ limit) }
-    ensures limit { result ≡ Err ListFault.CubeLimit → (asks x bit outer.now.rows ≡ true) × (bits_equal bit phase ≡ false) × (limit < length (list_rows inner.now.width false inner.now.rows)) }
+    ensures within { OnOk result (asks x bit outer.now.rows ≡ true → bits_equal bit phase ≡ false
+        → length (list_rows inner.now.width false inner.now.rows) ≤ limit) }
+    ensures limit { result ≡ Err ListFault.CubeLimit → (asks x bit outer.now.rows ≡ true)
+        × (bits_equal bit phase ≡ false) × (limit < length
+        (list_rows inner.now.width false inner.now.rows)) }
 {
     let rows = inner.rows();
     if !asks_for(outer.rows(), outer.width(), x, bit) {
@@ -332,12 +349,15 @@ fn inner_rows<R: Row>(
     Ok(made)
 }
 
-/// The cover of an outer table in which an inner table's cover took the place of the input at place `x`. `places` has
-/// an entry for each input of the inner table: its place in the outer cover, or `None` for an input that the outer
-/// cover lacks; these take x's place, in order. The outer table's phase stays. Rows with the literal 1 of x become
-/// their products with the inner rows that give 1, and rows with the literal 0 those that give 0, contradictions left
-/// out; where the inner phase does not give them, the inner table's list does. `CubeLimit` exactly where a list that
-/// is asked for has more than `list_limit` rows, or the result more than `limit`.
+/// Composes an inner table's cover into an outer cover in place of the input in column `x`.
+/// `places` has an entry for each input of the inner table: its column in the outer cover, or
+/// `None` if the outer cover lacks it; these inputs take x's columns, in order. The outer table's
+/// phase stays.
+///
+/// A row with the literal 1 of x becomes its products with the inner rows that give 1, one with the
+/// literal 0 those with the rows that give 0; empty products are dropped. If the inner phase does
+/// not give these rows, the inner table's list does. `CubeLimit` exactly if a list that is needed
+/// has more than `list_limit` rows, or the result more than `limit`.
 pub fn compose<R: Row>(
     alloc: Global,
     outer: &Cover<R>,
@@ -352,9 +372,14 @@ pub fn compose<R: Row>(
     requires many { length places.now ≡ inner.now.width }
     requires entries { AreEntries outer.now.width x places.now }
     ensures ok { IfOk result (λ made. made ≡ composition outer.now x inner.now phase places.now) }
-    ensures value { IfOk result (λ made. (point : List Bool) → IsPoint made.width point → some_matches made.rows point ≡ some_matches outer.now.rows (outer_point x (count_new places.now) (value_by_phase phase inner.now.rows (inner_point (targets x (count_new places.now) x places.now) point)) point)) }
-    ensures within { OnOk result (IsTooLong list_limit limit outer.now x inner.now phase places.now → ⊥) }
-    ensures limit { result ≡ Err ListFault.CubeLimit → IsTooLong list_limit limit outer.now x inner.now phase places.now }
+    ensures value { IfOk result (λ made. (point : List Bool) → IsPoint made.width point
+        → some_matches made.rows point ≡ some_matches outer.now.rows
+        (outer_point x (count_new places.now) (value_by_phase phase inner.now.rows
+        (inner_point (targets x (count_new places.now) x places.now) point)) point)) }
+    ensures within { OnOk result (IsTooLong list_limit limit outer.now x inner.now phase places.now
+        → ⊥) }
+    ensures limit { result ≡ Err ListFault.CubeLimit
+        → IsTooLong list_limit limit outer.now x inner.now phase places.now }
 {
     let added = new_inputs(places);
     let wide = match result_width(outer.width(), added) {

@@ -1,21 +1,27 @@
-//! Lists of rows by Shannon expansion, on cofactors.
+//! Lists of rows by Shannon expansion, computed on cofactors.
+//!
+//! Source: Brayton et al., "Logic Minimization Algorithms for VLSI Synthesis" (Shannon expansion of
+//! a cover). The list of a function has one row of dashes for the constant 1 and none for 0. An
+//! input on which the function does not depend gets a dash; otherwise the rows of the half at 0
+//! come before those of the half at 1. So the list depends on the function alone, not on the cover.
+//! `on_list` and `off_list` fail with `CubeLimit` exactly if the list has more rows than the limit.
 
-ghost use Rattle.std.specs.Prelude.{◌≡◌, ℕ, ◌+◌, ◌^◌, ◌<◌, ◌≤◌, ◌↔◌, Bool, true, false, not, Option, List, ◌++◌, length, map, drop, IfOk, OnOk, IsTrue};
-ghost use Rattle.sis_base.specs.Rows.{HasWidth, IsPoint, agrees, some_matches, value_by_phase};
+ghost use Rattle.std.specs.Prelude.{◌≡◌, ℕ, ◌+◌, ◌^◌, ◌<◌, ◌≤◌, ◌↔◌, Bool, true, false, not, List, ◌++◌, length, map, drop, IfOk, OnOk, IsTrue};
+ghost use Rattle.sis_base.specs.Rows.{HasWidth, IsPoint, some_matches, value_by_phase};
 ghost use Rattle.cube_cover.specs.Covers.{agreeing_rows};
 ghost use Rattle.cube_cover.specs.Literals.{some_literal, all_dashes, some_dashes};
 ghost use Rattle.cover_ops.specs.Shannon.{list_rows};
 ghost use Rattle.cover_ops.specs.Halves.{constant_list, list_from, marked_rows, IsJoined};
 
-use cube_cover::{Cover, Row, equal_rows};
+use cube_cover::{Cover, Row, equal_rows, literal_agrees};
 use std::alloc::{AllocError, AllocFailed, Global};
 
 /// Why there is no list.
 #[derive(Clone, Copy, Debug, PartialEq, Eq)]
 pub enum ListFault {
-    /// It has more rows than the limit.
+    /// The list has more rows than the limit.
     CubeLimit,
-    /// There is not enough memory.
+    /// There is not enough memory, or the result's width does not fit a machine word.
     Memory,
 }
 
@@ -41,7 +47,7 @@ impl<T: Drop> From<AllocFailed<T>> for ListFault {
     }
 }
 
-// One row of dashes, or no row.
+// One row of dashes for the constant 1, no row for 0.
 fn constant_rows<R: Row>(
     alloc: Global,
     width: usize,
@@ -64,7 +70,7 @@ fn constant_rows<R: Row>(
     Ok(list)
 }
 
-// Whether a row has no literal from a place on.
+// Whether a row has no literal from a column on.
 #[tactic(auto, unfolding(cube_cover::specs::Literals::all_dashes))]
 fn is_free<R: Row>(row: &R, place: usize) -> bool
     requires { place ≤ length (R.literals row.now) }
@@ -78,7 +84,7 @@ fn is_free<R: Row>(row: &R, place: usize) -> bool
     true
 }
 
-// Whether some row has no literal from a place on.
+// Whether some row has no literal from a column on.
 #[tactic(auto, using(cube_cover::proofs::Points::width_read), unfolding(cube_cover::specs::Literals::some_dashes))]
 fn some_free<R: Row>(rows: &[&R], width: usize, place: usize) -> bool
     requires widths { HasWidth width (map (λ row. R.literals row.now) rows.now) }
@@ -93,7 +99,7 @@ fn some_free<R: Row>(rows: &[&R], width: usize, place: usize) -> bool
     false
 }
 
-// Whether some row has a literal at a place.
+// Whether some row has a literal in a column.
 #[tactic(auto, using(cube_cover::proofs::Points::width_read), unfolding(cube_cover::specs::Literals::some_literal))]
 fn any_literal<R: Row>(rows: &[&R], width: usize, place: usize) -> bool
     requires widths { HasWidth width (map (λ row. R.literals row.now) rows.now) }
@@ -108,16 +114,6 @@ fn any_literal<R: Row>(rows: &[&R], width: usize, place: usize) -> bool
     false
 }
 
-// Whether a literal agrees with a bit; a dash does with each.
-fn agrees_with(literal: Option<bool>, bit: bool) -> bool
-    ensures { result ≡ agrees literal bit }
-{
-    match literal {
-        None => true,
-        Some(other) => other == bit,
-    }
-}
-
 // The rows that agree with a bit at a place.
 #[tactic(auto, using(cube_cover::proofs::Points::width_read), unfolding(cube_cover::specs::Covers::agreeing_rows))]
 fn rows_agreeing<'a, R: Row>(
@@ -129,18 +125,19 @@ fn rows_agreeing<'a, R: Row>(
 ) -> Result<Vec<&'a R>, AllocError>
     requires widths { HasWidth width (map (λ row. R.literals row.now) rows.now) }
     requires place { place < width }
-    ensures { IfOk result (λ part. map (λ row. R.literals row.now) part.items ≡ agreeing_rows place bit (map (λ row. R.literals row.now) rows.now)) }
+    ensures { IfOk result (λ part. map (λ row. R.literals row.now) part.items
+        ≡ agreeing_rows place bit (map (λ row. R.literals row.now) rows.now)) }
 {
     let mut part = Vec::new(alloc);
     for row in rows {
-        if agrees_with(row.at(place), bit) {
+        if literal_agrees(row.at(place), bit) {
             part.push(*row)?;
         }
     }
     Ok(part)
 }
 
-// Whether two lists have equal rows.
+// Whether two lists have equal rows, in order.
 fn equal_lists<R: Row>(low: &[R], high: &[R], width: usize) -> bool
     requires low { HasWidth width (map R.literals low.now) }
     requires high { HasWidth width (map R.literals high.now) }
@@ -157,7 +154,7 @@ fn equal_lists<R: Row>(low: &[R], high: &[R], width: usize) -> bool
     true
 }
 
-// A list with the rows of another behind it, in which a literal was put at a place.
+// Appends rows, each with a literal set in a column.
 #[tactic(auto, using(cube_cover::proofs::Points::width_read))]
 fn with_marked<R: Row>(
     list: Vec<R>,
@@ -168,7 +165,8 @@ fn with_marked<R: Row>(
 ) -> Result<Vec<R>, AllocError>
     requires widths { HasWidth width (map R.literals rows.items) }
     requires place { place < width }
-    ensures { IfOk result (λ made. map R.literals made.items ≡ map R.literals list.items ++ marked_rows place bit (map R.literals rows.items)) }
+    ensures { IfOk result (λ made. map R.literals made.items
+        ≡ map R.literals list.items ++ marked_rows place bit (map R.literals rows.items)) }
 {
     let mut made = list;
     for row in rows {
@@ -179,7 +177,7 @@ fn with_marked<R: Row>(
     Ok(made)
 }
 
-// The list of a whole from those of its halves at a place.
+// Joins the lists of the halves at a column into the list of the whole.
 fn join_halves<R: Row>(
     alloc: Global,
     low: Vec<R>,
@@ -192,9 +190,12 @@ fn join_halves<R: Row>(
     requires high { HasWidth width (map R.literals high.items) }
     requires place { place < width }
     requires within { length low.items ≤ limit }
-    ensures ok { IfOk result (λ list. IsJoined place (map R.literals low.items) (map R.literals high.items) (map R.literals list.items)) }
+    ensures ok { IfOk result (λ list. IsJoined place (map R.literals low.items)
+        (map R.literals high.items) (map R.literals list.items)) }
     ensures within { IfOk result (λ list. length list.items ≤ limit) }
-    ensures limit { result ≡ Err ListFault.CubeLimit → (map R.literals low.items ≡ map R.literals high.items → ⊥) × (limit < length low.items + length high.items) }
+    ensures limit { result ≡ Err ListFault.CubeLimit
+        → (map R.literals low.items ≡ map R.literals high.items → ⊥)
+        × (limit < length low.items + length high.items) }
 {
     if equal_lists(low.as_slice(), high.as_slice(), width) {
         return Ok(low);
@@ -207,7 +208,7 @@ fn join_halves<R: Row>(
     Ok(list)
 }
 
-// The list of the rows that are left at a place, of which `left` are before the end of the width.
+// The list of the function that the rows give from a column on, where `left` columns remain.
 fn rows_from<R: Row>(
     alloc: Global,
     rows: &[&R],
@@ -219,9 +220,12 @@ fn rows_from<R: Row>(
 ) -> Result<Vec<R>, ListFault>
     requires widths { HasWidth width (map (λ row. R.literals row.now) rows.now) }
     requires places { place + left ≡ width }
-    ensures ok { IfOk result (λ list. map R.literals list.items ≡ list_from place left phase (map (λ row. R.literals row.now) rows.now)) }
-    ensures within { OnOk result (length (list_from place left phase (map (λ row. R.literals row.now) rows.now)) ≤ limit) }
-    ensures limit { result ≡ Err ListFault.CubeLimit → limit < length (list_from place left phase (map (λ row. R.literals row.now) rows.now)) }
+    ensures ok { IfOk result (λ list. map R.literals list.items ≡ list_from place left phase
+        (map (λ row. R.literals row.now) rows.now)) }
+    ensures within { OnOk result (length (list_from place left phase
+        (map (λ row. R.literals row.now) rows.now)) ≤ limit) }
+    ensures limit { result ≡ Err ListFault.CubeLimit → limit < length
+        (list_from place left phase (map (λ row. R.literals row.now) rows.now)) }
 {
     if rows.len() == 0 {
         return constant_rows(alloc, width, !phase, limit);
@@ -259,9 +263,10 @@ fn rows_from<R: Row>(
     Ok(list)
 }
 
-// References to the rows, in order.
+// Borrows the rows, in order.
 fn references<'a, R: Row>(alloc: Global, rows: &'a [R]) -> Result<Vec<&'a R>, AllocError>
-    ensures { IfOk result (λ made. map (λ row. R.literals row.now) made.items ≡ map R.literals rows.now) }
+    ensures { IfOk result (λ made. map (λ row. R.literals row.now) made.items
+        ≡ map R.literals rows.now) }
 {
     let mut made = Vec::with_capacity(alloc, rows.len())?;
     for row in rows {
@@ -270,18 +275,21 @@ fn references<'a, R: Row>(alloc: Global, rows: &'a [R]) -> Result<Vec<&'a R>, Al
     Ok(made)
 }
 
-/// The on-list of the function that a cover gives by a phase, over the cover's inputs; `CubeLimit` exactly where it
-/// has more than `limit` rows.
+/// The on-list of the function that a cover gives by a phase, over the cover's inputs. `CubeLimit`
+/// exactly if it has more than `limit` rows.
 pub fn on_list<R: Row>(
     alloc: Global,
     f: &Cover<R>,
     phase: bool,
     limit: usize,
 ) -> Result<Cover<R>, ListFault>
-    ensures ok { IfOk result (λ list. list ≡ record { width = f.now.width; rows = list_rows f.now.width phase f.now.rows }) }
-    ensures value { IfOk result (λ list. (point : List Bool) → IsPoint f.now.width point → some_matches list.rows point ≡ value_by_phase phase f.now.rows point) }
+    ensures ok { IfOk result (λ list. list ≡ record
+        { width = f.now.width; rows = list_rows f.now.width phase f.now.rows }) }
+    ensures value { IfOk result (λ list. (point : List Bool) → IsPoint f.now.width point
+        → some_matches list.rows point ≡ value_by_phase phase f.now.rows point) }
     ensures within { OnOk result (length (list_rows f.now.width phase f.now.rows) ≤ limit) }
-    ensures limit { result ≡ Err ListFault.CubeLimit → limit < length (list_rows f.now.width phase f.now.rows) }
+    ensures limit { result ≡ Err ListFault.CubeLimit → limit < length
+        (list_rows f.now.width phase f.now.rows) }
 {
     let rows = references(alloc, f.rows())?;
     let width = f.width();
@@ -289,18 +297,21 @@ pub fn on_list<R: Row>(
     Ok(Cover::of(width, list))
 }
 
-/// The off-list of the function that a cover gives by a phase, which is the on-list of its complement; `CubeLimit`
-/// exactly where it has more than `limit` rows.
+/// The off-list of the function that a cover gives by a phase, which is the on-list of its
+/// complement. `CubeLimit` exactly if it has more than `limit` rows.
 pub fn off_list<R: Row>(
     alloc: Global,
     f: &Cover<R>,
     phase: bool,
     limit: usize,
 ) -> Result<Cover<R>, ListFault>
-    ensures ok { IfOk result (λ list. list ≡ record { width = f.now.width; rows = list_rows f.now.width (not phase) f.now.rows }) }
-    ensures value { IfOk result (λ list. (point : List Bool) → IsPoint f.now.width point → some_matches list.rows point ≡ not (value_by_phase phase f.now.rows point)) }
+    ensures ok { IfOk result (λ list. list ≡ record
+        { width = f.now.width; rows = list_rows f.now.width (not phase) f.now.rows }) }
+    ensures value { IfOk result (λ list. (point : List Bool) → IsPoint f.now.width point
+        → some_matches list.rows point ≡ not (value_by_phase phase f.now.rows point)) }
     ensures within { OnOk result (length (list_rows f.now.width (not phase) f.now.rows) ≤ limit) }
-    ensures limit { result ≡ Err ListFault.CubeLimit → limit < length (list_rows f.now.width (not phase) f.now.rows) }
+    ensures limit { result ≡ Err ListFault.CubeLimit → limit < length
+        (list_rows f.now.width (not phase) f.now.rows) }
 {
     let list = on_list(alloc, f, !phase, limit)?;
     Ok(list)

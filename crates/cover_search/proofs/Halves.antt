@@ -1,13 +1,14 @@
 -- Whether a test holds at some point of a row: the two halves at a dash, and a row that has one point.
 use Rattle.std.proofs.Common.{◌≡◌, ℕ, ◌<◌, zero, suc, Bool, true, false, not, ◌&&◌, ◌||◌, Option, Some, None, List, [], ◌∷◌, length, get_or, set, refl, sym, ap, ◌∙◌, arith}
-use Rattle.std.proofs.Math.Bool.{and-false, or-false}
+use Rattle.std.proofs.Math.Bool.{and-false, or-false, or_comm}
+use Rattle.std.proofs.lemmas.Bool.{or_left, or_right, and_from}
 use Rattle.sis_base.specs.Rows.{agrees, matches}
 use Rattle.cube_cover.specs.Literals.{no_dash}
-use Rattle.cube_cover.proofs.Points.{and_left, and_right, and_both}
+use Rattle.cube_cover.proofs.Points.{and_left, and_right}
 use Rattle.cube_cover.proofs.Products.{point_of, length-point_of, matches-point_of}
 use Rattle.cover_min.specs.Points.{some_point, has_point}
 use Rattle.cover_search.specs.Searches.{SameWithin}
-use Rattle.cover_search.proofs.Satisfying.{or_second, same_bit}
+use Rattle.cover_search.proofs.Satisfying.{same_bit}
 
 some_point_same : (n : ℕ) (test other : List Bool → Bool) → ((point : List Bool) → length point ≡ n → test point ≡ other point) → some_point n test ≡ some_point n other
 unfolding some_point
@@ -25,17 +26,13 @@ some_point_false (suc n) = rw (some_point_false n) refl
 some_point_none : (n : ℕ) (test : List Bool → Bool) → ((point : List Bool) → length point ≡ n → test point ≡ false) → some_point n test ≡ false
 some_point_none n test h = some_point_same n test (λ p. false) h ∙ some_point_false n
 
-or_first : (t s : Bool) → t ≡ true → (t || s) ≡ true
-or_first true s h = refl
-or_first false s h = cc
-
 some_point_at : (n : ℕ) (test : List Bool → Bool) (point : List Bool) → length point ≡ n → test point ≡ true → some_point n test ≡ true
 unfolding some_point
 some_point_at zero test [] e h = h
 some_point_at zero test (b ∷ bs) e h = absurd (omega arith)
 some_point_at (suc n) test [] e h = absurd (omega arith)
-some_point_at (suc n) test (false ∷ bs) e h = or_first _ _ (some_point_at n (λ p. test (false ∷ p)) bs (omega arith) h)
-some_point_at (suc n) test (true ∷ bs) e h = or_second _ _ (some_point_at n (λ p. test (true ∷ p)) bs (omega arith) h)
+some_point_at (suc n) test (false ∷ bs) e h = or_left _ _ (some_point_at n (λ p. test (false ∷ p)) bs (omega arith) h)
+some_point_at (suc n) test (true ∷ bs) e h = or_right _ _ (some_point_at n (λ p. test (true ∷ p)) bs (omega arith) h)
 
 -- tests that are the same at the points of a row
 pub has_point_same : (row : List (Option Bool)) (test other : List Bool → Bool) → SameWithin row test other → has_point test row ≡ has_point other row
@@ -52,7 +49,7 @@ has_point_none row test h = has_point_same row test (λ p. false) h ∙ some_poi
 
 pub has_point_at : (row : List (Option Bool)) (test : List Bool → Bool) → test (point_of row) ≡ true → has_point test row ≡ true
 unfolding has_point
-has_point_at row test h = some_point_at (length row) (λ p. matches row p && test p) (point_of row) (length-point_of row) (and_both _ _ (matches-point_of row) h)
+has_point_at row test h = some_point_at (length row) (λ p. matches row p && test p) (point_of row) (length-point_of row) (and_from _ _ (matches-point_of row) h)
 
 -- a row without a dash has one point
 pub one_point : (row : List (Option Bool)) (point : List Bool) → no_dash row ≡ true → length point ≡ length row → matches row point ≡ true → point ≡ point_of row
@@ -72,13 +69,6 @@ has_point_full row test n = cases (test (point_of row)) refl
     cases : (t : Bool) → test (point_of row) ≡ t → has_point test row ≡ test (point_of row)
     cases true h = has_point_at row test h ∙ sym h
     cases false h = has_point_none row test (record { same = λ p e m. ap test (one_point row p n e m) ∙ h }) ∙ sym h
-
--- the halves at a dash
-or_turned : (t s : Bool) → (t || s) ≡ (s || t)
-or_turned true true = refl
-or_turned true false = refl
-or_turned false true = refl
-or_turned false false = refl
 
 or_crossed : (a b c d : Bool) → ((a || b) || (c || d)) ≡ ((a || c) || (b || d))
 or_crossed true b c d = refl
@@ -121,4 +111,4 @@ low_and_high (Some true ∷ ls) test (suc i) lt e =
 pub has_point_halves : (row : List (Option Bool)) (test : List Bool → Bool) (place : ℕ) (bit : Bool) → place < length row → get_or row place None ≡ None
     → has_point test row ≡ (has_point test (set row place (Some bit)) || has_point test (set row place (Some (not bit))))
 has_point_halves row test place false lt e = low_and_high row test place lt e
-has_point_halves row test place true lt e = low_and_high row test place lt e ∙ or_turned (has_point test (set row place (Some false))) (has_point test (set row place (Some true)))
+has_point_halves row test place true lt e = low_and_high row test place lt e ∙ or_comm (has_point test (set row place (Some false))) (has_point test (set row place (Some true)))

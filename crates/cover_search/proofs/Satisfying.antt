@@ -3,6 +3,7 @@ use Rattle.std.proofs.Common.{◌≡◌, ℕ, ◌<◌, ◌+◌, zero, suc, Bool,
 use Rattle.std.specs.List.{list_all}
 use Rattle.std.proofs.Math.Bool.{and-true}
 use Rattle.std.proofs.lemmas.List.{take_more}
+use Rattle.std.proofs.lemmas.Bool.{or_right}
 use Rattle.sis_base.specs.Rows.{agrees, matches, some_matches, phase_value, HasWidth}
 use Rattle.cube_cover.specs.Covers.{Intersects, agreeing_rows}
 use Rattle.cube_cover.specs.Literals.{rows_intersect, row_contains, some_contains}
@@ -25,7 +26,7 @@ same_bit true c h = h
 same_bit false true h = cc
 same_bit false false h = refl
 
--- the bit that a point of a row has at a place agrees with what stands there
+-- the bit of a row's point in a column agrees with the literal there
 pub matches_at : (row : List (Option Bool)) (point : List Bool) (place : ℕ) → length point ≡ length row → matches row point ≡ true → agrees (get_or row place None) (get_or point place false) ≡ true
 unfolding matches
 matches_at [] point place e m = refl
@@ -33,7 +34,7 @@ matches_at (l ∷ ls) [] place e m = absurd (omega arith)
 matches_at (l ∷ ls) (b ∷ bs) zero e m = and_left _ _ m
 matches_at (l ∷ ls) (b ∷ bs) (suc i) e m = matches_at ls bs i (omega arith) (and_right (agrees l b) _ m)
 
--- a row that does not agree with what the given row has at a place has no point of it
+-- a row that does not agree with the given row in a column has no point of it
 no_match : (given row : List (Option Bool)) (point : List Bool) (place : ℕ) (bit : Bool) → length row ≡ length given → length point ≡ length given → matches given point ≡ true → get_or given place None ≡ Some bit
     → agrees (get_or row place None) bit ≡ false → matches row point ≡ false
 no_match given row point place bit w d m e a = cases (matches row point) refl
@@ -107,11 +108,6 @@ meeting_wide width given (row ∷ rows) h = cases (rows_intersect row given) (me
     cases true rest = (h.0, rest)
     cases false rest = rest
 
--- what is known of a constraint within the given row
-pub or_second : (t s : Bool) → s ≡ true → (t || s) ≡ true
-or_second true s h = refl
-or_second false s h = h
-
 pub contained_matches : (given : List (Option Bool)) (rows : List (List (Option Bool))) (point : List Bool) → HasWidth (length given) rows → length point ≡ length given → some_contains given rows ≡ true → matches given point ≡ true → some_matches rows point ≡ true
 unfolding some_matches some_contains HasWidth
 contained_matches given [] point w d h m = cc
@@ -119,7 +115,7 @@ contained_matches given (row ∷ rows) point w d h m = cases (row_contains row g
   where
     cases : (t : Bool) → row_contains row given ≡ t → (t || some_contains given rows) ≡ true → (some_contains given rows ≡ true → some_matches rows point ≡ true) → (matches row point || some_matches rows point) ≡ true
     cases true e h rest = rw (contains_at_point row given point (d ∙ sym w.0) w.0 e m) refl
-    cases false e h rest = or_second (matches row point) _ (rest h)
+    cases false e h rest = or_right (matches row point) _ (rest h)
 
 value_is : (given : List (Option Bool)) (rows : List (List (Option Bool))) (point : List Bool) (bit : Bool) → HasWidth (length given) rows → length point ≡ length given → matches given point ≡ true → value_within given rows ≡ Some bit → some_matches rows point ≡ bit
 unfolding some_matches
@@ -188,7 +184,7 @@ pub left_none : (given : List (Option Bool)) → IsLeft given [] []
 unfolding AllWide
 left_none given = record { wide = tt; same = record { same = λ point d m. refl } }
 
--- the next constraint, narrowed, is left where nothing is known of it, and goes where it is satisfied
+-- the next constraint, narrowed, is kept if nothing is known of it, and dropped if it is satisfied
 left_more : (given : List (Option Bool)) (place : ℕ) (constraints left : List Constraint) (constraint : Constraint) (verdict : Option Bool) → HasWidth (length given) constraint.rows → verdict ≡ verdict_within given (narrowed given place constraint) → (verdict ≡ Some false → ⊥)
     → IsLeft given constraints left → IsLeft given (constraints ++ constraint ∷ []) (with_open left (narrowed given place constraint) verdict)
 left_more given place constraints left constraint None w e possible h = record {

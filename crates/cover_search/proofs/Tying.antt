@@ -1,10 +1,10 @@
--- Ties as constraints, and the tests of an oracle as what is asked of constraints.
+-- Ties as constraints, and the questions of an oracle as constraints.
 use Rattle.std.proofs.Common.{◌≡◌, ℕ, ◌<◌, ◌+◌, zero, suc, Bool, true, false, not, ◌&&◌, Option, Some, None, List, [], ◌∷◌, ◌++◌, length, get_or, take, map, refl, sym, ap, ◌∙◌, append_assoc, arith}
 use Rattle.std.proofs.lemmas.List.{take_more, map_push}
 use Rattle.std.specs.List.{list_all, AllByRecursion}
 use Rattle.sis_base.specs.Rows.{agrees, matches, some_matches, phase_value, value_by_phase, HasWidth}
 use Rattle.cover_min.specs.Points.{has_point, has_own_point}
-use Rattle.cover_search.specs.Ties.{Tie, AreWide, keeps, keeps_all}
+use Rattle.cover_search.specs.Ties.{NodeConstraint, AreWide, keeps, keeps_all}
 use Rattle.cover_search.specs.Searches.{Constraint, AllWide, constraint_of, satisfies, satisfies_all, meeting_rows}
 use Rattle.cover_search.proofs.Satisfying.{meeting_same, meeting_wide}
 use Rattle.cover_search.proofs.Halves.{has_point_same}
@@ -16,20 +16,20 @@ holds_at P (first ∷ xs) zero x h lt e = rw e h.0
 holds_at P (first ∷ xs) (suc i) x h lt e = holds_at P xs i x h.1 (omega arith) e
 
 -- one tie more
-taken_next : {X : Type 0} (f : X → Tie) (xs : List X) (i : ℕ) (x : X) → i < length xs → x ≡ get_or xs i x → map f (take (i + 1) xs) ≡ map f (take i xs) ++ f x ∷ []
+taken_next : {X : Type 0} (f : X → NodeConstraint) (xs : List X) (i : ℕ) (x : X) → i < length xs → x ≡ get_or xs i x → map f (take (i + 1) xs) ≡ map f (take i xs) ++ f x ∷ []
 taken_next f xs i x lt e = ap (map f) (take_more xs i x lt) ∙ map_push f (take i xs) (get_or xs i x) ∙ ap (λ y. map f (take i xs) ++ f y ∷ []) (sym e)
 
-pub constraints_next : {X : Type 0} (f : X → Tie) (given : List (Option Bool)) (xs : List X) (i : ℕ) (x : X) (start constraints after : List Constraint) (constraint : Constraint) → i < length xs → x ≡ get_or xs i x → constraint ≡ constraint_of given (f x) → after ≡ constraints ++ constraint ∷ []
+pub constraints_next : {X : Type 0} (f : X → NodeConstraint) (given : List (Option Bool)) (xs : List X) (i : ℕ) (x : X) (start constraints after : List Constraint) (constraint : Constraint) → i < length xs → x ≡ get_or xs i x → constraint ≡ constraint_of given (f x) → after ≡ constraints ++ constraint ∷ []
     → constraints ≡ start ++ map (constraint_of given) (map f (take i xs)) → after ≡ start ++ map (constraint_of given) (map f (take (i + 1) xs))
 constraints_next f given xs i x start constraints after constraint lt e a k h =
     let more : map (constraint_of given) (map f (take (i + 1) xs)) ≡ map (constraint_of given) (map f (take i xs)) ++ constraint_of given (f x) ∷ [] = ap (map (constraint_of given)) (taken_next f xs i x lt e) ∙ map_push (constraint_of given) (map f (take i xs)) (f x) in
     k ∙ rw (h, a, more) (append_assoc start (map (constraint_of given) (map f (take i xs))) (constraint_of given (f x) ∷ []))
 
-wide_more : (width : ℕ) (ties : List Tie) (tie : Tie) → AreWide width ties → HasWidth width tie.rows → AreWide width (ties ++ tie ∷ [])
+wide_more : (width : ℕ) (ties : List NodeConstraint) (tie : NodeConstraint) → AreWide width ties → HasWidth width tie.rows → AreWide width (ties ++ tie ∷ [])
 wide_more width [] tie h w = (w, tt)
 wide_more width (first ∷ ties) tie h w = (h.0, wide_more width ties tie h.1 w)
 
-pub wide_next : {X : Type 0} (f : X → Tie) (width : ℕ) (xs : List X) (i : ℕ) (x : X) → i < length xs → x ≡ get_or xs i x → HasWidth width (f x).rows → AreWide width (map f (take i xs)) → AreWide width (map f (take (i + 1) xs))
+pub wide_next : {X : Type 0} (f : X → NodeConstraint) (width : ℕ) (xs : List X) (i : ℕ) (x : X) → i < length xs → x ≡ get_or xs i x → HasWidth width (f x).rows → AreWide width (map f (take i xs)) → AreWide width (map f (take (i + 1) xs))
 wide_next f width xs i x lt e w h = rw (taken_next f xs i x lt e) (wide_more width (map f (take i xs)) (f x) h w)
 
 -- a tie is kept where its constraint is satisfied
@@ -43,19 +43,19 @@ turned false true false = refl
 turned false false true = refl
 turned false false false = refl
 
-kept_satisfied : (given : List (Option Bool)) (tie : Tie) (point : List Bool) → HasWidth (length given) tie.rows → length point ≡ length given → matches given point ≡ true → satisfies point (constraint_of given tie) ≡ keeps point tie
+kept_satisfied : (given : List (Option Bool)) (tie : NodeConstraint) (point : List Bool) → HasWidth (length given) tie.rows → length point ≡ length given → matches given point ≡ true → satisfies point (constraint_of given tie) ≡ keeps point tie
 unfolding value_by_phase
 kept_satisfied given tie point w d m =
     ap (agrees (Some (phase_value tie.phase (get_or point tie.place false)))) (meeting_same given tie.rows point w d m) ∙ turned tie.phase (some_matches tie.rows point) (get_or point tie.place false)
 
-all_kept : (given : List (Option Bool)) (ties : List Tie) (point : List Bool) → AreWide (length given) ties → length point ≡ length given → matches given point ≡ true → list_all (satisfies point) (map (constraint_of given) ties) ≡ keeps_all ties point
+all_kept : (given : List (Option Bool)) (ties : List NodeConstraint) (point : List Bool) → AreWide (length given) ties → length point ≡ length given → matches given point ≡ true → list_all (satisfies point) (map (constraint_of given) ties) ≡ keeps_all ties point
 all_kept given [] point w d m = refl
 all_kept given (tie ∷ ties) point w d m =
     let rest : list_all (satisfies point) (map (constraint_of given) ties) ≡ list_all (keeps point) ties = all_kept given ties point w.1 d m in
     let first : satisfies point (constraint_of given tie) ≡ keeps point tie = kept_satisfied given tie point w.0 d m in
     ap (λ (x : Bool). x && list_all (satisfies point) (map (constraint_of given) ties)) first ∙ ap (λ (x : Bool). keeps point tie && x) rest
 
-ties_wide : (width : ℕ) (given : List (Option Bool)) (ties : List Tie) → AreWide width ties → AllWide width (map (constraint_of given) ties)
+ties_wide : (width : ℕ) (given : List (Option Bool)) (ties : List NodeConstraint) → AreWide width ties → AllWide width (map (constraint_of given) ties)
 unfolding AllWide
 ties_wide width given [] h = tt
 ties_wide width given (tie ∷ ties) h = (meeting_wide width given tie.rows h.0, ties_wide width given ties h.1)
@@ -68,12 +68,12 @@ pub two_before : (none half before after slice rest : List Constraint) (constrai
     → slice ≡ (first ∷ second ∷ []) ++ rest
 two_before none half before after slice rest constraint other first second n h b a s e f = rw (s, a, b, h, n, e, f) refl
 
-pub off_wide : (given : List (Option Bool)) (rows : List (List (Option Bool))) (ties : List Tie) (constraints : List Constraint) → constraints ≡ (record { tie = None; bit = false; rows = meeting_rows given rows } ∷ []) ++ map (constraint_of given) ties
+pub off_wide : (given : List (Option Bool)) (rows : List (List (Option Bool))) (ties : List NodeConstraint) (constraints : List Constraint) → constraints ≡ (record { tie = None; bit = false; rows = meeting_rows given rows } ∷ []) ++ map (constraint_of given) ties
     → HasWidth (length given) rows → AreWide (length given) ties → AllWide (length given) constraints
 unfolding AllWide
 off_wide given rows ties constraints e w h = rw e (meeting_wide (length given) given rows w, ties_wide (length given) given ties h)
 
-pub off_answer : (given : List (Option Bool)) (rows : List (List (Option Bool))) (ties : List Tie) (constraints : List Constraint) (answer : Bool) → constraints ≡ (record { tie = None; bit = false; rows = meeting_rows given rows } ∷ []) ++ map (constraint_of given) ties
+pub off_answer : (given : List (Option Bool)) (rows : List (List (Option Bool))) (ties : List NodeConstraint) (constraints : List Constraint) (answer : Bool) → constraints ≡ (record { tie = None; bit = false; rows = meeting_rows given rows } ∷ []) ++ map (constraint_of given) ties
     → HasWidth (length given) rows → AreWide (length given) ties → answer ≡ has_point (satisfies_all constraints) given
     → answer ≡ has_point (λ point. not (some_matches rows point) && keeps_all ties point) given
 unfolding satisfies_all
@@ -95,13 +95,13 @@ bits_in_order false true false = refl
 bits_in_order false false true = refl
 bits_in_order false false false = refl
 
-pub on_wide : (given : List (Option Bool)) (rows others : List (List (Option Bool))) (ties : List Tie) (constraints : List Constraint)
+pub on_wide : (given : List (Option Bool)) (rows others : List (List (Option Bool))) (ties : List NodeConstraint) (constraints : List Constraint)
     → constraints ≡ (record { tie = None; bit = false; rows = meeting_rows given others } ∷ record { tie = None; bit = true; rows = meeting_rows given rows } ∷ []) ++ map (constraint_of given) ties
     → HasWidth (length given) rows → HasWidth (length given) others → AreWide (length given) ties → AllWide (length given) constraints
 unfolding AllWide
 on_wide given rows others ties constraints e w o h = rw e (meeting_wide (length given) given others o, (meeting_wide (length given) given rows w, ties_wide (length given) given ties h))
 
-pub on_answer : (given : List (Option Bool)) (rows others : List (List (Option Bool))) (ties : List Tie) (constraints : List Constraint) (answer : Bool)
+pub on_answer : (given : List (Option Bool)) (rows others : List (List (Option Bool))) (ties : List NodeConstraint) (constraints : List Constraint) (answer : Bool)
     → constraints ≡ (record { tie = None; bit = false; rows = meeting_rows given others } ∷ record { tie = None; bit = true; rows = meeting_rows given rows } ∷ []) ++ map (constraint_of given) ties
     → HasWidth (length given) rows → HasWidth (length given) others → AreWide (length given) ties → answer ≡ has_point (satisfies_all constraints) given
     → answer ≡ has_own_point (λ point. some_matches rows point && keeps_all ties point) given others

@@ -1,14 +1,16 @@
-//! A constraint: that some rows give a certain bit at a point, which may be the point's own bit at a place.
+//! A constraint: that some rows give a certain bit at a point, which may be the point's own bit in
+//! a column.
 //!
-//! Source: De Micheli, "Synthesis and Optimization of Digital Circuits", chapter 8 (satisfiability don't-care conditions).
+//! Source: De Micheli, "Synthesis and Optimization of Digital Circuits", chapter 8 (satisfiability
+//! don't-care conditions).
 
 ghost use Rattle.std.specs.Prelude.{◌≡◌, map};
 
 use cube_cover::Row;
 use std::marker::Model;
 
-/// That rows, which stay where they are, give `bit`; or where there is a tie, that they give the point's bit at its place, turned
-/// over where `bit` is false. Contracts see it as a `Constraint` of `specs/Searches.antt`.
+/// That the borrowed rows give `bit`; or with a tie, that they give the point's bit in its column,
+/// complemented if `bit` is false. Contracts see it as a `Constraint` of `specs/Searches.antt`.
 #[derive(Drop)]
 pub struct Constraint<'a, R: Row> {
     tie: Option<usize>,
@@ -28,12 +30,17 @@ impl<'a, R: Row> Model for Constraint<'a, R> {
 impl<'a, R: Row> Constraint<'a, R> {
     /// The constraint for some rows.
     pub fn new(tie: Option<usize>, bit: bool, rows: Vec<&'a R>) -> Constraint<'a, R>
-        ensures { result ≡ record { tie = tie; bit = bit; rows = map (λ row. R.literals row.now) rows.entry.items } }
+        ensures { result ≡ record {
+          tie = tie;
+          bit = bit;
+          rows = map
+              (λ row. R.literals row.now) rows.entry.items;
+        } }
     {
         Constraint { tie, bit, rows }
     }
 
-    /// The place of the tie, if there is one.
+    /// The column of the tie, if there is one.
     pub fn tie(&self) -> Option<usize>
         ensures { result ≡ self.now.tie }
     {

@@ -1,22 +1,23 @@
 //! What is left of constraints within a row.
 //!
-//! Source: De Micheli, "Synthesis and Optimization of Digital Circuits", chapter 7 (cofactors with respect to a row). Of a
-//! constraint's rows those can go that have no point of the given row. A constraint that is satisfied at all points of the given row
-//! goes, and one that is satisfied at none ends the search there. Promised: the constraints that are left are satisfied at the same
-//! points of the given row. Which of them are decided is seen at once, by a row that has all its points or by the want of rows
-//! (`verdict_within` of `specs/Searches.antt`).
+//! Source: De Micheli, "Synthesis and Optimization of Digital Circuits", chapter 7 (cofactors with
+//! respect to a row). Rows of a constraint that have no point of the given row can be dropped. A
+//! constraint that is satisfied at all points of the given row is dropped, and one that is
+//! satisfied at none ends the search there. Promised: the constraints that are left are satisfied
+//! at the same points of the given row. A constraint counts as decided only if a row has all points
+//! of the given row or no row is left (`verdict_within` of `specs/Searches.antt`).
 
 ghost use Rattle.std.specs.Prelude.{◌≡◌, true, false, Some, length, map, slice_index_or, MatchOption, IfOk, OnOk};
-ghost use Rattle.sis_base.specs.Rows.{agrees, phase_value, HasWidth};
+ghost use Rattle.sis_base.specs.Rows.{phase_value, HasWidth};
 ghost use Rattle.cube_cover.specs.Covers.{agreeing_rows};
-ghost use Rattle.cube_cover.specs.Literals.{row_contains, rows_intersect, some_contains};
+ghost use Rattle.cube_cover.specs.Literals.{rows_intersect, some_contains};
 ghost use Rattle.cover_search.specs.Searches.{AllWide, IsLeft, SameWithin, satisfies_all, meeting_rows, narrowed, narrowed_rows, known_by_phase, wanted_within, value_within, verdict_of, verdict_within, with_open};
 
 use crate::constraint::Constraint;
-use cube_cover::Row;
+use cube_cover::{Row, contains_row, literal_agrees};
 use std::alloc::{AllocError, Global};
 
-/// What stands at a place of a row; `past` where it has no such place.
+/// The literal in a column of a row; `past` if it has no such column.
 pub fn literal_at<R: Row>(row: &R, place: usize, past: Option<bool>) -> Option<bool>
     ensures { result ≡ slice_index_or (R.literals row.now) place past }
 {
@@ -26,29 +27,11 @@ pub fn literal_at<R: Row>(row: &R, place: usize, past: Option<bool>) -> Option<b
     row.at(place)
 }
 
-// Whether a literal agrees with a bit; a dash does with each.
-fn literal_agrees(literal: Option<bool>, bit: bool) -> bool
-    ensures { result ≡ agrees literal bit }
-{
-    match literal {
-        None => true,
-        Some(other) => other == bit,
-    }
-}
-
 /// A bit by a phase.
 pub fn by_phase(phase: bool, bit: bool) -> bool
     ensures { result ≡ phase_value phase bit }
 {
     phase == bit
-}
-
-// Whether a row has each point of another.
-fn contains_row<R: Row>(row: &R, other: &R) -> bool
-    requires { length (R.literals row.now) ≡ length (R.literals other.now) }
-    ensures { result ≡ row_contains (R.literals row.now) (R.literals other.now) }
-{
-    row.contains(other)
 }
 
 // Whether two rows have a point in common.
@@ -59,7 +42,7 @@ fn meets<R: Row>(row: &R, other: &R) -> bool
     row.intersects(other)
 }
 
-/// The rows that have a point of the given one, all of its width; an error only for want of memory.
+/// The rows that have a point of the given one; all have its width.
 #[tactic(auto, using(cube_cover::proofs::Points::width_read), unfolding(crate::specs::Searches::meeting_rows))]
 pub fn rows_within<'a, R: Row>(
     alloc: Global,
@@ -67,7 +50,8 @@ pub fn rows_within<'a, R: Row>(
     rows: &'a [R],
 ) -> Result<Vec<&'a R>, AllocError>
     requires { HasWidth (length (R.literals given.now)) (map R.literals rows.now) }
-    ensures { IfOk result (λ made. map (λ row. R.literals row.now) made.items ≡ meeting_rows (R.literals given.now) (map R.literals rows.now)) }
+    ensures { IfOk result (λ made. map (λ row. R.literals row.now) made.items ≡ meeting_rows
+        (R.literals given.now) (map R.literals rows.now)) }
 {
     let mut made = Vec::new(alloc);
     for row in rows {
@@ -78,9 +62,10 @@ pub fn rows_within<'a, R: Row>(
     Ok(made)
 }
 
-// The same rows.
+// Copies the references.
 fn all_rows<'a, R: Row>(alloc: Global, rows: &[&'a R]) -> Result<Vec<&'a R>, AllocError>
-    ensures { IfOk result (λ made. map (λ row. R.literals row.now) made.items ≡ map (λ row. R.literals row.now) rows.now) }
+    ensures { IfOk result (λ made. map (λ row. R.literals row.now) made.items ≡ map
+        (λ row. R.literals row.now) rows.now) }
 {
     let mut made = Vec::with_capacity(alloc, rows.len())?;
     for row in rows {
@@ -89,7 +74,7 @@ fn all_rows<'a, R: Row>(alloc: Global, rows: &[&'a R]) -> Result<Vec<&'a R>, All
     Ok(made)
 }
 
-// The rows that agree with a bit at a place.
+// The rows that agree with a bit in a column.
 #[tactic(auto, unfolding(cube_cover::specs::Covers::agreeing_rows))]
 fn rows_agreeing<'a, R: Row>(
     alloc: Global,
@@ -97,7 +82,8 @@ fn rows_agreeing<'a, R: Row>(
     place: usize,
     bit: bool,
 ) -> Result<Vec<&'a R>, AllocError>
-    ensures { IfOk result (λ made. map (λ row. R.literals row.now) made.items ≡ agreeing_rows place bit (map (λ row. R.literals row.now) rows.now)) }
+    ensures { IfOk result (λ made. map (λ row. R.literals row.now) made.items
+        ≡ agreeing_rows place bit (map (λ row. R.literals row.now) rows.now)) }
 {
     let mut made = Vec::new(alloc);
     for row in rows {
@@ -108,14 +94,15 @@ fn rows_agreeing<'a, R: Row>(
     Ok(made)
 }
 
-// The rows that agree with what stands at a place.
+// The rows that agree with a literal in a column; all rows for a dash.
 fn narrowed_to<'a, R: Row>(
     alloc: Global,
     rows: &[&'a R],
     place: usize,
     literal: Option<bool>,
 ) -> Result<Vec<&'a R>, AllocError>
-    ensures { IfOk result (λ made. map (λ row. R.literals row.now) made.items ≡ narrowed_rows literal place (map (λ row. R.literals row.now) rows.now)) }
+    ensures { IfOk result (λ made. map (λ row. R.literals row.now) made.items
+        ≡ narrowed_rows literal place (map (λ row. R.literals row.now) rows.now)) }
 {
     match literal {
         None => all_rows(alloc, rows),
@@ -123,7 +110,7 @@ fn narrowed_to<'a, R: Row>(
     }
 }
 
-// The constraint for those of its rows that agree with what stands at a place of the given row.
+// The constraint with those of its rows that agree with the given row in a column.
 fn narrowed_constraint<'a, R: Row>(
     alloc: Global,
     given: &R,
@@ -141,11 +128,12 @@ fn narrowed_constraint<'a, R: Row>(
     Ok(Constraint::new(constraint.tie(), constraint.bit(), rows))
 }
 
-/// Whether one of some rows has each point of the given one.
+/// Whether one of the rows contains each point of the given one.
 #[tactic(auto, using(cube_cover::proofs::Points::width_read), unfolding(cube_cover::specs::Literals::some_contains))]
 pub fn some_row_contains<R: Row>(given: &R, rows: &[&R]) -> bool
     requires { HasWidth (length (R.literals given.now)) (map (λ row. R.literals row.now) rows.now) }
-    ensures { result ≡ some_contains (R.literals given.now) (map (λ row. R.literals row.now) rows.now) }
+    ensures { result ≡ some_contains (R.literals given.now)
+        (map (λ row. R.literals row.now) rows.now) }
 {
     for row in rows {
         if contains_row(*row, given) {
@@ -155,10 +143,11 @@ pub fn some_row_contains<R: Row>(given: &R, rows: &[&R]) -> bool
     false
 }
 
-// What rows give at all points of the given one, where that is seen at once.
+// The value of the rows at all points of the given one, if it is evident.
 fn known_value<R: Row>(given: &R, rows: &[&R]) -> Option<bool>
     requires { HasWidth (length (R.literals given.now)) (map (λ row. R.literals row.now) rows.now) }
-    ensures { result ≡ value_within (R.literals given.now) (map (λ row. R.literals row.now) rows.now) }
+    ensures { result ≡ value_within (R.literals given.now)
+        (map (λ row. R.literals row.now) rows.now) }
 {
     if rows.len() == 0 {
         return Some(false);
@@ -169,7 +158,7 @@ fn known_value<R: Row>(given: &R, rows: &[&R]) -> Option<bool>
     None
 }
 
-// A bit by a phase, where it is known.
+// A bit by a phase, if it is known.
 fn known_bit(phase: bool, literal: Option<bool>) -> Option<bool>
     ensures { result ≡ known_by_phase phase literal }
 {
@@ -179,7 +168,7 @@ fn known_bit(phase: bool, literal: Option<bool>) -> Option<bool>
     }
 }
 
-/// What a constraint wants at all points of the given row, where that is one bit.
+/// The bit that a constraint wants at all points of the given row, if it is one bit.
 pub fn known_wanted<R: Row>(given: &R, tie: Option<usize>, bit: bool) -> Option<bool>
     ensures { result ≡ wanted_within (R.literals given.now) tie bit }
 {
@@ -189,7 +178,7 @@ pub fn known_wanted<R: Row>(given: &R, tie: Option<usize>, bit: bool) -> Option<
     }
 }
 
-// Whether two bits are the same, where both are known.
+// Whether two bits are equal, if both are known.
 fn compared(wanted: Option<bool>, value: Option<bool>) -> Option<bool>
     ensures { result ≡ verdict_of wanted value }
 {
@@ -202,7 +191,7 @@ fn compared(wanted: Option<bool>, value: Option<bool>) -> Option<bool>
     }
 }
 
-// Whether a constraint is satisfied at all points of the given row, or at none, where that is seen at once.
+// Whether a constraint is satisfied at all points of the given row, or at none, if that is evident.
 #[tactic(auto, unfolding(crate::specs::Searches::verdict_within))]
 fn verdict<R: Row>(given: &R, constraint: &Constraint<R>) -> Option<bool>
     requires { HasWidth (length (R.literals given.now)) constraint.now.rows }
@@ -222,7 +211,7 @@ fn is_hopeless(verdict: Option<bool>) -> bool
     }
 }
 
-// Puts a constraint behind the others, where nothing is known of it.
+// Appends a constraint that is not decided.
 fn keep_open<'a, R: Row>(
     left: &mut Vec<Constraint<'a, R>>,
     constraint: Constraint<'a, R>,
@@ -239,8 +228,9 @@ fn keep_open<'a, R: Row>(
     }
 }
 
-/// What is left of constraints within the given row, of whose width their rows are: each with the rows that agree at a place, and
-/// without those that are satisfied. None where it is seen at once that one cannot be; an error only for want of memory.
+/// What is left of constraints within the given row, whose width their rows have: each with the
+/// rows that agree in a column, and without those that are satisfied. `None` if one evidently
+/// cannot be satisfied.
 #[tactic(auto, using(crate::proofs::Satisfying::narrowed_wide))]
 pub fn open_constraints<'a, R: Row>(
     alloc: Global,
@@ -249,7 +239,9 @@ pub fn open_constraints<'a, R: Row>(
     place: usize,
 ) -> Result<Option<Vec<Constraint<'a, R>>>, AllocError>
     requires { AllWide (length (R.literals given.now)) constraints.now }
-    ensures { IfOk result (λ found. MatchOption found (SameWithin (R.literals given.now) (satisfies_all constraints.now) (λ point. false)) (λ left. IsLeft (R.literals given.now) constraints.now left.items)) }
+    ensures { IfOk result (λ found. MatchOption found
+        (SameWithin (R.literals given.now) (satisfies_all constraints.now) (λ point. false))
+        (λ left. IsLeft (R.literals given.now) constraints.now left.items)) }
 {
     let mut left = Vec::new(alloc);
     for constraint in constraints {

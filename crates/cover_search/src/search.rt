@@ -1,56 +1,23 @@
 //! Whether a row has a point at which all constraints are satisfied.
 //!
-//! Source: Davis, Logemann and Loveland, "A machine program for theorem-proving" (Communications of the ACM 5, 1962), and De
-//! Micheli, "Synthesis and Optimization of Digital Circuits", chapter 7 (recursion on cofactors). Promised: the answer is exact.
-//! A likely point is tried first. Then the search goes down over the dashes of the given row: at each level the constraints are
-//! narrowed to the literal decided last, those that are satisfied go, and one that cannot be ends the branch; then a place is
-//! chosen by weights of literals, and the likelier bit tried first.
+//! Source: Davis, Logemann and Loveland, "A machine program for theorem-proving" (Communications of
+//! the ACM 5, 1962), and De Micheli, "Synthesis and Optimization of Digital Circuits", chapter 7
+//! (recursion on cofactors). Promised: the answer is exact. A likely point is tried first. Then the
+//! search splits on the dashes of the given row. At each level the constraints are narrowed to the
+//! literal decided last; satisfied ones are dropped, and one that cannot be satisfied ends the
+//! branch. Then a column is chosen by weights of literals, and the likelier bit is tried first.
 
-ghost use Rattle.std.specs.Prelude.{◌≡◌, ◌<◌, true, Some, None, length, slice_index_or, slice_set, MatchOption, IfOk};
+ghost use Rattle.std.specs.Prelude.{◌≡◌, ◌<◌, true, Some, None, length, IfOk};
 ghost use Rattle.std.specs.List.{list_all};
 ghost use Rattle.sis_base.specs.Rows.{HasWidth};
-ghost use Rattle.cube_cover.specs.Literals.{no_dash};
 ghost use Rattle.cover_min.specs.Points.{has_point};
 ghost use Rattle.cover_search.specs.Searches.{AllWide, IsPart, filled_at, satisfies_all, wanted_at, is_satisfied_at, is_positive};
 
 use crate::constraint::Constraint;
 use crate::narrow::{by_phase, literal_at, open_constraints, some_row_contains};
 use crate::weights::{choose, places_for_one};
-use cube_cover::Row;
+use cube_cover::{Row, dash_of, first_dash, row_with};
 use std::alloc::{AllocError, Global};
-
-// The first dash of a row, if it has one.
-#[tactic(auto, unfolding(cube_cover::specs::Literals::no_dash))]
-fn first_dash<R: Row>(row: &R) -> Option<usize>
-    ensures { MatchOption result (no_dash (R.literals row.now) ≡ true) (λ place. (place < length (R.literals row.now)) × (slice_index_or (R.literals row.now) place None ≡ None)) }
-{
-    for place in 0..row.width() {
-        if row.at(place).is_none() {
-            return Some(place);
-        }
-    }
-    None
-}
-
-// The place chosen where the row has a dash there, else its first dash, if it has one.
-fn dash_of<R: Row>(row: &R, choice: usize) -> Option<usize>
-    ensures { MatchOption result (no_dash (R.literals row.now) ≡ true) (λ place. (place < length (R.literals row.now)) × (slice_index_or (R.literals row.now) place None ≡ None)) }
-{
-    if choice < row.width() && row.at(choice).is_none() {
-        return Some(choice);
-    }
-    first_dash(row)
-}
-
-// A copy of a row with a literal at a place.
-fn row_with<R: Row>(alloc: Global, row: &R, place: usize, bit: bool) -> Result<R, AllocError>
-    requires { place < length (R.literals row.now) }
-    ensures { IfOk result (λ made. R.literals made ≡ slice_set (R.literals row.now) place (Some bit)) }
-{
-    let mut made = row.copy(alloc)?;
-    made.set(place, Some(bit));
-    Ok(made)
-}
 
 // Whether a literal is positive.
 fn positive(literal: Option<bool>) -> bool
@@ -62,7 +29,7 @@ fn positive(literal: Option<bool>) -> bool
     }
 }
 
-// What a constraint wants at the one point of a row without a dash.
+// The bit that a constraint wants at the one point of a row without a dash.
 fn wanted<R: Row>(given: &R, tie: Option<usize>, bit: bool) -> bool
     ensures { result ≡ wanted_at (R.literals given.now) tie bit }
 {
@@ -95,7 +62,7 @@ fn are_satisfied<R: Row>(given: &R, constraints: &[Constraint<R>]) -> bool
     true
 }
 
-// Puts a literal at a place where the row has a dash.
+// Sets a literal in a column where the row has a dash.
 fn fill_at<R: Row>(row: &mut R, place: usize, bit: bool)
     ensures { R.literals row.new ≡ filled_at (R.literals row.old) place bit }
 {
@@ -104,7 +71,8 @@ fn fill_at<R: Row>(row: &mut R, place: usize, bit: bool)
     }
 }
 
-// A row of likely bits: the given one, with a literal in place of each dash, as the weights of literals are.
+// A row of likely bits: the given one with a literal for each dash, chosen by the weights of
+// literals.
 fn likely_row<R: Row>(
     alloc: Global,
     given: &R,
@@ -123,10 +91,11 @@ fn likely_row<R: Row>(
     Ok(made)
 }
 
-// Whether all constraints are satisfied at the one point of a row; false where it has a dash.
+// Whether all constraints are satisfied at the one point of a row; false if it has a dash.
 fn are_satisfied_at<R: Row>(row: &R, constraints: &[Constraint<R>]) -> bool
     requires { AllWide (length (R.literals row.now)) constraints.now }
-    ensures { result ≡ true → has_point (satisfies_all constraints.now) (R.literals row.now) ≡ true }
+    ensures { result ≡ true → has_point (satisfies_all constraints.now) (R.literals row.now)
+        ≡ true }
 {
     match first_dash(row) {
         None => are_satisfied(row, constraints),
@@ -134,20 +103,23 @@ fn are_satisfied_at<R: Row>(row: &R, constraints: &[Constraint<R>]) -> bool
     }
 }
 
-// Whether all constraints are satisfied at a likely point of the given row, which is the first to be tried.
+// Whether all constraints are satisfied at a likely point of the given row. This point is tried
+// first.
 fn are_satisfied_likely<R: Row>(
     alloc: Global,
     given: &R,
     constraints: &[Constraint<R>],
 ) -> Result<bool, AllocError>
     requires { AllWide (length (R.literals given.now)) constraints.now }
-    ensures { IfOk result (λ answer. answer ≡ true → has_point (satisfies_all constraints.now) (R.literals given.now) ≡ true) }
+    ensures { IfOk result (λ answer. answer ≡ true → has_point (satisfies_all constraints.now)
+        (R.literals given.now) ≡ true) }
 {
     let row = likely_row(alloc, given, constraints)?;
     Ok(are_satisfied_at(&row, constraints))
 }
 
-// Whether the row has a point at which all constraints are satisfied; `last` is the place decided last, of which nothing is asked.
+// Whether the row has a point at which all constraints are satisfied; `last` is the column decided
+// last, of which nothing is required.
 fn is_satisfiable_below<R: Row>(
     alloc: Global,
     given: &R,
@@ -155,7 +127,8 @@ fn is_satisfiable_below<R: Row>(
     last: usize,
 ) -> Result<bool, AllocError>
     requires { AllWide (length (R.literals given.now)) constraints.now }
-    ensures { IfOk result (λ answer. answer ≡ has_point (satisfies_all constraints.now) (R.literals given.now)) }
+    ensures { IfOk result (λ answer. answer ≡ has_point (satisfies_all constraints.now)
+        (R.literals given.now)) }
 {
     let found = open_constraints(alloc, given, constraints, last)?;
     match found {
@@ -187,14 +160,15 @@ fn is_satisfiable_below<R: Row>(
     }
 }
 
-/// Whether the row has a point at which all constraints are satisfied, whose rows are of its width; an error only for want of memory.
+/// Whether the row has a point at which all constraints are satisfied. Their rows have its width.
 pub fn is_satisfiable<R: Row>(
     alloc: Global,
     given: &R,
     constraints: &[Constraint<R>],
 ) -> Result<bool, AllocError>
     requires { AllWide (length (R.literals given.now)) constraints.now }
-    ensures { IfOk result (λ answer. answer ≡ has_point (satisfies_all constraints.now) (R.literals given.now)) }
+    ensures { IfOk result (λ answer. answer ≡ has_point (satisfies_all constraints.now)
+        (R.literals given.now)) }
 {
     let found = open_constraints(alloc, given, constraints, 0)?;
     match found {

@@ -1,7 +1,7 @@
 //! A cover with ties, as an oracle.
 //!
-//! Source: De Micheli, "Synthesis and Optimization of Digital Circuits", chapter 8 (satisfiability don't-care conditions).
-//! Promised: each answer is exact, and no test is refused; an error comes only for want of memory.
+//! Source: De Micheli, "Synthesis and Optimization of Digital Circuits", chapter 8 (satisfiability
+//! don't-care conditions). Promised: each answer is exact, and no test is refused.
 
 ghost use Rattle.std.specs.Prelude.{◌≡◌, not, ◌&&◌, ◌++◌, length, map, IfOk, OnOk};
 ghost use Rattle.std.specs.List.{AllByRecursion};
@@ -19,19 +19,19 @@ use cube_cover::{Cover, Row};
 use std::alloc::{AllocError, Global};
 use std::marker::Model;
 
-/// The bit at `place` is the value of the cover by the phase.
+/// The bit in column `place` is the value of the cover by the phase.
 #[derive(Drop)]
-pub struct Tie<R: Row> {
+pub struct NodeConstraint<R: Row> {
     pub place: usize,
     pub cover: Cover<R>,
     pub phase: bool,
 }
 
-/// A cover, and ties between places and other covers, all of one width.
+/// A cover, and ties between columns and other covers, all of one width.
 #[derive(Drop)]
 pub struct TiedCover<R: Row> {
     cover: Cover<R>,
-    ties: Vec<Tie<R>>,
+    ties: Vec<NodeConstraint<R>>,
 }
 
 impl<R: Row> Model for TiedCover<R> {
@@ -48,16 +48,22 @@ impl<R: Row> Model for TiedCover<R> {
 }
 
 impl<R: Row> TiedCover<R> {
-    /// The cover with ties to covers of its width; takes no memory.
-    pub fn new(cover: Cover<R>, ties: Vec<Tie<R>>) -> TiedCover<R>
+    /// The cover with ties to covers of its width; allocates nothing.
+    pub fn new(cover: Cover<R>, ties: Vec<NodeConstraint<R>>) -> TiedCover<R>
         requires { AllByRecursion (λ tie. tie.cover.width ≡ cover.width) ties.items }
-        ensures { result ≡ record { width = cover.width; rows = cover.rows; ties = map tie_of ties.items } }
+        ensures { result ≡ record {
+          width = cover.width;
+          rows = cover.rows;
+          ties = map tie_of
+              ties.items;
+        } }
     {
         TiedCover { cover, ties }
     }
 }
 
-// The constraint that a cover gives a bit, or the bit that a tie wants, within the given row.
+// The constraint that a cover gives a bit, or the bit that a tie wants, for the rows that meet the
+// given row.
 fn constraint_within<'a, R: Row>(
     alloc: Global,
     given: &R,
@@ -66,7 +72,13 @@ fn constraint_within<'a, R: Row>(
     bit: bool,
 ) -> Result<Constraint<'a, R>, AllocError>
     requires { cover.now.width ≡ length (R.literals given.now) }
-    ensures constraint { IfOk result (λ constraint. constraint ≡ record { tie = tie; bit = bit; rows = meeting_rows (R.literals given.now) cover.now.rows }) }
+    ensures constraint { IfOk result (λ constraint. constraint
+        ≡ record {
+          tie = tie;
+          bit = bit;
+          rows = meeting_rows
+              (R.literals given.now) cover.now.rows;
+        }) }
     ensures wide { HasWidth (length (R.literals given.now)) cover.now.rows }
 {
     let rows = cover.rows();
@@ -74,15 +86,16 @@ fn constraint_within<'a, R: Row>(
     Ok(Constraint::new(tie, bit, kept))
 }
 
-// Puts a constraint for each tie behind others.
+// Appends a constraint for each tie.
 fn add_ties<'a, R: Row>(
     alloc: Global,
     given: &R,
-    ties: &'a [Tie<R>],
+    ties: &'a [NodeConstraint<R>],
     constraints: &mut Vec<Constraint<'a, R>>,
 ) -> Result<(), AllocError>
     requires { AllByRecursion (λ tie. tie.cover.width ≡ length (R.literals given.now)) ties.now }
-    ensures constraints { OnOk result (constraints.new.items ≡ constraints.old.items ++ map (constraint_of (R.literals given.now)) (map tie_of ties.now)) }
+    ensures constraints { OnOk result (constraints.new.items ≡ constraints.old.items ++ map
+        (constraint_of (R.literals given.now)) (map tie_of ties.now)) }
     ensures wide { OnOk result (AreWide (length (R.literals given.now)) (map tie_of ties.now)) }
 {
     for tie in ties {
@@ -92,16 +105,18 @@ fn add_ties<'a, R: Row>(
     Ok(())
 }
 
-// Whether the row has a point at which a cover gives 0 and all ties are kept.
+// Whether the row has a point at which a cover gives 0 and all ties hold.
 fn has_off_point<R: Row>(
     alloc: Global,
     given: &R,
     cover: &Cover<R>,
-    ties: &[Tie<R>],
+    ties: &[NodeConstraint<R>],
 ) -> Result<bool, AllocError>
     requires cover { cover.now.width ≡ length (R.literals given.now) }
     requires ties { AllByRecursion (λ tie. tie.cover.width ≡ length (R.literals given.now)) ties.now }
-    ensures { IfOk result (λ answer. answer ≡ has_point (λ point. not (some_matches cover.now.rows point) && keeps_all (map tie_of ties.now) point) (R.literals given.now)) }
+    ensures { IfOk result (λ answer. answer ≡ has_point
+        (λ point. not (some_matches cover.now.rows point) && keeps_all (map tie_of ties.now) point)
+        (R.literals given.now)) }
 {
     let no_row = constraint_within(alloc, given, cover, None, false)?;
     let mut constraints = Vec::new(alloc);
@@ -111,18 +126,20 @@ fn has_off_point<R: Row>(
     Ok(answer)
 }
 
-// Whether the row has a point at which a cover gives 1, others give 0 and all ties are kept.
+// Whether the row has a point at which a cover gives 1, others give 0 and all ties hold.
 fn has_on_point<R: Row>(
     alloc: Global,
     given: &R,
     cover: &Cover<R>,
     others: &Cover<R>,
-    ties: &[Tie<R>],
+    ties: &[NodeConstraint<R>],
 ) -> Result<bool, AllocError>
     requires cover { cover.now.width ≡ length (R.literals given.now) }
     requires others { others.now.width ≡ length (R.literals given.now) }
     requires ties { AllByRecursion (λ tie. tie.cover.width ≡ length (R.literals given.now)) ties.now }
-    ensures { IfOk result (λ answer. answer ≡ has_own_point (λ point. some_matches cover.now.rows point && keeps_all (map tie_of ties.now) point) (R.literals given.now) others.now.rows) }
+    ensures { IfOk result (λ answer. answer ≡ has_own_point
+        (λ point. some_matches cover.now.rows point && keeps_all (map tie_of ties.now) point)
+        (R.literals given.now) others.now.rows) }
 {
     let no_other = constraint_within(alloc, given, others, None, false)?;
     let some_row = constraint_within(alloc, given, cover, None, true)?;
@@ -158,13 +175,13 @@ impl<R: Row> Oracle<R> for TiedCover<R> {
 
     ghost refusals_stay = { λ before after stays. record { off = λ row. (λ h. h, λ h. h); own = λ row others. (λ h. h, λ h. h) } };
 
-    /// Whether the row has a point at which the cover gives 0 and all ties are kept; an error only for want of memory.
+    /// Whether the row has a point at which the cover gives 0 and all ties hold.
     fn meets_off(&mut self, alloc: Global, row: &R) -> Result<bool, OracleFault> {
         let answer = has_off_point(alloc, row, &self.cover, self.ties.as_slice())?;
         Ok(answer)
     }
 
-    /// Whether the row has a point of its own at which the cover gives 1 and all ties are kept; an error only for want of memory.
+    /// Whether the row has a point of its own at which the cover gives 1 and all ties hold.
     fn has_own_point(
         &mut self,
         alloc: Global,

@@ -1,31 +1,34 @@
-//! Weights of literals by polarity, by which the search chooses the place to split at and the bit to try there first.
+//! Weights of literals by polarity, by which the search chooses the column to split at and the bit
+//! to try there first.
 //!
-//! Source: Davis, Logemann and Loveland, "A machine program for theorem-proving" (Communications of the ACM 5, 1962: unit rows
-//! first). No answer rests on the weights, and no contract speaks of them. A place is open where the given row has a dash. Each
-//! literal of a row at an open place adds the row's weight there: to the other bit where the rows must give 0, to its own bit where
-//! they must give 1. A row with k open literals has a weight of 2^(40-2k), or 1 from k = 20 on, and where the rows must give 1 they
-//! share it. Where the rows must give 0, a row of one open literal leaves no choice, and no weights are counted.
+//! Source: Davis, Logemann and Loveland, "A machine program for theorem-proving" (Communications of
+//! the ACM 5, 1962: unit rows first). No answer depends on the weights, and no contract speaks of
+//! them. A column is open if the given row has a dash there. Each literal of a row in an open
+//! column adds the row's weight: to the other bit if the rows must give 0, to its own bit if they
+//! must give 1. A row with k open literals has a weight of 2^(40-2k), or 1 from k = 20 on; if the
+//! rows must give 1, it is divided by their number. If the rows must give 0, a row of one open
+//! literal forces its bit, and no weights are computed.
 
 use crate::constraint::Constraint;
 use crate::narrow::{known_wanted, literal_at};
 use cube_cover::Row;
 use std::alloc::{AllocError, Global};
 
-/// The place to split at, and the bit to try first.
+/// The column to split at, and the bit to try first.
 #[derive(Clone, Copy)]
 pub struct SplitChoice {
     pub place: usize,
     pub bit: bool,
 }
 
-// For each open place the weights of its positive and of its negative literal.
+// For each open column the weights of its positive and of its negative literal.
 #[derive(Drop)]
 struct PolarityWeights {
     positive: Vec<u64>,
     negative: Vec<u64>,
 }
 
-// Adds to the weight at an open place.
+// Adds to the weight of an open column.
 fn add_weight(weights: &mut [u64], i: usize, weight: u64) {
     if i < weights.len() {
         weights[i] = weights[i].saturating_add(weight);
@@ -33,7 +36,7 @@ fn add_weight(weights: &mut [u64], i: usize, weight: u64) {
 }
 
 impl PolarityWeights {
-    // Adds to the weight of the literal of a bit at an open place.
+    // Adds to the weight of the literal of a bit in an open column.
     fn add(&mut self, i: usize, bit: bool, weight: u64) {
         if bit {
             add_weight(self.positive.as_mut_slice(), i, weight);
@@ -43,7 +46,7 @@ impl PolarityWeights {
     }
 }
 
-// The places at which a row has a dash.
+// The columns in which a row has a dash.
 fn open_places<R: Row>(alloc: Global, given: &R) -> Result<Vec<usize>, AllocError> {
     let mut places = Vec::new(alloc);
     for place in 0..given.width() {
@@ -54,7 +57,7 @@ fn open_places<R: Row>(alloc: Global, given: &R) -> Result<Vec<usize>, AllocErro
     Ok(places)
 }
 
-// At how many of some places a row has a literal.
+// The number of columns, among those given, in which a row has a literal.
 fn literals_among<R: Row>(row: &R, places: &[usize]) -> usize {
     let mut count: usize = 0;
     for place in places {
@@ -65,7 +68,7 @@ fn literals_among<R: Row>(row: &R, places: &[usize]) -> usize {
     count
 }
 
-// The weight of a row with so many open literals.
+// The weight of a row with this number of open literals.
 fn row_weight(open: usize) -> u64 {
     if open >= 20 {
         return 1;
@@ -81,7 +84,7 @@ fn share_of(weight: u64, parts: usize) -> u64 {
     weight / (parts as u64)
 }
 
-// Counts a part of a row's weight in, for its literals or against them.
+// Adds a part of a row's weight, for its literals or against them.
 fn weigh_row<R: Row>(
     weights: &mut PolarityWeights,
     places: &[usize],
@@ -98,7 +101,7 @@ fn weigh_row<R: Row>(
     }
 }
 
-// Counts the weights of some rows in.
+// Adds the weights of rows.
 fn weigh_rows<R: Row>(
     weights: &mut PolarityWeights,
     places: &[usize],
@@ -111,7 +114,7 @@ fn weigh_rows<R: Row>(
     }
 }
 
-// Counts the weight of a row of one literal in for a bit at a place.
+// Adds the weight of a row of one literal for a bit in a column.
 fn weigh_bit(weights: &mut PolarityWeights, places: &[usize], place: usize, bit: bool) {
     for (i, open) in places.iter().enumerate() {
         if *open == place {
@@ -120,7 +123,7 @@ fn weigh_bit(weights: &mut PolarityWeights, places: &[usize], place: usize, bit:
     }
 }
 
-// Whether some row has no literal at an open place.
+// Whether some row has no literal in an open column.
 fn some_is_closed<R: Row>(rows: &[&R], places: &[usize]) -> bool {
     for row in rows {
         if literals_among(*row, places) == 0 {
@@ -130,8 +133,9 @@ fn some_is_closed<R: Row>(rows: &[&R], places: &[usize]) -> bool {
     false
 }
 
-// Counts a constraint in whose tie is to an open place: where it is seen what the rows give, the bit that follows; else lighter
-// weights against the rows, so that what they give is known soon.
+// Adds the weight of a constraint whose tie is to an open column: for the bit that follows, if the
+// rows' value is evident; else lighter weights against the rows, so that their value is decided
+// soon.
 fn weigh_tie<R: Row>(
     weights: &mut PolarityWeights,
     places: &[usize],
@@ -148,7 +152,7 @@ fn weigh_tie<R: Row>(
     }
 }
 
-// Counts the weights of a constraint in.
+// Adds the weights of a constraint.
 fn weigh_constraint<R: Row>(
     weights: &mut PolarityWeights,
     places: &[usize],
@@ -171,7 +175,7 @@ fn weigh_constraint<R: Row>(
     }
 }
 
-// The open place with most weight, the first of several, and the bit that has more of it there.
+// The open column with most weight, the first of several, and the bit that has more of it there.
 fn heaviest_choice(weights: &PolarityWeights, places: &[usize]) -> SplitChoice {
     let mut choice = SplitChoice {
         place: 0,
@@ -193,7 +197,8 @@ fn heaviest_choice(weights: &PolarityWeights, places: &[usize]) -> SplitChoice {
     choice
 }
 
-// The one open place at which a row has a literal, and the bit that turns the row off; none where it has none, or more.
+// The one open column in which a row has a literal, and the bit that makes the row 0; none if it
+// has no open literal, or more than one.
 fn forced_by_row<R: Row>(row: &R, places: &[usize]) -> Option<SplitChoice> {
     let mut forced = None;
     for place in places {
@@ -213,7 +218,7 @@ fn forced_by_row<R: Row>(row: &R, places: &[usize]) -> Option<SplitChoice> {
     forced
 }
 
-// What the first row forces that has one open literal, where the rows must give 0.
+// The choice forced by the first row with one open literal, if the rows must give 0.
 fn forced_by_constraint<R: Row>(
     places: &[usize],
     given: &R,
@@ -231,7 +236,7 @@ fn forced_by_constraint<R: Row>(
     None
 }
 
-// What is forced by a row of one open literal, if there is such a row.
+// The choice forced by a row of one open literal, if there is such a row.
 fn forced<R: Row>(
     places: &[usize],
     given: &R,
@@ -263,8 +268,7 @@ fn weights_of<R: Row>(
     Ok(weights)
 }
 
-/// Where to split: where a row of one open literal leaves no choice, else by the weights of all constraints; an error only for want
-/// of memory.
+/// Where to split: as a row of one open literal forces, else by the weights of all constraints.
 pub fn choose<R: Row>(
     alloc: Global,
     given: &R,
@@ -278,7 +282,7 @@ pub fn choose<R: Row>(
     Ok(heaviest_choice(&weights, places.as_slice()))
 }
 
-/// The open places at which the positive literal has more weight, in order; an error only for want of memory.
+/// The open columns in which the positive literal has more weight, in order.
 pub fn places_for_one<R: Row>(
     alloc: Global,
     given: &R,

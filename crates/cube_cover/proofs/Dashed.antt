@@ -1,4 +1,5 @@
--- Rows with a literal that stands in one polarity only: what the rows cover does not hang on them.
+-- Rows with a literal whose column has one polarity only: what the rows cover does not depend on
+-- them.
 use Rattle.std.proofs.Common.{◌≡◌, ℕ, ◌<◌, ◌+◌, Bool, true, false, ◌||◌, if◌then◌else◌, Option, Some, None, is_none, List, [], ◌∷◌, length, get_or, set, refl, sym, ap, ◌∙◌, subst, arith, IsTrue, ◌↔◌}
 use Rattle.std.proofs.lemmas.List.{set-get_or, length-set}
 use Rattle.sis_base.specs.Rows.{agrees, matches, some_matches, HasWidth}
@@ -64,7 +65,7 @@ dashed_reduction given i b rows h lt n z =
       );
     }
 
--- the rows that go with a literal of the given row
+-- the rows that agree with a literal of the given row
 pub agreeing_reduction : (given : List (Option Bool)) (i : ℕ) (b : Bool) (rows : List (List (Option Bool))) → HasWidth (length given) rows → i < length given → get_or given i None ≡ Some b → IsUnateReduction given rows (agreeing_rows i b rows)
 agreeing_reduction given i b rows w lt e = record { widths = HasWidth-pick_agreeing (length given) rows i b w; answer = agreeing_covered given rows i b w lt e }
 

@@ -1,4 +1,4 @@
--- Rows that are named by their numbers.
+-- Rows selected by their indices.
 use Rattle.std.proofs.Common.{◌≡◌, ℕ, ◌<◌, ◌≤◌, zero, suc, Bool, Option, List, [], ◌∷◌, length, get_or, map, refl, sym, ap, ◌∙◌, arith}
 use Rattle.std.proofs.lemmas.List.{get_or-map, get_or_past, length-map}
 use Rattle.sis_base.specs.Rows.{HasWidth}

@@ -14,14 +14,11 @@ pub and_right : (x y : Bool) → (x && y) ≡ true → y ≡ true
 and_right true y h = h
 and_right false y h = cc
 
-pub and_both : (x y : Bool) → x ≡ true → y ≡ true → (x && y) ≡ true
-and_both x y h k = rw (h, k) refl
-
 pub bool_cases : (b : Bool) → (b ≡ true) ⊎ (b ≡ false)
 bool_cases true = inl refl
 bool_cases false = inr refl
 
--- a row without its literal at a place, where the literal agrees with a bit
+-- a row without its literal in a column, if the literal agrees with a bit
 pub matches-cofactor : (row : List (Option Bool)) (point : List Bool) (i : ℕ) (b : Bool) → i < length row → length point ≡ length row
     → agrees (get_or row i None) b ≡ true → matches (set row i None) point ≡ matches row (set point i b)
 unfolding matches
@@ -30,7 +27,7 @@ matches-cofactor (l ∷ ls) [] i b h e a = absurd (omega arith)
 matches-cofactor (l ∷ ls) (c ∷ cs) zero b h e a = rw a refl
 matches-cofactor (l ∷ ls) (c ∷ cs) (suc i) b h e a = ap (λ (x : Bool). agrees l c && x) (matches-cofactor ls cs i b (omega arith) (omega arith) a)
 
--- a row whose literal at a place does not agree with the point's bit there
+-- a row whose literal in a column does not agree with the point's bit there
 pub matches-other : (row : List (Option Bool)) (point : List Bool) (i : ℕ) (b : Bool) → i < length row → length point ≡ length row
     → agrees (get_or row i None) b ≡ false → matches row (set point i b) ≡ false
 unfolding matches
@@ -39,7 +36,7 @@ matches-other (l ∷ ls) [] i b h e a = absurd (omega arith)
 matches-other (l ∷ ls) (c ∷ cs) zero b h e a = rw a refl
 matches-other (l ∷ ls) (c ∷ cs) (suc i) b h e a = rw (matches-other ls cs i b (omega arith) (omega arith) a) (and-false (agrees l c))
 
--- the value of a cofactor is the value with the bit put in its place
+-- the value of a cofactor is the value with the bit set in its column
 pub value-cofactor : (w : ℕ) (rows : List (List (Option Bool))) (point : List Bool) (i : ℕ) (b : Bool) → HasWidth w rows → i < w → length point ≡ w
     → some_matches (cofactor_rows i b rows) point ≡ some_matches rows (set point i b)
 unfolding some_matches cofactor_rows HasWidth

@@ -1,12 +1,13 @@
--- What it means for two rows, place by place, to intersect, to lie in one another, and to have a product.
+-- Rows that intersect, contain one another, or have a product, column by column.
 use Rattle.std.proofs.Common.{◌≡◌, suc, Bool, true, false, ◌&&◌, Option, Some, None, List, [], ◌∷◌, length, refl, sym, ap, ◌∙◌, subst, arith, IsTrue, ◌↔◌}
 use Rattle.std.proofs.Math.Bool.{and-false}
+use Rattle.std.proofs.lemmas.Bool.{and_from}
 use Rattle.sis_base.specs.Rows.{agrees, matches}
 use Rattle.cube_cover.specs.Covers.{Intersects, ContainsRow, IsProduct, product_of}
 use Rattle.cube_cover.specs.Literals.{literals_intersect, rows_intersect, literal_contains, row_contains, literal_product}
-use Rattle.cube_cover.proofs.Points.{and_left, and_right, and_both}
+use Rattle.cube_cover.proofs.Points.{and_left, and_right}
 
--- a bit that agrees with a place, and one that agrees with two places where they do not contradict
+-- a bit that agrees with a literal, and one that agrees with two literals if they do not contradict
 abbrev pub bit_of : Option Bool → Bool
 bit_of None = false
 bit_of (Some bit) = bit
@@ -28,7 +29,7 @@ length-point_of (l ∷ ls) = ap suc (length-point_of ls)
 pub matches-point_of : (row : List (Option Bool)) → matches row (point_of row) ≡ true
 unfolding matches point_of
 matches-point_of [] = refl
-matches-point_of (l ∷ ls) = and_both _ _ (agrees_bit_of l) (matches-point_of ls)
+matches-point_of (l ∷ ls) = and_from _ _ (agrees_bit_of l) (matches-point_of ls)
 
 -- rows intersect exactly where no two literals contradict
 left_bit : (l m : Option Bool) → literals_intersect l m ≡ true → agrees l (bit_of (literal_product l m)) ≡ true
@@ -60,7 +61,7 @@ unfolding matches rows_intersect point_of product_of
 matches-left [] b e h = refl
 matches-left (l ∷ ls) [] e h = absurd (omega arith)
 matches-left (l ∷ ls) (m ∷ ms) e h =
-    subst (λ (x : List (Option Bool)). matches (l ∷ ls) (point_of x) ≡ true) (sym (product_cons l m ls ms)) (and_both _ _ (left_bit l m (and_left _ _ h)) (matches-left ls ms (omega arith) (and_right _ _ h)))
+    subst (λ (x : List (Option Bool)). matches (l ∷ ls) (point_of x) ≡ true) (sym (product_cons l m ls ms)) (and_from _ _ (left_bit l m (and_left _ _ h)) (matches-left ls ms (omega arith) (and_right _ _ h)))
 
 matches-right : (a b : List (Option Bool)) → length a ≡ length b → rows_intersect a b ≡ true → matches b (point_of (product_of a b)) ≡ true
 unfolding matches rows_intersect point_of product_of
@@ -68,7 +69,7 @@ matches-right [] [] e h = refl
 matches-right [] (m ∷ ms) e h = absurd (omega arith)
 matches-right (l ∷ ls) [] e h = absurd (omega arith)
 matches-right (l ∷ ls) (m ∷ ms) e h =
-    subst (λ (x : List (Option Bool)). matches (m ∷ ms) (point_of x) ≡ true) (sym (product_cons l m ls ms)) (and_both _ _ (right_bit l m (and_left _ _ h)) (matches-right ls ms (omega arith) (and_right _ _ h)))
+    subst (λ (x : List (Option Bool)). matches (m ∷ ms) (point_of x) ≡ true) (sym (product_cons l m ls ms)) (and_from _ _ (right_bit l m (and_left _ _ h)) (matches-right ls ms (omega arith) (and_right _ _ h)))
 
 pub intersects_from_test : (a b : List (Option Bool)) → length a ≡ length b → rows_intersect a b ≡ true → Intersects a b
 intersects_from_test a b e h = (point_of (product_of a b), length-point_of (product_of a b) ∙ length-product_of a b e, matches-left a b e h, matches-right a b e h)
@@ -89,16 +90,16 @@ go_at_point [] b p e d h k = refl
 go_at_point (l ∷ ls) [] p e d h k = absurd (omega arith)
 go_at_point (l ∷ ls) (m ∷ ms) [] e d h k = absurd (omega arith)
 go_at_point (l ∷ ls) (m ∷ ms) (c ∷ cs) e d h k =
-    and_both _ _ (goes_at l m c (and_left _ _ h) (and_left _ _ k)) (go_at_point ls ms cs (omega arith) (omega arith) (and_right _ _ h) (and_right _ _ k))
+    and_from _ _ (goes_at l m c (and_left _ _ h) (and_left _ _ k)) (go_at_point ls ms cs (omega arith) (omega arith) (and_right _ _ h) (and_right _ _ k))
 
 pub test_from_intersects : (a b : List (Option Bool)) → length a ≡ length b → Intersects a b → rows_intersect a b ≡ true
 test_from_intersects a b e (p, d, h, k) = go_at_point a b p d e h k
 
--- the answer of a test by places
+-- the answer of a test by columns
 pub intersects_answer : (a b : List (Option Bool)) → length a ≡ length b → (r : Bool) → r ≡ rows_intersect a b → IsTrue r ↔ Intersects a b
 intersects_answer a b e r h = (λ t. intersects_from_test a b e (sym h ∙ t), λ m. h ∙ test_from_intersects a b e m)
 
--- a row contains another exactly where each place is a dash or the other's literal
+-- a row contains another exactly if each column has a dash or the other's literal
 contains_bits : (l m : Option Bool) → literal_contains l m ≡ true → (c : Bool) → agrees m c ≡ true → agrees l c ≡ true
 contains_bits None m h c k = refl
 contains_bits (Some x) None h c k = cc
@@ -113,7 +114,7 @@ contains_at_point [] b p e d h k = refl
 contains_at_point (l ∷ ls) [] p e d h k = absurd (omega arith)
 contains_at_point (l ∷ ls) (m ∷ ms) [] e d h k = absurd (omega arith)
 contains_at_point (l ∷ ls) (m ∷ ms) (c ∷ cs) e d h k =
-    and_both _ _ (contains_bits l m (and_left _ _ h) c (and_left _ _ k)) (contains_at_point ls ms cs (omega arith) (omega arith) (and_right _ _ h) (and_right _ _ k))
+    and_from _ _ (contains_bits l m (and_left _ _ h) c (and_left _ _ k)) (contains_at_point ls ms cs (omega arith) (omega arith) (and_right _ _ h) (and_right _ _ k))
 
 contains_from_bits : (l m : Option Bool) → ((c : Bool) → agrees m c ≡ true → agrees l c ≡ true) → literal_contains l m ≡ true
 contains_from_bits None m h = refl
@@ -129,14 +130,14 @@ unfolding matches row_contains point_of
 literals_from_contains [] b e h = refl
 literals_from_contains (l ∷ ls) [] e h = absurd (omega arith)
 literals_from_contains (l ∷ ls) (m ∷ ms) e h =
-    and_both _ _
-    (contains_from_bits l m (λ c k. and_left _ (matches ls (point_of ms)) (h (c ∷ point_of ms) (omega (arith, length-point_of ms)) (and_both _ _ k (matches-point_of ms)))))
-    (literals_from_contains ls ms (omega arith) (λ p d k. and_right (agrees l (bit_of m)) _ (h (bit_of m ∷ p) (omega arith) (and_both _ _ (agrees_bit_of m) k))))
+    and_from _ _
+    (contains_from_bits l m (λ c k. and_left _ (matches ls (point_of ms)) (h (c ∷ point_of ms) (omega (arith, length-point_of ms)) (and_from _ _ k (matches-point_of ms)))))
+    (literals_from_contains ls ms (omega arith) (λ p d k. and_right (agrees l (bit_of m)) _ (h (bit_of m ∷ p) (omega arith) (and_from _ _ (agrees_bit_of m) k))))
 
 pub contains_answer : (a b : List (Option Bool)) → length a ≡ length b → (r : Bool) → r ≡ row_contains a b → IsTrue r ↔ ContainsRow a b
 contains_answer a b e r h = (λ t p d k. contains_at_point a b p d e (sym h ∙ t) k, λ m. h ∙ literals_from_contains a b e m)
 
--- a test that is exact for points is the test by places
+-- a test that is exact for points is the test by columns
 pub contains_by_literals : (a b : List (Option Bool)) → length a ≡ length b → (r : Bool) → IsTrue r ↔ ContainsRow a b → r ≡ row_contains a b
 contains_by_literals a b e true h = sym (literals_from_contains a b e (h.0 refl))
 contains_by_literals a b e false h = cases (row_contains a b) refl
@@ -145,7 +146,7 @@ contains_by_literals a b e false h = cases (row_contains a b) refl
     cases true k = h.1 (λ p d m. contains_at_point a b p d e k m)
     cases false k = refl
 
--- rows of just the same points have the same places
+-- rows with exactly the same points have the same literals
 same_place : (l m : Option Bool) → literal_contains l m ≡ true → literal_contains m l ≡ true → l ≡ m
 same_place None None h k = refl
 same_place None (Some x) h k = cc
@@ -168,7 +169,7 @@ same_literals (l ∷ ls) (m ∷ ms) e h k =
 pub same_from_contains : (a b : List (Option Bool)) → length a ≡ length b → ContainsRow a b → ContainsRow b a → a ≡ b
 same_from_contains a b e h k = same_literals a b e (literals_from_contains a b e h) (literals_from_contains b a (sym e) k)
 
--- the product place by place has just the shared points
+-- the product, column by column, has exactly the shared points
 product_bits : (l m : Option Bool) (c x y : Bool) → literals_intersect l m ≡ true → (agrees (literal_product l m) c && (x && y)) ≡ ((agrees l c && x) && (agrees m c && y))
 product_bits None m c x y h = swapped (agrees m c) x y
   where

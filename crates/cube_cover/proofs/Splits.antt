@@ -1,10 +1,12 @@
--- What decides whether rows have each point of a given row: no row, a row that is as wide, and the halves at a dash.
+-- What decides whether rows cover each point of a given row: no row, a row that contains it, and
+-- the halves at a dash.
 use Rattle.std.proofs.Common.{◌≡◌, ℕ, ◌<◌, ◌+◌, zero, suc, Bool, true, false, ◌||◌, if◌then◌else◌, Option, Some, None, List, [], ◌∷◌, length, get_or, set, map, replicate, refl, sym, ap, ◌∙◌, subst, arith, IsTrue, ◌↔◌}
 use Rattle.std.proofs.lemmas.List.{length-set, set-get_or, length-replicate}
+use Rattle.std.proofs.lemmas.Bool.{and_from}
 use Rattle.sis_base.specs.Rows.{agrees, matches, some_matches, HasWidth}
 use Rattle.cube_cover.specs.Covers.{agreeing_rows, IsCovered, IsTautology}
 use Rattle.cube_cover.specs.Literals.{all_dashes, some_dashes, no_dash, literal_contains, row_contains, some_contains}
-use Rattle.cube_cover.proofs.Points.{and_left, and_right, and_both, matches-other}
+use Rattle.cube_cover.proofs.Points.{and_left, and_right, matches-other}
 use Rattle.cube_cover.proofs.Products.{point_of, length-point_of, matches-point_of, contains_at_point}
 
 matches_dashes : (row : List (Option Bool)) (point : List Bool) → all_dashes row ≡ true → matches row point ≡ true
@@ -77,7 +79,7 @@ unfolding matches row_contains no_dash point_of
 full_contains [] given e n m = refl
 full_contains (l ∷ ls) [] e n m = refl
 full_contains (l ∷ ls) (None ∷ gs) e n m = cc
-full_contains (l ∷ ls) (Some x ∷ gs) e n m = and_both _ _ (bit l (and_left _ _ m)) (full_contains ls gs (omega arith) n (and_right (agrees l x) _ m))
+full_contains (l ∷ ls) (Some x ∷ gs) e n m = and_from _ _ (bit l (and_left _ _ m)) (full_contains ls gs (omega arith) n (and_right (agrees l x) _ m))
   where
     bit : (l : Option Bool) → agrees l x ≡ true → literal_contains l (Some x) ≡ true
     bit None h = refl
@@ -104,7 +106,7 @@ unfolding matches
 set_weaker [] i b p e m = refl
 set_weaker (g ∷ gs) i b [] e m = refl
 set_weaker (g ∷ gs) zero b (c ∷ cs) e m = rw e (and_right (agrees (Some b) c) (matches gs cs) m)
-set_weaker (g ∷ gs) (suc i) b (c ∷ cs) e m = and_both _ _ (and_left _ _ m) (set_weaker gs i b cs e (and_right (agrees g c) _ m))
+set_weaker (g ∷ gs) (suc i) b (c ∷ cs) e m = and_from _ _ (and_left _ _ m) (set_weaker gs i b cs e (and_right (agrees g c) _ m))
 
 same_bit : (b c : Bool) → agrees (Some b) c ≡ true → b ≡ c
 same_bit true true h = refl
@@ -127,8 +129,8 @@ set_matches : (given : List (Option Bool)) (i : ℕ) (p : List Bool) → length 
 unfolding matches
 set_matches [] i p d m = refl
 set_matches (g ∷ gs) i [] d m = absurd (omega arith)
-set_matches (g ∷ gs) zero (c ∷ cs) d m = and_both _ _ (agrees_same c) (and_right (agrees g c) _ m)
-set_matches (g ∷ gs) (suc i) (c ∷ cs) d m = and_both _ _ (and_left _ _ m) (set_matches gs i cs (omega arith) (and_right (agrees g c) _ m))
+set_matches (g ∷ gs) zero (c ∷ cs) d m = and_from _ _ (agrees_same c) (and_right (agrees g c) _ m)
+set_matches (g ∷ gs) (suc i) (c ∷ cs) d m = and_from _ _ (and_left _ _ m) (set_matches gs i cs (omega arith) (and_right (agrees g c) _ m))
 
 -- the rows that agree with a bit, at the points that have it
 agreeing_value : (w : ℕ) (rows : List (List (Option Bool))) (p : List Bool) (i : ℕ) (b : Bool) → HasWidth w rows → i < w → length p ≡ w → set p i b ≡ p → some_matches (agreeing_rows i b rows) p ≡ some_matches rows p

@@ -1,4 +1,4 @@
--- A cover whose rows have less than all points together is no tautology.
+-- A cover whose rows contain fewer than all points together is no tautology.
 use Rattle.std.proofs.Common.{◌≡◌, ℕ, ◌<◌, ◌≤◌, ◌+◌, ◌-◌, ◌*◌, ◌^◌, zero, suc, Bool, true, false, ◌&&◌, ◌||◌, if◌then◌else◌, Option, Some, None, List, [], ◌∷◌, length, refl, sym, ap, ◌∙◌, subst, arith, IsTrue, ◌↔◌}
 use Rattle.std.proofs.Math.Nat.{mul-add, add-mul, mul-le-mul_left, mul-le-mul_right}
 use Rattle.sis_base.specs.Rows.{agrees, matches, some_matches, HasWidth}
@@ -31,7 +31,7 @@ unfoldable points_sum : List (List (Option Bool)) → ℕ
 points_sum [] = 0
 points_sum (row ∷ rows) = points_in row + points_sum rows
 
--- the rows that agree with a bit at the first place, without that place
+-- the rows that agree with a bit in the first column, without that column
 unfoldable tails : Bool → List (List (Option Bool)) → List (List (Option Bool))
 tails b [] = []
 tails b ([] ∷ rows) = tails b rows

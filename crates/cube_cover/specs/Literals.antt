@@ -1,10 +1,11 @@
--- Tests by literals, which the bodies compute, beside the meaning by points that contracts give.
--- Source: De Micheli, "Synthesis and Optimization of Digital Circuits", chapter 7 (operations on cubes place by place).
--- At each place of a row stands a literal, which is some bit (true for the positive one), or a dash, which is none.
+-- Tests by literals, which the bodies compute; contracts state their meaning by points. Source: De
+-- Micheli, "Synthesis and Optimization of Digital Circuits", chapter 7 (operations on cubes, column
+-- by column). Each column of a row has a literal, which is some bit (true for the positive one), or
+-- a dash, which is none.
 use Rattle.std.specs.Prelude.{is_none, if◌then◌else◌, cond, ℕ, ◌+◌, Bool, true, false, not, ◌&&◌, ◌||◌, Option, Some, None, List, [], ◌∷◌, slice_index_or}
 use Rattle.sis_base.specs.Rows.{agrees}
 
--- a literal is that of a bit; a dash is that of none
+-- whether a literal is that of a bit; false for a dash
 abbrev pub has_literal : Option Bool → Bool → Bool
 has_literal None bit = false
 has_literal (Some true) bit = bit
@@ -22,19 +23,19 @@ rows_intersect [] others = true
 rows_intersect (literal ∷ literals) [] = true
 rows_intersect (literal ∷ literals) (other ∷ others) = literals_intersect literal other && rows_intersect literals others
 
--- a dash, or the same literal as the other
+-- a dash, or the same literal as the other one
 abbrev pub literal_contains : Option Bool → Option Bool → Bool
 literal_contains None other = true
 literal_contains (Some bit) None = false
 literal_contains (Some bit) (Some other) = agrees (Some bit) other
 
--- at each place a dash, or the other's literal
+-- in each column a dash, or the other's literal
 unfoldable pub row_contains : List (Option Bool) → List (Option Bool) → Bool
 row_contains [] others = true
 row_contains (literal ∷ literals) [] = true
 row_contains (literal ∷ literals) (other ∷ others) = literal_contains literal other && row_contains literals others
 
--- the first literal, or where it is a dash the other
+-- the first literal, or the other if the first is a dash
 abbrev pub literal_product : Option Bool → Option Bool → Option Bool
 literal_product None other = other
 literal_product (Some bit) other = Some bit
@@ -49,12 +50,12 @@ abbrev pub literal_number : Option Bool → ℕ
 literal_number None = 0
 literal_number (Some bit) = 1
 
--- how many literals a row has
+-- the number of a row's literals
 unfoldable pub row_literals : List (Option Bool) → ℕ
 row_literals [] = 0
 row_literals (literal ∷ literals) = literal_number literal + row_literals literals
 
--- how many literals the rows of a cover have together
+-- the number of literals of all rows
 unfoldable pub cover_literals : List (List (Option Bool)) → ℕ
 cover_literals [] = 0
 cover_literals (row ∷ rows) = row_literals row + cover_literals rows
@@ -64,22 +65,22 @@ abbrev pub not_dash : Option Bool → Bool
 not_dash None = false
 not_dash (Some bit) = true
 
--- a row has a literal at each place
+-- a row has a literal in each column
 unfoldable pub no_dash : List (Option Bool) → Bool
 no_dash [] = true
 no_dash (literal ∷ literals) = not_dash literal && no_dash literals
 
--- some row has a literal at the place
+-- some row has a literal in the column
 unfoldable pub some_literal : ℕ → List (List (Option Bool)) → Bool
 some_literal place [] = false
 some_literal place (row ∷ rows) = not_dash (slice_index_or row place None) || some_literal place rows
 
--- a row has no literal at all
+-- a row has no literal
 unfoldable pub all_dashes : List (Option Bool) → Bool
 all_dashes [] = true
 all_dashes (literal ∷ literals) = not (not_dash literal) && all_dashes literals
 
--- some row has no literal at all
+-- some row has no literal
 unfoldable pub some_dashes : List (List (Option Bool)) → Bool
 some_dashes [] = false
 some_dashes (row ∷ rows) = all_dashes row || some_dashes rows
@@ -90,12 +91,12 @@ literal_count bit None = 0
 literal_count true (Some literal) = cond literal 1 0
 literal_count false (Some literal) = cond literal 0 1
 
--- how many rows have the literal of a bit at a place
+-- how many rows have the literal of a bit in a column
 unfoldable pub literal_occurrences : ℕ → Bool → List (List (Option Bool)) → ℕ
 literal_occurrences place bit [] = 0
 literal_occurrences place bit (row ∷ rows) = literal_count bit (slice_index_or row place None) + literal_occurrences place bit rows
 
--- the rows with a dash at a place
+-- the rows with a dash in a column
 unfoldable pub dashed_rows : ℕ → List (List (Option Bool)) → List (List (Option Bool))
 dashed_rows place [] = []
 dashed_rows place (row ∷ rows) = if is_none (slice_index_or row place None) then row ∷ dashed_rows place rows else dashed_rows place rows

@@ -1,28 +1,30 @@
-//! Counts of the literals at the places that are open, by which the search for a tautology chooses where to look.
+//! Counts of the literals in open columns, by which the tautology test chooses where to split.
 //!
-//! Source: Brayton et al., "Logic Minimization Algorithms for VLSI Synthesis" (unate reduction, the choice of the place
-//! to split at). No answer rests on the counts: what they say is tested before it is used, and no contract speaks of
-//! them. A row is named by its number. `literals` has for each row the places of its literals, so that no count goes over a
-//! row's dashes; a place is open where the given row has a dash there.
+//! Source: Brayton et al., "Logic Minimization Algorithms for VLSI Synthesis" (unate reduction, the
+//! choice of the splitting variable). No answer depends on the counts: what they say is tested
+//! before it is used, and no contract speaks of them. A row is known by its index. `literals` has
+//! for each row the columns of its literals, so that no count visits a row's dashes; a column is
+//! open if the given row has a dash there.
 
 use crate::row::Row;
 use std::alloc::{AllocError, Global};
 
-/// How many rows have the positive and the negative literal at each open place.
+/// The numbers of rows with the positive and with the negative literal in each open column.
 #[derive(Drop)]
 pub struct Counts {
     positive: Vec<usize>,
     negative: Vec<usize>,
 }
 
-/// Where to look: which of some rows has no literal at an open place, where there is one, and a place to split at.
+/// A row without literals in open columns, as a position in the list of indices, if there is one;
+/// and a column to split at.
 #[derive(Clone, Copy)]
 pub struct SplitChoice {
     pub row: Option<usize>,
     pub place: usize,
 }
 
-// The places of a row's literals, in order, as far as they are numbers of 32 bits.
+// The columns of a row's literals, in order; columns past 32 bits are left out.
 fn literals_of<R: Row>(alloc: Global, row: &R) -> Result<Vec<u32>, AllocError> {
     let mut literals = Vec::new(alloc);
     for place in 0..row.width() {
@@ -35,7 +37,7 @@ fn literals_of<R: Row>(alloc: Global, row: &R) -> Result<Vec<u32>, AllocError> {
     Ok(literals)
 }
 
-/// The places of each row's literals; an error only for want of memory.
+/// The columns of each row's literals.
 pub fn literals_of_rows<R: Row>(alloc: Global, rows: &[R]) -> Result<Vec<Vec<u32>>, AllocError> {
     let mut literals = Vec::with_capacity(alloc, rows.len())?;
     for row in rows {
@@ -44,7 +46,7 @@ pub fn literals_of_rows<R: Row>(alloc: Global, rows: &[R]) -> Result<Vec<Vec<u32
     Ok(literals)
 }
 
-// The places of the literals of the row of a number.
+// The columns of the literals of the row at an index.
 fn literal_places(literals: &[Vec<u32>], number: usize) -> &[u32] {
     if number < literals.len() {
         return literals[number].as_slice();
@@ -52,19 +54,19 @@ fn literal_places(literals: &[Vec<u32>], number: usize) -> &[u32] {
     &[]
 }
 
-// One more at a place.
+// Increments the count of a column.
 fn count_at(counts: &mut [usize], place: usize) {
     if place < counts.len() {
         counts[place] = counts[place].saturating_add(1);
     }
 }
 
-// Whether the given row has a dash at a place.
+// Whether the given row has a dash in a column.
 fn is_open<R: Row>(given: &R, place: usize) -> bool {
     place < given.width() && given.at(place).is_none()
 }
 
-// Counts a row's literals at open places in, by polarity.
+// Counts a row's literals in open columns, by polarity.
 fn count_row<R: Row>(given: &R, row: &R, places: &[u32], counts: &mut Counts) {
     for number in places {
         let place = *number as usize;
@@ -78,7 +80,7 @@ fn count_row<R: Row>(given: &R, row: &R, places: &[u32], counts: &mut Counts) {
     }
 }
 
-/// Counts the literals of the rows of some numbers at open places; an error only for want of memory.
+/// Counts the literals in open columns of the rows at some indices.
 pub fn counts_of<R: Row>(
     alloc: Global,
     given: &R,
@@ -104,7 +106,7 @@ pub fn counts_of<R: Row>(
 }
 
 impl Counts {
-    /// Whether the literals at a place are all of one polarity, and there are some.
+    /// Whether a column has literals, all of one polarity.
     pub fn is_one_sided(&self, place: usize) -> bool {
         if place >= self.positive.len() || place >= self.negative.len() {
             return false;
@@ -113,7 +115,7 @@ impl Counts {
     }
 }
 
-// Whether a row has its literals, which stand at these places, where the given row has the same ones.
+// Whether the given row has each of a row's literals, which are in these columns.
 fn stands_in<R: Row>(given: &R, row: &R, places: &[u32]) -> bool {
     for number in places {
         let place = *number as usize;
@@ -124,7 +126,7 @@ fn stands_in<R: Row>(given: &R, row: &R, places: &[u32]) -> bool {
     true
 }
 
-/// Which of some rows has no literal but those of the given one, if there is such a row.
+/// The position of the first row all of whose literals are in the given row, if there is one.
 pub fn first_within<R: Row>(
     given: &R,
     rows: &[R],
@@ -141,7 +143,7 @@ pub fn first_within<R: Row>(
     None
 }
 
-// How many of some places are open.
+// The number of columns that are open.
 fn open_count<R: Row>(given: &R, places: &[u32]) -> usize {
     let mut open: usize = 0;
     for place in places {
@@ -152,7 +154,7 @@ fn open_count<R: Row>(given: &R, places: &[u32]) -> usize {
     open
 }
 
-// Counts those of some places in that are open.
+// Counts the columns that are open.
 fn count_open<R: Row>(given: &R, places: &[u32], counts: &mut [usize]) {
     for place in places {
         if is_open(given, *place as usize) {
@@ -168,8 +170,8 @@ fn clear(counts: &mut [usize]) {
     }
 }
 
-// Counts the literals at open places of the rows that have the fewest there, each at its place, up to a row that has
-// none, and then answers which of them it is.
+// Counts, by column, the open literals of the rows that have the fewest of them. If a row has none,
+// returns its position at once.
 fn count_short<R: Row>(
     given: &R,
     literals: &[Vec<u32>],
@@ -194,7 +196,7 @@ fn count_short<R: Row>(
     None
 }
 
-// Where the greatest count stands first.
+// The first index of the greatest count.
 fn greatest_at(counts: &[usize]) -> usize {
     let mut best = 0;
     let mut most = 0;
@@ -207,8 +209,9 @@ fn greatest_at(counts: &[usize]) -> usize {
     best
 }
 
-/// Which of some rows has no literal at an open place; and an open place to split at, the one where the rows with the fewest
-/// open literals have most of them, since the halves there decide soonest; an error only for want of memory.
+/// The position of a row without open literals, if there is one; and the column to split at, in
+/// which the rows with the fewest open literals have most literals: there the halves are decided
+/// soonest.
 pub fn choose_split<R: Row>(
     alloc: Global,
     given: &R,

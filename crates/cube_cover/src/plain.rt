@@ -1,4 +1,9 @@
-//! Rows as vectors of literals, a place after the other.
+//! Rows as vectors of literals, one for each column.
+//!
+//! `PlainRow` is the simple representation of a row (De Micheli, "Synthesis and Optimization of
+//! Digital Circuits", chapter 7: operations on cubes, column by column). Contracts see it as its
+//! list of literals, where `None` is a dash. Each operation is exact by literals; the trait `Row`
+//! says what that means at all points.
 
 ghost use Rattle.std.specs.Prelude.{◌≡◌, ℕ, ◌<◌, Bool, ◌↔◌, Option, None, List, length, map, replicate, slice_index_or, slice_set, IfOk, IsTrue};
 ghost use Rattle.cube_cover.specs.Covers.{Intersects, ContainsRow, IsProduct, product_of};
@@ -8,7 +13,7 @@ use crate::row::Row;
 use std::alloc::{AllocError, Global};
 use std::marker::Model;
 
-/// A row whose literals stand in a vector, none for a dash; contracts see it as their list.
+/// A row stored as a vector of literals, `None` for a dash; contracts see their list.
 #[derive(Drop)]
 pub struct PlainRow {
     literals: Vec<Option<bool>>,
@@ -23,7 +28,7 @@ impl Model for PlainRow {
 }
 
 impl PlainRow {
-    /// The row of the literals given, none for a dash; an error only for want of memory.
+    /// The row of the given literals, `None` for a dash.
     pub fn from_literals(alloc: Global, literals: &[Option<bool>]) -> Result<PlainRow, AllocError>
         ensures { IfOk result (λ row. row ≡ literals.now) }
     {
@@ -93,7 +98,7 @@ fn literal_intersects(literal: Option<bool>, other: Option<bool>) -> bool
     }
 }
 
-// Whether a literal is a dash or the same as the other.
+// Whether a literal is a dash or equals the other.
 fn contains_literal(literal: Option<bool>, other: Option<bool>) -> bool
     ensures { result ≡ literal_contains literal other }
 {
@@ -104,7 +109,7 @@ fn contains_literal(literal: Option<bool>, other: Option<bool>) -> bool
     }
 }
 
-// The first literal, or where it is a dash the other.
+// The first literal, or the other if the first is a dash.
 fn product_literal(literal: Option<bool>, other: Option<bool>) -> Option<bool>
     ensures { result ≡ literal_product literal other }
 {
@@ -114,7 +119,7 @@ fn product_literal(literal: Option<bool>, other: Option<bool>) -> Option<bool>
     }
 }
 
-// Whether the literals of two rows nowhere contradict.
+// Whether the literals of two rows contradict in no column.
 #[tactic(auto, unfolding(crate::specs::Literals::rows_intersect))]
 fn row_intersects(literals: &[Option<bool>], others: &[Option<bool>]) -> bool
     requires { length literals.now ≡ length others.now }
@@ -128,7 +133,7 @@ fn row_intersects(literals: &[Option<bool>], others: &[Option<bool>]) -> bool
     true
 }
 
-// Whether one row has at each place a dash or the other's literal.
+// Whether one row has in each column a dash or the other's literal.
 #[tactic(auto, unfolding(crate::specs::Literals::row_contains))]
 fn contains_literals(literals: &[Option<bool>], others: &[Option<bool>]) -> bool
     requires { length literals.now ≡ length others.now }

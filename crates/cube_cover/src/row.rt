@@ -1,32 +1,34 @@
-//! What every representation of a row owes.
+//! What every representation of a row owes, and what is found by that alone.
 
-ghost use Rattle.std.specs.Prelude.{◌≡◌, ℕ, ◌<◌, Bool, ◌↔◌, Option, None, List, length, replicate, slice_index_or, slice_set, IfOk, IsTrue};
+ghost use Rattle.std.specs.Prelude.{◌≡◌, ℕ, ◌<◌, Bool, true, ◌↔◌, Option, Some, None, List, length, replicate, slice_index_or, slice_set, MatchOption, IfOk, IsTrue};
 ghost use Rattle.cube_cover.specs.Covers.{Intersects, ContainsRow, IsProduct, product_of};
+ghost use Rattle.cube_cover.specs.Literals.{no_dash};
 
 use std::alloc::{AllocError, Global};
 
-/// A row of literals: each place is a positive literal, a negative one, or a dash (`None`).
+/// A row of literals, a cube: each column has a positive literal, a negative one, or a dash
+/// (`None`).
 pub trait Row: Drop {
     ghost literals: { Self → List (Option Bool) };
 
-    /// The row of `width` dashes; an error only for want of memory.
+    /// The row of `width` dashes.
     fn dashes(alloc: Global, width: usize) -> Result<Self, AllocError>
         ensures { IfOk result (λ row. literals row ≡ replicate width None) };
 
-    /// A row with the same literals; an error only for want of memory.
+    /// A row with the same literals.
     fn copy(&self, alloc: Global) -> Result<Self, AllocError>
         ensures { IfOk result (λ row. literals row ≡ literals self.now) };
 
-    /// How many places there are.
+    /// The number of columns.
     fn width(&self) -> usize
         ensures { result ≡ length (literals self.now) };
 
-    /// What stands at a place, counted from 0.
+    /// The literal or dash in a column, counted from 0.
     fn at(&self, place: usize) -> Option<bool>
         requires { place < length (literals self.now) }
         ensures { result ≡ slice_index_or (literals self.now) place None };
 
-    /// Puts a literal or a dash at a place, counted from 0; the other places stay.
+    /// Sets the literal or dash in a column, counted from 0; the other columns stay.
     fn set(&mut self, place: usize, literal: Option<bool>)
         requires { place < length (literals self.old) }
         ensures { literals self.new ≡ slice_set (literals self.old) place literal };
@@ -41,15 +43,17 @@ pub trait Row: Drop {
         requires { length (literals self.now) ≡ length (literals other.now) }
         ensures { IsTrue result ↔ ContainsRow (literals self.now) (literals other.now) };
 
-    /// The row of just the points that both rows have; an error only for want of memory.
+    /// The row of exactly the points that both rows have; the rows must intersect.
     fn product(&self, alloc: Global, other: &Self) -> Result<Self, AllocError>
         requires widths { length (literals self.now) ≡ length (literals other.now) }
         requires intersect { Intersects (literals self.now) (literals other.now) }
-        ensures by_literals { IfOk result (λ row. literals row ≡ product_of (literals self.now) (literals other.now)) }
-        ensures points { IfOk result (λ row. IsProduct (literals self.now) (literals other.now) (literals row)) };
+        ensures by_literals { IfOk result (λ row. literals row ≡ product_of (literals self.now)
+            (literals other.now)) }
+        ensures points { IfOk result (λ row. IsProduct (literals self.now) (literals other.now)
+            (literals row)) };
 }
 
-/// Whether two rows have the same literals, which is so exactly where they have the same points.
+/// Whether two rows have the same literals.
 pub fn equal_rows<R: Row>(row: &R, other: &R) -> bool
     requires { length (R.literals row.now) ≡ length (R.literals other.now) }
     ensures { IsTrue result ↔ (R.literals row.now ≡ R.literals other.now) }
@@ -58,4 +62,42 @@ pub fn equal_rows<R: Row>(row: &R, other: &R) -> bool
         return false;
     }
     other.contains(row)
+}
+
+/// The first dash of a row, if it has one.
+#[tactic(auto, unfolding(crate::specs::Literals::no_dash))]
+pub fn first_dash<R: Row>(row: &R) -> Option<usize>
+    ensures { MatchOption result (no_dash (R.literals row.now) ≡ true)
+        (λ place. (place < length (R.literals row.now))
+        × (slice_index_or (R.literals row.now) place None ≡ None)) }
+{
+    for place in 0..row.width() {
+        if row.at(place).is_none() {
+            return Some(place);
+        }
+    }
+    None
+}
+
+/// The place chosen where the row has a dash there, else its first dash, if it has one.
+pub fn dash_of<R: Row>(row: &R, choice: usize) -> Option<usize>
+    ensures { MatchOption result (no_dash (R.literals row.now) ≡ true)
+        (λ place. (place < length (R.literals row.now))
+        × (slice_index_or (R.literals row.now) place None ≡ None)) }
+{
+    if choice < row.width() && row.at(choice).is_none() {
+        return Some(choice);
+    }
+    first_dash(row)
+}
+
+/// A copy of a row with a literal at a place.
+pub fn row_with<R: Row>(alloc: Global, row: &R, place: usize, bit: bool) -> Result<R, AllocError>
+    requires { place < length (R.literals row.now) }
+    ensures { IfOk result (λ made. R.literals made ≡ slice_set (R.literals row.now) place
+        (Some bit)) }
+{
+    let mut made = row.copy(alloc)?;
+    made.set(place, Some(bit));
+    Ok(made)
 }

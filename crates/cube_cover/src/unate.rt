@@ -1,8 +1,8 @@
-//! Unate reduction: rows that no tautology needs, which contradict what is given or have a literal that
-//! stands in one polarity only.
+//! Unate reduction: drops rows that the tautology test does not need, since they contradict the
+//! given row or have a literal whose column has one polarity only.
 //!
-//! Source: Brayton et al., "Logic Minimization Algorithms for VLSI Synthesis" (unate reduction). Promised: the rows that
-//! are left have each point of the given row exactly where all rows have.
+//! Source: Brayton et al., "Logic Minimization Algorithms for VLSI Synthesis" (unate reduction).
+//! Promised: the rows that are left cover each point of the given row exactly if all rows do.
 
 ghost use Rattle.std.specs.Prelude.{◌≡◌, ℕ, ◌+◌, ◌^◌, ◌<◌, ◌≤◌, Bool, true, false, Option, None, List, length, map, slice_index_or, IfOk};
 ghost use Rattle.sis_base.specs.Rows.{HasWidth};
@@ -15,14 +15,14 @@ use crate::picks::{is_dash, literal_at, pick_agreeing, pick_dashed};
 use crate::row::Row;
 use std::alloc::{AllocError, Global};
 
-// How many rows have the positive and the negative literal at a place.
+// The numbers of rows with the positive and with the negative literal in a column.
 #[derive(Clone, Copy)]
 struct PolarityCounts {
     positive: usize,
     negative: usize,
 }
 
-// One more of the polarity that the literal has.
+// Adds one to the count of the literal's polarity.
 fn add_literal(counts: PolarityCounts, place: Option<bool>) -> PolarityCounts
     requires positive { counts.positive + literal_count true place < 2 ^ 64 }
     requires negative { counts.negative + literal_count false place < 2 ^ 64 }
@@ -43,11 +43,13 @@ fn add_literal(counts: PolarityCounts, place: Option<bool>) -> PolarityCounts
     }
 }
 
-// Counts the literals of some rows at a place, by polarity.
+// Counts the literals of the selected rows in a column, by polarity.
 #[tactic(auto, unfolding(crate::specs::Literals::literal_occurrences))]
 fn polarity_counts_at<R: Row>(rows: &[R], numbers: &[usize], place: usize) -> PolarityCounts
-    ensures positive { result.positive ≡ literal_occurrences place true (picked_rows (map R.literals rows.now) numbers.now) }
-    ensures negative { result.negative ≡ literal_occurrences place false (picked_rows (map R.literals rows.now) numbers.now) }
+    ensures positive { result.positive ≡ literal_occurrences place true
+        (picked_rows (map R.literals rows.now) numbers.now) }
+    ensures negative { result.negative ≡ literal_occurrences place false
+        (picked_rows (map R.literals rows.now) numbers.now) }
     ensures both { result.positive + result.negative ≤ length numbers.now }
 {
     let mut counts = PolarityCounts {
@@ -60,7 +62,8 @@ fn polarity_counts_at<R: Row>(rows: &[R], numbers: &[usize], place: usize) -> Po
     counts
 }
 
-// The rows that go with the given row at a place where it has a literal, else all.
+// The selected rows that agree with the given row's literal in a column; all of them if it has
+// none.
 #[tactic(auto, using(crate::proofs::Dashed::agreeing_reduction, crate::proofs::Dashed::reduction_same))]
 fn pick_consistent<R: Row>(
     alloc: Global,
@@ -69,8 +72,11 @@ fn pick_consistent<R: Row>(
     numbers: &[usize],
     place: usize,
 ) -> Result<Vec<usize>, AllocError>
-    requires { HasWidth (length (R.literals given.now)) (picked_rows (map R.literals rows.now) numbers.now) }
-    ensures { IfOk result (λ made. IsUnateReduction (R.literals given.now) (picked_rows (map R.literals rows.now) numbers.now) (picked_rows (map R.literals rows.now) made.items)) }
+    requires { HasWidth (length (R.literals given.now))
+        (picked_rows (map R.literals rows.now) numbers.now) }
+    ensures { IfOk result (λ made. IsUnateReduction (R.literals given.now)
+        (picked_rows (map R.literals rows.now) numbers.now)
+        (picked_rows (map R.literals rows.now) made.items)) }
 {
     if place < given.width() {
         match given.at(place) {
@@ -85,8 +91,9 @@ fn pick_consistent<R: Row>(
     Ok(all)
 }
 
-// The rows with a dash at a place, where the given row has a dash there and the rows' literals are all of one polarity; else
-// all rows. It is looked at only where the counts say so.
+// The selected rows with a dash in a column, if the given row has a dash there and the rows'
+// literals there are all of one polarity; else all rows. The column is looked at only if
+// `is_one_sided` says so.
 #[tactic(auto, using(crate::proofs::Dashed::dashed_reduction, crate::proofs::Dashed::reduction_same))]
 fn reduce_at<R: Row>(
     alloc: Global,
@@ -96,9 +103,12 @@ fn reduce_at<R: Row>(
     place: usize,
     is_one_sided: bool,
 ) -> Result<Vec<usize>, AllocError>
-    requires widths { HasWidth (length (R.literals given.now)) (picked_rows (map R.literals rows.now) numbers.items) }
+    requires widths { HasWidth (length (R.literals given.now))
+        (picked_rows (map R.literals rows.now) numbers.items) }
     requires place { place < length (R.literals given.now) }
-    ensures { IfOk result (λ made. IsUnateReduction (R.literals given.now) (picked_rows (map R.literals rows.now) numbers.items) (picked_rows (map R.literals rows.now) made.items)) }
+    ensures { IfOk result (λ made. IsUnateReduction (R.literals given.now)
+        (picked_rows (map R.literals rows.now) numbers.items)
+        (picked_rows (map R.literals rows.now) made.items)) }
 {
     if is_one_sided && is_dash(given.at(place)) {
         let counts = polarity_counts_at(rows, numbers.as_slice(), place);
@@ -114,7 +124,8 @@ fn reduce_at<R: Row>(
     Ok(numbers)
 }
 
-// Goes over the places once, and leaves out the rows with a literal where the counts say that only one polarity stands.
+// Goes over the columns once, and drops the rows with a literal in an open column that has one
+// polarity only.
 #[tactic(auto, using(crate::proofs::Dashed::reduction_more, crate::proofs::Dashed::reduction_same))]
 fn reduce_once<R: Row>(
     alloc: Global,
@@ -123,8 +134,11 @@ fn reduce_once<R: Row>(
     literals: &[Vec<u32>],
     numbers: Vec<usize>,
 ) -> Result<Vec<usize>, AllocError>
-    requires { HasWidth (length (R.literals given.now)) (picked_rows (map R.literals rows.now) numbers.items) }
-    ensures { IfOk result (λ made. IsUnateReduction (R.literals given.now) (picked_rows (map R.literals rows.now) numbers.items) (picked_rows (map R.literals rows.now) made.items)) }
+    requires { HasWidth (length (R.literals given.now))
+        (picked_rows (map R.literals rows.now) numbers.items) }
+    ensures { IfOk result (λ made. IsUnateReduction (R.literals given.now)
+        (picked_rows (map R.literals rows.now) numbers.items)
+        (picked_rows (map R.literals rows.now) made.items)) }
 {
     let counts = counts_of(alloc, given, rows, literals, numbers.as_slice())?;
     let mut kept = numbers;
@@ -135,9 +149,9 @@ fn reduce_once<R: Row>(
     Ok(kept)
 }
 
-/// Those of some rows that still count: which go with the given row at the place decided last, and have no literal at a
-/// dash of the given row where only one polarity stands; an error only for want of memory. Each round but the last empties
-/// a place, so that as many rounds as places are enough.
+/// The selected rows that still count: those that agree with the given row in the column decided
+/// last, and have no literal in an open column that has one polarity only. Each round but the last
+/// clears a column, so as many rounds as columns suffice.
 #[tactic(auto, using(crate::proofs::Dashed::reduction_more, crate::proofs::Dashed::reduction_same))]
 pub fn reduce<R: Row>(
     alloc: Global,
@@ -147,8 +161,11 @@ pub fn reduce<R: Row>(
     numbers: &[usize],
     last: usize,
 ) -> Result<Vec<usize>, AllocError>
-    requires { HasWidth (length (R.literals given.now)) (picked_rows (map R.literals rows.now) numbers.now) }
-    ensures { IfOk result (λ made. IsUnateReduction (R.literals given.now) (picked_rows (map R.literals rows.now) numbers.now) (picked_rows (map R.literals rows.now) made.items)) }
+    requires { HasWidth (length (R.literals given.now))
+        (picked_rows (map R.literals rows.now) numbers.now) }
+    ensures { IfOk result (λ made. IsUnateReduction (R.literals given.now)
+        (picked_rows (map R.literals rows.now) numbers.now)
+        (picked_rows (map R.literals rows.now) made.items)) }
 {
     let mut kept = pick_consistent(alloc, given, rows, numbers, last)?;
     for _round in 0..given.width() {

@@ -1,7 +1,8 @@
-//! Whether the rows of a cover are too few, or too long, to have all points.
+//! Whether the rows of a cover are too few, or have too many literals, to contain all points.
 //!
-//! Source: Brayton et al., "Logic Minimization Algorithms for VLSI Synthesis" (the tautology test, vertex counts).
-//! Promised: where the answer is yes, the shares of the rows add up to less than the whole, and so some point is in none.
+//! Source: Brayton et al., "Logic Minimization Algorithms for VLSI Synthesis" (the tautology test,
+//! vertex counts). Promised: if the answer is yes, the shares of the rows add up to less than the
+//! whole, and so some point is in none of them.
 
 ghost use Rattle.std.specs.Prelude.{◌≡◌, ℕ, ◌-◌, ◌^◌, ◌<◌, ◌≤◌, Bool, Option, None, List, map, slice_index_or, IsTrue};
 ghost use Rattle.cube_cover.specs.Literals.{literal_number, row_literals};
@@ -9,7 +10,7 @@ ghost use Rattle.cube_cover.specs.Volumes.{cover_shares};
 
 use crate::row::Row;
 
-// How many literals stand at a place.
+// 1 for a literal, 0 for a dash.
 fn literals_at(place: Option<bool>) -> usize
     ensures { result ≡ literal_number place }
 {
@@ -19,7 +20,7 @@ fn literals_at(place: Option<bool>) -> usize
     }
 }
 
-// How many literals a row has.
+// The number of a row's literals.
 #[tactic(auto, unfolding(crate::specs::Literals::row_literals))]
 fn literals_in<R: Row>(row: &R) -> usize
     ensures { result ≡ row_literals (R.literals row.now) }
@@ -31,7 +32,7 @@ fn literals_in<R: Row>(row: &R) -> usize
     count
 }
 
-// The shares of 2^63 of all points that a row of so many literals has, rounded up.
+// The share of a row with this number of literals, where all points have 2^63; at least 1.
 fn share_of(literals: usize) -> u64
     ensures share { result ≡ 2 ^ (63 - literals) }
     ensures most { result ≤ 2 ^ 63 }
@@ -42,7 +43,7 @@ fn share_of(literals: usize) -> u64
     1 << (63 - literals)
 }
 
-/// Whether the rows of a cover have less than all points together, as far as their shares say.
+/// Whether the shares of the rows add up to less than those of all points.
 #[tactic(auto, unfolding(crate::specs::Volumes::cover_shares))]
 pub fn is_too_small<R: Row>(rows: &[R]) -> bool
     ensures { IsTrue result → cover_shares (map R.literals rows.now) < 2 ^ 63 }

@@ -2,7 +2,7 @@ use Rattle.std.proofs.Common.{◌∙◌, ℕ, List, bytes_eq, position, sym, ap}
 use Rattle.std.proofs.lemmas.Result.{err_from_is_err_and}
 use Rattle.net_core.specs.Tables.{named}
 use Rattle.alg_tables.proofs.Steps.{taken_there, taken_nowhere, refusal_there, refusal_nowhere, apart_there, fault_there}
-use Rattle.alg_tables.proofs.taking.take_in.Goals as goal
+use Rattle.alg_tables.proofs.taking.compose_into.Goals as goal
 
 pub taken_at-requires-clause-apart : goal.taken_at-requires-clause-apart
 taken_at-requires-clause-apart g c =
