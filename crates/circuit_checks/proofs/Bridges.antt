@@ -1,4 +1,4 @@
--- What the checks tell where they find nothing, and that they find nothing where it holds; crates above may cite these.
+-- What the checks say if they find nothing, and conversely; crates above may cite these lemmas.
 use Rattle.std.proofs.Common.{◌≡◌, ℕ, suc, Bool, true, false, not, ◌||◌, cond, if◌then◌else◌, Option, Some, None, option_map, List, [], ◌∷◌, ◌++◌, refl, sym, ap, ◌∙◌, append_assoc}
 use Rattle.std.specs.Prelude.{bytes_eq, find}
 use Rattle.std.specs.List.{AllByRecursion}
@@ -17,7 +17,7 @@ use Rattle.circuit_checks.proofs.Driving.{on_cycle_by_places, led_by_steps}
 pub some_none : {A : Type 0} (x : A) → Some x ≡ None → ⊥
 some_none x e = cc
 
--- no name comes again: all are different
+-- no name is repeated: all are different
 different_push : (known : List (List ℕ)) (name : List ℕ) → all_different known ≡ true → has known name ≡ false → all_different (known ++ name ∷ []) ≡ true
 unfolding all_different
 different_push [] name d h = refl

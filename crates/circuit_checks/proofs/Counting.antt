@@ -1,4 +1,4 @@
--- How often a name stands in a list.
+-- How often a name occurs in a list.
 use Rattle.std.proofs.Common.{◌≡◌, ℕ, ◌+◌, ◌<◌, Bool, true, false, not, ◌&&◌, ◌||◌, cond, if◌then◌else◌, List, [], ◌∷◌, ◌++◌, length, get_or, take, refl, sym, ap, ◌∙◌, arith, inl, inr, ◌⊎◌, lt-ltb, le-ltb, ltb, ltb-false, count_by}
 use Rattle.std.specs.Prelude.{bytes_eq}
 use Rattle.std.proofs.lemmas.Bool.{true≢false, cases_Bool}
@@ -116,7 +116,7 @@ pub none_twice : (query : List ℕ) → is_twice [] query ≡ false
 unfolding is_twice
 none_twice query = le-ltb 1 0 (omega arith)
 
--- names are all different exactly if none stands twice
+-- names are all different exactly if none occurs twice
 not_first : (name : List ℕ) (names : List (List ℕ)) → is_twice (name ∷ names) name ≡ false → has names name ≡ false
 unfolding is_twice
 not_first name names h = by (cases_Bool (has names name))

@@ -1,4 +1,4 @@
--- Tables as a graph over their places: a place is cyclic exactly if its output leads to itself.
+-- Tables as a graph over their indices: a node is cyclic exactly if its output leads to itself.
 use Rattle.std.proofs.Common.{◌≡◌, ℕ, zero, suc, ◌+◌, ◌-◌, ◌<◌, ◌≤◌, Bool, true, false, ◌||◌, cond, Option, Some, None, option_map, List, [], ◌∷◌, length, get_or, map, refl, sym, ap, ◌∙◌, arith, inl, inr, ◌⊎◌, eqb, eq-eqb, eqb-true, All, slice_get, subst}
 use Rattle.std.specs.Prelude.{bytes_eq, find}
 use Rattle.std.specs.List.{list_any, filter_map, cons_option, range_with_len, AllByRecursion}
@@ -23,7 +23,7 @@ some_none x e = cc
 some_same : {A : Type 0} (x y : A) → Some x ≡ Some y → x ≡ y
 some_same x y e = cc
 
--- the place of a name, one further
+-- the index of a name, one further
 next_place : (o : Option ℕ) (i : ℕ) → option_map suc o ≡ Some (suc i) → o ≡ Some i
 next_place None i e = absurd (some_none (suc i) (sym e))
 next_place (Some k) i e = let same : suc k ≡ suc i = some_same (suc k) (suc i) e in let k_is : k ≡ i = omega (arith, same) in ap Some k_is
@@ -36,7 +36,7 @@ no_place : (o : Option ℕ) → option_map suc o ≡ None → o ≡ None
 no_place None e = refl
 no_place (Some k) e = absurd (some_none (suc k) e)
 
--- where a name has a place, the table there drives it, whatever is made of the tables' inputs
+-- if a name has an index, the table there drives it, whatever the tables' inputs become
 reads_driver : (h : List (List ℕ) → List ℕ) (tables : List Table) (signal : List ℕ) (i : ℕ) → place_in (outputs_of tables) signal ≡ Some i
     → get_or (map (λ (table : Table). h table.inputs) tables) i [] ≡ h (inputs_at (driver tables signal))
 unfolding place_in driver
@@ -55,7 +55,7 @@ reads_driver h (table ∷ tables) signal (suc i) e = cases (bytes_eq signal tabl
     cases true e rec = let same : 0 ≡ suc i = some_same 0 (suc i) e in absurd (omega (arith, same))
     cases false e rec = rec (next_place (place_in (outputs_of tables) signal) i e)
 
--- a name without a place has no driver, and one with a driver has a place
+-- a name without an index has no driver, and one with a driver has an index
 undriven : (tables : List Table) (signal : List ℕ) → place_in (outputs_of tables) signal ≡ None → driver tables signal ≡ None
 unfolding place_in driver
 undriven [] signal e = refl
@@ -73,7 +73,7 @@ place_of_driven tables signal table d = cases (place_in (outputs_of tables) sign
     cases None e = absurd (some_none table (sym d ∙ undriven tables signal e))
     cases (Some i) e = (i, e)
 
--- the name at the place of a name
+-- the name at the index of a name
 at_place : (names : List (List ℕ)) (name : List ℕ) (i : ℕ) → place_in names name ≡ Some i → get_or names i [] ≡ name
 unfolding place_in
 at_place [] name i e = absurd (some_none i (sym e))
@@ -98,7 +98,7 @@ place_below (first ∷ names) name (suc i) e = cases (bytes_eq name first) e (pl
     cases true e rec = let same : 0 ≡ suc i = some_same 0 (suc i) e in absurd (omega (arith, same))
     cases false e rec = omega (arith, rec (next_place (place_in names name) i e))
 
--- two names with places are the same where their places are
+-- two names with indices are equal if their indices are
 same_places : (names : List (List ℕ)) (name other : List ℕ) (i j : ℕ) → place_in names name ≡ Some i → place_in names other ≡ Some j → eqb i j ≡ bytes_eq name other
 same_places names name other i j p q =
     same_bools (eqb i j) (bytes_eq name other)
@@ -110,13 +110,13 @@ pub length_graph : (tables : List Table) → length (graph_of tables) ≡ length
 unfolding graph_of
 length_graph tables = length-map tables (λ (table : Table). filter_map (place_in (outputs_of tables)) table.inputs)
 
--- what is read at the place of a name: the places of the inputs of its driver
+-- the edges at the index of a name: the indices of the inputs of its driver
 graph_reads : (tables : List Table) (signal : List ℕ) (i : ℕ) → place_in (outputs_of tables) signal ≡ Some i
     → reads_of (graph_of tables) i ≡ filter_map (place_in (outputs_of tables)) (inputs_at (driver tables signal))
 unfolding reads_of graph_of
 graph_reads tables signal i e = reads_driver (filter_map (place_in (outputs_of tables))) tables signal i e
 
--- what is read is a place
+-- what is read is a node
 places_below : (names : List (List ℕ)) (inputs : List (List ℕ)) → AllByRecursion (λ (i : ℕ). i < length names) (filter_map (place_in names) inputs)
 places_below names [] = tt
 places_below names (input ∷ inputs) = cases (place_in names input) refl (places_below names inputs)
@@ -143,7 +143,7 @@ graph_is tables =
     (subst (λ (n : ℕ). AllByRecursion (λ (reads : List ℕ). All (λ (i : ℕ). i < n) reads) (map (λ (table : Table). filter_map (place_in (outputs_of tables)) table.inputs) tables))
     size (all_below (outputs_of tables) tables))
 
--- the test on names is the test on their places
+-- the test on names is the test on their indices
 nothing_led : (tables : List Table) (most : ℕ) (from to : List ℕ) → driver tables from ≡ None → leads_within tables most from to ≡ false
 unfolding leads_within
 nothing_led tables zero from to e = refl
@@ -195,7 +195,7 @@ unfolding is_cyclic is_on_cycle
 cyclic_alike tables signal i p =
     led_alike tables (length (graph_of tables)) signal signal i i p p ∙ ap (λ (n : ℕ). leads_within tables n signal signal) (length_graph tables)
 
--- steps from name to name are steps from place to place
+-- steps from name to name are steps from node to node
 among_places : (names inputs : List (List ℕ)) (input : List ℕ) (k : ℕ) → place_in names input ≡ Some k → has inputs input ≡ true → is_among (filter_map (place_in names) inputs) k ≡ true
 among_places names [] input k p h = absurd (true≢false (sym h))
 among_places names (first ∷ inputs) input k p h = cases (bytes_eq input first) refl (among_places names inputs input k p)
@@ -274,7 +274,7 @@ pub led_by_steps : (tables : List Table) (signal : List ℕ) → is_on_cycle tab
 unfolding is_on_cycle
 led_by_steps tables signal h = leads_from_led tables (length tables) signal signal h
 
--- where outputs are all different, each output has its table's place
+-- if outputs are all different, each output has its table's index
 own_place : (tables : List Table) → all_different (outputs_of tables) ≡ true → (i : ℕ) (table : Table) → slice_get tables i ≡ Some table → place_in (outputs_of tables) table.output ≡ Some i
 unfolding place_in
 own_place [] d i table e = absurd (some_none table (sym e))
@@ -301,7 +301,7 @@ own_place (first ∷ tables) d (suc i) table e =
         absurd (true≢false (sym (listed tables i e) ∙ ap (has (outputs_of tables)) (same_name table.output first.output t) ∙ first_different first.output (outputs_of tables) d))
     differs false t = refl
 
--- the first place that passes is the place of the first table that does
+-- the first node that passes is the index of the first table that does
 unfoldable output_from : List Table → ℕ → Option ℕ → Option (List ℕ)
 output_from tables start None = None
 output_from tables start (Some place) = option_map (λ (table : Table). table.output) (slice_get tables (place - start))
@@ -349,7 +349,7 @@ found_alike f test (table ∷ tables) start agree =
     cases true false e t rec = absurd (true≢false e)
     cases false true e t rec = absurd (true≢false (sym e))
 
--- so the first cyclic place gives the first table on a cycle
+-- so the first cyclic node gives the first table on a cycle
 pub found_on_cycle : (tables : List Table) → all_different (outputs_of tables) ≡ true → (found : Option ℕ) → found ≡ first_cyclic (graph_of tables) → output_at tables found ≡ first_on_cycle tables
 unfolding first_cyclic first_on_cycle output_from output_at
 found_on_cycle tables d found e =

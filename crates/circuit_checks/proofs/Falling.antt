@@ -1,4 +1,4 @@
--- Labels that never rise: a place from which all steps fall is on no cycle.
+-- Labels that never rise: a node from which all edges fall is on no cycle.
 use Rattle.std.proofs.Common.{◌≡◌, ℕ, zero, suc, ◌+◌, ◌-◌, ◌<◌, ◌≤◌, Bool, true, false, ◌||◌, ◌&&◌, not, cond, Option, Some, None, List, [], ◌∷◌, length, refl, sym, ap, ◌∙◌, inl, inr, ◌⊎◌, eqb, leb, arith}
 use Rattle.std.proofs.Common.{eqb-true, leb-true, leb-false, find}
 use Rattle.std.specs.List.{list_any, list_all, range_with_len}
@@ -42,7 +42,7 @@ falls_first graph labels place read h m =
     by (inl e) = absurd (true≢false (sym (any_from_among (λ (read : ℕ). leb (label_of labels place) (label_of labels read)) (reads_of graph place) read m e) ∙ h))
     by (inr e) = leb-false (label_of labels place) (label_of labels read) e
 
--- where no step rises and all steps from a place fall, it is not reached from itself
+-- if no edge rises and all edges from a node fall, it is not reached from itself
 pub not_cyclic : (graph : List (List ℕ)) → IsGraph graph → (labels : List ℕ) (place : ℕ) → never_rises graph labels ≡ true → stays graph labels place ≡ false → is_cyclic graph place ≡ false
 unfolding Walks
 not_cyclic graph is_graph labels place h s = by (cases_Bool (is_cyclic graph place))
@@ -57,7 +57,7 @@ not_cyclic graph is_graph labels place h s = by (cases_Bool (is_cyclic graph pla
     by (inl e) = let (steps, walk) = walk_from_cyclic graph place e in absurd (no_walk steps walk)
     by (inr e) = e
 
--- the loop over all places
+-- the loop over all nodes
 pub cyclic_more : (graph : List (List ℕ)) (place : ℕ) → place < length graph
     → find (is_cyclic graph) (range_with_len place (length graph - place)) ≡ cond (is_cyclic graph place) (Some place) (find (is_cyclic graph) (range_with_len (place + 1) (length graph - (place + 1))))
 cyclic_more graph place lt = by (length graph - place) (length graph - (place + 1)) (omega arith)

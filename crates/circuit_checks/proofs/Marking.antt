@@ -1,7 +1,7 @@
 -- The marks of a search: what a step adds, what stays true of them, and what they say at the end.
 use Rattle.std.proofs.Common.{◌≡◌, ℕ, zero, suc, ◌+◌, ◌<◌, ◌≤◌, Bool, true, false, ◌||◌, ◌&&◌, not, cond, if◌then◌else◌, List, [], ◌∷◌, ◌++◌, length, get_or, set, replicate, refl, sym, ap, ◌∙◌, inl, inr, ◌⊎◌, eqb, arith, All, subst, drop}
 use Rattle.std.proofs.Common.{eqb-true, count_by}
-use Rattle.std.proofs.lemmas.Bool.{cases_lt, or_cases, cases_Bool, true≢false, eqb-false}
+use Rattle.std.proofs.lemmas.Bool.{cases_lt, or_cases, cases_Bool, true≢false, eqb-false, or_left, or_right}
 use Rattle.std.proofs.lemmas.List.{drop_more, drop_all, length-set, length-append, length-replicate, get_or-set_same, get_or-set_other, get_or_past, get_or-replicate}
 use Rattle.std.proofs.lemmas.List.Folds.{list_any-append}
 use Rattle.std.proofs.lemmas.List.Sums.{sum_by-set}
@@ -9,7 +9,7 @@ use Rattle.circuit_checks.specs.Graphs.{IsGraph, reads_of, is_among, Walks, lead
 use Rattle.circuit_checks.specs.Searching.{is_seen, marks, fresh, fresh_one}
 use Rattle.circuit_checks.proofs.Walking.{reads_below, read_below, led_from_walk, walk_from_led, among_first}
 
--- how many places have no mark
+-- the number of nodes without a mark
 abbrev pub unseen : List Bool → ℕ
 unseen seen = count_by (λ (mark : Bool). not mark) seen
 
@@ -18,7 +18,7 @@ unfolding marks
 length-marks seen [] = refl
 length-marks seen (place ∷ places) = length-marks (set seen place true) places ∙ length-set seen place true
 
--- a place is marked after a step where it was marked before or is among the step's places
+-- a node is marked after a step if it was marked before or is among the step's nodes
 marks_at : (places : List ℕ) (seen : List Bool) (q : ℕ) → q < length seen → is_seen (marks seen places) q ≡ (is_seen seen q || is_among places q)
 unfolding marks is_seen
 marks_at [] seen q lt = by (get_or seen q false)
@@ -93,7 +93,7 @@ fresh_at (place ∷ places) seen q =
         ∙ old (get_or seen place false) (is_among places q && not (get_or (set seen place true) q false))
         ∙ ap (λ (b : Bool). is_among places q && not b) (get_or-set_other seen place q true false (eqb-false q place e))
 
--- each place that is marked for the first time is pending then
+-- each node that is marked for the first time is then pending
 marks_count : (places : List ℕ) (seen : List Bool) → All (λ place. place < length seen) places → unseen (marks seen places) + length (fresh seen places) ≡ unseen seen
 unfolding marks fresh is_seen
 marks_count [] seen below = omega arith
@@ -115,21 +115,14 @@ seen_below seen q e = by (cases_lt q (length seen))
     by (inl lt) = lt
     by (inr le) = absurd (true≢false (sym e ∙ get_or_past seen q false le))
 
--- what holds while the search goes on: what is marked is reached, and what it reads is marked too unless it is pending
+-- the invariant of the search: what is marked is reached, and its successors are marked too unless
+-- it is pending
 pub record Searched (graph : List (List ℕ)) (from : ℕ) (seen : List Bool) (pending : List ℕ) : Type 0 where
   pub long : length seen ≡ length graph
   pub reached : (q : ℕ) → is_seen seen q ≡ true → (steps : ℕ) × Walks graph (suc steps) from q
   pub closed : (q : ℕ) → is_seen seen q ≡ true → (is_among pending q ≡ true) ⊎ ((r : ℕ) → is_among (reads_of graph q) r ≡ true → is_seen seen r ≡ true)
   pub begun : (r : ℕ) → is_among (reads_of graph from) r ≡ true → is_seen seen r ≡ true
   pub waiting : (q : ℕ) → is_among pending q ≡ true → is_seen seen q ≡ true
-
-or_left : (a b : Bool) → a ≡ true → (a || b) ≡ true
-or_left true b e = refl
-or_left false b e = absurd (true≢false (sym e))
-
-or_right : (a b : Bool) → b ≡ true → (a || b) ≡ true
-or_right true b e = refl
-or_right false b e = e
 
 and_not : (a b : Bool) → a ≡ true → b ≡ false → (a && not b) ≡ true
 and_not true false e f = refl
@@ -152,7 +145,7 @@ walk_more graph (suc steps) from place to (next, read, walk) m = (next, read, wa
 kept : (seen : List Bool) (places : List ℕ) (q : ℕ) → is_seen seen q ≡ true → is_seen (marks seen places) q ≡ true
 kept seen places q e = marks_at places seen q (seen_below seen q e) ∙ or_left (is_seen seen q) (is_among places q) e
 
--- a place of the step is marked
+-- a node of the step is marked
 marked : (seen : List Bool) (places : List ℕ) (q : ℕ) → q < length seen → is_among places q ≡ true → is_seen (marks seen places) q ≡ true
 marked seen places q lt m = marks_at places seen q lt ∙ or_right (is_seen seen q) (is_among places q) m
 
@@ -199,7 +192,7 @@ at_start graph is_graph from n size before seen pending b s p = rw (p, s, b) (re
     new q (inl e) = absurd (true≢false (sym e ∙ none_seen n q))
     new q (inr m) = fresh_new (replicate n false) (reads_of graph from) q m (none_seen n q)
 
--- a further step, which takes the last pending place
+-- a further step, which takes the last pending node
 pub at_step : (graph : List (List ℕ)) → IsGraph graph → (from place : ℕ) (seen after : List Bool) (pending rest next : List ℕ) → Searched graph from seen pending
     → pending ≡ rest ++ place ∷ [] → after ≡ marks seen (reads_of graph place) → next ≡ rest ++ fresh seen (reads_of graph place) → Searched graph from after next
 at_step graph is_graph from place seen after pending rest next s p a n = rw (n, a) (record {
@@ -263,7 +256,7 @@ at_step graph is_graph from place seen after pending rest next s p a n = rw (n, 
         read (inl e) = absurd (true≢false (sym e ∙ unseen_yet))
         read (inr m) = m
 
--- the places that a step marks have a mark
+-- the nodes that a step marks have a mark
 pub step_below : (graph : List (List ℕ)) → IsGraph graph → (place : ℕ) (seen : List Bool) → length seen ≡ length graph → All (λ read. read < length seen) (reads_of graph place)
 step_below graph is_graph place seen long = λ k d lt. omega (arith, reads_below graph is_graph place k d lt, long)
 
@@ -303,7 +296,7 @@ at_end graph is_graph from seen pending s p place =
     (λ e. let (steps, walk) = t.reached place e in led_from_walk graph is_graph steps from place walk)
     (λ e. let (steps, walk) = walk_from_led graph (length graph) from place e in all_marked graph from seen t steps from place t.begun walk)
 
--- the loop over the places of a step
+-- the loop over the nodes of a step
 pub marks_more : (seen : List Bool) (places : List ℕ) (i : ℕ) → i < length places → marks seen (drop i places) ≡ marks (set seen (get_or places i 0) true) (drop (i + 1) places)
 unfolding marks
 marks_more seen places i h = rw (drop_more places i 0 h) refl

@@ -37,7 +37,7 @@ put_held known name more e = ap texts e ∙ by (has (texts known) name.now) (lis
     by true test e = rw e refl
     by false test e = rw e (map-append (λ (word : Bor (List ℕ)). word.now) known (name ∷ []))
 
--- names with some behind
+-- names followed by others
 pub has_append : (names more : List (List ℕ)) (query : List ℕ) → has (names ++ more) query ≡ (has names query || has more query)
 has_append names more query = list_any-append (λ (name : List ℕ). bytes_eq query name) names more
 
@@ -67,7 +67,7 @@ has_with names name query = cases (has names name) refl (cases_Bool (bytes_eq qu
     cases true h (inr e) = out (has names query) ∙ ap (λ (b : Bool). has names query || b) (sym e)
     cases false h e = has_more names name query
 
--- the loop that puts names into a set
+-- the loop that adds names to a set
 pub alike_more : (names : List (List ℕ)) (i : ℕ) (name : List ℕ) (before after : List (List ℕ)) → i < length names → name ≡ get_or names i name
     → Alike before (take i names) → after ≡ with_name before name → Alike after (take (i + 1) names)
 alike_more names i name before after lt is alike e query =
@@ -78,7 +78,7 @@ alike_more names i name before after lt is alike e query =
     ∙ ap (λ (n : List ℕ). has (take i names ++ n ∷ []) query) is
     ∙ ap (λ (some : List (List ℕ)). has some query) (sym (take_more names i name lt))
 
--- the first that comes again, by a set
+-- the first that is repeated, by a set
 pub again_alike : (known others names : List (List ℕ)) → Alike known others → first_again known names ≡ first_again others names
 unfolding first_again
 again_alike known others [] alike = refl

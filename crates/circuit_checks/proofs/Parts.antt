@@ -1,5 +1,5 @@
--- The name by which a don't-care part is wrong: how the walk over its tables finds it, and what it tells where there is none;
--- crates above may cite `part_sound` and `part_passes`.
+-- The name by which a don't-care part breaks a rule: how the walk over its tables finds it, and
+-- what it means that there is none; crates above may cite `part_sound` and `part_passes`.
 use Rattle.std.proofs.Common.{◌≡◌, ℕ, zero, suc, ◌+◌, ◌-◌, ◌<◌, ◌≤◌, Bool, true, false, not, ◌||◌, cond, if◌then◌else◌, Option, Some, None, option_map, List, [], ◌∷◌, ◌++◌, length, get_or, take, drop, refl, sym, ap, ◌∙◌, arith, inl, inr, ◌⊎◌, eqb, eq-eqb, eqb-true}
 use Rattle.std.specs.Prelude.{bytes_eq, find}
 use Rattle.std.specs.Option.{option_or}
@@ -30,7 +30,8 @@ not_some : {A : Type 0} (x : A) (b : Bool) → (if b then Some x else None) ≡ 
 not_some x true e = absurd (some_none x e)
 not_some x false e = refl
 
--- the first number from a start on that passes: whether it is the start, and that it comes later where the start does not pass
+-- the first number from a start on that passes: it is the start, or comes later if the start does
+-- not pass
 found_next : (f : ℕ → Bool) (start n : ℕ) (found : Option ℕ) → found ≡ find f (range_with_len start (suc n)) → is_at found start ≡ f start
 found_next f start n found e = ap (λ (o : Option ℕ). is_at o start) e ∙ cases (f start)
   where
@@ -96,7 +97,8 @@ not_on known before on_cycle table e = cases (has before table.output) e
     cases true e = absurd (some_none table.output e)
     cases false e = not_some table.output on_cycle (none_second (find (λ (name : List ℕ). not (has known name)) table.inputs) (if on_cycle then Some table.output else None) e)
 
--- the walk stands at a place: the outputs before are in a set, no place before is on a cycle, and the answer is that of the rest
+-- the state of the walk at an index: the outputs before are in a set, no node before is on a cycle,
+-- and the answer is that of the rest
 pub record IsWalked (leaves : List (List ℕ)) (part : List Table) (i : ℕ) (set : List (List ℕ)) (cyclic : Option ℕ) : Type 0 where
   pub before : Alike set (outputs_of (take i part))
   pub later : cyclic ≡ find (is_cyclic (graph_of part)) (range_with_len i (length part - i))
@@ -214,7 +216,7 @@ all_join : (P : List ℕ → Type 0) (front back : List (List ℕ)) → AllByRec
 all_join P [] back h k = k
 all_join P (name ∷ front) back h k = (h.0, all_join P front back h.1 k)
 
--- nothing is wrong with tables: their outputs are new, what they read is known, and none is on a cycle
+-- no table breaks a rule: their outputs are new, what they read is known, and none is on a cycle
 again_none : (leaves : List (List ℕ)) (part : List Table) (before : List (List ℕ)) (tables : List Table) → bad_name_behind leaves part before tables ≡ None
     → first_again before (outputs_of tables) ≡ None
 unfolding bad_name_behind first_again
@@ -243,7 +245,8 @@ cycle_none leaves part before (table ∷ tables) h =
     ap (λ (b : Bool). cond b (Some table) (find (λ (table : Table). is_on_cycle part table.output) tables)) free.2
     ∙ cycle_none leaves part (before ++ table.output ∷ []) tables (none_second (bad_part_name leaves part before table) (bad_name_behind leaves part (before ++ table.output ∷ []) tables) h)
 
--- where nothing is wrong with a part, its outputs are all different, what it reads is known, and no signal leads to itself
+-- if no table of a part breaks a rule, its outputs are all different, what it reads is known, and
+-- no signal leads to itself
 pub part_sound : (leaves : List (List ℕ)) (part : List Table) → first_bad_part_name leaves part ≡ None
     → (all_different (outputs_of part) ≡ true) × (AllByRecursion (λ name. has (outputs_of part ++ leaves) name ≡ true) (table_inputs part)) × IsAcyclic part
 unfolding first_on_cycle all_different

@@ -1,4 +1,4 @@
--- The loops that number tables by their places.
+-- The loops that number tables by their indices.
 use Rattle.std.proofs.Common.{◌≡◌, ℕ, zero, suc, ◌+◌, ◌-◌, ◌<◌, ◌≤◌, Bool, true, false, Option, Some, None, option_map, List, [], ◌∷◌, ◌++◌, length, get_or, take, refl, sym, ap, subst, ◌∙◌, arith, if◌then◌else◌, option_to_list}
 use Rattle.std.specs.Prelude.{bytes_eq}
 use Rattle.std.specs.Option.{option_or}
@@ -12,7 +12,7 @@ use Rattle.circuit_model.specs.declared.circuit.Table.{Table}
 use Rattle.circuit_checks.specs.Sets.{place_in}
 use Rattle.circuit_checks.proofs.Naming.{same_bytes}
 
--- the place of a name with one more behind
+-- the index of a name with one more at the end
 place_behind : (left : List (List ℕ)) (last name : List ℕ)
     → place_in (left ++ last ∷ []) name ≡ option_or (place_in left name) (if bytes_eq name last then Some (length left) else None)
 unfolding place_in
@@ -30,7 +30,7 @@ place_behind (first ∷ left) last name = by (bytes_eq name first) (bytes_eq nam
     by true b rec = refl
     by false b rec = ap (option_map suc) rec ∙ later (place_in left name) b
 
--- an output is put in front of those that are there
+-- an output is inserted in front of those that are there
 pub place_more : (tables : List Table) (left : ℕ) (table : Table) (name : List ℕ) (old new : List ℕ → Option ℕ) → 0 < left → left ≤ length tables → table ≡ get_or tables (left - 1) table
     → name ≡ (get_or tables (left - 1) table).output
     → ((query : List ℕ) → option_or (place_in (outputs_of (take left tables)) query) (old query) ≡ place_in (outputs_of tables) query)
@@ -74,7 +74,7 @@ place_more tables (suc left) table name old new some lt is named before put quer
     join None false = refl
     join (Some found) b = refl
 
--- before the loop all places are still to come, and behind it none
+-- before the loop all indices are still to come, and after it none
 pub places_begin : (tables : List Table) (left : ℕ) (old : List ℕ → Option ℕ) (query : List ℕ) → left ≡ length tables → old query ≡ None
     → option_or (place_in (outputs_of (take left tables)) query) (old query) ≡ place_in (outputs_of tables) query
 places_begin tables left old query size none = rw (size, none, take-length tables) (nothing (place_in (outputs_of tables) query))
@@ -93,7 +93,7 @@ places_end tables left old none h = fun_ext (λ query. by left none (h query))
     by zero e k = k
     by (suc n) e k = absurd (omega (arith, e))
 
--- the places of one name more
+-- the indices of one more name
 pub places_more : (place : List ℕ → Option ℕ) (inputs : List (List ℕ)) (i : ℕ) (input : List ℕ) (places after : List ℕ) → i < length inputs → input ≡ get_or inputs i input
     → places ≡ filter_map place (take i inputs) → after ≡ places ++ option_to_list (place input) → after ≡ filter_map place (take (i + 1) inputs)
 places_more place inputs i input places after lt is so e =

@@ -1,4 +1,5 @@
--- The rank of a place: how many places it leads to. Where no place is reached from itself, it falls on each step.
+-- The rank of a node: the number of nodes to which it leads. If no node is reached from itself, it
+-- falls on each edge.
 use Rattle.std.proofs.Common.{◌≡◌, ℕ, zero, suc, ◌+◌, ◌<◌, ◌≤◌, Bool, true, false, ◌||◌, cond, Option, Some, None, List, [], ◌∷◌, length, refl, sym, ap, ◌∙◌, eqb, arith}
 use Rattle.std.proofs.Common.{eqb-true, eq-eqb}
 use Rattle.std.specs.Prelude.{find}
@@ -7,7 +8,7 @@ use Rattle.std.proofs.lemmas.Bool.{true≢false}
 use Rattle.circuit_checks.specs.Graphs.{IsGraph, IsRank, reads_of, is_among, Walks, leads, is_cyclic, first_cyclic}
 use Rattle.circuit_checks.proofs.Walking.{among_range, read_below, led_from_walk, walk_from_led}
 
--- how many of some places pass a test
+-- the number of some nodes that pass a test
 many : (ℕ → Bool) → List ℕ → ℕ
 many test [] = 0
 many test (x ∷ xs) = cond (test x) 1 0 + many test xs
@@ -93,7 +94,7 @@ falls_at graph is_graph h place read m =
     apart : is_cyclic graph read ≡ false → leads graph (length graph) read read ≡ false
     apart e = e
 
--- where no place is reached from itself, the rank falls on each step
+-- if no node is reached from itself, the rank falls on each edge
 pub ranked_from_none : (graph : List (List ℕ)) → IsGraph graph → first_cyclic graph ≡ None → IsRank graph (rank_of graph)
 ranked_from_none graph is_graph h place =
     all_from_among (λ read. rank_of graph read < rank_of graph place) (reads_of graph place) (λ read m. falls_at graph is_graph h place read m)

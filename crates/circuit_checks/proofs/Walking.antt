@@ -1,4 +1,5 @@
--- Walks through a graph: the test `leads` against walks of any length, and why as many steps as places are enough.
+-- Walks through a graph: the test `leads` against walks of any length, and why as many steps as
+-- nodes suffice.
 use Rattle.std.proofs.Common.{◌≡◌, ℕ, zero, suc, ◌+◌, ◌<◌, ◌≤◌, Bool, true, false, ◌||◌, List, [], ◌∷◌, length, get_or, refl, sym, ap, ◌∙◌, inl, inr, ◌⊎◌, eqb, arith, subst}
 use Rattle.std.proofs.Common.{eqb-true, eq-eqb, All}
 use Rattle.std.specs.List.{list_any, IsDistinct, AllByRecursion, range_with_len}
@@ -52,7 +53,7 @@ among_range (suc n) start place above below = cases (eqb place start) refl (λ l
         apart : (place ≡ start → ⊥) → start + 1 ≤ place
         apart differs = omega arith
 
--- what is read is a place of the graph
+-- what is read is a node of the graph
 among_below : (n : ℕ) (xs : List ℕ) → All (λ place. place < n) xs → (x : ℕ) → is_among xs x ≡ true → x < n
 among_below n [] below x h = absurd (true≢false (sym h))
 among_below n (y ∷ ys) below x h = cases (eqb x y) refl (among_below n ys (λ k d lt. below (suc k) d (omega arith)) x)
@@ -77,7 +78,7 @@ reads_below graph is_graph place = by (cases_lt place (length graph))
 pub read_below : (graph : List (List ℕ)) → IsGraph graph → (place read : ℕ) → is_among (reads_of graph place) read ≡ true → read < length graph
 read_below graph is_graph place read h = among_below (length graph) (reads_of graph place) (reads_below graph is_graph place) read h
 
--- a trail: the places of a walk, without the first
+-- a trail: the nodes of a walk, without the first
 unfoldable pub Trail : List (List ℕ) → ℕ → List ℕ → ℕ → Type 0
 Trail graph from [] to = from ≡ to
 Trail graph from (next ∷ places) to = (is_among (reads_of graph from) next ≡ true) × Trail graph next places to
@@ -94,7 +95,7 @@ unfolding Walks Trail
 walk_from_trail graph from to [] e = e
 walk_from_trail graph from to (next ∷ places) (read, trail) = (next, read, walk_from_trail graph next to places trail)
 
--- from where a trail comes by a place, without coming back to it
+-- the rest of a trail from a node on, without returning to it
 cut : (graph : List (List ℕ)) (from to place : ℕ) (places : List ℕ) → Trail graph from places to → IsDistinct eqb places → is_among places place ≡ true
     → (rest : List ℕ) × Trail graph place rest to × IsDistinct eqb (place ∷ rest)
 unfolding Trail IsDistinct
@@ -121,7 +122,7 @@ none_equal x (y ∷ ys) h = (left (eqb x y) (is_among ys x) h, none_equal x ys (
     right true b e = absurd (true≢false e)
     right false b e = e
 
--- a trail without a place twice
+-- a trail without repeated nodes
 direct : (graph : List (List ℕ)) (from to next : ℕ) (places : List ℕ) → Trail graph from (next ∷ places) to
     → (rest : List ℕ) × Trail graph from (next ∷ rest) to × IsDistinct eqb (next ∷ rest)
 unfolding Trail IsDistinct
@@ -137,7 +138,7 @@ direct graph from to next (after ∷ places) (read, trail) =
         (short, (read, trail), apart)
     cases rest way distinct false e = (after ∷ rest, (read, way), (none_equal next (after ∷ rest) e, distinct))
 
--- the places of a trail are places of the graph
+-- the nodes of a trail are nodes of the graph
 trail_below : (graph : List (List ℕ)) → IsGraph graph → (from to : ℕ) (places : List ℕ) → Trail graph from places to → (place : ℕ) → is_among places place ≡ true → place < length graph
 unfolding Trail
 trail_below graph is_graph from to [] trail place h = absurd (true≢false (sym h))
@@ -161,7 +162,7 @@ led_by_trail graph (suc most) from to next (after ∷ places) short (read, trail
     either true b e = refl
     either false b e = e
 
--- what some walk leads to is led to within as many steps as there are places
+-- what some walk leads to is led to within as many steps as there are nodes
 pub led_from_walk : (graph : List (List ℕ)) → IsGraph graph → (steps from to : ℕ) → Walks graph (suc steps) from to → leads graph (length graph) from to ≡ true
 led_from_walk graph is_graph steps from to walk =
     let (next, places, trail) = trail_from_walk graph steps from to walk in
@@ -169,7 +170,7 @@ led_from_walk graph is_graph steps from to walk =
     led_by_trail graph (length graph) from to next rest
     (length-le_from_distinct_below (next ∷ rest) (length graph) distinct (λ place h. trail_below graph is_graph from to (next ∷ rest) way place h)) way
 
--- and the other way round
+-- and conversely
 pub walk_from_led : (graph : List (List ℕ)) (most from to : ℕ) → leads graph most from to ≡ true → (steps : ℕ) × Walks graph (suc steps) from to
 unfolding leads Walks
 walk_from_led graph zero from to h = absurd (true≢false (sym h))
@@ -185,7 +186,7 @@ walk_from_led graph (suc most) from to h =
         let (steps, walk) = rec t in
         (suc steps, (next, read, walk))
 
--- a place is cyclic exactly if some walk leads from it to itself
+-- a node is cyclic exactly if some walk leads from it to itself
 pub cyclic_from_walk : (graph : List (List ℕ)) → IsGraph graph → (place steps : ℕ) → Walks graph (suc steps) place place → is_cyclic graph place ≡ true
 unfolding is_cyclic
 cyclic_from_walk graph is_graph place steps walk = led_from_walk graph is_graph steps place place walk

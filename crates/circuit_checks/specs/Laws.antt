@@ -1,7 +1,7 @@
--- What the checks say about names and tables where they find nothing, and that they find nothing where it holds.
--- Source: BLIF appendix of the SIS report (UCB/ERL M92/41): each signal has one driver and the tables of a model form no
--- cycle; that a walk over a finite graph finds each cycle is Tarjan's "Depth-First Search and Linear Graph Algorithms"
--- (SIAM Journal on Computing, 1972).
+-- What the checks say about names and tables where they find nothing, and conversely. Source: BLIF
+-- appendix of the SIS report (UCB/ERL M92/41): each signal has one driver and the tables of a model
+-- form no cycle; that a walk over a finite graph finds each cycle is Tarjan's "Depth-First Search
+-- and Linear Graph Algorithms" (SIAM Journal on Computing, 1972).
 use Rattle.std.specs.Prelude.{◌≡◌, ◌↔◌, ℕ, suc, true, None, List, ◌++◌}
 use Rattle.std.specs.List.{AllByRecursion}
 use Rattle.circuit_model.specs.Names.{has, all_different}
@@ -11,7 +11,7 @@ use Rattle.circuit_checks.specs.NameChecks.{first_again, first_missing, first_li
 use Rattle.circuit_checks.specs.Cycles.{is_on_cycle, first_on_cycle}
 use Rattle.circuit_checks.specs.PartChecks.{first_bad_part_name}
 
--- where the known names are all different, no name comes again exactly if all are different
+-- if the known names are all different, no name is repeated exactly if all names are different
 abbrev pub AgainLaw : Type 0
 AgainLaw =
     (known names : List (List ℕ)) → all_different known ≡ true
@@ -22,7 +22,8 @@ abbrev pub MissingLaw : Type 0
 MissingLaw =
     (known names : List (List ℕ)) → (first_missing known names ≡ None) ↔ AllByRecursion (λ name. has known name ≡ true) names
 
--- names that mention each input and each output: none is listed twice exactly if each list has different names
+-- if the names in order contain each input and each output, none is listed twice exactly if the
+-- names of each list are different
 abbrev pub ListedTwiceLaw : Type 0
 ListedTwiceLaw =
     (inputs outputs in_order : List (List ℕ)) → AllByRecursion (λ name. has in_order name ≡ true) (inputs ++ outputs)
@@ -38,8 +39,8 @@ OnCycleLaw =
 abbrev pub AcyclicLaw : Type 0
 AcyclicLaw = (tables : List Table) → (first_on_cycle tables ≡ None) ↔ IsAcyclic tables
 
--- nothing is wrong with a part exactly if its outputs are all different, each name that it reads is one of them or a leaf, and
--- no signal leads to itself
+-- nothing is wrong with a part exactly if its outputs are all different, each name that it reads is
+-- one of them or a leaf, and no signal leads to itself
 abbrev pub PartLaw : Type 0
 PartLaw =
     (leaves : List (List ℕ)) (part : List Table)

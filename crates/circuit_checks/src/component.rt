@@ -1,6 +1,10 @@
-//! Labels of places: the numbers of their strong components, in the order in which Tarjan's algorithm closes them,
-//! so that what a place reads has a lesser label or its own. Nothing is proved of the labels: whoever uses them
-//! checks them first.
+//! Labels of the nodes of a graph: the numbers of their strong components.
+//!
+//! Tarjan, "Depth-first search and linear graph algorithms" (SIAM J. Computing 1, 1972), with a
+//! stack of steps instead of recursion. Components are numbered in the order in which the algorithm
+//! closes them, so that each edge leads to a lesser label or stays in its component. Nothing is
+//! proved of the labels: `graph_cycle` checks them before it uses them, and a wrong label can only
+//! cost time.
 
 ghost use Rattle.std.specs.Prelude.{◌≡◌};
 ghost use Rattle.circuit_checks.specs.Searching.{label_of};
@@ -9,15 +13,16 @@ use crate::search::reads_at;
 use sis_base::Sequence;
 use std::alloc::{AllocError, Global};
 
-/// A step of the walk through the graph.
+/// A step of the depth-first walk.
 #[derive(Clone, Copy)]
 enum Step {
     Enter(usize),
     Leave(usize),
 }
 
-/// What is known of the places: the count at which each was entered (0 for none), the least count that it reaches
-/// by open places, its label (0 while its component is open), and the open places in the order of their counts.
+/// The state of the walk. By node: the count at which it was entered (0 for not yet), the least
+/// count that it reaches through open nodes, and its label (0 while its component is open). And the
+/// open nodes in the order in which they were entered.
 #[derive(Drop)]
 struct Components {
     entered: Vec<usize>,
@@ -28,7 +33,7 @@ struct Components {
     closed: usize,
 }
 
-/// A label for each place; an error only for want of memory.
+/// A label for each node.
 pub fn labels(alloc: Global, graph: &[Sequence<usize>]) -> Result<Vec<usize>, AllocError> {
     let mut components = Components {
         entered: zeros(alloc, graph.len())?,
@@ -46,12 +51,12 @@ pub fn labels(alloc: Global, graph: &[Sequence<usize>]) -> Result<Vec<usize>, Al
     Ok(components.labels)
 }
 
-/// A zero for each place.
+/// The given number of zeros.
 fn zeros(alloc: Global, count: usize) -> Result<Vec<usize>, AllocError> {
     vec![in alloc; 0; count]
 }
 
-/// The mark of a place, 0 where it has none.
+/// The mark of a node, 0 if it has none.
 #[tactic(auto, unfolding(crate::specs::Searching::label_of))]
 pub fn mark_of(marks: &[usize], place: usize) -> usize
     ensures { result ≡ label_of marks.now place }
@@ -59,14 +64,14 @@ pub fn mark_of(marks: &[usize], place: usize) -> usize
     marks.get(place).copied().unwrap_or(0)
 }
 
-/// Puts the mark of a place.
+/// Sets the mark of a node.
 fn put_mark(marks: &mut Vec<usize>, place: usize, mark: usize) {
     if place < marks.len() {
         marks[place] = mark;
     }
 }
 
-/// Takes the places from the last open one back to a place off the path, and labels them.
+/// Pops the open nodes down to the given one, and labels them.
 fn close(path: &mut Vec<usize>, labels: &mut Vec<usize>, place: usize, label: usize) {
     while let Some(last) = path.pop() {
         put_mark(labels, last, label);
@@ -77,7 +82,7 @@ fn close(path: &mut Vec<usize>, labels: &mut Vec<usize>, place: usize, label: us
 }
 
 impl Components {
-    /// Takes the steps until none is left.
+    /// Takes steps until none is left.
     fn walk(&mut self, graph: &[Sequence<usize>], steps: &mut Vec<Step>) -> Result<(), AllocError> {
         for _ in 0..u64::MAX {
             match steps.pop() {
@@ -89,7 +94,8 @@ impl Components {
         Ok(())
     }
 
-    /// Opens a place that is new: its reads are entered next, and then it is left.
+    /// Opens a node that is new: pushes the step that leaves it, then those that enter its
+    /// successors.
     fn enter(
         &mut self,
         reads: &[usize],
@@ -110,7 +116,8 @@ impl Components {
         Ok(())
     }
 
-    /// Takes the least count that is reached through the reads; where it is the place's own, its component is closed.
+    /// Takes the least count that the successors reach; if it is the node's own, closes its
+    /// component.
     fn leave(&mut self, reads: &[usize], place: usize) {
         let lowest = self.lowest_through(reads, mark_of(self.lowest.as_slice(), place));
         put_mark(&mut self.lowest, place, lowest);
@@ -120,7 +127,7 @@ impl Components {
         }
     }
 
-    /// The least of a count and those that the open ones of the reads reach.
+    /// The least of a count and those that the open successors reach.
     fn lowest_through(&self, reads: &[usize], count: usize) -> usize {
         let mut lowest = count;
         for read in reads {

@@ -1,4 +1,10 @@
-//! The first table that is reached from itself: tables are numbered by their places.
+//! The first table that is reached from itself (BLIF appendix of the SIS report, UCB/ERL M92/41:
+//! the tables of a model form no cycle).
+//!
+//! `graph_of` turns tables into a graph over their indices, in which each table has edges to the
+//! tables that drive its inputs; `graph_cycle` finds the first cyclic node. A name that several
+//! tables drive stands for the first of them. `first_on_cycle` asks that all outputs are different;
+//! `cyclic_place` does not, and serves the check of don't-care parts.
 
 ghost use Rattle.std.specs.Prelude.{◌≡◌, ◌++◌, true, map, bytes_eq, option_to_list, IfOk, OnOk};
 ghost use Rattle.std.specs.Option.{option_copied};
@@ -7,7 +13,7 @@ ghost use Rattle.indexmap.specs.IndexMap.{get};
 ghost use Rattle.circuit_checks.specs.Graphs.{first_cyclic};
 ghost use Rattle.circuit_model.specs.Names.{all_different};
 ghost use Rattle.circuit_model.specs.Soundness.{outputs_of};
-ghost use Rattle.circuit_model.specs.declared.circuit.Table.{Table as TheTable};
+ghost use Rattle.circuit_model.specs.declared.circuit.Table.{Table};
 ghost use Rattle.circuit_checks.specs.Cycles.{first_on_cycle};
 ghost use Rattle.circuit_checks.specs.Sets.{place_in, graph_of, output_at};
 
@@ -17,7 +23,8 @@ use indexmap::IndexMap;
 use sis_base::{Copied, Sequence};
 use std::alloc::{AllocError, Global};
 
-/// The output of the first table that is reached from itself; an error only for want of memory.
+/// The output of the first table that is reached from itself. The tables must have different
+/// outputs.
 pub fn first_on_cycle<'a>(
     alloc: Global,
     tables: &'a [Table],
@@ -30,8 +37,8 @@ pub fn first_on_cycle<'a>(
     Ok(found)
 }
 
-/// The place of the first table that is reached from itself, where a name leads to the first table that has it as
-/// output; an error only for want of memory.
+/// The index of the first table that is reached from itself. A name leads to the first table that
+/// has it as output.
 pub(crate) fn cyclic_place(alloc: Global, tables: &[Table]) -> Result<Option<usize>, AllocError>
     ensures { IfOk result (λ place. place ≡ first_cyclic (graph_of tables.now)) }
 {
@@ -40,7 +47,7 @@ pub(crate) fn cyclic_place(alloc: Global, tables: &[Table]) -> Result<Option<usi
     Ok(place)
 }
 
-/// The output of the table at a place.
+/// The output of the table at an index.
 #[tactic(auto, unfolding(crate::specs::Sets::output_at))]
 fn output_at(tables: &[Table], place: Option<usize>) -> Option<&Name>
     ensures { option_copied result ≡ output_at tables.now place }
@@ -49,7 +56,7 @@ fn output_at(tables: &[Table], place: Option<usize>) -> Option<&Name>
     Some(&table.output)
 }
 
-/// The tables as a graph over their places.
+/// The tables as a graph over their indices.
 #[tactic(auto, unfolding(crate::specs::Sets::graph_of))]
 fn graph_of(alloc: Global, tables: &[Table]) -> Result<Vec<Sequence<usize>>, AllocError>
     ensures { IfOk result (λ graph. graph.items ≡ graph_of tables.now) }
@@ -59,13 +66,14 @@ fn graph_of(alloc: Global, tables: &[Table]) -> Result<Vec<Sequence<usize>>, All
     Ok(graph)
 }
 
-/// For each of the tables the places of its inputs.
+/// For each table, the indices of the tables that drive its inputs.
 fn graph_over(
     alloc: Global,
     firsts: &IndexMap<Name, usize>,
     tables: &[Table],
 ) -> Result<Vec<Sequence<usize>>, AllocError>
-    ensures { IfOk result (λ graph. graph.items ≡ map (λ (table : TheTable). filter_map (get bytes_eq firsts.now) table.inputs) tables.now) }
+    ensures { IfOk result (λ graph. graph.items ≡ map
+        (λ (table : Table). filter_map (get bytes_eq firsts.now) table.inputs) tables.now) }
 {
     let mut graph = Vec::new(alloc);
     for table in tables {
@@ -74,7 +82,8 @@ fn graph_over(
     Ok(graph)
 }
 
-/// The place of the first table of each output: the last are put in first, and those before them in their stead.
+/// Maps each output to the index of its first table: inserts from the last table to the first, so
+/// that earlier tables overwrite later ones.
 fn first_places(alloc: Global, tables: &[Table]) -> Result<IndexMap<Name, usize>, AllocError>
     ensures { IfOk result (λ firsts. get bytes_eq firsts ≡ place_in (outputs_of tables.now)) }
 {
@@ -88,14 +97,14 @@ fn first_places(alloc: Global, tables: &[Table]) -> Result<IndexMap<Name, usize>
     Ok(firsts)
 }
 
-/// The place of a name.
+/// The index of a name.
 fn place_of(firsts: &IndexMap<Name, usize>, name: &Name) -> Option<usize>
     ensures { result ≡ get bytes_eq firsts.now name.now }
 {
     firsts.get(name).copied()
 }
 
-/// The places of those of the names that have one.
+/// The indices of those names that have one.
 fn places_of(
     alloc: Global,
     firsts: &IndexMap<Name, usize>,
@@ -110,7 +119,7 @@ fn places_of(
     Ok(places)
 }
 
-/// Puts a place behind the last, if there is one.
+/// Appends an index, if there is one.
 fn add_place(places: &mut Sequence<usize>, place: Option<usize>) -> Result<(), AllocError>
     ensures { OnOk result (places.new ≡ places.old ++ option_to_list place) }
 {

@@ -1,4 +1,8 @@
-//! The first place that is reached from itself.
+//! The first node that is reached from itself.
+//!
+//! If no edge leads to a greater label, a node all of whose edges lead to lesser labels is on no
+//! cycle, and needs no search. The labels are those of `component`; the answer is exact for any
+//! labels.
 
 ghost use Rattle.std.specs.Prelude.{◌≡◌, true, IfOk, length};
 ghost use Rattle.circuit_checks.specs.Graphs.{IsGraph, is_cyclic, first_cyclic};
@@ -9,7 +13,8 @@ use crate::search::{leads, reads_at};
 use sis_base::Sequence;
 use std::alloc::{AllocError, Global};
 
-/// The first place that is reached from itself; an error only for want of memory.
+/// The first node of the graph that is reached from itself; each edge must lead to a node of the
+/// graph.
 #[tactic(auto, using(crate::proofs::Falling::cyclic_more, crate::proofs::Falling::cyclic_done, std::proofs::lemmas::Grind::common_steps))]
 pub fn first_cyclic(alloc: Global, graph: &[Sequence<usize>]) -> Result<Option<usize>, AllocError>
     requires { IsGraph graph.now }
@@ -25,8 +30,8 @@ pub fn first_cyclic(alloc: Global, graph: &[Sequence<usize>]) -> Result<Option<u
     Ok(None)
 }
 
-/// Whether a place is reached from itself. Where no step rises and all steps from the place fall, it is not, and
-/// there is no search.
+/// Whether a node is reached from itself. If no edge leads to a greater label and all edges from
+/// the node lead to lesser ones, it is not, and nothing is searched.
 #[tactic(auto, unfolding(crate::specs::Graphs::is_cyclic))]
 fn is_cyclic(
     alloc: Global,
@@ -45,7 +50,7 @@ fn is_cyclic(
     leads(alloc, graph, place, place)
 }
 
-/// Whether no step leads to a greater label.
+/// Whether no edge leads to a greater label.
 #[tactic(auto, unfolding(crate::specs::Searching::never_rises))]
 fn never_rises(graph: &[Sequence<usize>], labels: &[usize]) -> bool
     ensures { result ≡ never_rises graph.now labels.now }
@@ -53,7 +58,7 @@ fn never_rises(graph: &[Sequence<usize>], labels: &[usize]) -> bool
     (0..graph.len()).all(|place| are_below(labels, mark_of(labels, place), reads_at(graph, place)))
 }
 
-/// Whether each of the places has a label of at most a bound.
+/// Whether the label of each node is at most a bound.
 #[tactic(auto, unfolding(crate::specs::Searching::are_below))]
 fn are_below(labels: &[usize], bound: usize, places: &[usize]) -> bool
     ensures { result ≡ are_below labels.now bound places.now }
@@ -61,7 +66,7 @@ fn are_below(labels: &[usize], bound: usize, places: &[usize]) -> bool
     places.iter().all(|place| mark_of(labels, *place) <= bound)
 }
 
-/// Whether some step from a place leads to a label that is not less.
+/// Whether some edge from a node leads to a label that is not less.
 #[tactic(auto, unfolding(crate::specs::Searching::stays))]
 fn stays(graph: &[Sequence<usize>], labels: &[usize], place: usize) -> bool
     ensures { result ≡ stays graph.now labels.now place }

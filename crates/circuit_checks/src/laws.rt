@@ -2,7 +2,7 @@
 
 ghost use Rattle.circuit_checks.specs.Laws.{AgainLaw, MissingLaw, ListedTwiceLaw, OnCycleLaw, AcyclicLaw, PartLaw};
 
-/// No name comes again exactly if all are different.
+/// If the known names are all different: no name is repeated exactly if all names are different.
 pub fn none_again_is_all_different()
     ensures { AgainLaw }
 {}
@@ -12,7 +12,7 @@ pub fn none_missing_is_all_known()
     ensures { MissingLaw }
 {}
 
-/// No name is listed twice exactly if both lists have different names.
+/// No name is listed twice exactly if the names of each list are different.
 pub fn none_listed_twice_is_different()
     ensures { ListedTwiceLaw }
 {}

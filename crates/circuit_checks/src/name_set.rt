@@ -1,4 +1,5 @@
-//! Names in the order in which they came, looked up by their bytes. The bytes stay where they are.
+//! A set of borrowed names that keeps the order of insertion. Names are looked up by their bytes,
+//! which are not copied.
 
 ghost use Rattle.std.specs.Prelude.{◌≡◌, not, [], IfOk, OnOk};
 ghost use Rattle.circuit_model.specs.Names.{has};
@@ -9,12 +10,12 @@ use indexmap::IndexSet;
 use std::alloc::{AllocError, Global};
 use std::marker::Model;
 
-/// Different names, which contracts see as the list of them in the order in which they came.
+/// Distinct names; contracts see the list of them in the order of insertion.
 pub struct NameSet<'a> {
     names: IndexSet<&'a [u8]>,
 }
 
-// By hand, so that letting a set go is one call in the functions that own one.
+// By hand, so that functions that own a set drop it in one call.
 impl<'a> Drop for NameSet<'a> {
     fn drop(self) {
         let NameSet { names: _names } = self;
@@ -30,7 +31,7 @@ impl<'a> Model for NameSet<'a> {
 }
 
 impl<'a> NameSet<'a> {
-    /// The set without names; takes no memory.
+    /// The empty set; allocates nothing.
     pub fn new(alloc: Global) -> Self
         ensures { result ≡ [] }
     {
@@ -39,7 +40,7 @@ impl<'a> NameSet<'a> {
         }
     }
 
-    /// The set of some names; an error only for want of memory.
+    /// The set of some names.
     pub fn of_names(alloc: Global, names: &'a [Name]) -> Result<NameSet<'a>, AllocError>
         ensures { IfOk result (λ set. Alike set names.now) }
     {
@@ -57,8 +58,7 @@ impl<'a> NameSet<'a> {
         self.names.contains(name.as_slice())
     }
 
-    /// Puts a name behind the last where it is not in the set yet, and says whether it did; an error only for
-    /// want of memory.
+    /// Adds a name that is not in the set yet. Returns whether it was added.
     pub fn add(&mut self, name: &'a Name) -> Result<bool, AllocError>
         ensures added { IfOk result (λ added. added ≡ not (has self.old name.now)) }
         ensures names { OnOk result (self.new ≡ with_name self.old name.now) }

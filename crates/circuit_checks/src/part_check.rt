@@ -1,5 +1,10 @@
-//! What is wrong with the tables of a don't-care part: the first name that breaks a rule (SIS report, UCB/ERL M92/41,
-//! appendix on BLIF, `.exdc`). By hash sets of names and one walk over the tables' graph, so in linear time.
+//! The first fault of the tables of a don't-care part: the first name that breaks a rule (SIS
+//! report, UCB/ERL M92/41, appendix on BLIF, `.exdc`).
+//!
+//! The rules: no two tables of the part have one output, each name that is read is an output of the
+//! part or a leaf, and no table is reached from itself. One walk over the graph of the tables finds
+//! the first cyclic table, and one pass with hash sets finds the first table that breaks a rule; so
+//! it takes linear time, but no clause says so.
 
 ghost use Rattle.std.specs.Prelude.{◌≡◌, ◌++◌, IfOk, OnOk};
 ghost use Rattle.std.specs.Option.{option_copied};
@@ -15,8 +20,7 @@ use circuit_model::{Name, Table};
 use sis_base::Copied;
 use std::alloc::{AllocError, Global};
 
-/// The name by which the first wrong table of a don't-care part over some leaves is wrong; an error only for want of
-/// memory.
+/// The name by which the first wrong table of a don't-care part over some leaves breaks a rule.
 pub fn first_bad_part_name(
     alloc: Global,
     leaves: &[Name],
@@ -31,7 +35,8 @@ pub fn first_bad_part_name(
     }
 }
 
-/// The name by which the first wrong table is wrong, where the first place on a cycle is known.
+/// The name by which the first wrong table breaks a rule, given the index of the first table on a
+/// cycle.
 fn first_bad<'a>(
     alloc: Global,
     leaves: &[Name],
@@ -67,7 +72,7 @@ fn known_names<'a>(
     Ok(set)
 }
 
-/// Whether a place is the one that was found.
+/// Whether an index is the one that was found.
 fn is_at(found: Option<usize>, place: usize) -> bool
     ensures { result ≡ is_at found place }
 {
@@ -77,7 +82,7 @@ fn is_at(found: Option<usize>, place: usize) -> bool
     }
 }
 
-/// The name by which a table is wrong; puts its output to those before.
+/// The name by which a table breaks a rule, if it does. Adds its output to `before`.
 #[tactic(auto, unfolding(crate::specs::Sets::bad_name_by))]
 fn bad_name<'b, 'a: 'b>(
     known: &NameSet<'_>,
@@ -85,7 +90,8 @@ fn bad_name<'b, 'a: 'b>(
     on_cycle: bool,
     table: &'a Table,
 ) -> Result<Option<&'a Name>, AllocError>
-    ensures name { IfOk result (λ found. option_copied found ≡ bad_name_by known.now before.old on_cycle table.now) }
+    ensures name { IfOk result (λ found. option_copied found
+        ≡ bad_name_by known.now before.old on_cycle table.now) }
     ensures before { OnOk result (before.new ≡ with_name before.old table.now.output) }
 {
     if !before.add(&table.output)? {
@@ -94,7 +100,7 @@ fn bad_name<'b, 'a: 'b>(
     Ok(bad_input_or_cycle(known, on_cycle, table))
 }
 
-/// The first input of a table that is not known; else its output where it is on a cycle.
+/// The first input of a table that is not known; else its output, if it is on a cycle.
 #[tactic(auto, unfolding(crate::specs::Sets::bad_input_or_cycle))]
 fn bad_input_or_cycle<'a>(known: &NameSet<'_>, on_cycle: bool, table: &'a Table) -> Option<&'a Name>
     ensures { option_copied result ≡ bad_input_or_cycle known.now on_cycle table.now }

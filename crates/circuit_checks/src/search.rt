@@ -1,4 +1,5 @@
-//! The search for all that a place leads to.
+//! The search for all nodes to which a node leads: a worklist of nodes, each added when it is first
+//! seen. `leads` answers for walks of one to as many steps as the graph has nodes.
 
 ghost use Rattle.std.specs.Prelude.{◌≡◌, ℕ, ◌<◌, ◌++◌, true, false, All, length, slice_set, replicate, IfOk, OnOk};
 ghost use Rattle.circuit_checks.specs.Graphs.{IsGraph, reads_of, leads};
@@ -7,7 +8,7 @@ ghost use Rattle.circuit_checks.specs.Searching.{is_seen, marks, fresh, fresh_on
 use sis_base::Sequence;
 use std::alloc::{AllocError, Global};
 
-/// The places that a place reads; none for a place outside the graph.
+/// The successors of a node; none for a node outside the graph.
 #[tactic(auto, unfolding(crate::specs::Graphs::reads_of))]
 pub fn reads_at(graph: &[Sequence<usize>], place: usize) -> &[usize]
     ensures { result.now ≡ reads_of graph.now place }
@@ -18,7 +19,7 @@ pub fn reads_at(graph: &[Sequence<usize>], place: usize) -> &[usize]
     }
 }
 
-/// Whether a walk of some steps leads from a place to another one; an error only for want of memory.
+/// Whether a walk of one or more steps leads from one node to another.
 pub fn leads(
     alloc: Global,
     graph: &[Sequence<usize>],
@@ -32,18 +33,19 @@ pub fn leads(
     Ok(is_seen(seen.as_slice(), to))
 }
 
-/// Whether a place is marked.
+/// Whether a node is marked.
 #[tactic(auto, unfolding(crate::specs::Searching::is_seen))]
-fn is_seen(seen: &[bool], place: usize) -> bool
+pub fn is_seen(seen: &[bool], place: usize) -> bool
     ensures { result ≡ is_seen seen.now place }
 {
     seen.get(place).copied().unwrap_or(false)
 }
 
-/// The marks of all places that a place leads to.
+/// The marks of all nodes to which a node leads.
 fn found(alloc: Global, graph: &[Sequence<usize>], from: usize) -> Result<Vec<bool>, AllocError>
     requires { IsGraph graph.now }
-    ensures { IfOk result (λ seen. (place : ℕ) → is_seen seen.items place ≡ leads graph.now (length graph.now) from place) }
+    ensures { IfOk result (λ seen. (place : ℕ) → is_seen seen.items place ≡ leads graph.now
+        (length graph.now) from place) }
 {
     let mut seen = unmarked(alloc, graph.len())?;
     let mut pending = Vec::new(alloc);
@@ -55,22 +57,23 @@ fn found(alloc: Global, graph: &[Sequence<usize>], from: usize) -> Result<Vec<bo
 }
 
 /// No marks, for so many places.
-fn unmarked(alloc: Global, count: usize) -> Result<Vec<bool>, AllocError>
+pub fn unmarked(alloc: Global, count: usize) -> Result<Vec<bool>, AllocError>
     ensures { IfOk result (λ seen. seen.items ≡ replicate count false) }
 {
     vec![in alloc; false; count]
 }
 
-/// Marks places, and puts those behind the pending ones that are seen for the first time.
+/// Marks nodes, and appends those that are seen for the first time to the pending ones.
 #[tactic(auto, using(crate::proofs::Marking::marks_more, crate::proofs::Marking::marks_done, crate::proofs::Marking::fresh_more, crate::proofs::Marking::fresh_done, std::proofs::lemmas::Grind::common_steps))]
-fn note_all(
+pub fn note_all(
     places: &[usize],
     seen: &mut Vec<bool>,
     pending: &mut Vec<usize>,
 ) -> Result<(), AllocError>
     requires { All (λ place. place < length seen.old.items) places.now }
     ensures marks { OnOk result (seen.new.items ≡ marks seen.old.items places.now) }
-    ensures fresh { OnOk result (pending.new.items ≡ pending.old.items ++ fresh seen.old.items places.now) }
+    ensures fresh { OnOk result (pending.new.items
+        ≡ pending.old.items ++ fresh seen.old.items places.now) }
 {
     for place in places {
         note(*place, seen, pending)?;
@@ -78,11 +81,12 @@ fn note_all(
     Ok(())
 }
 
-/// Marks a place, and puts it behind the pending ones where it is seen for the first time.
+/// Marks a node, and appends it to the pending ones if it is seen for the first time.
 fn note(place: usize, seen: &mut Vec<bool>, pending: &mut Vec<usize>) -> Result<(), AllocError>
     requires { place < length seen.old.items }
     ensures mark { OnOk result (seen.new.items ≡ slice_set seen.old.items place true) }
-    ensures fresh { OnOk result (pending.new.items ≡ pending.old.items ++ fresh_one seen.old.items place) }
+    ensures fresh { OnOk result (pending.new.items
+        ≡ pending.old.items ++ fresh_one seen.old.items place) }
 {
     if !is_seen(seen.as_slice(), place) {
         pending.push(place)?;

@@ -1,5 +1,5 @@
 -- The circuit of a seed is sound, and within the limits of what is read.
-use Rattle.std.proofs.Common.{◌≡◌, ℕ, zero, suc, ◌+◌, ◌^◌, ◌<◌, ◌≤◌, true, false, cond, Some, List, [], ◌∷◌, ◌++◌, map, flat_map, bytes_eq, refl, sym, ap, ◌∙◌, subst, inl, inr, arith}
+use Rattle.std.proofs.Common.{◌≡◌, ℕ, zero, suc, ◌+◌, ◌^◌, ◌<◌, ◌≤◌, true, false, cond, Some, List, [], ◌∷◌, ◌++◌, map, bytes_eq, refl, sym, ap, ◌∙◌, subst, inl, inr, arith}
 use Rattle.std.specs.List.{AllByRecursion, range_with_len}
 use Rattle.std.proofs.lemmas.Bool.{cases_eq}
 use Rattle.std.proofs.lemmas.List.FromFn.{length-map-range_with_len}
@@ -14,16 +14,10 @@ use Rattle.circuit_model.specs.declared.circuit.Latch.{Latch}
 use Rattle.circuit_laws.proofs.Drivers.{driver_all, driver_name}
 use Rattle.circuit_laws.proofs.Names.{name_itself, different_none, different_cons}
 use Rattle.circuit_laws.proofs.Ranks.{rank_acyclic}
-use Rattle.circuit_laws.proofs.Sound.{IsWord, HasWords, all_append, parts_words}
+use Rattle.circuit_laws.proofs.Sound.{IsWord, HasWords, all_append, parts_words, names_each}
 use Rattle.circuit_gen.specs.Generated.{signal, signals, table_at, latch_at, generated}
 use Rattle.circuit_gen.proofs.Names.{signals_apart, signals_once, signals_joined, signal_word, has_signal, each_made}
 use Rattle.circuit_gen.proofs.Tables.{IsGate, table_gate, outputs_are}
-
--- what holds of each name of each table
-each_flat : (P : List ℕ → Type 0) (list : Table → List (List ℕ)) (tables : List Table) → AllByRecursion (λ (table : Table). AllByRecursion P (list table)) tables
-    → AllByRecursion P (flat_map list tables)
-each_flat P list [] h = tt
-each_flat P list (table ∷ tables) h = all_append P (list table) (flat_map list tables) h.0 (each_flat P list tables h.1)
 
 -- what holds of the signals before a table holds of its inputs
 inputs_each : (P : List ℕ → Type 0) (place : ℕ) (table : Table) → IsGate place table → ((number : ℕ) → number < 24 + place → P (signal number)) → AllByRecursion P table.inputs
@@ -40,7 +34,7 @@ inputs_once place table few gate =
     (rw (signals_apart gate.first gate.second (omega (arith, gate.first_before)) (omega (arith, gate.second_before)) gate.apart) refl)
     (different_cons (signal gate.second) [] refl different_none)
 
--- the number of a signal, by its place among all of them
+-- the number of a signal, by its index among all of them
 place_in : List (List ℕ) → List ℕ → ℕ
 place_in [] name = 0
 place_in (first ∷ names) name = cond (bytes_eq name first) 0 (suc (place_in names name))
@@ -110,7 +104,7 @@ module _ (seed tables : ℕ) (few : tables < 2 ^ 32) where
 
   words : AllByRecursion IsWord (names_of (map (table_at seed) (range_with_len 0 tables)))
   words =
-      each_flat IsWord (λ (t : Table). t.output ∷ t.inputs) (map (table_at seed) (range_with_len 0 tables))
+      names_each IsWord (λ (t : Table). t.output ∷ t.inputs) (map (table_at seed) (range_with_len 0 tables))
       (each_gate (λ (t : Table). AllByRecursion IsWord (t.output ∷ t.inputs)) (λ place t inside gate. (
         output_is IsWord place t gate (signal_word (24 + place) (omega (arith, inside))),
         inputs_each IsWord place t gate (λ number before. signal_word number (omega (arith, inside, before))),
@@ -145,7 +139,7 @@ module _ (seed tables : ℕ) (few : tables < 2 ^ 32) where
   unfolding taken generated
   driven =
       all_append IsGiven (table_inputs (map (table_at seed) (range_with_len 0 tables))) _
-      (each_flat IsGiven (λ (t : Table). t.inputs) (map (table_at seed) (range_with_len 0 tables))
+      (names_each IsGiven (λ (t : Table). t.inputs) (map (table_at seed) (range_with_len 0 tables))
       (each_gate (λ (t : Table). AllByRecursion IsGiven t.inputs)
       (λ place t inside gate. inputs_each IsGiven place t gate (λ number before. is_given number (omega (arith, inside, before))))))
       (all_append IsGiven (map (λ (latch : Latch). latch.input) (map (latch_at tables) (range_with_len 0 8))) (signals (16 + tables) 8)

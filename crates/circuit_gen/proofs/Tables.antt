@@ -12,7 +12,7 @@ use Rattle.circuit_gen.specs.Generated.{signal, signals, gate_of, gate_table, se
 use Rattle.circuit_gen.specs.declared.gates.Gate.{Gate}
 use Rattle.circuit_gen.specs.declared.gates.Gate.TheVariants.{And, Nand, Or, Xor}
 
--- a table of a place that reads two different signals before it
+-- the table of an index, which reads two different signals before it
 pub record IsGate (place : ℕ) (table : Table) : Type 0 where
   pub first : ℕ
   pub second : ℕ

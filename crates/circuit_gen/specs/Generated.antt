@@ -23,7 +23,7 @@ signal number =
     else if nat_lt number 24 then codes "l" ++ decimal (number - 16)
     else codes "t" ++ decimal (number - 24)
 
--- the names of so many signals from a number on
+-- the names of `count` signals from a number on
 abbrev pub signals : ℕ → ℕ → List (List ℕ)
 signals first count = map signal (range_with_len first count)
 
@@ -46,7 +46,7 @@ abbrev pub phase_of : Gate → Bool
 phase_of Nand = false
 phase_of other = true
 
--- the table of a place: a gate over two signals
+-- the table of an index: a gate over two signals
 abbrev pub gate_table : ℕ → ℕ → ℕ → Gate → Table
 gate_table place first second gate = record {
   inputs = signal first ∷ signal second ∷ [];
@@ -55,11 +55,11 @@ gate_table place first second gate = record {
   phase = phase_of gate;
 }
 
--- a signal that is drawn as the second, or the one behind the first, where that one was drawn again
+-- the second signal that is drawn, or the one after the first if the first was drawn again
 abbrev pub second_of : ℕ → ℕ → ℕ → ℕ
 second_of bound first second = if second == first then (first + 1) % bound else second
 
--- the table of a place, drawn behind a number: two signals of those before it, then its gate
+-- the table of an index, drawn after a number: two signals of those before it, then its gate
 unfoldable pub table_behind : ℕ → ℕ → Table
 table_behind number place =
     let first = drawn (next number) (24 + place) in
@@ -67,22 +67,21 @@ table_behind number place =
     gate_table place first (second_of (24 + place) first second)
     (gate_of (drawn (next (next (next number))) 4))
 
--- the last number before those of a place, by the seed: each table takes three
+-- the last number before those of an index, by the seed: each table takes three
 unfoldable pub number_at : ℕ → ℕ → ℕ
 number_at seed zero = seed
 number_at seed (suc place) = next (next (next (number_at seed place)))
 
--- the table of a place, by the seed
+-- the table of an index, by the seed
 abbrev pub table_at : ℕ → ℕ → Table
 table_at seed place = table_behind (number_at seed place) place
 
--- the latch of a place: its input is the signal of this place among the last eight
+-- the latch of an index: its input is the signal of this index among the last eight
 abbrev pub latch_at : ℕ → ℕ → Latch
 latch_at tables place =
     record { input = signal (16 + tables + place); output = signal (16 + place); init = 0 }
 
--- the circuit: the outputs are the last eight signals, which are tables where there are eight of
--- them
+-- the circuit: the outputs are the last eight signals, which are tables if there are at least eight
 unfoldable pub generated : ℕ → ℕ → Circuit
 generated seed tables = record {
   name = codes "gen";

@@ -1,12 +1,13 @@
-//! Pseudo-random draws.
+//! Pseudo-random draws by a linear congruential generator. Source: Knuth, "The Art of Computer
+//! Programming", volume 2, section 3.2.1 (`specs/Draws.antt`). A draw is below its bound.
 
 ghost use Rattle.std.specs.Prelude.{◌≡◌, ◌<◌};
 ghost use Rattle.circuit_gen.specs.Draws.{drawn, next};
 
-/// What a number is multiplied by for the next one.
+/// The multiplier of the generator.
 const MULTIPLIER: u64 = 6_364_136_223_846_793_005;
 
-/// What is added to the product.
+/// The increment of the generator.
 const INCREMENT: u64 = 1_442_695_040_888_963_407;
 
 /// Draws, one after the other.
@@ -16,7 +17,7 @@ pub(crate) struct Draws {
     pub(crate) number: u64,
 }
 
-/// The number that comes next.
+/// The next number.
 #[tactic(auto, using(crate::proofs::Numbers::stepped), unfolding(crate::specs::Draws::next))]
 fn next(number: u64) -> u64
     ensures { result ≡ next number }
@@ -24,7 +25,7 @@ fn next(number: u64) -> u64
     number.wrapping_mul(MULTIPLIER).wrapping_add(INCREMENT)
 }
 
-/// What a number draws from the numbers below a bound.
+/// The number below a bound that is drawn from a number.
 #[tactic(auto, unfolding(crate::specs::Draws::drawn))]
 fn drawn(number: u64, bound: usize) -> usize
     requires { 0 < bound }

@@ -1,4 +1,5 @@
-//! The gates of which circuits are drawn.
+//! The gates from which circuits are drawn: AND, NAND, OR and XOR of two inputs, each with the rows
+//! and the phase of its table (`specs/Generated.antt`).
 
 ghost use Rattle.std.specs.Prelude.{◌≡◌, IfOk};
 ghost use Rattle.circuit_gen.specs.Generated.{gate_of, phase_of, rows_of};
@@ -16,7 +17,7 @@ pub(crate) enum Gate {
     Xor,
 }
 
-/// The gate of a number that was drawn.
+/// The gate of a drawn number.
 pub(crate) fn gate_of(number: usize) -> Gate
     ensures { result ≡ gate_of number }
 {
@@ -40,7 +41,7 @@ impl Gate {
         }
     }
 
-    /// Its rows; an error only for want of memory.
+    /// Its rows.
     pub(crate) fn rows(self, alloc: Global) -> Result<Rows, AllocError>
         ensures { IfOk result (λ rows. rows ≡ rows_of self) }
     {

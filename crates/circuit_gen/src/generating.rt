@@ -1,4 +1,10 @@
 //! The circuit of a seed and a number of tables.
+//!
+//! The rule is the project's own (`specs/Generated.antt`), with the draws of `draws`. Signals are
+//! numbered: 16 inputs, 8 latch outputs, then the tables. Each table is a gate over two different
+//! signals drawn from those before it, so the tables form no cycle. The latches and the outputs
+//! take the last eight signals. `generate` returns exactly `generated seed tables`: the same
+//! circuit for the same numbers.
 
 ghost use Rattle.std.specs.Prelude.{◌≡◌, ◌+◌, ◌<◌, ◌≤◌, [], ◌∷◌, map, length, IfOk, OnOk};
 ghost use Rattle.std.specs.List.{range_with_len};
@@ -12,14 +18,14 @@ use circuit_model::{Circuit, Latch, Latches, Name, Names, Table, Tables};
 use sis_base::Sequence;
 use std::alloc::{AllocError, Global};
 
-/// How many latches and how many outputs there are.
+/// The number of latches, and of outputs.
 const LATCHES: usize = 8;
 
-/// How many gates there are.
+/// The number of gates.
 const GATES: usize = 4;
 
-/// The second input, by the number that was drawn for it: the signal behind the first input where
-/// that one was drawn again.
+/// The second input, by the number that was drawn for it: the signal after the first input if the
+/// first was drawn again.
 fn second_of(bound: usize, first: usize, second: usize) -> usize
     requires first { first < bound }
     requires second { second < bound }
@@ -33,7 +39,7 @@ fn second_of(bound: usize, first: usize, second: usize) -> usize
     }
 }
 
-/// The names of two signals; an error only for want of memory.
+/// The names of two signals.
 fn two_names(
     alloc: Global,
     names: &[Name],
@@ -51,7 +57,7 @@ fn two_names(
     Ok(Sequence::from_vec(made))
 }
 
-/// A gate over two signals as the table of a place; an error only for want of memory.
+/// A gate over two signals as the table of an index.
 fn gate_table(
     alloc: Global,
     names: &[Name],
@@ -74,7 +80,7 @@ fn gate_table(
     })
 }
 
-/// The table of a place, by the next three draws; an error only for want of memory.
+/// The table of an index, by the next three draws.
 #[tactic(auto, unfolding(crate::specs::Generated::table_behind))]
 fn drawn_table(
     alloc: Global,
@@ -101,7 +107,7 @@ fn drawn_table(
     )
 }
 
-/// So many tables, by the draws of a seed; an error only for want of memory.
+/// `count` tables, by the draws of a seed.
 fn tables_over(alloc: Global, names: &[Name], seed: u64, count: usize) -> Result<Tables, AllocError>
     requires names { names.now ≡ signals 0 (length names.now) }
     requires room { 24 + count ≤ length names.now }
@@ -115,7 +121,7 @@ fn tables_over(alloc: Global, names: &[Name], seed: u64, count: usize) -> Result
     Ok(Sequence::from_vec(tables))
 }
 
-/// The latch of a place over so many tables; an error only for want of memory.
+/// The latch of an index over so many tables.
 fn latch_at(alloc: Global, names: &[Name], tables: usize, place: usize) -> Result<Latch, AllocError>
     requires names { names.now ≡ signals 0 (length names.now) }
     requires room { 24 + tables ≤ length names.now }
@@ -129,7 +135,7 @@ fn latch_at(alloc: Global, names: &[Name], tables: usize, place: usize) -> Resul
     })
 }
 
-/// The latches over so many tables; an error only for want of memory.
+/// The latches over so many tables.
 fn latches_over(alloc: Global, names: &[Name], tables: usize) -> Result<Latches, AllocError>
     requires names { names.now ≡ signals 0 (length names.now) }
     requires room { 24 + tables ≤ length names.now }
@@ -142,7 +148,7 @@ fn latches_over(alloc: Global, names: &[Name], tables: usize) -> Result<Latches,
     Ok(Sequence::from_vec(latches))
 }
 
-/// The circuit over the names of its signals; an error only for want of memory.
+/// The circuit over the names of its signals.
 #[tactic(auto, unfolding(crate::specs::Generated::generated))]
 fn circuit_over(
     alloc: Global,
@@ -166,7 +172,7 @@ fn circuit_over(
     })
 }
 
-/// The circuit of a seed and a number of tables; an error only for want of memory.
+/// The circuit of a seed and a number of tables.
 pub fn generate(alloc: Global, seed: u64, tables: u16) -> Result<Circuit, AllocError>
     ensures { IfOk result (λ circuit. circuit ≡ generated seed tables) }
 {

@@ -1,4 +1,6 @@
-//! The names of signals by their numbers.
+//! The names of signals by their numbers: `i`, `l` or `t` and a number, as `signal` of
+//! `specs/Generated.antt` defines. The names of all signals are made once and copied from that
+//! list.
 
 ghost use Rattle.std.specs.Prelude.{◌≡◌, ◌+◌, ◌<◌, ◌≤◌, ◌++◌, decimal, codes, length, IfOk};
 ghost use Rattle.circuit_gen.specs.Generated.{signal, signals};
@@ -7,13 +9,13 @@ use circuit_model::{Name, Names};
 use sis_base::{Copied, Sequence};
 use std::alloc::{AllocError, Global};
 
-/// How many inputs there are.
+/// The number of inputs.
 pub(crate) const INPUTS: usize = 16;
 
-/// How many inputs and latches there are.
+/// The number of inputs and latches.
 pub(crate) const LEAVES: usize = 24;
 
-/// The name of a signal; an error only for want of memory.
+/// The name of a signal.
 #[tactic(auto, unfolding(crate::specs::Generated::signal))]
 fn signal_name(alloc: Global, number: usize) -> Result<Name, AllocError>
     ensures { IfOk result (λ name. name ≡ signal number) }
@@ -30,7 +32,7 @@ fn signal_name(alloc: Global, number: usize) -> Result<Name, AllocError>
     Name::from_slice(alloc, name.as_bytes())
 }
 
-/// The names of so many signals from the first on; an error only for want of memory.
+/// The names of the first `count` signals.
 #[tactic(auto, using(crate::proofs::Numbers::signals_more, std::proofs::lemmas::Grind::common_steps))]
 pub(crate) fn signal_names(alloc: Global, count: usize) -> Result<Vec<Name>, AllocError>
     ensures { IfOk result (λ names. names.items ≡ signals 0 count) }
@@ -42,7 +44,7 @@ pub(crate) fn signal_names(alloc: Global, count: usize) -> Result<Vec<Name>, All
     Ok(names)
 }
 
-/// A copy of the name of a signal; an error only for want of memory.
+/// A copy of the name of a signal.
 pub(crate) fn name_of(alloc: Global, names: &[Name], number: usize) -> Result<Name, AllocError>
     requires names { names.now ≡ signals 0 (length names.now) }
     requires inside { number < length names.now }
@@ -51,7 +53,7 @@ pub(crate) fn name_of(alloc: Global, names: &[Name], number: usize) -> Result<Na
     names[number].copy(alloc)
 }
 
-/// The names of so many signals from a number on; an error only for want of memory.
+/// The names of `count` signals from a number on.
 pub(crate) fn names_from(
     alloc: Global,
     names: &[Name],

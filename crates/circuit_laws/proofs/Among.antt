@@ -1,4 +1,4 @@
--- Some tables turned, and those of other signals left alone.
+-- Tables of which some are rewritten, and those of other signals stay.
 use Rattle.std.proofs.Common.{◌≡◌, ℕ, Bool, true, cond, Option, Some, None, option_map, unwrap_or, List, [], ◌∷◌, ◌++◌, map, refl, sym, ap, ap₂, ◌∙◌, subst}
 use Rattle.std.specs.List.{AllByRecursion}
 use Rattle.std.specs.Option.{option_or}
@@ -13,11 +13,12 @@ use Rattle.circuit_laws.proofs.Names.{name_itself, name_not, different_head, dif
 use Rattle.circuit_laws.proofs.Drivers.{driver_output, driver_name, driver_append}
 use Rattle.circuit_laws.proofs.Kept.{all_weaker}
 
--- a table becomes what the table of its signal among some tables is turned into; where none of them drives its signal, it stays
+-- a table becomes the rewritten table of its signal among some tables; it stays if none of them
+-- drives its signal
 abbrev pub turned_among : List Table → (Table → Table) → Table → Table
 turned_among tables turn table = unwrap_or (option_map turn (driver tables table.output)) table
 
--- what holds of a table and of the turned one of its signal holds of what it becomes
+-- what holds of a table and of the rewritten one of its signal holds of what it becomes
 pub among_either : (P : Table → Type 0) (tables : List Table) (turn : Table → Table) (table : Table) → P table
     → ((old : Table) → driver tables table.output ≡ Some old → P (turn old)) → P (turned_among tables turn table)
 among_either P tables turn table own turned = cases (driver tables table.output) turned
@@ -48,7 +49,7 @@ pub mapped_same : (f g : Table → Table) (tables : List Table) → AllByRecursi
 mapped_same f g [] same = refl
 mapped_same f g (table ∷ tables) same = ap₂ (λ (first : Table) (rest : List Table). first ∷ rest) same.0 (mapped_same f g tables same.1)
 
--- the tables are turned, and one behind them of another signal stays
+-- the tables are rewritten, and one after them, of another signal, stays
 pub among_added : (tables : List Table) (turn : Table → Table) (new : Table) → all_different (outputs_of tables) ≡ true → driver tables new.output ≡ None
     → map (turned_among tables turn) (tables ++ new ∷ []) ≡ map turn tables ++ new ∷ []
 among_added tables turn new different none =

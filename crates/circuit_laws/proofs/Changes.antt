@@ -1,4 +1,4 @@
--- Changes of tables: what they leave, and from change to change.
+-- Changes of tables: what they keep, and that they compose.
 use Rattle.std.specs.List.{AllByRecursion}
 use Rattle.std.proofs.Common.{◌≡◌, ℕ, Bool, true, false, Option, Some, None, List, [], ◌∷◌, ◌++◌, refl, sym, ap, ap₂, ◌∙◌, subst}
 use Rattle.sis_base.specs.Written.{is_word}
@@ -10,6 +10,7 @@ use Rattle.circuit_model.specs.declared.circuit.Latch.{Latch}
 use Rattle.circuit_model.specs.declared.circuit.Timing.{Timing}
 use Rattle.circuit_model.specs.declared.circuit.Circuit.{Circuit}
 use Rattle.circuit_laws.specs.Chains.{Chain}
+use Rattle.circuit_laws.specs.Greedy.{Reaches, HasEnd}
 use Rattle.circuit_laws.specs.Edits.{tables_kept, latches_kept, timing_with, with_tables, with_kept, with_removed, with_added, is_other, is_read, is_root}
 use Rattle.circuit_laws.specs.Fitting.{IsFitting}
 use Rattle.circuit_laws.specs.Same.{IsSame, KeepsEach, KeepsValues}
@@ -21,9 +22,9 @@ use Rattle.circuit_laws.proofs.Same.{same_where, same_refines, keeps_itself, kee
 use Rattle.circuit_laws.proofs.Sound.{all_parts, given-added, sound_added, sound_kept, taken_given, fitting_apart}
 use Rattle.circuit_laws.proofs.Tables.{added_keeps, each_keeps}
 use Rattle.circuit_laws.specs.Changes.{IsChanged, IsReduced, IsExtended}
-use Rattle.circuit_laws.proofs.Chains.{leads_kept}
+use Rattle.circuit_laws.proofs.Greedy.{reached_kept}
 
--- what a sound circuit's outputs and latches take is driven
+-- what a sound circuit's outputs and latches read is driven
 outputs_driven : (circuit : Circuit) → IsSound circuit → (name : List ℕ) → has circuit.outputs name ≡ true → has (given circuit) name ≡ true
 unfolding taken
 outputs_driven circuit sound name among =
@@ -61,7 +62,7 @@ reduced_itself circuit sound = record { change = changed_itself circuit sound; s
 pub extended_itself : (circuit : Circuit) → IsSound circuit → IsExtended circuit circuit
 extended_itself circuit sound = record { change = changed_itself circuit sound; signals = λ signal h. h }
 
--- from change to change
+-- one change after another
 changed_through : (first second third : Circuit) → ((signal : List ℕ) → has (given first) signal ≡ true → has (given third) signal ≡ true → has (given second) signal ≡ true)
     → IsChanged first second → IsChanged second third → IsChanged first third
 changed_through first second third among p q = record {
@@ -104,7 +105,7 @@ each_extended old tables sound same each = record {
   signals = λ signal h. ap (λ (names : List (List ℕ)). has names signal) (given_with old tables same) ∙ h;
 }
 
--- a table goes, and no latch: the timing stays
+-- a table is removed, and no latch: the timing stays
 timed : (latches : List Latch) (timing : Option Timing) → (latches ≡ [] → timing ≡ None) → timing_with latches timing ≡ timing
 timed [] timing untimed = sym (untimed refl)
 timed (latch ∷ latches) timing untimed = refl
@@ -126,7 +127,7 @@ kept_tables : (circuit : Circuit) (test : List ℕ → Bool) → (with_kept circ
 unfolding with_kept
 kept_tables circuit test = refl
 
--- tables go that nothing needs
+-- the removal of tables that nothing needs
 pub kept_reduced : (circuit : Circuit) (test : List ℕ → Bool) → IsSound circuit → IsClosed circuit test → AllByRecursion (λ (latch : Latch). test latch.output ≡ true) circuit.latches
     → IsReduced circuit (with_kept circuit test)
 kept_reduced circuit test sound closed all = record {
@@ -159,13 +160,25 @@ added_extended circuit new sound word undriven apart fits = record {
   signals = λ signal h. ap (λ (names : List (List ℕ)). has names signal) (given-added circuit new) ∙ has_front (given circuit) (new.output ∷ []) signal h;
 }
 
--- chains of steps
+-- steps that follow one another
+pub reached_reduced : (Step : Circuit → Circuit → Type 0) → ((circuit new : Circuit) → IsSound circuit → Step circuit new → IsReduced circuit new)
+    → (circuit new : Circuit) → IsSound circuit → Reaches Step circuit new → IsReduced circuit new
+reached_reduced Step along circuit new sound reached =
+    (reached_kept IsSound IsReduced Step reduced_itself reduced_through (λ x y good step. ((along x y good step).change.sound, along x y good step)) circuit new sound reached).1
+
+pub reached_extended : (Step : Circuit → Circuit → Type 0) → ((circuit new : Circuit) → IsSound circuit → Step circuit new → IsExtended circuit new)
+    → (circuit new : Circuit) → IsSound circuit → Reaches Step circuit new → IsExtended circuit new
+reached_extended Step along circuit new sound reached =
+    (reached_kept IsSound IsExtended Step extended_itself extended_through (λ x y good step. ((along x y good step).change.sound, along x y good step)) circuit new sound reached).1
+
+pub end_refines : (Step : Circuit → Circuit → Type 0) (IsDone : Circuit → Type 0) → ((circuit new : Circuit) → IsSound circuit → Step circuit new → IsExtended circuit new)
+    → (circuit new : Circuit) → IsSound circuit → HasEnd Step IsDone circuit new → Refines circuit new
+end_refines Step IsDone along circuit new sound end = changed_refines circuit new sound (reached_extended Step along circuit new sound end.reached).change
+
 pub chain_reduced : (step : Circuit → Option Circuit) → ((circuit new : Circuit) → IsSound circuit → step circuit ≡ Some new → IsReduced circuit new)
     → (circuit new : Circuit) → IsSound circuit → Chain step circuit new → IsReduced circuit new
-chain_reduced step along circuit new sound chain =
-    (leads_kept IsSound IsReduced step reduced_itself reduced_through (λ x y good is. ((along x y good is).change.sound, along x y good is)) chain.between circuit new sound chain.leads).1
+chain_reduced step along circuit new sound chain = reached_reduced (λ x y. step x ≡ Some y) along circuit new sound chain.reached
 
 pub chain_extended : (step : Circuit → Option Circuit) → ((circuit new : Circuit) → IsSound circuit → step circuit ≡ Some new → IsExtended circuit new)
     → (circuit new : Circuit) → IsSound circuit → Chain step circuit new → IsExtended circuit new
-chain_extended step along circuit new sound chain =
-    (leads_kept IsSound IsExtended step extended_itself extended_through (λ x y good is. ((along x y good is).change.sound, along x y good is)) chain.between circuit new sound chain.leads).1
+chain_extended step along circuit new sound chain = reached_extended (λ x y. step x ≡ Some y) along circuit new sound chain.reached

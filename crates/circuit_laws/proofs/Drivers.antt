@@ -42,7 +42,7 @@ driver_none tables signal h = cases (driver tables signal) (is_driven tables sig
 pub none_driver : (tables : List Table) (signal : List ℕ) → driver tables signal ≡ None → has (outputs_of tables) signal ≡ false
 none_driver tables signal h = sym (is_driven tables signal) ∙ ap (λ (found : Option Table). is_some found) h
 
--- what drives a signal has its name, is one of the tables, and its inputs are among theirs
+-- a signal's driver has its name, is one of the tables, and its inputs are among theirs
 pub driver_name : (tables : List Table) (signal : List ℕ) (table : Table) → driver tables signal ≡ Some table → table.output ≡ signal
 unfolding driver
 driver_name [] signal table at = absurd (none-some table at)
@@ -87,7 +87,7 @@ pub driver_one : (table : Table) (signal : List ℕ) → driver (table ∷ []) s
 unfolding driver
 driver_one table signal = refl
 
--- the new table drives its signal where something drove it, and nothing else changes
+-- the new table drives its signal if something drove it, and nothing else changes
 pub driver_replaced_other : (tables : List Table) (new : Table) (signal : List ℕ) → bytes_eq signal new.output ≡ false → driver (replaced tables new) signal ≡ driver tables signal
 unfolding driver replaced
 driver_replaced_other [] new signal other = refl
@@ -109,7 +109,7 @@ driver_replaced_own (first ∷ tables) new h = cases (bytes_eq new.output first.
     cases true same k more = rw (name_itself new.output) refl
     cases false apart k more = rw apart (more k)
 
--- where nothing drove the new table's signal, nothing changes
+-- if nothing drove the new table's signal, nothing changes
 pub replaced_none : (tables : List Table) (new : Table) → has (outputs_of tables) new.output ≡ false → replaced tables new ≡ tables
 unfolding replaced
 replaced_none [] new h = refl

@@ -1,4 +1,4 @@
--- A latch that always has one bit becomes the constant table of its name.
+-- A latch that always holds one bit becomes the constant table of its name.
 use Rattle.std.proofs.Common.{◌≡◌, ℕ, suc, Bool, true, false, not, ◌||◌, ◌&&◌, cond, if◌then◌else◌, Option, Some, None, unwrap_or, List, [], ◌∷◌, ◌++◌, map, bytes_eq, refl, sym, ap, ap₂, ◌∙◌, subst, inl, inr, ◌⊎◌}
 use Rattle.std.specs.List.{AllByRecursion}
 use Rattle.std.specs.Option.{option_or}
@@ -31,7 +31,7 @@ unfolding table_value value_by_phase some_matches matches
 constant_value name true = refl
 constant_value name false = refl
 
--- no way leads on from a constant
+-- no path leads on from a constant
 pub constant_acyclic : (tables : List Table) (name : List ℕ) (bit : Bool) → has (outputs_of tables) name ≡ false → IsAcyclic tables → IsAcyclic (tables ++ constant_table name bit ∷ [])
 unfolding AreWays
 constant_acyclic tables name bit free acyclic =
@@ -64,7 +64,7 @@ fixed_acyclic circuit name bit acyclic =
 abbrev pub HasBit : Circuit → List ℕ → Bool → List Bool → Type 0
 HasBit circuit name bit state = bit_of (latch_outputs circuit) state name ≡ Some bit
 
--- the leaves: the latch is one before, and none after; the others keep their bits
+-- the leaves: the latch is one before and none after; the others keep their bits
 leaf_before : (circuit : Circuit) (name : List ℕ) (bit : Bool) → has circuit.inputs name ≡ false → (state row : List Bool) → HasBit circuit name bit state → leaves_of circuit state row name ≡ Some bit
 unfolding leaves_of
 leaf_before circuit name bit apart state row bound = ap (λ (found : Option Bool). option_or found (bit_of (latch_outputs circuit) state name)) (bit_none circuit.inputs row name apart) ∙ bound

@@ -1,4 +1,4 @@
--- A circuit stays sound where a latch that always has one bit becomes a table.
+-- A circuit stays sound if a latch that always holds one bit becomes a table.
 use Rattle.std.proofs.Common.{◌≡◌, ℕ, ◌≤◌, Bool, true, false, Some, ◌&&◌, List, [], ◌∷◌, ◌++◌, codes, append_assoc, refl, sym, ap, ◌∙◌, subst, inl, inr, ◌⊎◌}
 use Rattle.std.specs.List.{AllByRecursion}
 use Rattle.std.proofs.lemmas.Bool.{false≢true}

@@ -1,4 +1,5 @@
--- Tables stay without cycles where they come to read one signal more, and read all that the table of that signal reads.
+-- Tables stay without cycles if they read one more signal and read all that the table of that
+-- signal reads.
 use Rattle.std.proofs.Common.{◌≡◌, ℕ, suc, ◌+◌, ◌<◌, ◌≤◌, Bool, true, false, cond, Option, Some, None, option_map, List, [], ◌∷◌, map, bytes_eq, refl, sym, ap, ◌∙◌, subst, inl, inr, ◌⊎◌, arith}
 use Rattle.std.specs.List.{AllByRecursion}
 use Rattle.std.proofs.lemmas.Option.{none-some, same_Some}
@@ -31,7 +32,8 @@ height_over tables acyclic low high lower upper at over within =
     omega arith) in
     omega arith
 
--- heights with room for one signal below the others of its height: it has twice its height, and each other one more than that
+-- heights with room for one signal below the others of its height: it has twice its height, and
+-- each other one has one more than that
 abbrev pub level : List Table → List ℕ → List ℕ → ℕ
 level tables low signal = height tables signal + height tables signal + cond (bytes_eq signal low) 0 1
 
@@ -51,8 +53,8 @@ level_low tables low upper other under =
     let one : level tables low upper ≡ height tables upper + height tables upper + 1 = ap (λ (b : Bool). height tables upper + height tables upper + cond {A = ℕ} b 0 1) other in
     omega arith
 
--- what a table may read once it is turned: what it reads already, and the low signal, where the table drives another one and reads all that
--- the low one's table reads
+-- what a table may read once it is rewritten: what it reads already, and the low signal, if the
+-- table drives another one and reads all that the low one's table reads
 abbrev pub MayRead : List ℕ → Table → List ℕ → Table → List ℕ → Type 0
 MayRead low lower signal table input =
     (has table.inputs input ≡ true)

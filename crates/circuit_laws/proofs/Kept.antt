@@ -1,4 +1,5 @@
--- Tables and latches go that nothing needs: what stays is the same, and each signal that stays keeps its value.
+-- Tables and latches that nothing needs are removed: the outputs stay the same, and each remaining
+-- signal keeps its value.
 use Rattle.std.proofs.Common.{◌≡◌, ℕ, zero, suc, Bool, true, false, not, ◌||◌, ◌&&◌, cond, if◌then◌else◌, Option, Some, None, is_some, unwrap_or, List, [], ◌∷◌, ◌++◌, map, filter, length, bytes_eq, refl, sym, ap, ap₂, ◌∙◌, subst, inl, inr, ◌⊎◌, arith}
 use Rattle.std.specs.List.{AllByRecursion, AllZip}
 use Rattle.std.specs.Option.{option_or}
@@ -156,7 +157,8 @@ kept_next test f g (latch ∷ latches) h = cases (test latch.output) refl (kept_
     cases true stays rest = rw (h.0 stays, rest) refl
     cases false goes rest = rest
 
--- one step of a circuit and of one that has only some of its latches, at a state of which something is known
+-- one step of a circuit and of one that has only some of its latches, at a state of which something
+-- is known
 pub record IsShrunk (test : List ℕ → Bool) (Knows : List Bool → Type 0) (circuit new : Circuit) (state row : List Bool) : Type 0 where
   pub shows : outputs_at circuit state row ≡ outputs_at new (bits_kept test circuit.latches state) row
   pub takes : AllByRecursion (λ (latch : Latch). test latch.output ≡ true → value_in circuit state row latch.input ≡ value_in new (bits_kept test circuit.latches state) row latch.input) circuit.latches
@@ -463,7 +465,7 @@ kept_each circuit test acyclic closed all = record {
 pub others_latches : (circuit : Circuit) (name : List ℕ) → has (latch_outputs circuit) name ≡ false → AllByRecursion (λ (latch : Latch). is_other name latch.output ≡ true) circuit.latches
 others_latches circuit name none = others_all name circuit.latches none
 
--- a signal goes that nothing reads, and that is no output and no latch's input
+-- a signal is removed that nothing reads and that is no output and no latch's input
 pub removed_refines : (circuit : Circuit) (name : List ℕ) → IsAcyclic circuit.tables → is_read circuit name ≡ false → is_root circuit name ≡ false → Refines circuit (with_removed circuit name)
 removed_refines circuit name acyclic unread rootless = kept_refines circuit (is_other name) acyclic (unread_closed circuit name unread rootless)
 

@@ -1,4 +1,4 @@
--- Signals that are left keep their values, edit after edit.
+-- Remaining signals keep their values, edit after edit.
 use Rattle.std.proofs.Common.{◌≡◌, ℕ, suc, Bool, true, false, ◌&&◌, cond, Some, List, [], ◌∷◌, ◌++◌, map, length, bytes_eq, refl, sym, ap, ◌∙◌, subst, inl, inr, arith}
 use Rattle.std.specs.List.{AllByRecursion}
 use Rattle.std.proofs.lemmas.Bool.{false≢true, and_parts, or_cases}
@@ -30,7 +30,7 @@ bits_agree some others [] bits h = refl
 bits_agree some others (latch ∷ latches) [] h = refl
 bits_agree some others (latch ∷ latches) (bit ∷ bits) h = rw (h.0, bits_agree some others latches bits h.1) refl
 
--- what is kept of what was kept
+-- what remains of what remained
 latches_twice : (some fewer : List ℕ → Bool) → ((name : List ℕ) → fewer name ≡ true → some name ≡ true) → (latches : List Latch) → latches_kept fewer (latches_kept some latches) ≡ latches_kept fewer latches
 unfolding latches_kept
 latches_twice some fewer within [] = refl
@@ -91,7 +91,7 @@ own_within old new same =
 pub all_left : (old new : Circuit) → old.latches ≡ new.latches → (state : List Bool) → length state ≡ length old.latches → state_left old new state ≡ state
 all_left old new same state long = bits_all (has (latch_outputs new)) old.latches state (own_within old new same) long
 
--- tables change, and no signal comes
+-- tables change, and no signal is added
 pub each_left : (old new : Circuit) → KeepsEach old new → ((signal : List ℕ) → has (given new) signal ≡ true → has (given old) signal ≡ true) → KeepsLeft [] old new
 each_left old new each signals = record {
   inputs = each.same.inputs;
@@ -149,7 +149,7 @@ left_through before after first second third p q = record {
         ap (λ (all : List Latch). bits_kept (has (latch_outputs third)) all (state_left first second state)) p.latches
         ∙ bits_twice (has (latch_outputs second)) (has (latch_outputs third)) (latch_before second third q.latches) first.latches state
 
--- tables and latches go
+-- tables and latches are removed
 kept_test : (circuit : Circuit) (test : List ℕ → Bool) → AllByRecursion (λ (latch : Latch). has (latch_outputs (with_kept circuit test)) latch.output ≡ test latch.output) circuit.latches
 unfolding with_kept
 kept_test circuit test =
@@ -189,7 +189,7 @@ kept_left circuit test acyclic closed = record {
       ∙ sym (ap (λ (s : List Bool). value_in (with_kept circuit test) s row signal) (bits_agree (has (latch_outputs (with_kept circuit test))) test circuit.latches state (kept_test circuit test)));
 }
 
--- a latch that always has one bit becomes a table
+-- a latch that always holds one bit becomes a table
 given_fixed : (circuit : Circuit) (name : List ℕ) (bit : Bool) → has (latch_outputs circuit) name ≡ true → (signal : List ℕ) → has (given (with_fixed circuit name bit)) signal ≡ true → has (given circuit) signal ≡ true
 unfolding given with_fixed
 given_fixed circuit name bit latch signal h =

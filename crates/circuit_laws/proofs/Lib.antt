@@ -13,6 +13,7 @@ pub mod FixedSound
 mod Rows
 pub mod Places
 pub mod Left
+pub mod Greedy
 pub mod Chains
 pub mod Changes
 pub mod Found

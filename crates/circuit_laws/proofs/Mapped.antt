@@ -1,6 +1,6 @@
 -- Tables of a sound circuit: they drive different signals and read what is driven, and the circuit stays sound where each becomes
 -- another one of its signal.
-use Rattle.std.proofs.Common.{◌≡◌, ℕ, true, false, List, [], ◌∷◌, ◌++◌, map, flat_map, refl, sym, ap, ◌∙◌, subst, inl, inr, ◌⊎◌}
+use Rattle.std.proofs.Common.{◌≡◌, ℕ, true, false, List, [], ◌∷◌, ◌++◌, map, refl, sym, ap, ◌∙◌, subst, inl, inr, ◌⊎◌}
 use Rattle.std.specs.List.{AllByRecursion}
 use Rattle.circuit_model.specs.Names.{has, all_different}
 use Rattle.circuit_model.specs.Runs.{latch_outputs}
@@ -10,7 +10,7 @@ use Rattle.circuit_model.specs.declared.circuit.Circuit.{Circuit}
 use Rattle.circuit_laws.specs.Edits.{with_tables, with_replaced}
 use Rattle.circuit_laws.proofs.Names.{all_has, all_from_has, different_apart}
 use Rattle.circuit_laws.proofs.Drivers.{outputs-replaced}
-use Rattle.circuit_laws.proofs.Sound.{IsWord, HasWords, words_parts, parts_words, given_words, all_append, all_parts}
+use Rattle.circuit_laws.proofs.Sound.{IsWord, HasWords, words_parts, parts_words, given_words, all_append, all_parts, names_each, each_name}
 
 -- the signals that tables drive are different, and so are those of latches
 pub outputs_different : (circuit : Circuit) → IsSound circuit → all_different (outputs_of circuit.tables) ≡ true
@@ -36,14 +36,6 @@ given-turned circuit new = ap (λ (names : List (List ℕ)). circuit.inputs ++ (
 
 -- each table becomes another one of its signal
 
-each_name : (P : List ℕ → Type 0) (list : Table → List (List ℕ)) (tables : List Table) → AllByRecursion P (flat_map list tables) → AllByRecursion (λ (table : Table). AllByRecursion P (list table)) tables
-each_name P list [] h = tt
-each_name P list (table ∷ tables) h = let parts = all_parts P (list table) (flat_map list tables) h in (parts.0, each_name P list tables parts.1)
-
-names_each : (P : List ℕ → Type 0) (list : Table → List (List ℕ)) (tables : List Table) → AllByRecursion (λ (table : Table). AllByRecursion P (list table)) tables → AllByRecursion P (flat_map list tables)
-names_each P list [] h = tt
-names_each P list (table ∷ tables) h = all_append P (list table) (flat_map list tables) h.0 (names_each P list tables h.1)
-
 pub all_turned : (P Q : Table → Type 0) (turn : Table → Table) → ((table : Table) → P table → Q (turn table)) → (tables : List Table) → AllByRecursion P tables → AllByRecursion Q (map turn tables)
 all_turned P Q turn h [] all = tt
 all_turned P Q turn h (table ∷ tables) all = (h table all.0, all_turned P Q turn h tables all.1)
@@ -56,7 +48,8 @@ pub given-mapped : (circuit : Circuit) (turn : Table → Table) → ((table : Ta
 unfolding given
 given-mapped circuit turn keeps = ap (λ (names : List (List ℕ)). circuit.inputs ++ (latch_outputs circuit ++ names)) (outputs-mapped turn keeps circuit.tables)
 
--- a turn of tables keeps the output, each input once, the shape, and reads what the table reads or what is driven
+-- a rewriting of tables that keeps the output, each input once and the shape, and reads what the
+-- table reads or what is driven
 pub record IsTurn (circuit : Circuit) (turn : Table → Table) : Type 0 where
   pub keeps : (table : Table) → (turn table).output ≡ table.output
   pub once : (table : Table) → all_different table.inputs ≡ true → all_different (turn table).inputs ≡ true

@@ -1,4 +1,4 @@
--- Names: when two are the same, which stand among some, and when no name stands twice.
+-- Names: when two are equal, which occur in a list, and when no name occurs twice.
 use Rattle.std.proofs.Common.{◌≡◌, ℕ, Bool, true, false, not, ◌||◌, List, [], ◌∷◌, ◌++◌, bytes_eq, refl, sym, ◌∙◌, subst, inl, inr, ◌⊎◌}
 use Rattle.std.specs.List.{AllByRecursion}
 use Rattle.std.proofs.lemmas.Bool.{false≢true, or_cases, or_left, or_right, or_from, or_parts, and_parts, and_from, not_from_false, not-true, false_from_ne_true}

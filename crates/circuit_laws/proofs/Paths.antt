@@ -13,7 +13,7 @@ use Rattle.circuit_laws.proofs.Names.{name_itself, name_cases, name_apart, name_
 use Rattle.circuit_laws.proofs.Drivers.{driver_none, driver_reads, driver_append, driver_one, driver_replaced_other, driver_replaced_own, driver_kept, driver_dropped, driver_mapped, replaced_none}
 use Rattle.circuit_laws.proofs.Ranks.{leads_one, leads_joined, falls_along}
 
--- where each step of the new tables is a way of the old ones, so is each way of the new ones
+-- if each step of the new tables is a path of the old ones, so is each path of the new ones
 unfoldable pub AreWays : List Table → List Table → Type 0
 AreWays old new = (signal : List ℕ) (table : Table) (input : List ℕ) → driver new signal ≡ Some table → has table.inputs input ≡ true → (steps : ℕ) × Leads old (suc steps) signal input
 
@@ -35,7 +35,7 @@ pub no_return : (tables : List Table) → IsAcyclic tables → (signal : List �
 unfolding IsAcyclic
 no_return tables acyclic = acyclic
 
--- tables go
+-- tables are removed
 pub kept_acyclic : (test : List ℕ → Bool) (tables : List Table) → IsAcyclic tables → IsAcyclic (tables_kept test tables)
 unfolding AreWays
 kept_acyclic test tables acyclic = ways_acyclic tables (tables_kept test tables) (λ signal table input at reads. step signal table input (test signal) refl at reads) acyclic
@@ -60,7 +60,8 @@ mapped_acyclic turn keeps tables reads acyclic =
     step signal table input read None at e = absurd (none-some table e)
     step signal table input read (Some old) at e = reads signal old input at (subst (λ (t : Table). has t.inputs input ≡ true) (sym (same_Some (turn old) table e)) read)
 
--- a way in the tables with one replaced: it does not pass the new table, or it comes to it and leaves it by an input
+-- a path in the tables with one replaced: it avoids the new table, or it reaches it and leaves it
+-- by an input
 Passes : List Table → Table → List ℕ → List ℕ → Type 0
 Passes tables new from to =
     ((before : ℕ) × Leads tables before from new.output) × ((input : List ℕ) × (has new.inputs input ≡ true) × (after : ℕ) × Leads tables after input to)
@@ -87,7 +88,7 @@ passing tables new driven (suc n) from to (table, at, next, read, rest) =
           | inr passed ↦ let (k, way) = passed.0 in inr ((suc k, (table, before, next, read, way)), passed.1)
         ]
 
--- a table gives place to one whose inputs do not lead to its signal
+-- a table is replaced by one whose inputs do not lead to its signal
 pub replaced_acyclic : (tables : List Table) (new : Table) → IsAcyclic tables
     → ((input : List ℕ) (steps : ℕ) → has new.inputs input ≡ true → Leads tables steps input new.output → ⊥) → IsAcyclic (replaced tables new)
 unfolding IsAcyclic Passes
@@ -123,7 +124,7 @@ beside_apart tables acyclic signal other table apart at below (suc steps) (first
     let (n, there) = below next (subst (λ (t : Table). has t.inputs next ≡ true) is read) in
     reached_apart tables acyclic signal next n there steps rest
 
--- a table gives place to one that reads only inputs of the old one
+-- a table is replaced by one that reads only inputs of the old one
 pub narrowed_acyclic : (tables : List Table) (old new : Table) → IsAcyclic tables → driver tables new.output ≡ Some old
     → ((input : List ℕ) → has new.inputs input ≡ true → has old.inputs input ≡ true) → IsAcyclic (replaced tables new)
 narrowed_acyclic tables old new acyclic at within =
@@ -152,7 +153,7 @@ reads_added (first ∷ tables) new name unread apart =
     let parts = has_neither first.inputs (table_inputs tables) name unread in
     has_none first.inputs (table_inputs (tables ++ new ∷ [])) name parts.0 (reads_added tables new name parts.1 apart)
 
--- a way that begins elsewhere does not come to a signal that nothing reads
+-- a path that begins elsewhere does not reach a signal that nothing reads
 added_way : (tables : List Table) (new : Table) → has (table_inputs (tables ++ new ∷ [])) new.output ≡ false
     → (n : ℕ) (from to : List ℕ) → bytes_eq from new.output ≡ false → Leads (tables ++ new ∷ []) n from to → Leads tables n from to
 unfolding Leads
@@ -162,7 +163,7 @@ added_way tables new unread (suc n) from to apart (table, at, next, read, rest) 
     name_not next new.output (λ e. false≢true (sym unread ∙ subst (λ x. has (table_inputs (tables ++ new ∷ [])) x ≡ true) e (driver_reads (tables ++ new ∷ []) from table next at read))) in
     (table, sym (driver_added_other tables new from apart) ∙ at, next, read, added_way tables new unread n next to off rest)
 
--- what a way comes to is read
+-- what a path reaches is read
 comes_read : (tables : List Table) (n : ℕ) (from to : List ℕ) → Leads tables (suc n) from to → has (table_inputs tables) to ≡ true
 unfolding Leads
 comes_read tables zero from to (table, at, next, read, end) = subst (λ x. has (table_inputs tables) x ≡ true) end (driver_reads tables from table next at read)

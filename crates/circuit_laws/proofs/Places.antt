@@ -1,4 +1,4 @@
--- Edits of a list of tables by place: a table written over the one of its signal, or taken out.
+-- Edits of a list of tables by index: a table replaced by one of its signal, or removed.
 use Rattle.std.proofs.Common.{◌≡◌, ℕ, zero, suc, Bool, true, false, not, cond, Some, List, [], ◌∷◌, map, filter, slice_get, set, remove, bytes_eq, refl, sym, ap, ◌∙◌, subst}
 use Rattle.std.proofs.lemmas.Bool.{false≢true, or_parts}
 use Rattle.std.proofs.lemmas.Option.{none-some, same_Some}
@@ -10,13 +10,13 @@ use Rattle.circuit_model.specs.declared.circuit.Latch.{Latch}
 use Rattle.circuit_laws.specs.Edits.{replaced, tables_kept, latches_kept, is_other}
 use Rattle.circuit_laws.proofs.Names.{name_is, name_not, different_head, different_tail, has_head, has_tail}
 
--- what stands at a place has a name among the names
+-- an item at an index has a name among the names
 pub placed_name : {X : Type 0} (name_of : X → List ℕ) (xs : List X) (i : ℕ) (x : X) → slice_get xs i ≡ Some x → has (map name_of xs) (name_of x) ≡ true
 placed_name name_of [] i x at = absurd (none-some x at)
 placed_name name_of (first ∷ xs) zero x at = subst (λ y. has (name_of first ∷ map name_of xs) (name_of y) ≡ true) (same_Some first x at) (has_head (name_of first) (map name_of xs))
 placed_name name_of (first ∷ xs) (suc i) x at = has_tail (name_of first) (map name_of xs) (name_of x) (placed_name name_of xs i x at)
 
--- the first has another name than what stands behind it
+-- the first item has another name than each item after it
 behind : {X : Type 0} (name_of : X → List ℕ) (first : X) (xs : List X) (i : ℕ) (x : X) → all_different (map name_of (first ∷ xs)) ≡ true → slice_get xs i ≡ Some x
     → bytes_eq (name_of x) (name_of first) ≡ false
 behind name_of first xs i x different at =
@@ -33,7 +33,7 @@ placed_driver (first ∷ tables) (suc i) table different at =
     ap (λ (b : Bool). cond b (Some first) (driver tables table.output)) (behind (λ (t : Table). t.output) first tables i table different at)
     ∙ placed_driver tables i table (different_tail first.output (outputs_of tables) different) at
 
--- a table written over the one of its signal
+-- the only table of a signal is the table that drives it
 pub set_replaced : (tables : List Table) (i : ℕ) (old new : Table) → all_different (outputs_of tables) ≡ true → slice_get tables i ≡ Some old → old.output ≡ new.output → set tables i new ≡ replaced tables new
 unfolding replaced
 set_replaced [] i old new different at same = absurd (none-some old at)
@@ -44,7 +44,7 @@ set_replaced (first ∷ tables) (suc i) old new different at same =
     ∙ sym (ap (λ (b : Bool). cond b (new ∷ tables) (first ∷ replaced tables new))
     (subst (λ (n : List ℕ). bytes_eq n first.output ≡ false) same (behind (λ (t : Table). t.output) first tables i old different at)))
 
--- what has the name is taken out
+-- what has the name is removed
 filter_others : {X : Type 0} (name_of : X → List ℕ) (name : List ℕ) (xs : List X) → has (map name_of xs) name ≡ false → filter (λ x. is_other name (name_of x)) xs ≡ xs
 filter_others name_of name [] none = refl
 filter_others name_of name (first ∷ xs) none =
@@ -73,7 +73,7 @@ pub remove_latch : (latches : List Latch) (i : ℕ) (old : Latch) (name : List �
 unfolding latches_kept
 remove_latch latches i old name different at same = remove_others (λ (l : Latch). l.output) name latches i old different at same
 
--- where no table has the name, none goes; and no latch
+-- if no table has the name, none is removed; and no latch
 pub tables_stay : (tables : List Table) (name : List ℕ) → has (outputs_of tables) name ≡ false → tables_kept (is_other name) tables ≡ tables
 unfolding tables_kept
 tables_stay tables name none = filter_others (λ (t : Table). t.output) name tables none

@@ -1,5 +1,5 @@
--- No signal is reached from itself where a rank falls from each driven signal to its table's inputs, and then one
--- does: the height of a signal, which is the length of the longest way down from it.
+-- No signal is reached from itself exactly if a rank falls from each driven signal to its table's
+-- inputs; such a rank is the height of a signal, the length of the longest path down from it.
 use Rattle.std.proofs.Common.{◌≡◌, ℕ, zero, suc, ◌+◌, ◌<◌, ◌≤◌, max, true, false, Option, Some, None, List, [], ◌∷◌, length, bytes_eq, refl, sym, ap, ◌∙◌, subst, inl, inr, arith}
 use Rattle.std.specs.List.{AllByRecursion, IsDistinct}
 use Rattle.std.proofs.lemmas.Bool.{false≢true, or_cases, cases_eq}
@@ -34,7 +34,7 @@ leads_joined tables (suc n) m from over to (table, at, next, read, way) rest =
     let e : suc (n + m) ≡ suc n + m = omega arith in
     subst (λ k. Leads tables k from to) e (table, at, next, read, leads_joined tables n m next over to way rest)
 
--- a rank falls along each way
+-- a rank falls along each path
 pub falls_along : (tables : List Table) (r : HasRank tables) (steps : ℕ) (from to : List ℕ) → Leads tables steps from to → r.rank to + steps ≤ r.rank from
 unfolding Leads
 falls_along tables r zero from to way = let e : r.rank from ≡ r.rank to = ap r.rank way in omega arith
@@ -79,7 +79,7 @@ greatest_below : (f : List ℕ → ℕ) (xs : List (List ℕ)) (n : ℕ) → All
 greatest_below f [] n h = omega arith
 greatest_below f (x ∷ xs) n h = let a : f x ≤ n = h.0 in let b : greatest f xs ≤ n = greatest_below f xs n h.1 in omega arith
 
--- the length of the longest way down from a signal over driven ones, at most some steps
+-- the length of the longest path down from a signal over driven ones, of at most a number of steps
 abbrev pub above : Option Table → (List ℕ → ℕ) → ℕ
 above None f = 0
 above (Some table) f = suc (greatest f table.inputs)
@@ -118,7 +118,8 @@ height_stays tables (suc n) signal low = cases (driver tables signal) low (heigh
         all_has (λ y. height_to tables n y ≤ greatest (height_to tables n) table.inputs) table.inputs (greatest-at_least (height_to tables n) table.inputs) x among in
         more x (omega arith))))
 
--- what a way down has passed: driven names, all different, from each of which a way leads to where it stands
+-- what a path down has passed: driven names, all different, from each of which a path leads to its
+-- end
 record HasPassed (tables : List Table) (seen : List (List ℕ)) (signal : List ℕ) : Type 0 where
   distinct : IsDistinct bytes_eq seen
   driven : (name : List ℕ) → has seen name ≡ true → has (outputs_of tables) name ≡ true
@@ -144,7 +145,7 @@ few tables names distinct driven =
     let e : length (outputs_of tables) ≡ length tables = length-map tables (λ (table : Table). table.output) in
     omega arith
 
--- a signal whose height is all that was allowed stands at the head of a way that passes as many tables
+-- a signal whose height is the bound is the start of a path that passes as many tables
 climbs : (tables : List Table) → IsAcyclic tables → (n : ℕ) (signal : List ℕ) (seen : List (List ℕ)) → height_to tables n signal ≡ n → HasPassed tables seen signal → n + length seen ≤ length tables
 unfolding height_to
 climbs tables acyclic zero signal seen full passed = let b : length seen ≤ length tables = few tables seen passed.distinct passed.driven in omega arith

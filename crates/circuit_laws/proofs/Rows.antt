@@ -1,4 +1,4 @@
--- Worked rows: what the edits make of small circuits.
+-- Worked rows: the results of the edits on small circuits.
 use Rattle.std.proofs.Common.{◌≡◌, ℕ, true, false, Option, Some, None, List, [], ◌∷◌, codes, refl}
 use Rattle.circuit_model.specs.declared.circuit.Tri.TheVariants.{Zero}
 use Rattle.circuit_model.specs.declared.circuit.Kind.TheVariants.{Re}
@@ -27,7 +27,8 @@ one_of name = record { inputs = []; output = name; rows = [] ∷ []; phase = tru
 abbrev held_before : Circuit
 held_before = held (record { input = codes "k"; output = codes "q"; init = 2 } ∷ []) (Some record { kind = Re; control = None }) (one_of (codes "k") ∷ [])
 
--- the latch becomes `.names q / 1` and the timing goes; then nothing reads k, and it goes
+-- the latch becomes `.names q / 1` and the timing is removed; then nothing reads k, and it is
+-- removed
 row_fixed : with_fixed held_before (codes "q") true ≡ held [] None (one_of (codes "k") ∷ one_of (codes "q") ∷ [])
 unfolding with_fixed with_added with_kept tables_kept latches_kept
 row_fixed = refl
@@ -40,7 +41,7 @@ row_removed : with_removed (with_fixed held_before (codes "q") true) (codes "k")
 unfolding with_fixed with_added with_kept tables_kept latches_kept
 row_removed = refl
 
--- the table of k gives place to an inverter of q, where it stands
+-- the table of k is replaced by an inverter of q, at the same position
 abbrev inverter : List ℕ → List ℕ → Table
 inverter input output = record { inputs = input ∷ []; output = output; rows = (Zero ∷ []) ∷ []; phase = true }
 

@@ -1,4 +1,4 @@
--- Circuits that are the same to whoever drives and watches them.
+-- Circuits that are the same to an outside observer.
 use Rattle.std.proofs.Common.{◌≡◌, ℕ, Bool, true, false, Option, List, [], ◌∷◌, map, length, if◌then◌else◌, refl, sym, ap, ap₂, ◌∙◌, subst}
 use Rattle.std.proofs.lemmas.List.{length-map}
 use Rattle.std.specs.List.{AllByRecursion, AllZip}
@@ -137,7 +137,8 @@ next_same old new start state row latches values =
     map_latches (value_in old start row) (value_in new state row) old.latches values
     ∙ ap (map (λ (latch : Latch). value_in new state row latch.input)) latches
 
--- other tables: the circuit is the same where its outputs that are not free and its latch inputs have their values
+-- other tables: the circuit is the same if its outputs that are not free and its latch inputs have
+-- their values
 pub same_where : (circuit : Circuit) (tables : List Table)
     → ((state row : List Bool) → IsAssignment circuit state row → (output : List ℕ) → has circuit.outputs output ≡ true → is_free circuit state row output ≡ false
     → value_in circuit state row output ≡ value_in (with_tables circuit tables) state row output)

@@ -1,4 +1,5 @@
--- A circuit refines another one where related states show the same and stay related: induction over time, once.
+-- A circuit refines another one if related states show the same and stay related: the induction
+-- over time.
 use Rattle.std.proofs.Common.{◌≡◌, suc, Bool, List, [], ◌∷◌, length, refl, ap, subst}
 use Rattle.std.specs.List.{AllZip, AllByRecursion}
 use Rattle.circuit_model.specs.Behaviors.{MeetsAll}

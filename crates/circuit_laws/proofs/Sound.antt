@@ -137,11 +137,11 @@ all_replaced P (first ∷ tables) new all this = cases (bytes_eq new.output firs
     cases false rest = (all.0, rest)
 
 -- what holds of each name that a table mentions
-each_name : (P : List ℕ → Type 0) (list : Table → List (List ℕ)) (tables : List Table) → AllByRecursion P (flat_map list tables) → AllByRecursion (λ (table : Table). AllByRecursion P (list table)) tables
+pub each_name : (P : List ℕ → Type 0) (list : Table → List (List ℕ)) (tables : List Table) → AllByRecursion P (flat_map list tables) → AllByRecursion (λ (table : Table). AllByRecursion P (list table)) tables
 each_name P list [] h = tt
 each_name P list (table ∷ tables) h = let parts = all_parts P (list table) (flat_map list tables) h in (parts.0, each_name P list tables parts.1)
 
-names_each : (P : List ℕ → Type 0) (list : Table → List (List ℕ)) (tables : List Table) → AllByRecursion (λ (table : Table). AllByRecursion P (list table)) tables → AllByRecursion P (flat_map list tables)
+pub names_each : (P : List ℕ → Type 0) (list : Table → List (List ℕ)) (tables : List Table) → AllByRecursion (λ (table : Table). AllByRecursion P (list table)) tables → AllByRecursion P (flat_map list tables)
 names_each P list [] h = tt
 names_each P list (table ∷ tables) h = all_append P (list table) (flat_map list tables) h.0 (names_each P list tables h.1)
 
@@ -280,7 +280,7 @@ sound_added circuit new sound word fresh free fits = record {
       dont_care = w.dont_care;
     }
 
--- tables and latches go that nothing needs
+-- tables and latches that nothing needs are removed
 different_kept : {X : Type 0} (name_of : X → List ℕ) (test : List ℕ → Bool) (xs : List X) → all_different (map name_of xs) ≡ true
     → all_different (map name_of (filter (λ x. test (name_of x)) xs)) ≡ true
 different_kept name_of test [] h = h
@@ -475,7 +475,7 @@ sound_kept circuit test sound closed = record {
     known [] p q = tt
     known (name ∷ names) p q = (known_kept circuit test name p.0 q.0, known names p.1 q.1)
 
--- a name that stands nowhere in a circuit
+-- a name that occurs nowhere in a circuit
 pub unused_parts : (circuit : Circuit) (name : List ℕ) → has (all_names circuit) name ≡ false → (has (given circuit) name ≡ false) × (has (control_of circuit.timing) name ≡ false)
 unfolding all_names given
 unused_parts circuit name h =

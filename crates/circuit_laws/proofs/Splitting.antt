@@ -1,4 +1,5 @@
--- A circuit in which a table was split off others: a table is added, and the others are turned into ones over it.
+-- A circuit in which a table was split off others: a table is added, and the others are rewritten
+-- over it.
 use Rattle.std.proofs.Common.{◌≡◌, ℕ, Bool, true, false, Some, None, List, [], ◌∷◌, ◌++◌, map, bytes_eq, refl, sym, ap, ◌∙◌, subst, inl, inr, ◌⊎◌}
 use Rattle.std.proofs.lemmas.Option.{none-some}
 use Rattle.sis_base.specs.Written.{is_word}
@@ -94,7 +95,7 @@ split_value circuit new turn undriven split value obeys signal table at =
     (driver_over circuit new turn split table.output old front).value value (obeys new.output new (new_driver circuit new undriven))
     ∙ ap (λ (t : Table). driven_value (Some t) value) (sym (front_same circuit.tables (new ∷ []) signal table old at front)))
 
--- where the new table stands, turning the others keeps signals and values
+-- if the new table is there, rewriting the others keeps signals and values
 pub turned_extended : (circuit : Circuit) (new : Table) (turn : Table → Table) → IsSound circuit → has (given circuit) new.output ≡ false → IsSplit circuit new turn
     → IsSound (with_added circuit new) → IsExtended (with_added circuit new) (with_tables (with_added circuit new) (map (turned_among circuit.tables turn) (circuit.tables ++ new ∷ [])))
 unfolding with_added

@@ -1,4 +1,4 @@
--- Tables change: what is the same then, and which signals keep their values.
+-- Changes of tables: what stays the same, and which signals keep their values.
 use Rattle.std.proofs.Common.{◌≡◌, ℕ, Bool, true, false, ◌||◌, Option, Some, None, option_map, unwrap_or, cond, List, [], ◌∷◌, ◌++◌, map, bytes_eq, refl, sym, ap, ◌∙◌, subst, inl, inr, ◌⊎◌}
 use Rattle.std.specs.List.{AllByRecursion}
 use Rattle.std.proofs.lemmas.Bool.{false≢true}
@@ -49,7 +49,8 @@ pub value_obeys : (circuit : Circuit) → IsSettled circuit → (state row : Lis
 unfolding value_in
 value_obeys circuit settled state row = obeyed circuit.tables (leaves_of circuit state row) settled.acyclic (driven_free circuit settled state row)
 
--- what is due in other tables, on a closed part of the names, is the signals' value with those tables
+-- a valuation that solves the equations of other tables on a closed set of names is the signals'
+-- value with those tables
 pub values_on : (P : List ℕ → Type 0) (circuit : Circuit) (tables : List Table) → IsAcyclic tables
     → ((signal : List ℕ) (table : Table) → P signal → driver tables signal ≡ Some table → AllByRecursion P table.inputs)
     → (state row : List Bool) (value : List ℕ → Bool) → ((signal : List ℕ) → P signal → value signal ≡ due tables (leaves_of circuit state row) value signal)
@@ -73,7 +74,7 @@ fitting_keeps circuit tables acyclic fits = record {
         value_only tables (leaves_of circuit state row) acyclic (value_in circuit state row) (fits state row) signal
         ∙ ap (λ (leaves : Leaves). signal_value tables leaves signal) (leaves_same circuit (with_tables circuit tables) refl refl state row)
 
--- one table gives place to one that has its value wherever the equations of all tables hold
+-- one table is replaced by one that has its value wherever the equations of all tables hold
 pub obeying_turned : (circuit : Circuit) (old new : Table) → IsSettled circuit → driver circuit.tables new.output ≡ Some old → IsAcyclic (replaced circuit.tables new)
     → ((value : List ℕ → Bool) → Obeys circuit.tables value → driven_value (Some new) value ≡ driven_value (Some old) value) → KeepsEach circuit (with_replaced circuit new)
 unfolding with_replaced
@@ -135,7 +136,8 @@ added_each circuit new acyclic unread apart state row signal other =
     ∙ sym (ap (λ (found : Option Table). unwrap_or (leaves_of circuit state row name) (driven_value found (value_in circuit state row))) (driver_added_other circuit.tables new name within)))
     signal other
 
--- names that nothing drives are no leaves and no table's output; those that nothing reads are nowhere among what is read
+-- names that nothing drives are no leaves and no table's output; those that nothing reads are
+-- nowhere among what is read
 pub given_not : (circuit : Circuit) (name : List ℕ) → has (given circuit) name ≡ false → (has (leaf_names circuit) name ≡ false) × (has (outputs_of circuit.tables) name ≡ false)
 unfolding given
 given_not circuit name h =
@@ -151,7 +153,7 @@ taken_not circuit name h =
     let second = has_neither (latch_inputs circuit) circuit.outputs name first.1 in
     (first.0, second.0, second.1)
 
--- what an added table's signal is worth
+-- the value of an added table's signal
 pub added_value : (circuit : Circuit) (new : Table) → IsAcyclic circuit.tables → has (given circuit) new.output ≡ false → has (taken circuit) new.output ≡ false → has new.inputs new.output ≡ false
     → (state row : List Bool) → value_in (with_added circuit new) state row new.output ≡ driven_value (Some new) (value_in circuit state row)
 unfolding with_added

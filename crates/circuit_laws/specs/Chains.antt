@@ -1,16 +1,15 @@
--- Chains of steps, for any kind of thing that is changed step by step.
--- Source: Brayton, Rudell, Sangiovanni-Vincentelli and Wang, "MIS: A Multiple-Level Logic Optimization System" (1987):
--- a command applies an operation again and again until none applies. A step function names what comes next, if
--- anything does.
-use Rattle.std.specs.Prelude.{◌≡◌, Option, Some, None, List, [], ◌∷◌}
+-- Chains of a step function, which returns the next state, if there is one: the steps of a command
+-- that leaves nothing to choose. Source: Brayton, Rudell, Sangiovanni-Vincentelli and Wang, "MIS: A
+-- Multiple-Level Logic Optimization System" (1987): a command applies an operation again and again
+-- until none applies.
+use Rattle.std.specs.Prelude.{◌≡◌, Option, Some, None, List}
+use Rattle.circuit_laws.specs.Greedy.{Follows, HasEnd}
 
--- some things, one after the other, lead from one to another: each is what the step names after the one before
+-- a list of states leads from one state to another: each is what the step function returns for the
+-- one before
 abbrev pub Leads : {N : Type 0} → (N → Option N) → List N → N → N → Type 0
-Leads step [] from to = from ≡ to
-Leads step (next ∷ rest) from to = (step from ≡ Some next) × Leads step rest next to
+Leads step between from to = Follows (λ x y. step x ≡ Some y) between from to
 
--- steps lead from one to the other, where no step applies
-pub record Chain {N : Type 0} (step : N → Option N) (from to : N) : Type 0 where
-  pub between : List N
-  pub leads : Leads step between from to
-  pub finished : step to ≡ None
+-- steps lead from one state to another, at which no step applies
+abbrev pub Chain : {N : Type 0} → (N → Option N) → N → N → Type 0
+Chain step from to = HasEnd (λ x y. step x ≡ Some y) (λ x. step x ≡ None) from to

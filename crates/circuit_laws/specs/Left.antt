@@ -1,6 +1,7 @@
--- Signals that are left keep their values where tables and latches go, edit after edit.
--- Source: De Micheli, "Synthesis and Optimization of Digital Circuits", chapters 8 and 9 (sweep; removal of registers
--- that hold a constant); BLIF appendix of the SIS report (UCB/ERL M92/41) for latches.
+-- Remaining signals keep their values where tables and latches are removed, edit after edit.
+-- Source: De Micheli, "Synthesis and Optimization of Digital Circuits", chapters 8 and 9 (sweep;
+-- removal of registers that hold a constant); BLIF appendix of the SIS report (UCB/ERL M92/41) for
+-- latches.
 use Rattle.std.specs.Prelude.{◌≡◌, ℕ, Bool, true, Some, List}
 use Rattle.std.specs.List.{AllByRecursion}
 use Rattle.circuit_model.specs.Names.{has}
@@ -15,12 +16,12 @@ use Rattle.circuit_laws.specs.Same.{IsAssignment}
 abbrev pub ConstantLatch : Type 0
 ConstantLatch = List ℕ × Bool
 
--- of a state, the bits of the latches that are left
+-- of a state, the bits of the latches that remain
 abbrev pub state_left : Circuit → Circuit → List Bool → List Bool
 state_left old new state = bits_kept (has (latch_outputs new)) old.latches state
 
--- the inputs stay, no signal and no latch comes, and at each leaf assignment in which these latches have their bits
--- each signal that is left has its value
+-- the inputs stay, no signal and no latch is added, and at each leaf assignment in which the listed
+-- latches have their bits, each remaining signal keeps its value
 pub record KeepsLeft (held : List ConstantLatch) (old new : Circuit) : Type 0 where
   pub inputs : old.inputs ≡ new.inputs
   pub latches : new.latches ≡ latches_kept (has (latch_outputs new)) old.latches

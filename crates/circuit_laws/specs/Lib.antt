@@ -8,5 +8,5 @@ pub mod Fitting
 pub mod Fixed
 pub mod Left
 pub mod Changes
-pub mod Following
+pub mod Greedy
 pub mod Splits

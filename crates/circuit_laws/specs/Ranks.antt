@@ -1,6 +1,6 @@
--- Ranks: the other face of "no signal is reached from itself".
--- Source: De Micheli, "Synthesis and Optimization of Digital Circuits", chapter 8: a logic network is a directed
--- acyclic graph, so its vertices can be numbered such that each one's number is greater than those of its fan-ins.
+-- Ranks: an equivalent form of "no signal is reached from itself". Source: De Micheli, "Synthesis
+-- and Optimization of Digital Circuits", chapter 8: a logic network is a directed acyclic graph, so
+-- its vertices can be numbered such that each one's number is greater than those of its fan-ins.
 use Rattle.std.specs.Prelude.{◌≡◌, ℕ, ◌<◌, Some, List}
 use Rattle.std.specs.List.{AllByRecursion}
 use Rattle.circuit_model.specs.Values.{driver}

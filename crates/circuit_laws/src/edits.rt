@@ -1,4 +1,11 @@
-//! What each edit of a circuit keeps.
+//! What each edit of a circuit keeps (De Micheli, "Synthesis and Optimization of Digital Circuits",
+//! chapters 8 and 9).
+//!
+//! The edits are those of `specs/Edits.antt`: tables are replaced, reordered, added or removed,
+//! latches are removed, and a latch that always holds one bit becomes a constant table. For each
+//! edit a law says whether the circuits are the same or one refines the other, and at which signals
+//! the values stay. The laws ask that no table is reached from itself; that this and soundness stay
+//! is said in `order` and `soundness`.
 
 ghost use Rattle.std.specs.Prelude.{◌≡◌, ℕ, Bool, true, false, Option, Some, List, ◌++◌, ◌∷◌, [], map, bytes_eq};
 ghost use Rattle.std.specs.List.{AllByRecursion};
@@ -6,9 +13,9 @@ ghost use Rattle.circuit_model.specs.Names.{has};
 ghost use Rattle.circuit_model.specs.Values.{driver, driven_value};
 ghost use Rattle.circuit_model.specs.Runs.{bit_of, latch_outputs, value_in, Refines};
 ghost use Rattle.circuit_model.specs.Soundness.{given, taken, table_inputs, IsAcyclic, IsSound};
-ghost use Rattle.circuit_model.specs.declared.circuit.Table.{Table as TheTable};
-ghost use Rattle.circuit_model.specs.declared.circuit.Latch.{Latch as TheLatch};
-ghost use Rattle.circuit_model.specs.declared.circuit.Circuit.{Circuit as TheCircuit};
+ghost use Rattle.circuit_model.specs.declared.circuit.Table.{Table};
+ghost use Rattle.circuit_model.specs.declared.circuit.Latch.{Latch};
+ghost use Rattle.circuit_model.specs.declared.circuit.Circuit.{Circuit};
 ghost use Rattle.circuit_laws.specs.Edits.{replaced, with_tables, with_replaced, with_added, with_kept, with_removed, with_fixed, is_other, is_read, is_root};
 ghost use Rattle.circuit_laws.specs.Fixed.{IsFixed};
 ghost use Rattle.circuit_laws.specs.Kept.{IsClosed, bits_kept};
@@ -16,97 +23,126 @@ ghost use Rattle.circuit_laws.specs.Left.{ConstantLatch, KeepsLeft};
 ghost use Rattle.circuit_laws.specs.Same.{IsAssignment, IsSame, KeepsValues, KeepsEach, IsSettled};
 ghost use Rattle.circuit_laws.specs.Valuations.{Obeys};
 
-/// A table gives place to one that has its value wherever the equations of all tables hold.
+/// Replaces a table by one that has its value wherever the equations of all tables hold.
 pub fn replacing_keeps_each()
-    ensures { (circuit : TheCircuit) (old new : TheTable) → IsSettled circuit → driver circuit.tables new.output ≡ Some old
+    ensures { (circuit : Circuit) (old new : Table) → IsSettled circuit
+        → driver circuit.tables new.output ≡ Some old
         → IsAcyclic (replaced circuit.tables new)
         → ((value : List ℕ → Bool) → Obeys circuit.tables value → driven_value (Some new) value ≡ driven_value (Some old) value)
         → KeepsEach circuit (with_replaced circuit new) }
 {}
 
-/// Each table becomes one of its signal that has its value wherever the equations of all tables hold.
+/// Replaces each table by one of the same signal that has its value wherever the equations of all
+/// tables hold.
 pub fn mapping_keeps_each()
-    ensures { (circuit : TheCircuit) (turn : TheTable → TheTable) → IsSettled circuit
-        → ((table : TheTable) → (turn table).output ≡ table.output) → IsAcyclic (map turn circuit.tables)
+    ensures { (circuit : Circuit) (turn : Table → Table) → IsSettled circuit
+        → ((table : Table) → (turn table).output ≡ table.output) → IsAcyclic (map turn circuit.tables)
         → ((value : List ℕ → Bool) → Obeys circuit.tables value
-        → (signal : List ℕ) (table : TheTable) → driver circuit.tables signal ≡ Some table
+        → (signal : List ℕ) (table : Table) → driver circuit.tables signal ≡ Some table
         → driven_value (Some (turn table)) value ≡ driven_value (Some table) value)
         → KeepsEach circuit (with_tables circuit (map turn circuit.tables)) }
 {}
 
-/// Other tables among which each signal finds the same one: another order.
+/// Other tables among which each signal finds the same driver: another order.
 pub fn reordering_keeps_each()
-    ensures { (circuit : TheCircuit) (tables : List TheTable) → IsAcyclic circuit.tables → IsAcyclic tables
+    ensures { (circuit : Circuit) (tables : List Table) → IsAcyclic circuit.tables
+        → IsAcyclic tables
         → ((signal : List ℕ) → driver tables signal ≡ driver circuit.tables signal) → KeepsEach circuit (with_tables circuit tables) }
 {}
 
-/// A table is added of a signal that nothing reads and nothing drives; it has its table's value at the old ones.
+/// Adds a table for a signal that nothing reads and nothing drives. The signal gets the table's
+/// value over the values of the old signals.
 pub fn adding_is_same()
-    ensures same { (circuit : TheCircuit) (new : TheTable) → IsAcyclic circuit.tables
+    ensures same { (circuit : Circuit) (new : Table) → IsAcyclic circuit.tables
         → has (taken circuit) new.output ≡ false → has new.inputs new.output ≡ false → IsSame circuit (with_added circuit new) }
-    ensures keeps { (circuit : TheCircuit) (new : TheTable) → IsAcyclic circuit.tables → has (given circuit) new.output ≡ false
+    ensures keeps { (circuit : Circuit) (new : Table) → IsAcyclic circuit.tables → has
+        (given circuit) new.output ≡ false
         → has (taken circuit) new.output ≡ false → has new.inputs new.output ≡ false → KeepsValues circuit (with_added circuit new) }
-    ensures value { (circuit : TheCircuit) (new : TheTable) → IsAcyclic circuit.tables → has (given circuit) new.output ≡ false
+    ensures value { (circuit : Circuit) (new : Table) → IsAcyclic circuit.tables → has
+        (given circuit) new.output ≡ false
         → has (taken circuit) new.output ≡ false → has new.inputs new.output ≡ false → (state row : List Bool)
         → value_in (with_added circuit new) state row new.output ≡ driven_value (Some new) (value_in circuit state row) }
 {}
 
-/// Tables and latches go that nothing needs: each circuit refines the other, and each signal that is left has its value.
+/// Removes tables and latches that nothing needs: each circuit refines the other, and each
+/// remaining signal keeps its value.
 pub fn dropping_refines()
-    ensures forth { (circuit : TheCircuit) (test : List ℕ → Bool) → IsAcyclic circuit.tables → IsClosed circuit test → Refines circuit (with_kept circuit test) }
-    ensures back { (circuit : TheCircuit) (test : List ℕ → Bool) → IsAcyclic circuit.tables → IsClosed circuit test → Refines (with_kept circuit test) circuit }
-    ensures values { (circuit : TheCircuit) (test : List ℕ → Bool) → IsAcyclic circuit.tables → IsClosed circuit test
+    ensures forth { (circuit : Circuit) (test : List ℕ → Bool) → IsAcyclic circuit.tables
+        → IsClosed circuit test → Refines circuit (with_kept circuit test) }
+    ensures back { (circuit : Circuit) (test : List ℕ → Bool) → IsAcyclic circuit.tables
+        → IsClosed circuit test → Refines (with_kept circuit test) circuit }
+    ensures values { (circuit : Circuit) (test : List ℕ → Bool) → IsAcyclic circuit.tables
+        → IsClosed circuit test
         → (state row : List Bool) → IsAssignment circuit state row → (signal : List ℕ) → has (given (with_kept circuit test)) signal ≡ true
         → value_in circuit state row signal ≡ value_in (with_kept circuit test) (bits_kept test circuit.latches state) row signal }
 {}
 
-/// Tables go that nothing needs, and no latch: the circuit is the same, and each signal that is left has its value.
+/// Removes tables that nothing needs, and no latch: the circuit is the same, and each remaining
+/// signal keeps its value.
 pub fn dropping_tables_is_same()
-    ensures same { (circuit : TheCircuit) (test : List ℕ → Bool) → IsAcyclic circuit.tables → IsClosed circuit test
-        → AllByRecursion (λ (latch : TheLatch). test latch.output ≡ true) circuit.latches → IsSame circuit (with_kept circuit test) }
-    ensures keeps { (circuit : TheCircuit) (test : List ℕ → Bool) → IsAcyclic circuit.tables → IsClosed circuit test
-        → AllByRecursion (λ (latch : TheLatch). test latch.output ≡ true) circuit.latches → KeepsValues circuit (with_kept circuit test) }
+    ensures same { (circuit : Circuit) (test : List ℕ → Bool) → IsAcyclic circuit.tables
+        → IsClosed circuit test
+        → AllByRecursion (λ (latch : Latch). test latch.output ≡ true) circuit.latches → IsSame circuit (with_kept circuit test) }
+    ensures keeps { (circuit : Circuit) (test : List ℕ → Bool) → IsAcyclic circuit.tables
+        → IsClosed circuit test
+        → AllByRecursion (λ (latch : Latch). test latch.output ≡ true) circuit.latches → KeepsValues circuit (with_kept circuit test) }
 {}
 
-/// What nothing reads, and what is no output and no latch's input, nothing needs.
+/// Nothing needs a signal that nothing reads and that is no output and no latch's input.
 pub fn unread_is_unneeded()
-    ensures closed { (circuit : TheCircuit) (name : List ℕ) → is_read circuit name ≡ false → is_root circuit name ≡ false → IsClosed circuit (is_other name) }
-    ensures latches { (circuit : TheCircuit) (name : List ℕ) → has (latch_outputs circuit) name ≡ false → AllByRecursion (λ (latch : TheLatch). is_other name latch.output ≡ true) circuit.latches }
+    ensures closed { (circuit : Circuit) (name : List ℕ) → is_read circuit name ≡ false
+        → is_root circuit name ≡ false → IsClosed circuit (is_other name) }
+    ensures latches { (circuit : Circuit) (name : List ℕ) → has (latch_outputs circuit) name
+        ≡ false → AllByRecursion (λ (latch : Latch). is_other name latch.output ≡ true)
+        circuit.latches }
 {}
 
-/// A signal goes that nothing reads, and that is no output and no latch's input: each circuit refines the other,
-/// and where the signal is no latch's they are the same; each signal that is left has its value.
+/// Removes a signal that nothing reads and that is no output and no latch's input: each circuit
+/// refines the other, and each remaining signal keeps its value. If the signal is no latch's, the
+/// circuits are the same.
 pub fn removing_refines()
-    ensures forth { (circuit : TheCircuit) (name : List ℕ) → IsAcyclic circuit.tables → is_read circuit name ≡ false → is_root circuit name ≡ false
+    ensures forth { (circuit : Circuit) (name : List ℕ) → IsAcyclic circuit.tables
+        → is_read circuit name ≡ false → is_root circuit name ≡ false
         → Refines circuit (with_removed circuit name) }
-    ensures back { (circuit : TheCircuit) (name : List ℕ) → IsAcyclic circuit.tables → is_read circuit name ≡ false → is_root circuit name ≡ false
+    ensures back { (circuit : Circuit) (name : List ℕ) → IsAcyclic circuit.tables
+        → is_read circuit name ≡ false → is_root circuit name ≡ false
         → Refines (with_removed circuit name) circuit }
-    ensures values { (circuit : TheCircuit) (name : List ℕ) → IsAcyclic circuit.tables → is_read circuit name ≡ false → is_root circuit name ≡ false
+    ensures values { (circuit : Circuit) (name : List ℕ) → IsAcyclic circuit.tables
+        → is_read circuit name ≡ false → is_root circuit name ≡ false
         → (state row : List Bool) → IsAssignment circuit state row → (signal : List ℕ) → has (given (with_removed circuit name)) signal ≡ true
         → value_in circuit state row signal ≡ value_in (with_removed circuit name) (bits_kept (is_other name) circuit.latches state) row signal }
-    ensures same { (circuit : TheCircuit) (name : List ℕ) → IsAcyclic circuit.tables → is_read circuit name ≡ false → is_root circuit name ≡ false
+    ensures same { (circuit : Circuit) (name : List ℕ) → IsAcyclic circuit.tables
+        → is_read circuit name ≡ false → is_root circuit name ≡ false
         → has (latch_outputs circuit) name ≡ false → IsSame circuit (with_removed circuit name) }
-    ensures keeps { (circuit : TheCircuit) (name : List ℕ) → IsAcyclic circuit.tables → is_read circuit name ≡ false → is_root circuit name ≡ false
+    ensures keeps { (circuit : Circuit) (name : List ℕ) → IsAcyclic circuit.tables
+        → is_read circuit name ≡ false → is_root circuit name ≡ false
         → has (latch_outputs circuit) name ≡ false → KeepsValues circuit (with_removed circuit name) }
 {}
 
-/// A latch that always has one bit becomes the constant table of its name; each signal has its value where the latch
-/// has that bit.
+/// Replaces a latch that always holds one bit by the constant table of its name; each signal keeps
+/// its value wherever the latch has that bit.
 pub fn fixing_refines()
-    ensures refines { (circuit : TheCircuit) (name : List ℕ) (bit : Bool) → IsSound circuit → IsFixed circuit name bit → Refines circuit (with_fixed circuit name bit) }
-    ensures values { (circuit : TheCircuit) (name : List ℕ) (bit : Bool) → IsSound circuit → IsFixed circuit name bit
+    ensures refines { (circuit : Circuit) (name : List ℕ) (bit : Bool) → IsSound circuit
+        → IsFixed circuit name bit → Refines circuit (with_fixed circuit name bit) }
+    ensures values { (circuit : Circuit) (name : List ℕ) (bit : Bool) → IsSound circuit
+        → IsFixed circuit name bit
         → (state row : List Bool) → bit_of (latch_outputs circuit) state name ≡ Some bit → (signal : List ℕ)
         → value_in circuit state row signal ≡ value_in (with_fixed circuit name bit) (bits_kept (is_other name) circuit.latches state) row signal }
 {}
 
-/// Signals that are left keep their values edit after edit, at the leaf assignments in which the latches that
-/// became tables have their bits.
+/// Remaining signals keep their values through any number of edits, at the leaf assignments in
+/// which the latches that became tables have their bits.
 pub fn leaving_keeps()
-    ensures itself { (circuit : TheCircuit) → KeepsLeft [] circuit circuit }
-    ensures through { (before after : List ConstantLatch) (first second third : TheCircuit) → KeepsLeft before first second → KeepsLeft after second third
+    ensures itself { (circuit : Circuit) → KeepsLeft [] circuit circuit }
+    ensures through { (before after : List ConstantLatch) (first second third : Circuit)
+        → KeepsLeft before first second → KeepsLeft after second third
         → KeepsLeft (before ++ after) first third }
-    ensures each { (old new : TheCircuit) → KeepsEach old new → ((signal : List ℕ) → has (given new) signal ≡ true → has (given old) signal ≡ true)
+    ensures each { (old new : Circuit) → KeepsEach old new
+        → ((signal : List ℕ) → has (given new) signal ≡ true → has (given old) signal ≡ true)
         → KeepsLeft [] old new }
-    ensures dropped { (circuit : TheCircuit) (test : List ℕ → Bool) → IsAcyclic circuit.tables → IsClosed circuit test → KeepsLeft [] circuit (with_kept circuit test) }
-    ensures fixed { (circuit : TheCircuit) (name : List ℕ) (bit : Bool) → IsSound circuit → IsFixed circuit name bit → KeepsLeft ((name, bit) ∷ []) circuit (with_fixed circuit name bit) }
+    ensures dropped { (circuit : Circuit) (test : List ℕ → Bool) → IsAcyclic circuit.tables
+        → IsClosed circuit test → KeepsLeft [] circuit (with_kept circuit test) }
+    ensures fixed { (circuit : Circuit) (name : List ℕ) (bit : Bool) → IsSound circuit
+        → IsFixed circuit name bit → KeepsLeft ((name, bit) ∷ []) circuit
+        (with_fixed circuit name bit) }
 {}

@@ -15,7 +15,7 @@ use Rattle.circuit_model.specs.declared.circuit.Latch.{Latch}
 use Rattle.circuit_model.specs.declared.circuit.Circuit.{Circuit}
 use Rattle.circuit_model.specs.declared.wiring.OutputPlaces.{OutputPlaces}
 
--- a bit read by its place is the bit that stands at the name; further bits may follow
+-- a bit read by its index is the bit of the name; further bits may follow
 reads_from : (names : List (List ℕ)) (front bits more : List Bool) (name : List ℕ) → length names ≡ length bits
     → bit_at (front ++ (bits ++ more)) (place_from (length front) names name) ≡ unwrap_or (bit_of names bits name) false
 unfolding place_from bit_of
@@ -54,7 +54,7 @@ bit_of-append (first ∷ names) others (bit ∷ bits) more name e =
     cases true rest = refl
     cases false rest = rest
 
--- the bit that stands at a table's output
+-- the bit of a table's output
 bit_of-tables : (f : Table → Bool) (tables : List Table) (name : List ℕ) → bit_of (outputs_of tables) (map f tables) name ≡ option_map f (driver tables name)
 unfolding bit_of driver
 bit_of-tables f [] name = refl
@@ -70,7 +70,8 @@ bit_of-tables f (table ∷ tables) name = cases (bytes_eq name table.output) (bi
 driven_bit : (Table → Bool) → Option Table → Bool
 driven_bit f driven = unwrap_or (option_map f driven) false
 
--- the bits of all signals are read by place as a leaf's bit, and the table's bit of what is no leaf
+-- the bits of all signals are read by index: a leaf's bit, or the table's bit of a name that is not
+-- a leaf
 abbrev AreRead : List Table → Leaves → (List ℕ → Option ℕ) → List Bool → List Bool → Type 0
 AreRead tables leaves place front back =
     (f : Table → Bool) (name : List ℕ) → bit_at (front ++ (map f tables ++ back)) (place name) ≡ unwrap_or (leaves name) (driven_bit f (driver tables name))
@@ -176,7 +177,7 @@ dont_cares_read circuit state row s r f name =
     ∙ (ap (λ (bit : Option Bool). unwrap_or bit false) found
     ∙ driven_or_leaf (leaves_of circuit state row name) f (driver circuit.dont_care name)))
 
--- the bit of a signal, read at its place, is its value
+-- the bit of a signal, read by its index, is its value
 signal_bit : (circuit : Circuit) (state row : List Bool) → length state ≡ length circuit.latches → length row ≡ length circuit.inputs → (name : List ℕ)
     → bit_at (settled_bits circuit.tables (reads_in (place_in (signal_names circuit)) circuit.tables) (row ++ state) []) (place_in (signal_names circuit) name)
     ≡ value_in circuit state row name

@@ -17,7 +17,7 @@ use Rattle.circuit_model.specs.declared.circuit.Circuit.{Circuit}
 
 -- rows
 
-no_point : (row : List (Option Bool)) → matches row [] ≡ true
+pub no_point : (row : List (Option Bool)) → matches row [] ≡ true
 unfolding matches
 no_point [] = refl
 no_point (place ∷ row) = refl
@@ -88,7 +88,7 @@ place_behind start (first ∷ names) last name = cases (bytes_eq name first) (pl
     cases true rest = refl
     cases false rest = let e : start + length (first ∷ names) ≡ suc start + length names = omega arith in rw e rest
 
--- a name is put in front of those that the index has
+-- a name is added in front of those of the index
 pub index_more : (left : List (List ℕ)) (last : List ℕ) (old new : List ℕ → Option ℕ) (all : List (List ℕ))
     → ((name : List ℕ) → option_or (place_in (left ++ last ∷ []) name) (old name) ≡ place_in all name)
     → ((name : List ℕ) → new name ≡ (if bytes_eq last name then Some (length left) else old name))

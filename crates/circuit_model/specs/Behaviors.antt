@@ -1,6 +1,7 @@
--- What circuits and machines have in common: ports, starts and runs; and when one behavior may stand for another.
--- Source: De Micheli, "Synthesis and Optimization of Digital Circuits", chapter 9 (synchronous circuits as finite-state
--- machines, incompletely specified machines): an implementation shows what was specified from a start that may be its own.
+-- What circuits and machines have in common: ports, starts and runs; and when one behavior may
+-- replace another. Source: De Micheli, "Synthesis and Optimization of Digital Circuits", chapter 9
+-- (synchronous circuits as finite-state machines, incompletely specified machines): an
+-- implementation shows what was specified, from a start that may be its own.
 use Rattle.std.specs.Prelude.{◌≡◌, ℕ, Bool, List, length}
 use Rattle.std.specs.List.{AllZip, AllByRecursion}
 use Rattle.circuit_model.specs.declared.circuit.Tri.{Tri}
@@ -16,7 +17,8 @@ Meets One shown = shown ≡ One
 unfoldable pub MeetsAll : List (List Tri) → List (List Tri) → Type 0
 MeetsAll asked shown = AllZip (AllZip Meets) asked shown
 
--- ports, the states that a run may start in, and what is shown from such a state over a list of input rows
+-- ports, the states that a run may start in, and what is shown from such a state over a list of
+-- input rows
 pub record Behavior : Type 1 where
   pub inputs : List (List ℕ)
   pub outputs : List (List ℕ)
@@ -24,8 +26,9 @@ pub record Behavior : Type 1 where
   pub may_begin : Start → Type 0
   pub shown : Start → List (List Bool) → List (List Tri)
 
--- the second behavior may stand for the first, which was asked for: it has the first one's ports, in order, and wherever
--- it starts, the first has a start from which no list of input rows leads it to a run that the second does not meet
+-- the second behavior may replace the first, which was asked for: it has the first one's ports, in
+-- order, and wherever it starts, the first has a start from which no list of input rows leads it to
+-- a run that the second does not meet
 pub record RefinesAs (asked shown : Behavior) : Type 0 where
   pub inputs : asked.inputs ≡ shown.inputs
   pub outputs : asked.outputs ≡ shown.outputs

@@ -1,6 +1,6 @@
--- How large a circuit is: its literals, and the limits that every circuit that is read keeps.
--- Source: De Micheli, "Synthesis and Optimization of Digital Circuits", chapter 8: literals measure the size of a
--- logic network. The limits are the project's own.
+-- The size of a circuit: its literals, and the limits that every circuit that is read keeps.
+-- Source: De Micheli, "Synthesis and Optimization of Digital Circuits", chapter 8: literals measure
+-- the size of a logic network. The limits are the project's own.
 use Rattle.std.specs.Prelude.{ℕ, ◌+◌, ◌≤◌, Bool, true, false, List, length, count_by, sum_by}
 use Rattle.std.specs.List.{AllByRecursion}
 use Rattle.circuit_model.specs.declared.circuit.Tri.{Tri}
@@ -9,21 +9,21 @@ use Rattle.circuit_model.specs.declared.circuit.Table.{Table}
 use Rattle.circuit_model.specs.declared.circuit.Circuit.{Circuit}
 use Rattle.sis_base.specs.declared.limits.TheConstants.{MAX_INPUTS, MAX_NODES, MAX_ROWS}
 
--- a literal is a character of a row that is no dash
+-- a literal is a character of a row that is not a dash
 abbrev pub is_literal : Tri → Bool
 is_literal Zero = true
 is_literal One = true
 is_literal Free = false
 
--- how many literals a row has
+-- the number of literals of a row
 unfoldable pub literals_of_row : List Tri → ℕ
 literals_of_row row = count_by is_literal row
 
--- how many literals the rows of a table have in all
+-- the number of literals of all rows of a table
 unfoldable pub literals_of_table : Table → ℕ
 literals_of_table table = sum_by literals_of_row table.rows
 
--- how many literals the circuit's own tables have in all; those of the don't-care part count for nothing
+-- the number of literals of the circuit's own tables; those of the don't-care part do not count
 unfoldable pub literals_of : Circuit → ℕ
 literals_of circuit = sum_by literals_of_table circuit.tables
 
@@ -34,7 +34,7 @@ pub record IsSmallTable (table : Table) : Type 0 where
   pub inputs : length table.inputs ≤ MAX_INPUTS
   pub widths : AllByRecursion (λ (row : List Tri). length row ≤ MAX_INPUTS) table.rows
 
--- at most `MAX_NODES` tables and latches, those of the don't-care part with them, and each table
+-- at most `MAX_NODES` tables and latches, including those of the don't-care part, and each table
 -- small
 pub record IsWithinLimits (circuit : Circuit) : Type 0 where
   pub nodes : length circuit.tables + length circuit.latches + length circuit.dont_care ≤ MAX_NODES

@@ -1,6 +1,6 @@
--- The behavior of a machine, and of what a file asks for, be it a circuit or a machine.
--- Source: De Micheli, "Synthesis and Optimization of Digital Circuits", chapter 9 (synchronous circuits as finite-state
--- machines, incompletely specified machines).
+-- The behavior of a machine, and of what a file specifies, be it a circuit or a machine. Source: De
+-- Micheli, "Synthesis and Optimization of Digital Circuits", chapter 9 (synchronous circuits as
+-- finite-state machines, incompletely specified machines).
 use Rattle.std.specs.Prelude.{◌≡◌, ℕ, Option, Some}
 use Rattle.circuit_model.specs.Behaviors.{Behavior}
 use Rattle.circuit_model.specs.Runs.{of_circuit}
@@ -9,7 +9,7 @@ use Rattle.circuit_model.specs.declared.machine.Spec.{Spec}
 use Rattle.circuit_model.specs.declared.machine.Spec.TheVariants as spec
 use Rattle.circuit_model.specs.MachineRuns.{run_from}
 
--- a machine starts in its reset state alone
+-- a machine starts only in its reset state
 abbrev pub of_machine : Machine → Behavior
 of_machine machine = record {
   inputs = machine.inputs;
@@ -19,7 +19,7 @@ of_machine machine = record {
   shown = run_from machine;
 }
 
--- the behavior of what a file asks for
+-- the behavior that a file specifies
 abbrev pub of_spec : Spec → Behavior
 of_spec (spec.Circuit circuit) = of_circuit circuit
 of_spec (spec.Machine machine) = of_machine machine

@@ -1,7 +1,8 @@
--- The run of a machine: which rows are taken at a step, what they specify, and what the outputs show.
--- Source: SIS report (UCB/ERL M92/41), KISS2 tables; De Micheli, "Synthesis and Optimization of Digital Circuits",
--- chapter 9: an incompletely specified machine in a state takes the rows whose cube and current state match, and what
--- none of them specifies is open. Once the next state is open, so is everything that follows.
+-- The run of a machine: which rows are taken at a step, what they specify, and what the outputs
+-- show. Source: SIS report (UCB/ERL M92/41), KISS2 tables; De Micheli, "Synthesis and Optimization
+-- of Digital Circuits", chapter 9: an incompletely specified machine in a state takes the rows
+-- whose cube and current state match, and what none of them specifies is open. Once the next state
+-- is open, so is everything that follows.
 use Rattle.std.specs.Prelude.{ℕ, Bool, true, ◌&&◌, ◌==◌, Option, Some, None, List, [], ◌∷◌, map, length, replicate}
 use Rattle.std.specs.List.{filter}
 use Rattle.std.specs.Option.{option_or}
@@ -25,19 +26,19 @@ is_taken state point row = holds_in row.current state && matches (map literal_of
 unfoldable pub taken : Machine → ℕ → List Bool → List MachineRow
 taken machine state point = filter (is_taken state point) machine.rows
 
--- the first of two characters that is 0 or 1, a dash where neither is
+-- the first of two characters that is 0 or 1, a dash if neither is
 abbrev pub or_else : Tri → Tri → Tri
 or_else Zero other = Zero
 or_else One other = One
 or_else Free other = other
 
--- characters of two lists place by place
+-- the same for the characters of two lists, column by column
 unfoldable pub over : List Tri → List Tri → List Tri
 over [] others = []
 over (first ∷ firsts) [] = []
 over (first ∷ firsts) (other ∷ others) = or_else first other ∷ over firsts others
 
--- what rows specify for so many outputs, a dash where none of them specifies one
+-- what rows specify for so many outputs, a dash if none of them specifies one
 unfoldable pub specified : ℕ → List MachineRow → List Tri
 specified width [] = replicate width Free
 specified width (row ∷ rows) = over row.output (specified width rows)
@@ -51,7 +52,7 @@ next_by (row ∷ rows) = option_or row.next (next_by rows)
 unfoldable pub outputs_from : Machine → ℕ → List Bool → List Tri
 outputs_from machine state point = specified (length machine.outputs) (taken machine state point)
 
--- the state after a step, where it is specified
+-- the state after a step, if it is specified
 unfoldable pub next_from : Machine → ℕ → List Bool → Option ℕ
 next_from machine state point = next_by (taken machine state point)
 

@@ -1,6 +1,6 @@
--- When a machine is sound: what holds of every machine that is read.
--- Source: SIS report (UCB/ERL M92/41), KISS2 tables: states are known by the names that rows mention, `*`, `ANY` and `-`
--- are no names of states but mean every state or an open one. The limits are the project's own.
+-- When a machine is sound: what holds of every machine that is read. Source: SIS report (UCB/ERL
+-- M92/41), KISS2 tables: states are known by the names that rows mention; `*`, `ANY` and `-` are
+-- not names of states but mean every state or an open one. The limits are the project's own.
 use Rattle.std.specs.Prelude.{◌≡◌, ℕ, ◌^◌, ◌<◌, ◌≤◌, Bool, true, false, ◌||◌, ◌==◌, None, List, [], ◌∷◌, ◌++◌, flat_map, length, codes, bytes_eq, option_to_list, if◌then◌else◌}
 use Rattle.std.specs.List.{AllByRecursion, list_any, range_with_len}
 use Rattle.sis_base.specs.Written.{is_word}
@@ -10,7 +10,7 @@ use Rattle.circuit_model.specs.declared.machine.MachineRow.{MachineRow}
 use Rattle.circuit_model.specs.Clashes.{first_clash}
 use Rattle.sis_base.specs.declared.limits.TheConstants.{MAX_PORTS}
 
--- whether a word stands for every state, or for an open one
+-- whether a word means every state, or an open one
 abbrev pub is_any : List ℕ → Bool
 is_any word = bytes_eq word (codes "*") || bytes_eq word (codes "ANY") || bytes_eq word (codes "-")
 
@@ -22,7 +22,7 @@ all_names machine = machine.name ∷ machine.inputs ++ (machine.outputs ++ machi
 abbrev pub mentioned_by : MachineRow → List ℕ
 mentioned_by row = option_to_list row.current ++ option_to_list row.next
 
--- numbers behind known ones, each where it comes first
+-- known numbers, followed by those of a list that are new, in order of first mention
 unfoldable pub first_mentions : List ℕ → List ℕ → List ℕ
 first_mentions known [] = known
 first_mentions known (number ∷ numbers) =
@@ -33,12 +33,11 @@ pub record IsShaped (machine : Machine) (row : MachineRow) : Type 0 where
   pub input : length row.input ≡ length machine.inputs
   pub output : length row.output ≡ length machine.outputs
 
--- What a machine must meet to mean something. Names: all are words, and no port stands twice.
--- Sizes: 1 to `MAX_PORTS` inputs
--- and outputs, at least one row and fewer than 2^29. States: all are different, none is a word for every state, they are
--- just those that rows mention, in the order of first mention, and the reset is one of them. Rows are shaped, and no two
--- clash.
-pub record IsSound (machine : Machine) : Type 0 where
+-- What a machine must satisfy to have a meaning. Names: all are words, and no port occurs twice.
+-- Sizes: 1 to `MAX_PORTS` inputs and outputs, at least one row and fewer than 2^29. States: all are
+-- different, none is a word for every state, they are exactly those that rows mention, in the order
+-- of first mention, and the reset is one of them. Rows are shaped, and no two clash.
+pub record IsSoundMachine (machine : Machine) : Type 0 where
   pub words : AllByRecursion (λ name. is_word name ≡ true) (all_names machine)
   pub ports_once : all_different (machine.inputs ++ machine.outputs) ≡ true
   pub some_inputs : 1 ≤ length machine.inputs

@@ -1,18 +1,17 @@
--- The one text of a machine.
--- Source: SIS report (UCB/ERL M92/41), KISS2 tables: `.i`, `.o`, `.p` with the number of rows, `.s` with that of states,
--- `.r` with the reset state, then the rows, `*` for every state and for an open one, then `.e`. Each line is words with
--- one blank between.
+-- The one text of a machine. Source: SIS report (UCB/ERL M92/41), KISS2 tables: `.i`, `.o`, `.p`
+-- with the number of rows, `.s` with that of states, `.r` with the reset state, then the rows, `*`
+-- for every state and for an open one, then `.e`. Each line is words separated by one blank.
 use Rattle.std.specs.Prelude.{ℕ, Option, Some, None, List, [], ◌∷◌, ◌++◌, map, length, slice_get, unwrap_or, decimal, codes}
 use Rattle.sis_base.specs.Written.{Written, lines_text}
 use Rattle.circuit_model.specs.Text.{dotted, character}
 use Rattle.circuit_model.specs.declared.machine.Machine.{Machine}
 use Rattle.circuit_model.specs.declared.machine.MachineRow.{MachineRow}
 
--- the name of the state at a place; a sound machine has one at each place that it mentions
+-- the name of the state of an index; a sound machine has one for each index that it mentions
 abbrev pub state_at : List (List ℕ) → ℕ → List ℕ
 state_at states place = unwrap_or (slice_get states place) []
 
--- a state by its name; `*` where it is every state, or is left open
+-- a state by its name; `*` for every state, or an open one
 abbrev pub state_word : List (List ℕ) → Option ℕ → List ℕ
 state_word states None = codes "*"
 state_word states (Some place) = state_at states place
@@ -37,5 +36,5 @@ machine_lines machine =
     header_lines machine ++ (map (row_line machine.states) machine.rows ++ dotted (codes ".e") [] ∷ [])
 
 -- the text of a machine
-unfoldable pub text_of : Machine → List ℕ
-text_of machine = lines_text (machine_lines machine)
+unfoldable pub machine_text_of : Machine → List ℕ
+machine_text_of machine = lines_text (machine_lines machine)

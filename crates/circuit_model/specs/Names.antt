@@ -7,7 +7,7 @@ use Rattle.std.specs.List.{list_any}
 abbrev pub has : List (List ℕ) → List ℕ → Bool
 has names name = list_any (bytes_eq name) names
 
--- whether no name stands twice
+-- whether no name occurs twice
 unfoldable pub all_different : List (List ℕ) → Bool
 all_different [] = true
 all_different (name ∷ names) = not (has names name) && all_different names

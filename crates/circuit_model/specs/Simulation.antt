@@ -13,7 +13,8 @@ pub record Fits (circuit : Circuit) (start : List Bool) (rows : List (List Bool)
   pub latches : length start ≡ length circuit.latches
   pub inputs : AllByRecursion (IsInputRow circuit) rows
 
--- a simulation gives the run, a fault of widths exactly where start and rows do not fit, and else only wants memory
+-- a simulation returns the run, a fault of widths exactly if start and rows do not fit, and
+-- otherwise can only want memory
 abbrev pub Simulates : Circuit → List Bool → List (List Bool) → Result (List (List Tri)) SimFault → Type 0
 Simulates circuit start rows (Ok shown) = Fits circuit start rows × (shown ≡ run circuit start rows)
 Simulates circuit start rows (Err BadWidth) = Fits circuit start rows → ⊥

@@ -1,6 +1,6 @@
 -- When a circuit is sound: what holds of every circuit that is read, and what every command keeps.
--- Source: BLIF appendix of the SIS report (UCB/ERL M92/41): each signal has one driver, tables form no cycle,
--- and all latches share one clock.
+-- Source: BLIF appendix of the SIS report (UCB/ERL M92/41): each signal has one driver, tables form
+-- no cycle, and all latches share one clock.
 use Rattle.std.specs.Prelude.{◌≡◌, ℕ, zero, suc, ◌≤◌, true, false, Option, Some, None, List, [], ◌∷◌, ◌++◌, map, flat_map, length, codes, option_to_list}
 use Rattle.std.specs.List.{AllByRecursion}
 use Rattle.sis_base.specs.Written.{is_word}
@@ -21,7 +21,7 @@ outputs_of tables = map (λ (table : Table). table.output) tables
 abbrev pub latch_inputs : Circuit → List (List ℕ)
 latch_inputs circuit = map (λ (latch : Latch). latch.input) circuit.latches
 
--- the signal that controls the clock, where one is named
+-- the signal that controls the clock, if one is named
 abbrev pub control_of : Option Timing → List (List ℕ)
 control_of None = []
 control_of (Some timing) = option_to_list timing.control
@@ -44,15 +44,16 @@ leaf_names circuit = circuit.inputs ++ latch_outputs circuit
 abbrev pub table_inputs : List Table → List (List ℕ)
 table_inputs tables = flat_map (λ (table : Table). table.inputs) tables
 
--- all signals that something drives: inputs, latch outputs, table outputs
+-- all driven signals: inputs, latch outputs, table outputs
 unfoldable pub given : Circuit → List (List ℕ)
 given circuit = circuit.inputs ++ (latch_outputs circuit ++ outputs_of circuit.tables)
 
--- all signals that something reads: a table, a latch, an output
+-- all signals that are read by a table, a latch or an output
 unfoldable pub taken : Circuit → List (List ℕ)
 taken circuit = table_inputs circuit.tables ++ (latch_inputs circuit ++ circuit.outputs)
 
--- a signal leads to another one in a number of steps, each from a signal to an input of the table that drives it
+-- a signal leads to another one in a number of steps, each from a signal to an input of the table
+-- that drives it
 unfoldable pub Leads : List Table → ℕ → List ℕ → List ℕ → Type 0
 Leads tables zero from to = from ≡ to
 Leads tables (suc steps) from to =
@@ -63,16 +64,17 @@ unfoldable pub IsAcyclic : List Table → Type 0
 IsAcyclic tables =
     (signal : List ℕ) (steps : ℕ) → Leads tables (suc steps) signal signal → ⊥
 
--- rows are as long as the list of inputs; without rows only phase 1 is written
+-- each row is as long as the list of inputs; without rows the phase is 1
 abbrev pub IsShaped : Table → Type 0
 IsShaped table = AllByRecursion (λ (row : List Tri). length row ≡ length table.inputs) table.rows × (table.rows ≡ [] → table.phase ≡ true)
 
--- What a circuit must meet to mean something. Names: all are words, and port lists repeat none. Drivers: nothing is driven
--- twice, whatever a table, a latch or an output takes is driven, and signals do not lead back to themselves. Tables: all
--- are shaped, and the circuit's own repeat no input. Latches: an init goes up to 3; timing goes with latches alone, and
--- its control is driven by none of them and by no table, and is not `NIL`, the word for none. The don't-care part: its
--- tables are shaped, no two have one output, none leads back to itself, and what they take is an output of its own tables
--- or a leaf; they may repeat inputs.
+-- What a circuit must satisfy to have a meaning. Names: all are words, and port lists repeat none.
+-- Drivers: nothing is driven twice, whatever a table, a latch or an output reads is driven, and
+-- signals do not lead back to themselves. Tables: all are shaped, and the circuit's own repeat no
+-- input. Latches: an init is at most 3; there is timing only if there are latches, and its control
+-- is driven by none of them and by no table, and is not `NIL`, the word for none. The don't-care
+-- part: its tables are shaped, no two have the same output, none leads back to itself, and what
+-- they read is an output of its own tables or a leaf; they may repeat inputs.
 pub record IsSound (circuit : Circuit) : Type 0 where
   pub words : AllByRecursion (λ name. is_word name ≡ true) (all_names circuit)
   pub inputs_once : all_different circuit.inputs ≡ true

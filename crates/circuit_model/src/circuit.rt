@@ -1,9 +1,12 @@
-//! The types of circuits. All lists in them are seen by contracts as plain lists, so that two circuits are
-//! equal (`≡`) where all their parts are.
+//! The types of circuits.
+//!
+//! Contracts see all lists in them as plain lists, so that two circuits are equal (`≡`) if all
+//! their parts are. What they mean is defined in `specs/Values.antt` and `specs/Runs.antt`, and
+//! which circuits are sound in `specs/Soundness.antt`; the types have no invariants of their own.
 
 use sis_base::{Name, Sequence, Short};
 
-/// Names in order.
+/// Names, in order.
 pub type Names = Sequence<Name>;
 /// A row of a table: one character for each input, in their order.
 pub type Row = Short<Tri, 16>;
@@ -23,7 +26,7 @@ pub enum Tri {
     Free,
 }
 
-/// What a latch is triggered by: falling or rising edge, active high or low.
+/// What triggers a latch: falling or rising edge, active high or low.
 #[derive(Clone, Copy, Debug, PartialEq, Eq)]
 pub enum Kind {
     Fe,
@@ -32,7 +35,7 @@ pub enum Kind {
     Al,
 }
 
-/// A table: where some row matches the inputs' bits the output is `phase`, else the other bit.
+/// A table: if some row matches the inputs' bits the output is `phase`, otherwise the other bit.
 #[derive(Debug, Drop, PartialEq)]
 pub struct Table {
     pub inputs: Names,
@@ -49,14 +52,15 @@ pub struct Latch {
     pub init: u8,
 }
 
-/// The kind and the control signal that all latches of a circuit share; no control is written `NIL`.
+/// The kind and the control signal that all latches of a circuit share; no control is written
+/// `NIL`.
 #[derive(Debug, Drop, PartialEq)]
 pub struct Timing {
     pub kind: Kind,
     pub control: Option<Name>,
 }
 
-/// A circuit: what is kept of a BLIF model. `dont_care` are the tables of its don't-care part.
+/// A circuit: what is kept of a BLIF model. `dont_care` has the tables of its don't-care part.
 #[derive(Debug, Drop, PartialEq)]
 pub struct Circuit {
     pub name: Name,

@@ -1,4 +1,4 @@
-//! Exact copies of circuits and of their parts.
+//! Exact copies of circuits and of their parts. Each copy equals its source (`Copied`).
 
 ghost use Rattle.std.specs.Prelude.{◌≡◌, IfOk};
 
@@ -52,7 +52,7 @@ impl Copied for Timing {
     }
 }
 
-/// A copy of a timing, if there is one; an error only for want of memory.
+/// A copy of a timing, if there is one.
 pub fn timing_copied(alloc: Global, timing: &Option<Timing>) -> Result<Option<Timing>, AllocError>
     ensures { IfOk result (λ made. made ≡ timing.now) }
 {

@@ -1,5 +1,5 @@
-//! The types of machines. All lists in them are seen by contracts as plain lists, so that two machines are equal (`≡`)
-//! where all their parts are.
+//! The types of machines. Contracts see all lists in them as plain lists, so that two machines are
+//! equal (`≡`) if all their parts are. `specs/MachineSoundness.antt` says which machines are sound.
 
 use crate::{Circuit, Names, Row};
 use sis_base::{Name, Sequence};
@@ -7,8 +7,9 @@ use sis_base::{Name, Sequence};
 /// The rows of a machine, in order.
 pub type MachineRows = Sequence<MachineRow>;
 
-/// A row: what it takes, an input cube and a current state, and what it specifies, a next state and outputs. States are
-/// places in the machine's list of states; no current state is every state, no next state leaves it open.
+/// A row: an input cube and a current state, for which it specifies a next state and outputs.
+/// States are indices in the machine's list of states; no current state means every state, no next
+/// state leaves it open.
 #[derive(Debug, Drop, PartialEq)]
 pub struct MachineRow {
     pub input: Row,
@@ -17,7 +18,7 @@ pub struct MachineRow {
     pub output: Row,
 }
 
-/// A machine: what is kept of a KISS2 table. `reset` is the place of the state that it starts in.
+/// A machine: what is kept of a KISS2 table. `reset` is the index of the state that it starts in.
 #[derive(Debug, Drop, PartialEq)]
 pub struct Machine {
     pub name: Name,
@@ -28,14 +29,14 @@ pub struct Machine {
     pub rows: MachineRows,
 }
 
-/// Two rows that clash, by their places, from 0.
+/// Two rows that clash, by their indices, from 0.
 #[derive(Clone, Copy, Debug, PartialEq, Eq)]
 pub struct Clash {
     pub earlier: usize,
     pub later: usize,
 }
 
-/// What a file asks for: a circuit or a machine.
+/// What a file specifies: a circuit or a machine.
 #[derive(Debug, Drop, PartialEq)]
 pub enum Spec {
     Circuit(Circuit),

@@ -1,4 +1,4 @@
-//! Exact copies of machines.
+//! Exact copies of machines and of specifications. Each copy equals its source (`Copied`).
 
 ghost use Rattle.std.specs.Prelude.{◌≡◌, IfOk};
 

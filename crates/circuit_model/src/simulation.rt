@@ -1,11 +1,17 @@
-//! Runs a circuit over rows of input bits.
+//! Simulation of a circuit over rows of input bits.
+//!
+//! Source: the BLIF appendix of the SIS report (UCB/ERL M92/41): a latch is one clock step of
+//! delay, and `.exdc` leaves outputs free. A step computes the bits of all signals level by level
+//! (`specs/Levels.antt`), from 0 at each table, until they no longer change or there were as many
+//! levels as tables. `Circuit::simulate` returns exactly the `run` of `specs/Runs.antt`, for every
+//! circuit; it answers `BadWidth` exactly if the start or a row does not fit.
 
 ghost use Rattle.std.specs.Prelude.{◌≡◌, ◌++◌, ◌==◌, false, map, length, IfOk, OnOk, IsTrue, ◌↔◌};
 ghost use Rattle.std.specs.List.{list_all};
-ghost use Rattle.sis_base.specs.Rows.{agrees as literal_agrees, matches, some_matches};
+ghost use Rattle.sis_base.specs.Rows.{agrees, matches, some_matches};
 ghost use Rattle.circuit_model.specs.Values.{literal_of, table_value};
 ghost use Rattle.circuit_model.specs.Runs.{run, outputs_at, next_state, IsInputRow};
-ghost use Rattle.circuit_model.specs.Levels.{bit_at as bit_by, level_of, settled_bits, tri_at as tri_by, wiring_of};
+ghost use Rattle.circuit_model.specs.Levels.{bit_at, level_of, settled_bits, tri_at, wiring_of};
 ghost use Rattle.circuit_model.specs.Simulation.{Fits, Simulates};
 
 use crate::circuit::{Circuit, Row, Table, Tri};
@@ -15,15 +21,15 @@ use std::alloc::{AllocError, AllocFailed, Global};
 
 /// Bits in order: a state, with one for each latch, or an input row, with one for each input.
 pub type Bits = Sequence<bool>;
-/// What a circuit shows: for each step a row with one character for each output, `-` where it is free.
+/// What a circuit shows: for each step a row with one character for each output, `-` if it is free.
 pub type Simulated = Sequence<Row>;
 
 /// Why a simulation does not run.
 #[derive(Debug, Drop, PartialEq)]
 pub enum SimFault {
-    /// The start has not one bit for each latch, or some row not one for each input.
+    /// The start does not have one bit for each latch, or some row not one for each input.
     BadWidth,
-    /// Memory was wanting.
+    /// Memory ran out.
     Memory,
 }
 
@@ -49,9 +55,9 @@ impl<T: Drop> From<AllocFailed<T>> for SimFault {
     }
 }
 
-/// The bit at a place; false where there is none.
+/// The bit of an index; false if there is none.
 fn bit_at(bits: &[bool], place: Option<usize>) -> bool
-    ensures { result ≡ bit_by bits.now place }
+    ensures { result ≡ bit_at bits.now place }
 {
     match place {
         None => false,
@@ -61,7 +67,7 @@ fn bit_at(bits: &[bool], place: Option<usize>) -> bool
 
 /// Whether a character of a row agrees with a bit.
 fn agrees(tri: Tri, bit: bool) -> bool
-    ensures { result ≡ literal_agrees (literal_of tri) bit }
+    ensures { result ≡ agrees (literal_of tri) bit }
 {
     match tri {
         Tri::Zero => !bit,
@@ -70,9 +76,9 @@ fn agrees(tri: Tri, bit: bool) -> bool
     }
 }
 
-/// Whether a row matches the bits at its inputs' places.
+/// Whether a row matches the bits of its inputs.
 fn row_matches(row: &[Tri], places: &[Option<usize>], bits: &[bool]) -> bool
-    ensures { result ≡ matches (map literal_of row.now) (map (bit_by bits.now) places.now) }
+    ensures { result ≡ matches (map literal_of row.now) (map (bit_at bits.now) places.now) }
 {
     for i in 0..row.len() {
         if i >= places.len() {
@@ -85,9 +91,10 @@ fn row_matches(row: &[Tri], places: &[Option<usize>], bits: &[bool]) -> bool
     true
 }
 
-/// Whether some row matches the bits at its inputs' places.
+/// Whether some row matches the bits of its inputs.
 fn rows_match(rows: &[Row], places: &[Option<usize>], bits: &[bool]) -> bool
-    ensures { result ≡ some_matches (map (map literal_of) rows.now) (map (bit_by bits.now) places.now) }
+    ensures { result ≡ some_matches (map (map literal_of) rows.now)
+        (map (bit_at bits.now) places.now) }
 {
     for row in rows {
         if row_matches(row.as_slice(), places, bits) {
@@ -97,17 +104,16 @@ fn rows_match(rows: &[Row], places: &[Option<usize>], bits: &[bool]) -> bool
     false
 }
 
-/// The value of a table whose inputs have the bits at some places.
+/// The value of a table, given the indices of its inputs and all bits.
 #[tactic(auto, unfolding(crate::specs::Values::table_value, sis_base::specs::Rows::value_by_phase))]
 fn table_bit(table: &Table, places: &[Option<usize>], bits: &[bool]) -> bool
-    ensures { result ≡ table_value table.now (map (bit_by bits.now) places.now) }
+    ensures { result ≡ table_value table.now (map (bit_at bits.now) places.now) }
 {
     let matched = rows_match(table.rows.as_slice(), places, bits);
     if table.phase { matched } else { !matched }
 }
 
-/// Puts the tables' values behind the last bit, where the bits of all signals were `old`; an error only for want
-/// of memory.
+/// Appends the tables' values, given that the bits of all signals were `old`.
 #[tactic(auto, using(crate::proofs::Levels::level_done, std::proofs::lemmas::Grind::common_steps))]
 fn add_level(
     bits: &mut Vec<bool>,
@@ -124,7 +130,7 @@ fn add_level(
     Ok(())
 }
 
-/// The bits of all signals one level on from `old`; an error only for want of memory.
+/// The bits of all signals one level after `old`.
 #[tactic(auto, using(std::proofs::lemmas::Grind::common_steps))]
 fn next_bits(
     alloc: Global,
@@ -135,7 +141,8 @@ fn next_bits(
     old: &[bool],
 ) -> Result<Vec<bool>, AllocError>
     requires { length reads.now ≡ length tables.now }
-    ensures { IfOk result (λ bits. bits.items ≡ front.now ++ (level_of tables.now reads.now old.now ++ back.now)) }
+    ensures { IfOk result (λ bits. bits.items ≡ front.now ++
+        (level_of tables.now reads.now old.now ++ back.now)) }
 {
     let mut bits = front.to_vec(alloc)?;
     add_level(&mut bits, tables, reads, old)?;
@@ -143,7 +150,7 @@ fn next_bits(
     Ok(bits)
 }
 
-/// Puts a 0 for each table behind the last bit; an error only for want of memory.
+/// Appends a 0 for each table.
 fn add_zeros(bits: &mut Vec<bool>, tables: &[Table]) -> Result<(), AllocError>
     ensures { OnOk result (bits.new.items ≡ bits.old.items ++ map (λ table. false) tables.now) }
 {
@@ -153,7 +160,7 @@ fn add_zeros(bits: &mut Vec<bool>, tables: &[Table]) -> Result<(), AllocError>
     Ok(())
 }
 
-/// The bits of all signals where each table is 0; an error only for want of memory.
+/// The bits of all signals with each table at 0.
 #[tactic(auto, using(std::proofs::lemmas::Grind::common_steps))]
 fn first_bits(
     alloc: Global,
@@ -161,7 +168,8 @@ fn first_bits(
     front: &[bool],
     back: &[bool],
 ) -> Result<Vec<bool>, AllocError>
-    ensures { IfOk result (λ bits. bits.items ≡ front.now ++ (map (λ table. false) tables.now ++ back.now)) }
+    ensures { IfOk result (λ bits. bits.items ≡ front.now ++
+        (map (λ table. false) tables.now ++ back.now)) }
 {
     let mut bits = front.to_vec(alloc)?;
     add_zeros(&mut bits, tables)?;
@@ -176,8 +184,8 @@ fn are_equal(first: &[bool], second: &[bool]) -> bool
     first == second
 }
 
-/// The bits of all signals at the depth that is the number of tables, or where they no longer change; an error only
-/// for want of memory.
+/// The bits of all signals at the depth that is the number of tables, or when they no longer
+/// change.
 fn settle(
     alloc: Global,
     tables: &[Table],
@@ -186,7 +194,8 @@ fn settle(
     back: &[bool],
 ) -> Result<Vec<bool>, AllocError>
     requires { length reads.now ≡ length tables.now }
-    ensures { IfOk result (λ bits. bits.items ≡ settled_bits tables.now reads.now front.now back.now) }
+    ensures { IfOk result (λ bits. bits.items ≡ settled_bits tables.now reads.now front.now
+        back.now) }
 {
     let mut bits = first_bits(alloc, tables, front, back)?;
     for depth in 0..tables.len() {
@@ -201,7 +210,7 @@ fn settle(
 
 /// What an output shows.
 fn tri_at(bits: &[bool], free_bits: &[bool], places: OutputPlaces) -> Tri
-    ensures { result ≡ tri_by bits.now free_bits.now places }
+    ensures { result ≡ tri_at bits.now free_bits.now places }
 {
     if bit_at(free_bits, places.dont_care) {
         Tri::Free
@@ -212,14 +221,14 @@ fn tri_at(bits: &[bool], free_bits: &[bool], places: OutputPlaces) -> Tri
     }
 }
 
-/// What all outputs show; an error only for want of memory.
+/// What all outputs show.
 fn shown_at(
     alloc: Global,
     outputs: &[OutputPlaces],
     bits: &[bool],
     free_bits: &[bool],
 ) -> Result<Row, AllocError>
-    ensures { IfOk result (λ shown. shown ≡ map (tri_by bits.now free_bits.now) outputs.now) }
+    ensures { IfOk result (λ shown. shown ≡ map (tri_at bits.now free_bits.now) outputs.now) }
 {
     let mut shown = Row::new(alloc);
     for places in outputs {
@@ -228,9 +237,9 @@ fn shown_at(
     Ok(shown)
 }
 
-/// The bits at some places; an error only for want of memory.
+/// The bits of some indices.
 fn bits_at(alloc: Global, places: &[Option<usize>], bits: &[bool]) -> Result<Vec<bool>, AllocError>
-    ensures { IfOk result (λ found. found.items ≡ map (bit_by bits.now) places.now) }
+    ensures { IfOk result (λ found. found.items ≡ map (bit_at bits.now) places.now) }
 {
     let mut found = Vec::with_capacity(alloc, places.len())?;
     for place in places {
@@ -239,7 +248,7 @@ fn bits_at(alloc: Global, places: &[Option<usize>], bits: &[bool]) -> Result<Vec
     Ok(found)
 }
 
-/// The bits of the leaves; an error only for want of memory.
+/// The bits of the leaves.
 fn leaf_bits(alloc: Global, row: &[bool], state: &[bool]) -> Result<Vec<bool>, AllocError>
     ensures { IfOk result (λ bits. bits.items ≡ row.now ++ state.now) }
 {
@@ -255,7 +264,7 @@ struct Step {
     state: Vec<bool>,
 }
 
-/// A step from a state under an input row; an error only for want of memory.
+/// A step from a state under an input row.
 fn advance(
     alloc: Global,
     circuit: &Circuit,
@@ -267,7 +276,8 @@ fn advance(
     requires state { length state.now ≡ length circuit.now.latches }
     requires row { IsInputRow circuit.now row.now }
     ensures shown { IfOk result (λ step. step.shown ≡ outputs_at circuit.now state.now row.now) }
-    ensures state { IfOk result (λ step. step.state.items ≡ next_state circuit.now state.now row.now) }
+    ensures state { IfOk result (λ step. step.state.items
+        ≡ next_state circuit.now state.now row.now) }
 {
     let leaves = leaf_bits(alloc, row, state)?;
     let tables = circuit.tables.as_slice();
@@ -310,7 +320,7 @@ fn do_fit(circuit: &Circuit, start: &[bool], rows: &[Bits]) -> bool
     start.len() == circuit.latches.len() && have_width(rows, circuit.inputs.len())
 }
 
-/// The run over rows that fit; an error only for want of memory.
+/// The run over rows that fit.
 fn run_over(
     alloc: Global,
     circuit: &Circuit,
@@ -338,7 +348,8 @@ fn run_over(
 }
 
 impl Circuit {
-    /// What the outputs show at each step from a start, a bit for each latch, over rows of a bit for each input.
+    /// What the outputs show at each step from a start, with a bit for each latch, over rows with a
+    /// bit for each input.
     pub fn simulate(
         &self,
         alloc: Global,

@@ -1,11 +1,11 @@
--- Counts at places, and what stands at a place of the first items, as far as a loop has come.
+-- Counts at indices, and the item at an index of the first items, as far as a loop has come.
 use Rattle.std.proofs.Common.{◌≡◌, ℕ, zero, suc, ◌+◌, ◌-◌, ◌<◌, ◌≤◌, ◌==◌, Bool, cond, Some, None, List, [], ◌∷◌, length, take, get_or, set, slice_get, refl, sym, ap, ◌∙◌, subst, inl, inr, arith, eq-eqb, ne_eqb}
 use Rattle.std.proofs.lemmas.Bool.{cases_lt, cases_eq}
 use Rattle.std.proofs.lemmas.List.{get_or_past, get_or-set_same, get_or-set_other}
 use Rattle.std.proofs.lemmas.List.Sums.{sum_by_more, sum_by_more_le}
 use Rattle.circuit_order.specs.Places.{times}
 
--- how often a place stands among the first ones, and one more
+-- how often an index occurs among the first ones, and one more
 pub times_more : (i : ℕ) (places : List ℕ) (k place : ℕ) → k < length places → place ≡ get_or places k 0 → times i (take (k + 1) places) ≡ times i (take k places) + cond {A = ℕ} (place == i) 1 0
 times_more i places k place lt e = sum_by_more (λ x. cond {A = ℕ} (x == i) 1 0) places k 0 lt ∙ ap (λ x. times i (take k places) + cond {A = ℕ} (x == i) 1 0) (sym e)
 
@@ -20,7 +20,7 @@ here_once i = ap (λ (b : Bool). cond {A = ℕ} b 1 0) (eq-eqb i i refl)
 pub not_here : (place i : ℕ) → (i ≡ place → ⊥) → cond {A = ℕ} (place == i) 1 0 ≡ 0
 not_here place i n = ap (λ (b : Bool). cond {A = ℕ} b 1 0) (ne_eqb place i (λ e. n (sym e)))
 
--- a count from which each place is taken off as often as it stands among some
+-- a count from which each index is subtracted as often as it occurs among some
 pub count_left : (old counts places : List ℕ) (k place : ℕ) → k < length places → place ≡ get_or places k 0 → ((i : ℕ) → times i places ≤ get_or old i 0)
     → ((i : ℕ) → get_or counts i 0 + times i (take k places) ≡ get_or old i 0) → 1 ≤ get_or counts place 0
 count_left old counts places k place lt e bound before = omega (arith, times_bound place places k place lt e, here_once place, bound place, before place)
@@ -44,7 +44,7 @@ count_more old counts new places k place lt e within written some before i = eli
       omega (arith, at, times_more i places k place lt e, not_here place i other, before i)
 ]
 
--- what stands at a place among the first ones, and one more
+-- the item at an index among the first ones, and one more
 pub get_here : {X : Type 0} (xs : List X) (k : ℕ) (x : X) → k < length xs → x ≡ get_or xs k x → slice_get xs k ≡ Some x
 get_here [] k x lt e = absurd (omega (arith, lt))
 get_here (y ∷ xs) zero x lt e = ap (λ z. Some z) (sym e)

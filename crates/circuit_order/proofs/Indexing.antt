@@ -1,4 +1,4 @@
--- The index of tables by their outputs, and the readers of each, as far as a loop has come.
+-- The index of tables by their outputs, and the fanouts of each, as far as a loop has come.
 use Rattle.std.proofs.Common.{◌≡◌, ℕ, zero, suc, ◌+◌, ◌<◌, ◌==◌, Bool, true, false, ◌&&◌, cond, if◌then◌else◌, Option, Some, None, IfSome, List, [], ◌∷◌, ◌++◌, length, take, drop, get_or, slice_get, replicate, bytes_eq, refl, sym, ap, ◌∙◌, subst, inl, inr, ◌⊎◌, arith, eq-eqb, ne_eqb}
 use Rattle.std.proofs.lemmas.Bool.{cases_eq}
 use Rattle.std.proofs.lemmas.Option.{same_Some, none-some}
@@ -54,7 +54,7 @@ index_more tables old new k table different lt e index put = record {
         let n : i ≡ k → ⊥ = λ here. none-some other (sym (get_not_yet tables k) ∙ (ap (slice_get (take k tables)) (sym here) ∙ before)) in
         (other, get_more_other tables k i n ∙ before, is)
 
--- a place that a name leads to is one of the tables'
+-- an index to which a name leads is one of the tables'
 pub within : {X : Type 0} (xs : List X) (i : ℕ) (x : X) → slice_get xs i ≡ Some x → i < length xs
 within [] i x at = absurd (none-some x at)
 within (y ∷ xs) zero x at = omega arith
@@ -67,7 +67,7 @@ index_within tables place count index e name = cases (place name) refl
     cases None at = tt
     cases (Some i) at = let (table, there, is) = index.only name i at in omega (arith, within tables i table there, e)
 
--- one more input is noted
+-- one more input is counted
 pub hits_more : (place : List ℕ → Option ℕ) (i : ℕ) (names : List (List ℕ)) (k : ℕ) (name : List ℕ) → k < length names → name ≡ get_or names k name
     → hits place i (take (k + 1) names) ≡ hits place i (take k names) + cond {A = ℕ} (is_at i (place name)) 1 0
 hits_more place i names k name lt e =
@@ -84,7 +84,7 @@ reads_more place names k name i j reader old before now lt e b n = cases (reader
     cases true b n = omega (arith, b, n, hits_more place i names k name lt e)
     cases false b n = omega (arith, b, n)
 
--- one more reader is noted
+-- one more fanout is listed
 get_empty : (count i : ℕ) → get_or {A = List ℕ} (replicate count []) i [] ≡ []
 get_empty zero i = refl
 get_empty (suc count) zero = refl

@@ -20,7 +20,7 @@ use Rattle.circuit_order.specs.Order.{waits, is_ready, order_from, order_of, IsO
 
 -- lists of names
 
--- where a name stands in a list with one more name at the end
+-- the position of a name in a list with one more name at the end
 split_push : {X : Type 0} (xs before after : List X) (x y : X) → xs ++ x ∷ [] ≡ before ++ y ∷ after → ((rest : List X) × (xs ≡ before ++ y ∷ rest)) ⊎ ((before ≡ xs) × (y ≡ x))
 split_push [] [] after x y e = inr (refl, cc)
 split_push [] (b ∷ []) after x y e = absurd cc
@@ -45,7 +45,7 @@ has_push names last name = has_append names (last ∷ []) name ∙ ap (λ (b : B
     alone true = refl
     alone false = refl
 
-different_push : (names : List (List ℕ)) (last : List ℕ) → all_different names ≡ true → has names last ≡ false → all_different (names ++ last ∷ []) ≡ true
+pub different_push : (names : List (List ℕ)) (last : List ℕ) → all_different names ≡ true → has names last ≡ false → all_different (names ++ last ∷ []) ≡ true
 different_push names last different new = apart_different names (last ∷ []) (record {
   front = different;
   back = different_cons last [] refl different_none;
@@ -56,7 +56,7 @@ different_push names last different new = apart_different names (last ∷ []) (r
       ];
 })
 
-distinct : (names : List (List ℕ)) → all_different names ≡ true → IsDistinct bytes_eq names
+pub distinct : (names : List (List ℕ)) → all_different names ≡ true → IsDistinct bytes_eq names
 unfolding IsDistinct
 distinct [] h = tt
 distinct (first ∷ names) h = (
@@ -138,7 +138,8 @@ ready_from : (tables : List Table) (listed : List (List ℕ)) (table : Table) �
 unfolding is_ready
 ready_from tables listed table new h = and_from (not (has listed table.output)) (list_all (λ input. not (waits tables listed input)) table.inputs) (not_from_false (has listed table.output) new) (inputs_all (waits tables listed) table.inputs h)
 
--- names that are in order so far: none stands twice, each is a table's output, and each stands behind what its table reads
+-- names that are in order so far: none occurs twice, each is a table's output, and each comes after
+-- what its table reads
 pub record IsListing (tables : List Table) (listed : List (List ℕ)) : Type 0 where
   pub once : all_different listed ≡ true
   pub driven : (name : List ℕ) → has listed name ≡ true → has (outputs_of tables) name ≡ true

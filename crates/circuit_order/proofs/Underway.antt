@@ -1,4 +1,5 @@
--- How far tables are listed: what the counts and the ready places say, and what listing one more table does to them.
+-- The state while tables are listed: what the counts and the ready indices say, and what listing
+-- one more table does to them.
 use Rattle.std.proofs.Common.{◌≡◌, ℕ, zero, suc, ◌+◌, ◌-◌, ◌<◌, ◌≤◌, ◌==◌, Bool, true, false, not, ◌&&◌, ◌||◌, cond, Option, Some, None, List, [], ◌∷◌, ◌++◌, length, map, get_or, find, slice_get, count_by, sum_by, bytes_eq, is_some, refl, sym, ap, ◌∙◌, subst, inl, inr, ◌⊎◌, arith, eq-eqb, ne_eqb, eqb-true}
 use Rattle.std.specs.List.{list_all, list_any}
 use Rattle.std.specs.Option.{option_map_or}
@@ -140,13 +141,13 @@ count_less tables listed last names driven new =
     sum_split (λ (n : List ℕ). cond {A = ℕ} (waits tables listed n) 1 0) (λ (n : List ℕ). cond {A = ℕ} (waits tables (listed ++ last ∷ []) n) 1 0) (λ (n : List ℕ). cond {A = ℕ} (bytes_eq n last) 1 0)
     (λ name. waits_less tables listed last name driven new) names
 
--- how far it has come
+-- the state of the listing
 
 abbrev pub ready_at : List Table → List (List ℕ) → Option Table → Bool
 ready_at tables listed None = false
 ready_at tables listed (Some table) = is_ready tables listed table
 
--- the rest of the order is still to come
+-- the rest of the order is still to be listed
 pub record IsLeft (tables : List Table) (listed : List (List ℕ)) : Type 0 where
   pub fuel : ℕ
   pub enough : fuel + length listed ≡ length tables
@@ -207,7 +208,7 @@ underway_begun tables place counts ready index e done = record {
     cases i (Some table) at =
         ap is_done (read i table at) ∙ (ap (λ (n : ℕ). n == 0) (first_waits tables place index table.inputs) ∙ sym (ready_by_count tables [] table))
 
--- a ready place is a table's
+-- a ready index is a table's
 pub ready_place : (tables : List Table) (listed : List (List ℕ)) (counts : List ℕ) (ready : ℕ → Bool) → IsUnderway tables listed counts ready → (i : ℕ) → ready i ≡ true
     → (table : Table) × (slice_get tables i ≡ Some table) × (is_ready tables listed table ≡ true)
 ready_place tables listed counts ready underway i h = cases (slice_get tables i) refl (sym (underway.marked i) ∙ h)
@@ -219,12 +220,12 @@ ready_place tables listed counts ready underway i h = cases (slice_get tables i)
 pub ready_within : (tables : List Table) (listed : List (List ℕ)) (counts : List ℕ) (ready : ℕ → Bool) → IsUnderway tables listed counts ready → (i count : ℕ) → ready i ≡ true → count ≡ length tables → i < count
 ready_within tables listed counts ready underway i count h e = let (table, at, is) = ready_place tables listed counts ready underway i h in omega (arith, within tables i table at, e)
 
--- the readers of a table are as many as are taken off
+-- the fanouts of a table are as many as are subtracted
 reads_of : (tables : List Table) (place : List ℕ → Option ℕ) → IsIndex tables place → (p : ℕ) (table : Table) → slice_get tables p ≡ Some table
     → (other : Table) → hits place p other.inputs ≡ count_by (λ (name : List ℕ). bytes_eq name table.output) other.inputs
 reads_of tables place index p table at other = count_same (λ name. is_at p (place name)) (λ (name : List ℕ). bytes_eq name table.output) (index_names tables place index p table at) other.inputs
 
--- what the next step rests on: a table at a ready place, and its readers
+-- what the next step needs: a table at a ready index, and its fanouts
 pub record IsNext (tables : List Table) (listed : List (List ℕ)) (place : List ℕ → Option ℕ) (p : ℕ) (table : Table) (next : List ℕ) : Type 0 where
   pub different : all_different (outputs_of tables) ≡ true
   pub index : IsIndex tables place
@@ -274,7 +275,7 @@ module _ (tables : List Table) (listed : List (List ℕ)) (counts : List ℕ) (r
             sym (ap (λ (found : Option Table). option_map_or (λ (t : Table). order_from tables fuel (listed ++ t.output ∷ [])) found listed) first) ∙ same;
       }
 
-  -- which places are ready after it
+  -- which indices are ready afterwards
   merge_itself : (before after hit : ℕ) → before ≡ after + hit → before ≡ 0 → (false || ((after == 0) && not (hit == 0))) ≡ false
   merge_itself before after zero e z = never (after == 0)
     where
@@ -364,13 +365,14 @@ module _ (tables : List Table) (listed : List (List ℕ)) (counts : List ℕ) (r
     marked = λ j. marks j ∙ ready_after now long down j;
   }
 
--- the readers of the table at a place, as they are looked up
+-- the fanouts of the table at an index, as they are looked up
 pub next_reads : (tables : List Table) (place : List ℕ → Option ℕ) (readers : List (List ℕ)) (p : ℕ) (seen next : List ℕ) → p < length tables → length readers ≡ length tables → seen ≡ get_or readers p seen → next ≡ seen
     → ((i j : ℕ) → times j (get_or readers i []) ≡ hits_of place i (slice_get tables j)) → (j : ℕ) → times j next ≡ hits_of place p (slice_get tables j)
 next_reads tables place readers p seen next lt long at e reads j =
     ap (times j) (e ∙ get_or_read_under readers p (length tables) seen [] at lt (sym long)) ∙ reads p j
 
--- what a turn rests on: a ready place before which none is ready, and the readers of its table
+-- what a turn of the loop needs: a ready index before which none is ready, and the fanouts of its
+-- table
 pub record IsTurn (tables : List Table) (listed : List (List ℕ)) (counts : List ℕ) (ready : ℕ → Bool) (place : List ℕ → Option ℕ) (p : ℕ) (next : List ℕ) : Type 0 where
   pub underway : IsUnderway tables listed counts ready
   pub different : all_different (outputs_of tables) ≡ true
@@ -408,7 +410,7 @@ turn_shorter tables listed names output counts ready p underway among e =
     fuel_left tables listed table.output underway.listing (ready_new tables listed table is) (placed_name (λ (t : Table). t.output) tables p table at) in
     omega (arith, room, ap length e, length_push listed output)
 
--- where no place is ready the order is complete
+-- if no index is ready, the order is complete
 pub underway_ends : (tables : List Table) (listed : List (List ℕ)) (counts : List ℕ) (ready : ℕ → Bool) → IsUnderway tables listed counts ready → ((j : ℕ) → ready j ≡ false) → listed ≡ order_of tables
 unfolding order_from
 underway_ends tables listed counts ready underway none = by_fuel underway.left.fuel underway.left.same

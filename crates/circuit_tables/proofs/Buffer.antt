@@ -1,4 +1,5 @@
--- A row put at the places of its inputs, into a buffer of dashes, is what the row asks of each name.
+-- A row merged into a buffer of dashes, in the columns of its inputs, is what the row asks of each
+-- name.
 use Rattle.std.specs.Prelude.{◌≡◌, ℕ, zero, suc, ◌+◌, Bool, true, false, not, ◌&&◌, ◌||◌, Option, Some, None, List, [], ◌∷◌, map, length, bytes_eq, if◌then◌else◌}
 use Rattle.std.specs.List.{AllByRecursion, filter_map, position_or_len, cons_option}
 use Rattle.std.specs.Option.{option_map, option_map_or}
@@ -11,7 +12,7 @@ use Rattle.circuit_tables.specs.Folding.{merged, all_merged, under, each_once, a
 use Rattle.circuit_tables.specs.Listing.{places_of, merge_row, dashes_of, merged_rows}
 use Rattle.circuit_tables.proofs.Once.{has-each_once, different-each_once, same_name, itself, first_place, and_left, and_right}
 
--- what characters ask for together with one that stands already
+-- what characters ask for together with one that is there already
 with_all : Tri → List Tri → Option Tri
 with_all character [] = Some character
 with_all character (other ∷ others) = option_map_or (λ both. with_all both others) (merged character other) None
@@ -57,7 +58,7 @@ with_merged character (other ∷ others) = by (merged character other) (λ both.
     by None h = refl
     by (Some both) h = h both
 
--- what a row asks of names together with the characters that stand at them
+-- what a row asks of names together with the characters that are in their columns
 asked_with : List Tri → List (List ℕ) → List Tri → List (List ℕ) → Option (List Tri)
 asked_with out inputs row [] = Some []
 asked_with [] inputs row (name ∷ names) = Some []
@@ -95,7 +96,7 @@ asked_past (place ∷ out) input inputs character row (name ∷ names) h =
     right true b e = absurd (let no : true ≡ false = e in cc)
     right false b e = e
 
--- the first input's character goes to its place
+-- the first input's character is merged into its column
 asked_step : (out : List Tri) (input : List ℕ) (inputs : List (List ℕ)) (character : Tri) (row : List Tri) (names : List (List ℕ))
     → length out ≡ length names → all_different names ≡ true → has names input ≡ true
     → asked_with out (input ∷ inputs) (character ∷ row) names

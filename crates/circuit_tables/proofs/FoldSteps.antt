@@ -30,7 +30,7 @@ pub merge_more : (out : List Tri) (places : List ℕ) (row : List Tri) (i : ℕ)
 unfolding merge_row
 merge_more out places row i here both h k e b = rw (drop_more places i 0 h, drop_more row i Zero k, b, e) refl
 
--- a name is put in where it is new
+-- a name is added if it is new
 pub names_more : (known new all inputs : List (List ℕ)) (i : ℕ) (name seen : List ℕ) → i < length inputs → name ≡ get_or inputs i name → seen ≡ name
     → new ≡ (if has known seen then known else known ++ seen ∷ []) → names_with known (drop i inputs) ≡ all → names_with new (drop (i + 1) inputs) ≡ all
 unfolding names_with

@@ -1,4 +1,4 @@
--- What holds of folded tables.
+-- Properties of folded tables.
 use Rattle.std.specs.Prelude.{◌≡◌, ℕ, zero, suc, ◌≤◌, Bool, true, false, not, ◌&&◌, Option, Some, None, List, [], ◌∷◌, map, length, find, bytes_eq, if◌then◌else◌}
 use Rattle.std.specs.List.{AllByRecursion, filter_map}
 use Rattle.std.specs.Option.{option_map}
@@ -29,7 +29,8 @@ folds P table same other = cases (all_different table.inputs) refl
     cases true e = same e
     cases false e = other
 
--- over other rows a table has its inputs once and these rows, or it is the constant 1 in place of a table of phase 0 without rows
+-- over other rows a table has its inputs once and these rows; or it is the constant 1, instead of a
+-- table of phase 0 without rows
 over : (P : Table → Type 0) (table : Table) (rows : List (List Tri)) → P (record table { inputs = each_once table.inputs; rows = rows })
     → (rows ≡ [] → table.phase ≡ false → P (constant_one table.output)) → P (with_rows table rows)
 unfolding with_rows
@@ -148,7 +149,7 @@ pub folded_acyclic : (tables : List Table) → IsAcyclic tables → IsAcyclic (m
 unfolding IsAcyclic
 folded_acyclic tables acyclic = λ signal steps leads. acyclic signal steps (leads_before tables (suc steps) signal signal leads)
 
--- the folded table by its parts, where an input comes again
+-- the folded table by its parts, if an input is repeated
 
 folded_over : (table : Table) → (length (each_once table.inputs) ≡ length table.inputs → ⊥) → folded table ≡ with_rows table (folded_rows table.inputs table.rows)
 unfolding folded

@@ -1,4 +1,5 @@
--- A row whose characters are put at places matches where the row matches at what stands at those places.
+-- A row whose characters are merged into columns matches where the row matches the bits of those
+-- columns.
 use Rattle.std.specs.Prelude.{◌≡◌, ℕ, zero, suc, ◌<◌, ◌≤◌, Bool, true, false, ◌&&◌, ◌||◌, Option, Some, None, List, [], ◌∷◌, map, length, bytes_eq}
 use Rattle.std.specs.List.{AllByRecursion, filter_map, cons_option, position_or_len}
 use Rattle.std.specs.Option.{option_map_or}
@@ -13,15 +14,11 @@ use Rattle.circuit_tables.specs.Folding.{merged, each_once, folded_rows}
 use Rattle.circuit_tables.specs.Listing.{places_of, merge_row, dashes_of, merged_rows}
 use Rattle.circuit_tables.proofs.Buffer.{all_there, rows_merged}
 use Rattle.circuit_tables.proofs.Once.{has-each_once, read_place, place_within}
+use Rattle.circuit_model.proofs.Levels.{no_point}
 
 -- the row as rows are matched
 unfoldable pub fits : List Tri → List Bool → Bool
 fits row point = matches (map literal_of row) point
-
-no_point : (row : List (Option Bool)) → matches row [] ≡ true
-unfolding matches
-no_point [] = refl
-no_point (place ∷ row) = refl
 
 -- two characters together agree with a bit where both do
 both_agree : (a b : Tri) (bit rest : Bool)
@@ -52,7 +49,7 @@ both_agree One Free true true = refl
 both_agree One Free true false = refl
 both_agree One Free false rest = refl
 
--- a character put at a place
+-- a character set in a column
 put_agrees : (out : List Tri) (point : List Bool) (place : ℕ) (character : Tri) → place < length out → length out ≡ length point
     → (fits out point && agrees (literal_of character) (get_or point place false))
     ≡ option_map_or (λ u. fits (set out place u) point) (merged (get_or out place Free) character) false
@@ -76,7 +73,7 @@ put_agrees (a ∷ out) (bit ∷ point) (suc place) character h e =
     inside false None = refl
     inside false (Some u) = refl
 
--- the whole row put at places
+-- the whole row merged into columns
 pub merge_agrees : (places : List ℕ) (row out : List Tri) (point : List Bool) → AllByRecursion (λ place. place < length point) places → length out ≡ length point
     → (fits out point && fits row (map (λ place. get_or point place false) places))
     ≡ option_map_or (λ made. fits made point) (merge_row out places row) false
@@ -141,7 +138,7 @@ rows_agree names places (row ∷ rows) point h e =
     cases None p rest = rw p rest
     cases (Some made) p rest = rw (p, rest) refl
 
--- the places of inputs
+-- the columns of inputs
 places_within : (inputs names : List (List ℕ)) → AllByRecursion (λ name. has names name ≡ true) inputs
     → AllByRecursion (λ place. place < length names) (map (λ name. position_or_len (bytes_eq name) names) inputs)
 places_within [] names h = tt

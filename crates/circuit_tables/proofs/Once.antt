@@ -1,4 +1,4 @@
--- Names, each once: which they are, that they are all different, and their places.
+-- Distinct names: which they are, that they are all different, and their indices.
 use Rattle.std.specs.Prelude.{◌≡◌, ℕ, suc, ◌+◌, ◌<◌, ◌≤◌, Bool, true, false, not, ◌&&◌, ◌||◌, List, [], ◌∷◌, ◌++◌, map, length, bytes_eq, if◌then◌else◌}
 use Rattle.std.specs.List.{position_or_len, filter}
 use Rattle.std.proofs.Common.{refl, sym, subst, ◌∙◌, ap, arith, get_or, append_assoc, length-append}
@@ -49,7 +49,7 @@ has-same names a b e = ap (has names) (same_name a b e)
 
 -- names listed one by one are the names once
 
-filter_twice : (p q : List ℕ → Bool) (names : List (List ℕ)) → filter p (filter q names) ≡ filter (λ name. q name && p name) names
+pub filter_twice : (p q : List ℕ → Bool) (names : List (List ℕ)) → filter p (filter q names) ≡ filter (λ name. q name && p name) names
 filter_twice p q [] = refl
 filter_twice p q (name ∷ names) = by (q name) (p name) (filter_twice p q names)
   where
@@ -108,7 +108,7 @@ filter_all : (names : List (List ℕ)) → filter (λ name. not (has [] name)) n
 filter_all [] = refl
 filter_all (name ∷ names) = ap (λ list. name ∷ list) (filter_all names)
 
--- behind no name they are just the names once
+-- starting from no names, they are exactly the distinct names
 pub listed_once : (names : List (List ℕ)) → names_with [] names ≡ each_once names
 listed_once names = listed [] names ∙ filter_all (each_once names)
 
@@ -238,7 +238,7 @@ different-names known (first ∷ names) h =
 pub each_once-different : (names : List (List ℕ)) → all_different names ≡ true → each_once names ≡ names
 each_once-different names h = sym (listed_once names) ∙ different-names [] names h
 
--- places
+-- indices
 
 pub first_place : (first : List ℕ) (names : List (List ℕ)) (name : List ℕ) → bytes_eq name first ≡ false
     → position_or_len (bytes_eq name) (first ∷ names) ≡ suc (position_or_len (bytes_eq name) names)
@@ -263,7 +263,7 @@ place_in (first ∷ known) more name h = by (bytes_eq name first) refl h (λ k. 
     by true e k rest = rw e refl
     by false e k rest = first_place first (known ++ more) name e ∙ (ap suc (rest k) ∙ sym (first_place first known name e))
 
--- more names come behind those that are known
+-- further names follow those that are known
 behind : (known names : List (List ℕ)) → (more : List (List ℕ)) × (names_with known names ≡ known ++ more)
 unfolding names_with
 behind known [] = ([], sym (append-nil known))
@@ -275,7 +275,7 @@ behind known (first ∷ names) = cases (has known first) (behind known names) (b
     cases true rest more = rest
     cases false rest more = (first ∷ more.0, more.1 ∙ append_assoc known (first ∷ []) more.0)
 
--- the place at which a name stands or is put stays its place
+-- the index of a name that is known or added does not change
 pub place_stays : (known names : List (List ℕ)) (name : List ℕ) → position_or_len (bytes_eq name) (names_with known (name ∷ names)) ≡ position_or_len (bytes_eq name) known
 unfolding names_with
 place_stays known names name = cases (has known name) refl (behind known names) (behind (known ++ name ∷ []) names)
@@ -286,7 +286,7 @@ place_stays known names name = cases (has known name) refl (behind known names) 
     cases true h rest more = rw rest.1 (place_in known rest.0 name h)
     cases false h rest more = rw (more.1, append_assoc known (name ∷ []) more.0) (place_next known more.0 name)
 
--- what is read at the place of a name is its own bit
+-- the bit read at the index of a name is its own
 pub read_place : (names : List (List ℕ)) (value : List ℕ → Bool) (name : List ℕ) → has names name ≡ true
     → get_or (map value names) (position_or_len (bytes_eq name) names) false ≡ value name
 read_place [] value name h = absurd (let no = h in cc)

@@ -1,4 +1,4 @@
--- What the loops over rows and inputs do: rows as texts, inputs with literals, rows without repeats, marked items.
+-- The loops over rows and inputs: rows as texts, inputs with literals, distinct rows, marked items.
 use Rattle.std.proofs.Common.{◌≡◌, ℕ, zero, suc, ◌+◌, ◌<◌, ◌≤◌, Bool, true, false, ◌||◌, eqb, if◌then◌else◌, List, [], ◌∷◌, ◌++◌, length, get_or, drop, map, bytes_eq, refl, sym, ap, ◌∙◌, arith}
 use Rattle.std.specs.List.{list_any}
 use Rattle.std.proofs.lemmas.Bool.{false≢true}
@@ -107,7 +107,7 @@ marks_next whole rest now made new mark inv more n = rw n (append_assoc made (ma
 pub marks_all : (whole now made : List Bool) → made ++ now ≡ whole → now ≡ [] → made ≡ whole
 marks_all whole now made inv done = sym (append-nil made) ∙ (ap (λ (r : List Bool). made ++ r) (sym done) ∙ inv)
 
--- rows without repeats: one more is put behind those made so far where it is new
+-- distinct rows: one more is appended to those made so far, if it is new
 pub once_next : (whole made new : List (List Tri)) (row : List Tri) (rows now : List (List Tri)) (seen : Bool) → now ≡ row ∷ rows → seen ≡ has (map row_text made) (row_text row) → new ≡ made ++ (if seen then [] else row ∷ [])
     → made ++ rows_behind made now ≡ whole → new ++ rows_behind new rows ≡ whole
 unfolding rows_behind
@@ -154,7 +154,7 @@ seen_next made new row text seen before after s n b a = a ∙ rw (b, n) (by seen
         ap (λ (x : Bool). x || has (map row_text made) text) (bytes_eq-sym (row_text row) text)
         ∙ (sym (has-push (map row_text made) (row_text row) text) ∙ ap (λ (ts : List (List ℕ)). has ts text) (sym (map-append row_text made (row ∷ []))))
 
--- the items at marked places
+-- the items that are marked
 pub chosen_more : {X : Type 0} (marks : List Bool) (items : List X) (i : ℕ) (x : X) → i < length items → x ≡ get_or items i x
     → chosen (drop i marks) (drop i items) ≡ (if get_or marks i false then x ∷ [] else []) ++ chosen (drop (i + 1) marks) (drop (i + 1) items)
 unfolding chosen
@@ -173,7 +173,7 @@ chosen_more {X} marks items i x lt h =
 pub chosen_done : {X : Type 0} (marks : List Bool) (items : List X) (i : ℕ) → length items ≤ i → chosen (drop i marks) (drop i items) ≡ []
 chosen_done marks items i h = rw (drop_all i items h) (chosen_nil (drop i marks))
 
--- what stands at a place stands there whatever is asked for past the end
+-- the item at an index is the same whatever the default past the end
 pub get_again : {A : Type 0} (items : List A) (i : ℕ) (other : A) → get_or items i other ≡ get_or items i (get_or items i other)
 get_again [] i other = refl
 get_again (item ∷ items) zero other = refl

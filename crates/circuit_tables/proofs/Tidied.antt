@@ -1,9 +1,10 @@
--- What holds of tidy tables.
+-- Properties of tidy tables.
 use Rattle.std.proofs.Common.{◌≡◌, ℕ, suc, ◌+◌, ◌<◌, ◌≤◌, Bool, true, false, not, ◌&&◌, ◌||◌, if◌then◌else◌, List, [], ◌∷◌, ◌++◌, length, map, bytes_eq, refl, sym, ap, ◌∙◌, subst, arith, inl, inr}
 use Rattle.std.specs.List.{AllByRecursion, list_any, list_all, filter}
 use Rattle.std.proofs.lemmas.Bool.{false≢true, and_parts, and_from, or_left, or_right, or_cases, or_from, or_parts, not_from_false, not-true, false_from_ne_true, cases_eq}
 use Rattle.std.proofs.lemmas.List.{length-map}
 use Rattle.std.proofs.lemmas.List.Folds.{list_any-append}
+use Rattle.std.proofs.Math.Bool.{or-false, or_assoc}
 use Rattle.sis_base.specs.Rows.{agrees, matches, some_matches, value_by_phase, phase_value}
 use Rattle.circuit_model.specs.Names.{has, all_different}
 use Rattle.circuit_model.specs.Counts.{is_literal}
@@ -91,22 +92,14 @@ among_fits (first ∷ rows) row point h k =
       | inr m ↦ or_right (matches (map literal_of first) point) (some_fits rows point) (among_fits rows row point m k)
     ]
 
-or_none : (b : Bool) → (b || false) ≡ b
-or_none true = refl
-or_none false = refl
-
-or_assoc : (a b c : Bool) → ((a || b) || c) ≡ (a || (b || c))
-or_assoc true b c = refl
-or_assoc false b c = refl
-
 fits_push : (front : List (List Tri)) (row : List Tri) (point : List Bool) → some_fits (front ++ row ∷ []) point ≡ (some_fits front point || matches (map literal_of row) point)
 unfolding some_matches
-fits_push [] row point = or_none (matches (map literal_of row) point)
+fits_push [] row point = or-false (matches (map literal_of row) point)
 fits_push (first ∷ front) row point =
     ap (λ (b : Bool). matches (map literal_of first) point || b) (fits_push front row point)
     ∙ sym (or_assoc (matches (map literal_of first) point) (some_fits front point) (matches (map literal_of row) point))
 
--- the rows behind some rows, without those that equal a row before them
+-- the rows after some rows, without those that equal an earlier row
 unfoldable pub rows_behind : List (List Tri) → List (List Tri) → List (List Tri)
 rows_behind front [] = []
 rows_behind front (row ∷ rows) = if list_any (same_row row) front then rows_behind front rows else row ∷ rows_behind (front ++ row ∷ []) rows
@@ -145,7 +138,7 @@ behind_all P front (row ∷ rows) all = cases (list_any (same_row row) front) (b
     cases false same more = (all.0, more)
 
 among_push : (front : List (List Tri)) (last row : List Tri) → list_any (same_row row) (front ++ last ∷ []) ≡ (list_any (same_row row) front || same_row row last)
-among_push front last row = list_any-append (same_row row) front (last ∷ []) ∙ ap (λ (b : Bool). list_any (same_row row) front || b) (or_none (same_row row last))
+among_push front last row = list_any-append (same_row row) front (last ∷ []) ∙ ap (λ (b : Bool). list_any (same_row row) front || b) (or-false (same_row row last))
 
 behind_new : (front rows : List (List Tri)) (row : List Tri) → list_any (same_row row) front ≡ true → list_any (same_row row) (rows_behind front rows) ≡ false
 unfolding rows_behind
@@ -276,7 +269,7 @@ once_differ rows = subst (λ (made : List (List Tri)). rows_differ made ≡ true
 once_stays : (rows : List (List Tri)) → rows_differ rows ≡ true → rows_once rows ≡ rows
 once_stays rows h = sym (behind_none rows) ∙ behind_same [] rows (all_unit (λ (row : List Tri). list_any (same_row row) [] ≡ false) (λ row. refl) rows) h
 
--- places with a literal
+-- columns with a literal
 
 abbrev Covers : List Bool → List Tri → Type 0
 Covers [] row = Unit {0}
@@ -727,7 +720,7 @@ narrowed_fewer table h =
     let once : length (rows_once table.rows) ≤ length table.rows = once_small table.rows in
     omega arith
 
--- and where a row stands twice
+-- the case that a row occurs twice
 narrowed_shorter : (table : Table) → (length (rows_once table.rows) ≡ length table.rows → ⊥) → size_of (narrowed (with_rows_once table)) < size_of table
 unfolding narrowed
 narrowed_shorter table n =
@@ -737,7 +730,7 @@ narrowed_shorter table n =
     let once : length (rows_once table.rows) ≤ length table.rows = once_small table.rows in
     omega arith
 
-shaped_some : (rows : List (List Tri)) (phase : Bool) → (rows ≡ [] → phase ≡ true) → some_row_or_phase_one rows phase ≡ true
+pub shaped_some : (rows : List (List Tri)) (phase : Bool) → (rows ≡ [] → phase ≡ true) → some_row_or_phase_one rows phase ≡ true
 shaped_some [] phase h = h refl
 shaped_some (row ∷ rows) phase h = refl
 

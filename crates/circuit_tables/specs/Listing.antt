@@ -1,5 +1,6 @@
--- How the code folds a table: names listed one by one, and a row put at places into a buffer. No public clause needs these
--- definitions; the lemmas of proofs/Listed.antt and proofs/Buffer.antt say that they give what `Folding` defines.
+-- How the code folds a table: it lists names one by one, and merges each row into a buffer. No
+-- public clause needs these definitions; the lemmas of proofs/Once.antt and proofs/Buffer.antt say
+-- that they give what `Folding` defines.
 use Rattle.std.specs.Prelude.{ℕ, Option, Some, None, List, [], ◌∷◌, ◌++◌, map, bytes_eq, slice_index_or, slice_set, if◌then◌else◌}
 use Rattle.std.specs.List.{filter_map, position_or_len}
 use Rattle.std.specs.Option.{option_map_or}
@@ -8,16 +9,17 @@ use Rattle.circuit_model.specs.declared.circuit.Tri.{Tri}
 use Rattle.circuit_model.specs.declared.circuit.Tri.TheVariants.{Free}
 use Rattle.circuit_tables.specs.Folding.{merged, each_once}
 
--- some names and, behind them, each other name where it comes first
+-- some names followed by each other name, in the order of first appearance
 unfoldable pub names_with : List (List ℕ) → List (List ℕ) → List (List ℕ)
 names_with known [] = known
 names_with known (name ∷ names) = names_with (if has known name then known else known ++ name ∷ []) names
 
--- the place that each of the inputs has among them once
+-- the index of each input among the distinct inputs
 unfoldable pub places_of : List (List ℕ) → List ℕ
 places_of inputs = map (λ name. position_or_len (bytes_eq name) (each_once inputs)) inputs
 
--- a row whose characters are put at places, together with what stands there; none where a place is asked for both bits
+-- a row with further characters merged into the given columns; none if a column is asked for both
+-- bits
 unfoldable pub merge_row : List Tri → List ℕ → List Tri → Option (List Tri)
 merge_row out [] row = Some out
 merge_row out (place ∷ places) [] = Some out
@@ -28,6 +30,6 @@ merge_row out (place ∷ places) (character ∷ row) =
 abbrev pub dashes_of : List (List ℕ) → List Tri
 dashes_of names = map (λ (name : List ℕ). Free) names
 
--- rows put at the places of the inputs
+-- the rows merged into the columns of their inputs
 unfoldable pub merged_rows : List (List ℕ) → List (List Tri) → List (List Tri)
 merged_rows inputs rows = filter_map (merge_row (dashes_of (each_once inputs)) (places_of inputs)) rows

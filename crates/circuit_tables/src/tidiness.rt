@@ -1,9 +1,10 @@
-//! Whether a table is tidy.
+//! The test for the tidy normal form: each input once and with a literal, no row twice, phase 1 if
+//! there is no row. Names and the texts of rows are compared in hash sets.
 
 ghost use Rattle.std.specs.Prelude.{◌≡◌, map, IfOk};
 ghost use Rattle.std.specs.List.{list_all};
 ghost use Rattle.circuit_model.specs.Names.{all_different};
-ghost use Rattle.circuit_tables.specs.Tidy.{is_tidy, used_places as places_used, rows_differ as all_rows_differ, row_text};
+ghost use Rattle.circuit_tables.specs.Tidy.{is_tidy, used_places, rows_differ, row_text};
 
 use crate::rows::{has_row_or_phase, text_of, used_places};
 use circuit_model::{Name, Names, Row, Table};
@@ -11,7 +12,7 @@ use indexmap::IndexSet;
 use sis_base::{Copied, Sequence};
 use std::alloc::{AllocError, Global};
 
-// Whether no name stands twice.
+// Whether no name occurs twice.
 fn names_differ(alloc: Global, names: &[Name]) -> Result<bool, AllocError>
     ensures { IfOk result (λ answer. answer ≡ all_different names.now) }
 {
@@ -22,7 +23,7 @@ fn names_differ(alloc: Global, names: &[Name]) -> Result<bool, AllocError>
     Ok(seen.len() == names.len())
 }
 
-// Rows as they are written.
+// The texts of rows.
 fn texts_of(alloc: Global, rows: &[Row]) -> Result<Names, AllocError>
     ensures { IfOk result (λ texts. texts ≡ map row_text rows.now) }
 {
@@ -33,16 +34,16 @@ fn texts_of(alloc: Global, rows: &[Row]) -> Result<Names, AllocError>
     Ok(Sequence::from_vec(made))
 }
 
-// Whether no row stands twice.
+// Whether no row occurs twice.
 #[tactic(auto, using(crate::proofs::Steps::texts_differ))]
 fn rows_differ(alloc: Global, rows: &[Row]) -> Result<bool, AllocError>
-    ensures { IfOk result (λ answer. answer ≡ all_rows_differ rows.now) }
+    ensures { IfOk result (λ answer. answer ≡ rows_differ rows.now) }
 {
     let texts = texts_of(alloc, rows)?;
     names_differ(alloc, texts.as_slice())
 }
 
-// Whether all are marked.
+// Whether all marks are set.
 fn are_marked(marks: &[bool]) -> bool
     ensures { result ≡ list_all (λ mark. mark) marks.now }
 {
@@ -51,14 +52,15 @@ fn are_marked(marks: &[bool]) -> bool
 
 // Whether each input has a literal in some row.
 fn are_used(alloc: Global, inputs: &[Name], rows: &[Row]) -> Result<bool, AllocError>
-    ensures { IfOk result (λ answer. answer ≡ list_all (λ used. used) (places_used inputs.now rows.now)) }
+    ensures { IfOk result (λ answer. answer ≡ list_all (λ used. used)
+        (used_places inputs.now rows.now)) }
 {
     let marks = used_places(alloc, inputs, rows)?;
     Ok(are_marked(marks.as_slice()))
 }
 
-/// Whether a table is tidy: each input once and with a literal, no row twice, phase 1 where there is no row; an error only
-/// for want of memory.
+/// Whether a table is tidy: each input occurs once and has a literal, no row occurs twice, and the
+/// phase is 1 if there is no row.
 #[tactic(auto, unfolding(crate::specs::Tidy::is_tidy))]
 pub fn is_tidy_table(alloc: Global, table: &Table) -> Result<bool, AllocError>
     ensures { IfOk result (λ answer. answer ≡ is_tidy table.now) }

@@ -1,19 +1,23 @@
-//! Tidy tables: repeated inputs are folded, repeated rows go, inputs without a literal go, and a table of phase 0 without
-//! rows is the constant 1.
+//! The tidy normal form of a table: `tidied_table`.
+//!
+//! First repeated inputs are folded, and a table of phase 0 without rows becomes the constant 1.
+//! Then rows that equal an earlier one are removed, and last the inputs without a literal in any
+//! row. So the inputs are the syntactic support of the cover (De Micheli, "Synthesis and
+//! Optimization of Digital Circuits", chapters 7 and 8). `tidy_laws` states that the value stays,
+//! that the result is tidy, and that a tidy table stays as it is.
 
 ghost use Rattle.std.specs.Prelude.{◌≡◌, ℕ, ◌||◌, false, List, [], ◌∷◌, ◌++◌, map, bytes_eq, slice_index_or, if◌then◌else◌, IfOk, OnOk};
 ghost use Rattle.indexmap.specs.IndexSet.{contains};
-ghost use Rattle.circuit_tables.specs.Folding.{constant_one as one_of};
-ghost use Rattle.circuit_tables.specs.Tidy.{tidied, chosen, narrowed as narrowed_of, rows_once as once_each, with_phase_one as phase_one_of, with_rows_once as once_of, row_text};
+ghost use Rattle.circuit_tables.specs.Tidy.{tidied, chosen, narrowed, rows_once, with_phase_one, with_rows_once, row_text};
 
-use crate::fold_table;
+use crate::folding::{constant_one, merge_repeated_inputs};
 use crate::rows::{has_row_or_phase, text_of, used_places};
 use circuit_model::{Name, Row, Rows, Table, Tri};
 use indexmap::IndexSet;
 use sis_base::{Copied, Sequence};
 use std::alloc::{AllocError, Global};
 
-// Whether a place is marked.
+// Whether an index is marked.
 fn is_marked(marks: &[bool], place: usize) -> bool
     ensures { result ≡ slice_index_or marks.now place false }
 {
@@ -23,7 +27,7 @@ fn is_marked(marks: &[bool], place: usize) -> bool
     }
 }
 
-// Puts a copy of an item behind the last where it is marked.
+// Appends a copy of an item, if it is marked.
 fn push_marked<T: Copied + Drop>(
     alloc: Global,
     made: &mut Sequence<T>,
@@ -38,7 +42,7 @@ fn push_marked<T: Copied + Drop>(
     Ok(())
 }
 
-// Copies of the items that are marked.
+// Copies the items that are marked.
 fn chosen_items<T: Copied + Drop>(
     alloc: Global,
     marks: &[bool],
@@ -53,7 +57,7 @@ fn chosen_items<T: Copied + Drop>(
     Ok(made)
 }
 
-// Puts a character behind the last of a row where it is marked.
+// Appends a character to a row, if it is marked.
 fn push_character(row: &mut Row, mark: bool, character: Tri) -> Result<(), AllocError>
     ensures { OnOk result (row.new ≡ row.old ++ (if mark then character ∷ [] else [])) }
 {
@@ -63,7 +67,7 @@ fn push_character(row: &mut Row, mark: bool, character: Tri) -> Result<(), Alloc
     Ok(())
 }
 
-// The marked places of a row.
+// The marked columns of a row.
 fn chosen_row(alloc: Global, marks: &[bool], row: &[Tri]) -> Result<Row, AllocError>
     ensures { IfOk result (λ made. made ≡ chosen marks.now row.now) }
 {
@@ -74,7 +78,7 @@ fn chosen_row(alloc: Global, marks: &[bool], row: &[Tri]) -> Result<Row, AllocEr
     Ok(made)
 }
 
-// The marked places of each row.
+// The marked columns of each row.
 fn chosen_rows(alloc: Global, marks: &[bool], rows: &[Row]) -> Result<Rows, AllocError>
     ensures { IfOk result (λ made. made ≡ map (chosen marks.now) rows.now) }
 {
@@ -88,7 +92,7 @@ fn chosen_rows(alloc: Global, marks: &[bool], rows: &[Row]) -> Result<Rows, Allo
 // The table without the inputs that have no literal.
 #[tactic(auto, unfolding(crate::specs::Tidy::narrowed))]
 fn narrowed(alloc: Global, table: Table) -> Result<Table, AllocError>
-    ensures { IfOk result (λ made. made ≡ narrowed_of table) }
+    ensures { IfOk result (λ made. made ≡ narrowed table) }
 {
     let Table {
         inputs,
@@ -105,15 +109,17 @@ fn narrowed(alloc: Global, table: Table) -> Result<Table, AllocError>
     })
 }
 
-// Puts a row behind the last where it is not among those seen, and notes it.
+// Appends a row that is not among those seen, and adds it to them.
 fn push_new(
     alloc: Global,
     seen: &mut IndexSet<Name>,
     made: &mut Rows,
     row: Row,
 ) -> Result<(), AllocError>
-    ensures rows { OnOk result (made.new ≡ made.old ++ (if contains bytes_eq seen.old (row_text row) then [] else row ∷ [])) }
-    ensures seen { OnOk result ((text : List ℕ) → contains bytes_eq seen.new text ≡ (bytes_eq (row_text row) text || contains bytes_eq seen.old text)) }
+    ensures rows { OnOk result (made.new ≡ made.old ++
+        (if contains bytes_eq seen.old (row_text row) then [] else row ∷ [])) }
+    ensures seen { OnOk result ((text : List ℕ) → contains bytes_eq seen.new text
+        ≡ (bytes_eq (row_text row) text || contains bytes_eq seen.old text)) }
 {
     let text = text_of(alloc, row.as_slice())?;
     if seen.insert(text)? {
@@ -122,9 +128,9 @@ fn push_new(
     Ok(())
 }
 
-// The rows without those that equal an earlier one.
+// The rows, without those that equal an earlier one.
 fn rows_once(alloc: Global, rows: Rows) -> Result<Rows, AllocError>
-    ensures { IfOk result (λ made. made ≡ once_each rows) }
+    ensures { IfOk result (λ made. made ≡ rows_once rows) }
 {
     let mut seen = IndexSet::new(alloc);
     let mut made = Sequence::new(alloc);
@@ -134,34 +140,20 @@ fn rows_once(alloc: Global, rows: Rows) -> Result<Rows, AllocError>
     Ok(made)
 }
 
-// The table of the constant 1.
-fn one_table(alloc: Global, output: Name) -> Result<Table, AllocError>
-    ensures { IfOk result (λ made. made ≡ one_of output) }
-{
-    let mut rows = Sequence::new(alloc);
-    rows.push(Row::new(alloc))?;
-    Ok(Table {
-        inputs: Sequence::new(alloc),
-        output,
-        rows,
-        phase: true,
-    })
-}
-
 // The table, or the constant 1 where no row is left at phase 0.
 #[tactic(auto, unfolding(crate::specs::Tidy::with_phase_one))]
 fn with_phase_one(alloc: Global, table: Table) -> Result<Table, AllocError>
-    ensures { IfOk result (λ made. made ≡ phase_one_of table) }
+    ensures { IfOk result (λ made. made ≡ with_phase_one table) }
 {
     if has_row_or_phase(table.rows.as_slice(), table.phase) {
         return Ok(table);
     }
-    one_table(alloc, table.output)
+    constant_one(alloc, table.output)
 }
 
-// The table with each row once.
+// The table without repeated rows.
 fn with_rows_once(alloc: Global, table: Table) -> Result<Table, AllocError>
-    ensures { IfOk result (λ made. made ≡ once_of table) }
+    ensures { IfOk result (λ made. made ≡ with_rows_once table) }
 {
     let Table {
         inputs,
@@ -177,13 +169,13 @@ fn with_rows_once(alloc: Global, table: Table) -> Result<Table, AllocError>
     })
 }
 
-/// The tidy table of a table: inputs named twice are folded, rows that equal earlier ones go, then inputs without a
-/// literal; where no row is left at phase 0, it is the constant 1. An error only for want of memory.
+/// The tidy table: repeated inputs are folded, then rows that equal an earlier one are removed,
+/// then inputs without a literal. If the phase is 0 and no row is left, it is the constant 1.
 #[tactic(auto, unfolding(crate::specs::Tidy::tidied))]
 pub fn tidied_table(alloc: Global, table: Table) -> Result<Table, AllocError>
     ensures { IfOk result (λ made. made ≡ tidied table) }
 {
-    let folded = fold_table(alloc, table)?;
+    let folded = merge_repeated_inputs(alloc, table)?;
     let open = with_phase_one(alloc, folded)?;
     let once = with_rows_once(alloc, open)?;
     narrowed(alloc, once)

@@ -51,7 +51,7 @@ loop-place-preserved c =
       least = c.in-Some.ensures.least;
       reads = reads;
     } in
-    turn_more _ _ _ _ _ _ _ turn c.push.new.self c.in_ok-output_at.field-0 c.settle.new.counts.items (contains nat_cmp c.take_least.new.ready) (contains nat_cmp c.settle.new.ready)
+    turn_more _ _ _ _ _ _ _ turn c.push.new.self c.in_ok-output_at.field-0 c.settle.new.counts.items (contains nat_cmp c.pop_least.new.ready) (contains nat_cmp c.settle.new.ready)
     c.in_ok-push.ensures.ok c.in_ok-output_at.ensures c.in_ok-settle.ensures.length c.in_ok-settle.ensures.counts c.in-Some.ensures.left c.in_ok-settle.ensures.ready
 
 pub returns : goal.returns

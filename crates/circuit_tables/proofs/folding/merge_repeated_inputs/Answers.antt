@@ -3,7 +3,7 @@ use Rattle.circuit_tables.specs.Folding.{each_once}
 use Rattle.circuit_tables.specs.Listing.{places_of}
 use Rattle.circuit_tables.proofs.Once.{full-each_once}
 use Rattle.circuit_tables.proofs.Folded.{folded_same, folded_constant, folded_kept, rows_over}
-use Rattle.circuit_tables.proofs.folding.fold_table.Goals as goal
+use Rattle.circuit_tables.proofs.folding.merge_repeated_inputs.Goals as goal
 
 pub returns-then-len : goal.returns-then-len
 returns-then-len c =

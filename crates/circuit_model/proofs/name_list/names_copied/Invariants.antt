@@ -1,5 +1,5 @@
 use Rattle.std.proofs.Common.{◌≡◌, take}
-use Rattle.circuit_tables.proofs.folding.copies_of.Given as goal
+use Rattle.circuit_model.proofs.name_list.names_copied.Given as goal
 
 abbrev pub invariant-loop-name : goal.invariant-loop-name
 invariant-loop-name l = l.made ≡ take l.name-index l.names
