@@ -1,4 +1,4 @@
--- Words as they stand in a text, and their bytes.
+-- Words as slices of a text, and their bytes.
 use Rattle.std.proofs.Common.{◌≡◌, ℕ, Bool, true, false, ◌&&◌, ◌||◌, cond, List, [], ◌∷◌, Option, Some, length, find, nat_lt, bytes_eq, refl, ap}
 use Rattle.std.specs.Borrow.{Bor}
 use Rattle.std.specs.List.{list_all, list_any}

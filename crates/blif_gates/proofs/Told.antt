@@ -4,7 +4,7 @@ use Rattle.std.specs.Prelude.{Result, Ok, Err}
 use Rattle.std.specs.List.{AllByRecursion, list_all}
 use Rattle.std.specs.Option.{option_map_or}
 use Rattle.std.proofs.lemmas.List.{length-map}
-use Rattle.std.proofs.lemmas.Bool.{false≢true, or_left, or_right}
+use Rattle.std.proofs.lemmas.Bool.{false≢true, or_left, or_right, and_from}
 use Rattle.sis_base.specs.Rows.{HasWidth, some_matches, value_by_phase}
 use Rattle.sis_base.specs.Written.{is_word_byte, is_word}
 use Rattle.circuit_model.specs.Names.{has}
@@ -12,7 +12,7 @@ use Rattle.circuit_model.specs.Values.{table_value}
 use Rattle.circuit_model.specs.Soundness.{IsShaped}
 use Rattle.circuit_model.specs.declared.circuit.Tri.{Tri}
 use Rattle.circuit_model.specs.declared.circuit.Table.{Table}
-use Rattle.cube_cover.proofs.Points.{and_left, and_right, and_both}
+use Rattle.cube_cover.proofs.Points.{and_left, and_right}
 use Rattle.cover_ops.specs.Shannon.{shannon}
 use Rattle.cover_ops.proofs.Expansion.{value_shannon}
 use Rattle.cover_ops.proofs.Joins.{HasWidth-shannon}
@@ -127,7 +127,7 @@ all_dropped (suc n) (byte ∷ bytes) h = all_dropped n bytes (and_right _ _ h)
 
 signal_word : (word : List ℕ) → is_word word ≡ true → is_pair word ≡ true → is_word (signal_in word) ≡ true
 unfolding is_word behind
-signal_word word w p = and_both _ _ p (all_dropped _ word (and_right _ _ w))
+signal_word word w p = and_from _ _ p (all_dropped _ word (and_right _ _ w))
 
 signal_words : (words : List (List ℕ)) → AllByRecursion (λ word. is_word word ≡ true) words → list_all is_pair words ≡ true → AllByRecursion (λ word. is_word (signal_in word) ≡ true) words
 signal_words [] all h = tt

@@ -1,7 +1,8 @@
--- The words of a `.gate` line as a table.
--- Source: the BLIF appendix of the SIS report (UCB/ERL M92/41), `.gate`: behind the name of a library gate stands one word
--- `pin=signal` for each of its pins and for its output, in any order; its genlib format: a gate's output is a function of
--- its pins. The rows are those of Shannon's expansion over the pins in order; that is the project's own.
+-- The words of a `.gate` line as a table. Source: the BLIF appendix of the SIS report (UCB/ERL
+-- M92/41), `.gate`: the name of a library gate is followed by one word `pin=signal` for each of its
+-- pins and for its output, in any order; its genlib format: a gate's output is a function of its
+-- pins. The rows are those of Shannon's expansion over the pins in order; that is the project's
+-- own.
 use Rattle.std.specs.Prelude.{ℕ, ◌+◌, ◌==◌, ◌&&◌, Bool, true, false, not, if◌then◌else◌, Option, Some, None, Result, Ok, Err, List, [], length, find, map, bytes_eq}
 use Rattle.std.specs.List.{list_all}
 use Rattle.std.specs.Option.{option_map_or}
@@ -19,14 +20,15 @@ use Rattle.genlib_format.specs.Reader.{gate_named}
 use Rattle.blif_gates.specs.declared.reading.GateFault.{GateFault}
 use Rattle.blif_gates.specs.declared.reading.GateFault.TheVariants.{UnknownGate, BadPins}
 
--- what stands before the first `=` of a word, and what stands behind it; nothing stands behind it where there is none
+-- the bytes before the first `=` of a word, and those after it; there are none after it if there is
+-- no `=`
 abbrev pub pin_in : List ℕ → List ℕ
 pin_in word = before 61 word
 
 abbrev pub signal_in : List ℕ → List ℕ
 signal_in word = behind 61 word
 
--- whether a word is a pair of a pin and a signal: something stands behind its first `=`
+-- whether a word is a pair of a pin and a signal: something follows its first `=`
 abbrev pub is_pair : List ℕ → Bool
 is_pair word = not (is_empty (signal_in word))
 
@@ -37,13 +39,13 @@ pins_of words = map pin_in words
 abbrev pub signals_of : List (List ℕ) → List (List ℕ)
 signals_of words = map signal_in words
 
--- whether words are pairs that name each pin and the output once: as many pairs as there are pins and the output, and one
--- for each of these names, which are different where the gate is sound
+-- whether words are pairs that name each pin and the output once: as many pairs as there are pins
+-- and the output, and one for each of these names, which are different if the gate is sound
 unfoldable pub is_pairing : Gate → List (List ℕ) → Bool
 is_pairing gate words =
     length words == length gate.pins + 1 && (list_all is_pair words && (list_all (has (pins_of words)) gate.pins && has (pins_of words) gate.output))
 
--- the signal of the first pair that names a pin; the empty one where none does
+-- the signal of the first pair that names a pin; the empty one if none does
 unfoldable pub signal_for : List (List ℕ) → List ℕ → List ℕ
 signal_for words pin = option_map_or signal_in (find (λ word. bytes_eq pin (pin_in word)) words) []
 
@@ -66,16 +68,16 @@ gate_table gate words = record {
   phase = true;
 }
 
--- the table of a gate and the words behind its cell
+-- the table of a gate and the words after its cell
 abbrev pub read_pairs : Gate → List (List ℕ) → Result Table GateFault
 read_pairs gate words = if is_pairing gate words then Ok (gate_table gate words) else Err BadPins
 
--- the same of a gate that was looked for
+-- the same for a gate that was looked up
 abbrev pub read_found : Option Gate → List (List ℕ) → Result Table GateFault
 read_found None words = Err UnknownGate
 read_found (Some gate) words = read_pairs gate words
 
--- the table that the cell of a line and the words behind it say, or what is wrong with them; of two gates of one name the
--- first counts
+-- the table of the cell of a line and the words after it, or what is wrong with them; of two gates
+-- of one name the first counts
 unfoldable pub read_gate : List Gate → List ℕ → List (List ℕ) → Result Table GateFault
 read_gate library cell words = read_found (gate_named library cell) words

@@ -6,7 +6,8 @@ use Rattle.circuit_model.specs.Names.{has, all_different}
 use Rattle.genlib_format.specs.declared.gate.Gate.{Gate}
 use Rattle.blif_gates.specs.GateLines.{is_pair, pins_of}
 
--- all words are pairs, no two of them name one pin, and what they name are just the output and the pins
+-- all words are pairs, no two of them name one pin, and what they name are exactly the output and
+-- the pins
 pub record NamesEachOnce (gate : Gate) (words : List (List ℕ)) : Type 0 where
   pub pairs : list_all is_pair words ≡ true
   pub once : all_different (pins_of words) ≡ true

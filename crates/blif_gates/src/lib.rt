@@ -1,11 +1,12 @@
-//! The words of a `.gate` line, with a library at hand, as the table that they say.
+//! The table that the words of a `.gate` line give, by a library.
 //!
 //! Source: the BLIF appendix of the SIS report (UCB/ERL M92/41), `.gate`, and its genlib format.
-//! `specs/GateLines.antt` says which table a line says and what is wrong with it. Promised: `read_gate` gives exactly that
-//! table or that fault; `add_signals` puts those signals that a line mentions and that are among given names, in its order;
-//! `long_signal` tells of the first that is too long. `laws` has what holds of the table: it is shaped, small and named by
-//! signals of the line, and its value is the function of the gate. A signal may stand at two pins: the table then has an
-//! input twice. Each error is want of memory.
+//! `specs/GateLines.antt` says which table a line gives and what is wrong with it. `read_gate`
+//! returns exactly that table or that fault; `add_signals` appends those signals of a line that are
+//! among given names, in its order; `long_signal` finds the first that is too long. `laws` says of
+//! the table that it is shaped and named by signals of the line, that with a sound library it has
+//! at most `MAX_PINS` inputs, and that its value is the function of the gate. A signal may be at
+//! two pins: the table then has an input twice.
 #![tactic(auto)]
 
 pub mod laws;

@@ -1,4 +1,10 @@
-//! Words `pin=signal`, as they stand in the text that is read.
+//! Words `pin=signal`, as they are in the text that is read.
+//!
+//! Source: the BLIF appendix of the SIS report (UCB/ERL M92/41), `.gate`. A word is split at its
+//! first `=`; it is a pair if something follows. The first pair of a pin gives its signal
+//! (`specs/GateLines.antt`). `add_signals` appends those signals of a line that are among given
+//! names, in the order of the line; if memory runs out, the list stays as it was. `long_signal`
+//! returns the length of the first signal that is too long.
 
 ghost use Rattle.std.specs.Prelude.{◌≡◌, ◌≤◌, ◌++◌, ◌∷◌, [], nat_lt, length, find, bytes_eq};
 ghost use Rattle.std.specs.Prelude.{option_copied, if◌then◌else◌, OnOk, OnErr};
@@ -6,9 +12,9 @@ ghost use Rattle.std.specs.List.{list_all, list_any, filter};
 ghost use Rattle.circuit_model.specs.Names.{has};
 ghost use Rattle.line_words.specs.LineWords.{texts, long_name};
 ghost use Rattle.genlib_format.specs.Words.{before};
-ghost use Rattle.blif_gates.specs.GateLines.{pin_in as pin_of, signal_in as signal_of};
-ghost use Rattle.blif_gates.specs.GateLines.{is_pair as is_pair_word, pins_of, signals_of};
-ghost use Rattle.blif_gates.specs.GateLines.{signal_for as signal_named};
+ghost use Rattle.blif_gates.specs.GateLines.{pin_in, signal_in};
+ghost use Rattle.blif_gates.specs.GateLines.{is_pair, pins_of, signals_of};
+ghost use Rattle.blif_gates.specs.GateLines.{signal_for};
 
 use circuit_model::{Name, Names};
 use line_words::name_of;
@@ -16,7 +22,7 @@ use sis_base::limits::MAX_NAME;
 use std::alloc::{AllocError, Global};
 use std::mem;
 
-/// How many bytes stand before the first `=`.
+/// The number of bytes before the first `=`.
 #[tactic(auto, unfolding(genlib_format::specs::Words::before))]
 fn front_len(word: &[u8]) -> usize
     ensures value { result ≡ length (before 61 word.now) }
@@ -25,25 +31,25 @@ fn front_len(word: &[u8]) -> usize
     word.iter().take_while(|byte| **byte != b'=').count()
 }
 
-/// What stands before the first `=`.
+/// The bytes before the first `=`.
 #[tactic(auto, using(genlib_format::proofs::Steps::before_taken))]
 fn pin_in(word: &[u8]) -> &[u8]
-    ensures { result.now ≡ pin_of word.now }
+    ensures { result.now ≡ pin_in word.now }
 {
     &word[..front_len(word)]
 }
 
-/// What stands behind the first `=`; nothing where there is none.
+/// The bytes after the first `=`; none if there is no `=`.
 #[tactic(auto, unfolding(genlib_format::specs::Words::behind), using(std::proofs::lemmas::List::drop_min, std::proofs::lemmas::Grind::common_steps))]
 fn signal_in(word: &[u8]) -> &[u8]
-    ensures { result.now ≡ signal_of word.now }
+    ensures { result.now ≡ signal_in word.now }
 {
     &word[(front_len(word) + 1).min(word.len())..]
 }
 
-/// Whether something stands behind the first `=`.
+/// Whether something follows the first `=`.
 fn is_pair(word: &[u8]) -> bool
-    ensures { result ≡ is_pair_word word.now }
+    ensures { result ≡ is_pair word.now }
 {
     match signal_in(word) {
         [] => false,
@@ -53,7 +59,7 @@ fn is_pair(word: &[u8]) -> bool
 
 /// Whether each word is a pair.
 fn each_is_pair(words: &[&[u8]]) -> bool
-    ensures { result ≡ list_all (λ word. is_pair_word word.now) words.now }
+    ensures { result ≡ list_all (λ word. is_pair word.now) words.now }
 {
     words.iter().all(|word| is_pair(word))
 }
@@ -61,14 +67,14 @@ fn each_is_pair(words: &[&[u8]]) -> bool
 /// Whether all words are pairs.
 #[tactic(auto, using(crate::proofs::Texts::all_pairs))]
 pub fn are_pairs(words: &[&[u8]]) -> bool
-    ensures { result ≡ list_all is_pair_word (texts words.now) }
+    ensures { result ≡ list_all is_pair (texts words.now) }
 {
     each_is_pair(words)
 }
 
-/// Whether a pin stands before the first `=` of a word.
+/// Whether some word has this pin before its first `=`.
 fn some_names(words: &[&[u8]], pin: &[u8]) -> bool
-    ensures { result ≡ list_any (λ word. bytes_eq pin.now (pin_of word.now)) words.now }
+    ensures { result ≡ list_any (λ word. bytes_eq pin.now (pin_in word.now)) words.now }
 {
     words.iter().any(|word| pin == pin_in(word))
 }
@@ -89,14 +95,14 @@ pub fn are_named(words: &[&[u8]], pins: &[Name]) -> bool
 
 /// The first pair that names a pin.
 fn pair_for<'a, 'w>(words: &'w [&'a [u8]], pin: &[u8]) -> Option<&'w &'a [u8]>
-    ensures { option_copied result ≡ find (λ word. bytes_eq pin.now (pin_of word.now)) words.now }
+    ensures { option_copied result ≡ find (λ word. bytes_eq pin.now (pin_in word.now)) words.now }
 {
     words.iter().find(|word| pin == pin_in(word))
 }
 
-/// The signal of the first pair that names a pin; the empty one where none does.
+/// The signal of the first pair that names a pin; the empty one if none does.
 pub fn signal_for<'a>(words: &[&'a [u8]], pin: &[u8]) -> &'a [u8]
-    ensures { result.now ≡ signal_named (texts words.now) pin.now }
+    ensures { result.now ≡ signal_for (texts words.now) pin.now }
 {
     match pair_for(words, pin) {
         None => b"".as_slice(),
@@ -111,8 +117,7 @@ fn is_among(names: &[Name], signal: &[u8]) -> bool
     names.iter().any(|name| signal == name.as_slice())
 }
 
-/// Puts a signal behind the last of some names, where it stands among others. An error only for
-/// want of memory; then nothing is put.
+/// Appends a signal to names, if it is among others. On an error the names stay.
 fn add_signal(
     alloc: Global,
     names: &mut Vec<Name>,
@@ -129,8 +134,7 @@ fn add_signal(
     Ok(())
 }
 
-/// Puts those signals that words mention and that stand among other names behind the last of some
-/// names. An error only for want of memory; then nothing is put.
+/// Appends those signals of words that are among other names. On an error the names stay.
 #[tactic(auto, using(std::proofs::lemmas::Grind::common_steps))]
 fn put_signals(
     alloc: Global,
@@ -152,8 +156,8 @@ fn put_signals(
     Ok(())
 }
 
-/// Puts those signals that words mention and that stand among other names behind the last of some
-/// names, in the order of the words. An error only for want of memory; then nothing is put.
+/// Appends those signals of words that are among other names, in the order of the words. On an
+/// error the names stay.
 pub fn add_signals(
     alloc: Global,
     names: &mut Names,
@@ -173,7 +177,7 @@ pub fn add_signals(
 /// The first word whose signal is longer than a name may be.
 fn first_long<'a, 'w>(words: &'w [&'a [u8]]) -> Option<&'w &'a [u8]>
     ensures { option_copied result
-        ≡ find (λ word. nat_lt MAX_NAME (length (signal_of word.now))) words.now }
+        ≡ find (λ word. nat_lt MAX_NAME (length (signal_in word.now))) words.now }
 {
     words.iter().find(|word| signal_in(word).len() > MAX_NAME)
 }

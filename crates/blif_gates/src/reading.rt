@@ -1,10 +1,15 @@
-//! The table of a gate between the signals of a line.
+//! The table of a gate between the signals of a `.gate` line.
+//!
+//! Source: the BLIF appendix of the SIS report (UCB/ERL M92/41), `.gate`, and its genlib format.
+//! `read_gate` looks the cell up, checks that the words are pairs that name each pin and the output
+//! once, and returns exactly the table or the fault of `specs/GateLines.antt`. The rows are those
+//! of Shannon's expansion over the pins in order, with phase 1.
 
 ghost use Rattle.std.specs.Prelude.{◌≡◌, ◌+◌, ◌==◌, ◌&&◌, length, map, IfOk};
 ghost use Rattle.std.specs.List.{list_all};
 ghost use Rattle.circuit_model.specs.Names.{has};
 ghost use Rattle.line_words.specs.LineWords.{texts};
-ghost use Rattle.blif_gates.specs.GateLines.{pins_of, is_pairing, signal_for as signal_named, gate_rows, gate_table, read_pairs, read_gate};
+ghost use Rattle.blif_gates.specs.GateLines.{pins_of, is_pairing, signal_for, gate_rows, gate_table, read_pairs, read_gate};
 
 use crate::pairs::{are_named, are_pairs, is_named, signal_for};
 use circuit_model::{Name, Names, Rows, Table};
@@ -18,7 +23,7 @@ use std::alloc::{AllocError, Global};
 pub enum GateFault {
     /// The library has no gate of the name.
     UnknownGate,
-    /// A word behind the cell is no pair, or the pairs do not name each pin and the output once.
+    /// A word after the cell is not a pair, or the pairs do not name each pin and the output once.
     BadPins,
 }
 
@@ -32,7 +37,8 @@ fn are_as_many(pins: &[Name], words: &[&[u8]]) -> bool
 
 /// Whether the words name each pin and the output.
 fn name_all(gate: &Gate, words: &[&[u8]]) -> bool
-    ensures { result ≡ (list_all (has (pins_of (texts words.now))) gate.now.pins && has (pins_of (texts words.now)) gate.now.output) }
+    ensures { result ≡ (list_all (has (pins_of (texts words.now))) gate.now.pins && has
+        (pins_of (texts words.now)) gate.now.output) }
 {
     are_named(words, gate.pins.as_slice()) && is_named(words, gate.output.as_slice())
 }
@@ -50,7 +56,7 @@ fn is_pairing(gate: &Gate, words: &[&[u8]]) -> bool
 
 /// The signals of pins, in order.
 fn signals_for(alloc: Global, words: &[&[u8]], pins: &[Name]) -> Result<Names, AllocError>
-    ensures { IfOk result (λ names. names ≡ map (signal_named (texts words.now)) pins.now) }
+    ensures { IfOk result (λ names. names ≡ map (signal_for (texts words.now)) pins.now) }
 {
     let mut names = Sequence::new(alloc);
     for pin in pins {
@@ -83,7 +89,7 @@ fn gate_table(alloc: Global, gate: &Gate, words: &[&[u8]]) -> Result<Table, Allo
     })
 }
 
-/// The table of a gate and the words behind its cell, or that they do not pair.
+/// The table of a gate and the words after its cell, or that they do not pair.
 fn read_pairs(
     alloc: Global,
     gate: &Gate,
@@ -97,8 +103,7 @@ fn read_pairs(
     Ok(Ok(gate_table(alloc, gate, words)?))
 }
 
-/// The table that the cell of a `.gate` line and the words behind it say, or what is wrong with them; an error only for
-/// want of memory.
+/// The table of the cell of a `.gate` line and the words after it, or what is wrong with them.
 #[tactic(auto, unfolding(crate::specs::GateLines::read_gate))]
 pub fn read_gate(
     alloc: Global,

@@ -36,7 +36,7 @@ abbrev pub is_table_kind : Keyword → Bool
 is_table_kind Names = true
 is_table_kind kind = false
 
--- the table that is read behind some lines
+-- the table that is being read after some lines
 abbrev pub mark_by : ℕ → List (List ℕ) → ℕ
 mark_by width [] = 0
 mark_by width (row ∷ rows) = output_character width row
@@ -152,7 +152,7 @@ fault_agrees library Row back draft number words whole t =
     ∙ ap (λ fault. first_of (when (is_behind (part_behind back)) (UnknownWord number) ∷ fault ∷ [])) (row_fault_is (heading back) (rows_behind back) number (joined whole))
 fault_agrees library Other back draft number words whole t = refl
 
--- what is told of one line more
+-- the fault of one more line, by the definition and by the draft
 pub row_is : (line : Entry) (kind : Keyword) → kind_of line ≡ kind → is_row line ≡ is_row_kind kind
 row_is line kind e = ap is_row_kind e
 
@@ -359,7 +359,8 @@ abbrev pub inner_after : Option (List TheGate) → Bool → List (List ℕ) → 
 inner_after library true inner lines = inner
 inner_after library false inner lines = inner ++ inner_in library lines
 
--- the timing of the first latch, and the line of the first that is timed otherwise, where these lines of latches follow
+-- the timing of the first latch, and the line of the first that is timed otherwise, where these
+-- lines of latches follow
 abbrev pub timing_after : List TheLatch → Option Timing → List Entry → Option Timing
 timing_after [] timing [] = timing
 timing_after [] timing (line ∷ lines) = timing_at line
@@ -369,7 +370,8 @@ abbrev pub mixed_after : Option ℕ → Option Timing → List Entry → Option 
 mixed_after None timing lines = option_map (λ (line : Entry). line.number) (find (λ line. not (same_timing timing (timing_at line))) lines)
 mixed_after (Some number) timing lines = Some number
 
--- what is kept in the end of a draft in the model, where these lines of the model and these tables of the part follow
+-- what is kept in the end of a draft in the model, where these lines of the model and these tables
+-- of the part follow
 abbrev pub kept_from : Option (List TheGate) → Draft → List Entry → List Entry → List Table → Kept
 kept_from library draft lines own part = record {
   has_kiss = draft.has_kiss || has_kiss lines;
@@ -447,7 +449,7 @@ kept_same k l z a b c d e f g h i j m n o p q = same k.has_kiss k.name k.lists_i
         → kept_with kiss name li inputs lo outputs ports clocks drives reads inner timing mixed latches tables dont_care ≡ l
     same kiss name li inputs lo outputs ports clocks drives reads inner timing mixed latches tables dont_care z a b c d e f g h i j m n o p q = rw (z, a, b, c, d, e, f, g, h, i, j, m, n, o, p, q) refl
 
--- a field of the draft with what a line puts behind it, and the lines that follow
+-- a field of the draft with what a line appends to it, and the lines that follow
 pub put_more : {A : Type 0} (words_of : Keyword → List (List ℕ) → List A) (before : List A) (kind : Keyword) (line : Entry) (lines : List Entry) → kind_of line ≡ kind → (before ++ words_of kind (other_words line.words)) ++ of_lines words_of lines ≡ before ++ of_lines words_of (line ∷ lines)
 put_more words_of before kind line lines e =
     append_assoc before (words_of kind (other_words line.words)) (of_lines words_of lines) ∙ ap (λ rest. before ++ rest) (sym (more_of words_of line lines kind e))
@@ -891,7 +893,7 @@ pub mixed_ends : (mixed : Option ℕ) (timing : Option Timing) → mixed ≡ mix
 mixed_ends None timing = refl
 mixed_ends (Some number) timing = refl
 
--- behind the last line
+-- after the last line
 pub named_end : (begun : Bool) (name : List ℕ) → (begun ≡ false → name ≡ codes "top") → name ≡ name_after begun name []
 unfolding model_name
 named_end true name h = refl
@@ -1146,7 +1148,7 @@ grouped None None None None None (Some x) g = refl
 grouped None None None None None None (Some x) = refl
 grouped None None None None None None None = refl
 
--- a line without a fault, and the lines behind it
+-- a line without a fault, and the lines after it
 pub none_or : (one other : Option BlifFault) → option_or one other ≡ None → (one ≡ None) × (other ≡ None)
 none_or None other e = (refl, e)
 none_or (Some fault) other e = absurd (cc)
@@ -1157,7 +1159,7 @@ latch_drives [] rest is = absurd (cc)
 latch_drives (input ∷ []) rest is = absurd (cc)
 latch_drives (input ∷ output ∷ words) rest is = refl
 
--- nothing is driven just where no table, latch or gate stands in the model
+-- nothing is driven exactly if the model has no table, latch or gate
 pub undriven_is : (library : Option (List TheGate)) (lines back : List Entry) → first_line_fault library back lines ≡ None → is_none (drives_in library (model_lines lines)) ≡ not (has_nodes (model_lines lines))
 unfolding first_line_fault line_fault drives_in has_nodes model_lines
 undriven_is library [] back e = refl

@@ -3,11 +3,12 @@ use Rattle.std.specs.Prelude.{◌≡◌, ℕ, ◌+◌, ◌<◌, ◌≤◌, Bool,
 use Rattle.std.specs.List.{filter}
 use Rattle.std.proofs.Common.{refl, sym, ◌∙◌, ap, get_or, append_assoc}
 use Rattle.std.proofs.lemmas.List.{append-nil, drop_more, drop_all}
+use Rattle.std.proofs.Math.Bool.{and_comm}
 use Rattle.circuit_model.specs.Names.{has}
 use Rattle.circuit_checks.specs.Sets.{with_name, Alike}
 use Rattle.circuit_checks.proofs.Naming.{has_with}
 use Rattle.circuit_tables.specs.Folding.{each_once}
-use Rattle.circuit_tables.proofs.Once.{same_name, bytes_eq-sym}
+use Rattle.circuit_tables.proofs.Once.{same_name, bytes_eq-sym, filter_twice}
 use Rattle.blif_lines.specs.Reader.{names_beside}
 
 -- the names that are not known, each once
@@ -15,30 +16,9 @@ unfoldable pub new_beside : List (List ℕ) → List (List ℕ) → List (List �
 new_beside known [] = []
 new_beside known (name ∷ names) = if has known name then new_beside known names else name ∷ new_beside (with_name known name) names
 
-filter_twice : (p q : List ℕ → Bool) (names : List (List ℕ)) → filter p (filter q names) ≡ filter (λ name. q name && p name) names
-filter_twice p q [] = refl
-filter_twice p q (name ∷ names) = by (q name) (p name) (filter_twice p q names)
-  where
-    by : (t u : Bool) → filter p (filter q names) ≡ filter (λ other. q other && p other) names
-        → filter p (if t then name ∷ filter q names else filter q names)
-        ≡ (if t && p name then name ∷ filter (λ other. q other && p other) names else filter (λ other. q other && p other) names)
-    by true u rest = step (p name)
-      where
-        step : (v : Bool) → (if v then name ∷ filter p (filter q names) else filter p (filter q names))
-            ≡ (if v then name ∷ filter (λ other. q other && p other) names else filter (λ other. q other && p other) names)
-        step true = ap (λ list. name ∷ list) rest
-        step false = rest
-    by false u rest = rest
-
 filter_same : (p q : List ℕ → Bool) → ((name : List ℕ) → p name ≡ q name) → (names : List (List ℕ)) → filter p names ≡ filter q names
 filter_same p q h [] = refl
 filter_same p q h (name ∷ names) = rw (h name, filter_same p q h names) refl
-
-and_turned : (a b : Bool) → (a && b) ≡ (b && a)
-and_turned true true = refl
-and_turned true false = refl
-and_turned false true = refl
-and_turned false false = refl
 
 -- a name that does not pass makes no difference to those that do
 dropped : (p : List ℕ → Bool) (name : List ℕ) → p name ≡ false → (other : List ℕ) → (not (bytes_eq name other) && p other) ≡ p other
@@ -62,7 +42,7 @@ once_filtered p (name ∷ names) = by (p name) refl (once_filtered p names)
     by true e rest =
         ap (λ list. name ∷ list)
         (filter_twice p other (each_once names)
-        ∙ filter_same (λ one. other one && p one) (λ one. p one && other one) (λ one. and_turned (other one) (p one)) (each_once names)
+        ∙ filter_same (λ one. other one && p one) (λ one. p one && other one) (λ one. and_comm (other one) (p one)) (each_once names)
         ∙ sym (filter_twice other p (each_once names))
         ∙ ap (filter other) rest)
     by false e rest =

@@ -5,7 +5,7 @@ use Rattle.std.specs.Option.{option_map}
 use Rattle.std.proofs.Common.{refl}
 use Rattle.sis_text.specs.Entries.{Entry}
 use Rattle.line_words.specs.LineWords.{other_words}
-use Rattle.genlib_format.specs.declared.gate.Gate.{Gate as TheGate}
+use Rattle.genlib_format.specs.declared.gate.Gate.{Gate}
 use Rattle.blif_gates.specs.GateLines.{signals_of}
 use Rattle.blif_lines.specs.Lines.{when, first_of, is_none, long_fault, one_too_many, has_part, is_in_model, is_in_dont_care, is_latch, latch_names, model_fault, clock_fault, latch_fault, library_fault, gate_fault, start_fault, place_fault}
 use Rattle.blif_lines.specs.Steps.{place_at}
@@ -47,11 +47,11 @@ begins place begun number words f =
     (none_later (when (is_in_dont_care place) (UnknownWord number)) (when (nat_lt 1 (length words)) (BadArity number) ∷ when begun (SecondModel number) ∷ long_fault words ∷ []) f)))
 
 -- what may be wrong with a line of a gate in the model
-abbrev pub gate_causes : Option (List TheGate) → ℕ → ℕ → List (List ℕ) → List (Option BlifFault)
+abbrev pub gate_causes : Option (List Gate) → ℕ → ℕ → List (List ℕ) → List (Option BlifFault)
 gate_causes library nodes number words =
     when (is_none words) (BadArity number) ∷ library_fault library number words ∷ long_fault (signals_of (other_words words)) ∷ one_too_many nodes ∷ []
 
--- what stands in the model alone does not stand behind the line that begins the part
+-- a line of the model alone does not come after the line that begins the part
 pub not_model : (ended had : Bool) → had ≡ true → is_in_model (place_at ended had) ≡ false
 unfolding place_at
 not_model true had h = refl
@@ -75,7 +75,7 @@ unfolding latch_fault
 own_latch ended had nodes number words h f =
     true_false (is_in_model (place_at ended had)) (in_model (place_at ended had) number (when (not (is_latch words)) (BadLatch number) ∷ long_fault (latch_names words) ∷ one_too_many nodes ∷ []) f) (not_model ended had h)
 
-pub own_gate : (library : Option (List TheGate)) (ended had : Bool) (nodes number : ℕ) (words : List (List ℕ)) → had ≡ true → gate_fault library (place_at ended had) nodes number words ≡ None → ⊥
+pub own_gate : (library : Option (List Gate)) (ended had : Bool) (nodes number : ℕ) (words : List (List ℕ)) → had ≡ true → gate_fault library (place_at ended had) nodes number words ≡ None → ⊥
 unfolding gate_fault
 own_gate library ended had nodes number words h f =
     true_false (is_in_model (place_at ended had)) (in_model (place_at ended had) number (gate_causes library nodes number words) f) (not_model ended had h)
@@ -92,7 +92,7 @@ pub own_place : (ended had : Bool) (number : ℕ) → had ≡ true → place_fau
 own_place ended had number h f =
     true_false (is_in_model (place_at ended had)) (not_not_when (is_in_model (place_at ended had)) (UnknownWord number) f) (not_model ended had h)
 
--- a part stands behind a line
+-- if the don't-care part has begun, a line came before
 pub unbegun : (back : List Entry) (had : Bool) → had ≡ true → had ≡ has_part back → {begun : Bool} → begun ≡ false → begun ≡ not (is_none back) → ⊥
 unfolding has_part
 unbegun [] had h p b e = cc
@@ -111,17 +111,18 @@ pub part_begins : (ended had : Bool) (number : ℕ) → place_fault (place_at en
 part_begins ended true number f = absurd (own_place ended true number refl f)
 part_begins ended false number f = refl
 
-pub gate_begins : (library : Option (List TheGate)) (ended had : Bool) (nodes number : ℕ) (words : List (List ℕ)) → gate_fault library (place_at ended had) nodes number words ≡ None → had ≡ false
+pub gate_begins : (library : Option (List Gate)) (ended had : Bool) (nodes number : ℕ) (words : List (List ℕ)) → gate_fault library (place_at ended had) nodes number words ≡ None → had ≡ false
 gate_begins library ended true nodes number words f = absurd (own_gate library ended true nodes number words refl f)
 gate_begins library ended false nodes number words f = refl
 
--- a `.gate` line is right: its cell and its pairs are, its signals are short, and few tables and latches stand before it
-pub record IsRightGate (library : Option (List TheGate)) (nodes number : ℕ) (words : List (List ℕ)) : Type 0 where
+-- a `.gate` line is right: its cell and its pairs are, its signals are short, and few tables and
+-- latches come before it
+pub record IsRightGate (library : Option (List Gate)) (nodes number : ℕ) (words : List (List ℕ)) : Type 0 where
   pub cell : library_fault library number words ≡ None
   pub short : long_fault (signals_of (other_words words)) ≡ None
   pub few : one_too_many nodes ≡ None
 
-pub right_gate : (library : Option (List TheGate)) (place : Part) (nodes number : ℕ) (words : List (List ℕ)) → gate_fault library place nodes number words ≡ None → IsRightGate library nodes number words
+pub right_gate : (library : Option (List Gate)) (place : Part) (nodes number : ℕ) (words : List (List ℕ)) → gate_fault library place nodes number words ≡ None → IsRightGate library nodes number words
 unfolding gate_fault
 right_gate library place nodes number words f =
     let signals : List (List ℕ) = signals_of (other_words words) in

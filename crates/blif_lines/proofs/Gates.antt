@@ -10,7 +10,7 @@ use Rattle.circuit_model.specs.declared.circuit.Table.{Table}
 use Rattle.cover_ops.specs.Shannon.{bits_equal, same, shannon}
 use Rattle.genlib_expr.specs.Formula.{formula_of}
 use Rattle.genlib_expr.specs.Functions.{function_of}
-use Rattle.genlib_format.specs.declared.gate.Gate.{Gate as TheGate}
+use Rattle.genlib_format.specs.declared.gate.Gate.{Gate}
 use Rattle.line_words.specs.LineWords.{first_word, other_words}
 use Rattle.blif_gates.specs.declared.reading.GateFault.{GateFault}
 use Rattle.blif_gates.specs.declared.reading.GateFault.TheVariants as gate
@@ -23,8 +23,8 @@ use Rattle.blif_lines.proofs.NameLists.{others_have, same_name, all_among, all_a
 use Rattle.sis_base.specs.declared.limits.TheConstants.{MAX_INPUTS, MAX_PINS, MAX_ROWS}
 
 -- what holds of no table and of each table that a gate may say holds of those of a line
-pub each_gate : (library : Option (List TheGate)) (words : List (List ℕ)) (P : List Table → Type 0) → P []
-    → ((gates : List TheGate) (table : Table) → library ≡ Some gates → read_gate gates (first_word words) (other_words words) ≡ Ok table → P (table ∷ [])) → P (gate_tables library words)
+pub each_gate : (library : Option (List Gate)) (words : List (List ℕ)) (P : List Table → Type 0) → P []
+    → ((gates : List Gate) (table : Table) → library ≡ Some gates → read_gate gates (first_word words) (other_words words) ≡ Ok table → P (table ∷ [])) → P (gate_tables library words)
 each_gate None words P none one = none
 each_gate (Some gates) words P none one = by (read_gate gates (first_word words) (other_words words)) refl
   where
@@ -33,8 +33,8 @@ each_gate (Some gates) words P none one = by (read_gate gates (first_word words)
     by (Err fault) e = none
 
 -- a line without a fault says one table
-pub one_gate : (library : Option (List TheGate)) (number : ℕ) (words : List (List ℕ)) (P : List Table → Type 0) → library_fault library number words ≡ None
-    → ((gates : List TheGate) (table : Table) → library ≡ Some gates → read_gate gates (first_word words) (other_words words) ≡ Ok table → P (table ∷ [])) → P (gate_tables library words)
+pub one_gate : (library : Option (List Gate)) (number : ℕ) (words : List (List ℕ)) (P : List Table → Type 0) → library_fault library number words ≡ None
+    → ((gates : List Gate) (table : Table) → library ≡ Some gates → read_gate gates (first_word words) (other_words words) ≡ Ok table → P (table ∷ [])) → P (gate_tables library words)
 one_gate None number words P f one = absurd (cc)
 one_gate (Some gates) number words P f one = by (read_gate gates (first_word words) (other_words words)) refl f
   where
@@ -99,10 +99,10 @@ few_rows (suc n) f h =
     let is : most 14 ≡ 16384 = refl in omega arith
 
 -- the table of a gate is shaped; with a sound library it has few inputs and few rows
-pub gate_shaped : (gates : List TheGate) (cell : List ℕ) (words : List (List ℕ)) (table : Table) → read_gate gates cell words ≡ Ok table → IsShaped table
+pub gate_shaped : (gates : List Gate) (cell : List ℕ) (words : List (List ℕ)) (table : Table) → read_gate gates cell words ≡ Ok table → IsShaped table
 gate_shaped gates cell words table e = let t = told gates cell words table e in subst IsShaped t.is (shaped t.gate words)
 
-pub gate_small : (gates : List TheGate) (cell : List ℕ) (words : List (List ℕ)) (table : Table) → IsSoundLibrary (Some gates) → read_gate gates cell words ≡ Ok table → (length table.rows ≤ MAX_ROWS) × (length table.inputs ≤ MAX_INPUTS)
+pub gate_small : (gates : List Gate) (cell : List ℕ) (words : List (List ℕ)) (table : Table) → IsSoundLibrary (Some gates) → read_gate gates cell words ≡ Ok table → (length table.rows ≤ MAX_ROWS) × (length table.inputs ≤ MAX_INPUTS)
 unfolding gate_table gate_rows
 gate_small gates cell words table sound e =
     let t = told gates cell words table e in
@@ -115,19 +115,19 @@ gate_small gates cell words table sound e =
     )
 
 -- the names of a line's tables
-pub gate_names_are_words : (library : Option (List TheGate)) (words : List (List ℕ)) → AllByRecursion (λ word. is_word word ≡ true) words → AllByRecursion (λ name. is_word name ≡ true) (names_of (gate_tables library words))
+pub gate_names_are_words : (library : Option (List Gate)) (words : List (List ℕ)) → AllByRecursion (λ word. is_word word ≡ true) words → AllByRecursion (λ name. is_word name ≡ true) (names_of (gate_tables library words))
 gate_names_are_words library words a =
     each_gate library words (λ tables. AllByRecursion (λ name. is_word name ≡ true) (names_of tables)) tt
     (λ gates table g e. let t = told gates (first_word words) (other_words words) table e in
     all_append (λ name. is_word name ≡ true) (table.output ∷ table.inputs) []
     (subst (λ (one : Table). AllByRecursion (λ name. is_word name ≡ true) (one.output ∷ one.inputs)) t.is (named_by_words t.gate (other_words words) (others_have (λ word. is_word word ≡ true) words a) t.pairs)) tt)
 
-signals_named : (gates : List TheGate) (words : List (List ℕ)) (table : Table) → read_gate gates (first_word words) (other_words words) ≡ Ok table → AllByRecursion (λ name. has (signals_of (other_words words)) name ≡ true) (table.output ∷ table.inputs)
+signals_named : (gates : List Gate) (words : List (List ℕ)) (table : Table) → read_gate gates (first_word words) (other_words words) ≡ Ok table → AllByRecursion (λ name. has (signals_of (other_words words)) name ≡ true) (table.output ∷ table.inputs)
 signals_named gates words table e =
     let t = told gates (first_word words) (other_words words) table e in
     subst (λ (one : Table). AllByRecursion (λ name. has (signals_of (other_words words)) name ≡ true) (one.output ∷ one.inputs)) t.is (named_by_signals t.gate (other_words words) t.pairs)
 
-pub gate_names_are_signals : (library : Option (List TheGate)) (words : List (List ℕ)) → AllByRecursion (λ name. has (signals_of (other_words words)) name ≡ true) (names_of (gate_tables library words))
+pub gate_names_are_signals : (library : Option (List Gate)) (words : List (List ℕ)) → AllByRecursion (λ name. has (signals_of (other_words words)) name ≡ true) (names_of (gate_tables library words))
 gate_names_are_signals library words =
     each_gate library words (λ tables. AllByRecursion (λ name. has (signals_of (other_words words)) name ≡ true) (names_of tables)) tt
     (λ gates table g e. all_append (λ name. has (signals_of (other_words words)) name ≡ true) (table.output ∷ table.inputs) [] (signals_named gates words table e) tt)
@@ -141,7 +141,7 @@ picked P by (name ∷ others) a = pick (has by name) refl (picked P by others a)
     pick true h rest = (all_among P by name a h, rest)
     pick false h rest = rest
 
-pub gate_inputs_have : (P : List ℕ → Type 0) (library : Option (List TheGate)) (words : List (List ℕ)) → AllByRecursion P (names_of (gate_tables library words)) → AllByRecursion P (gate_inputs library words)
+pub gate_inputs_have : (P : List ℕ → Type 0) (library : Option (List Gate)) (words : List (List ℕ)) → AllByRecursion P (names_of (gate_tables library words)) → AllByRecursion P (gate_inputs library words)
 gate_inputs_have P library words a = each (gate_tables library words) a
   where
     each : (tables : List Table) → AllByRecursion P (names_of tables) → AllByRecursion P (flat_map (λ (table : Table). filter (has table.inputs) (signals_of (other_words words))) tables)
@@ -166,7 +166,7 @@ kept_name by (first ∷ others) name h k = pick (bytes_eq name first) refl (has 
     pick false e true f g rec = ap (λ b. b || has (filter (has by) others) name) e ∙ rec g
     pick false e false f g rec = rec g
 
-pub gate_reads : (library : Option (List TheGate)) (words : List (List ℕ)) (name : List ℕ) → has (table_inputs (gate_tables library words)) name ≡ true → has (gate_inputs library words) name ≡ true
+pub gate_reads : (library : Option (List Gate)) (words : List (List ℕ)) (name : List ℕ) → has (table_inputs (gate_tables library words)) name ≡ true → has (gate_inputs library words) name ≡ true
 gate_reads library words name =
     each_gate library words (λ tables. has (table_inputs tables) name ≡ true → has (flat_map (λ (table : Table). filter (has table.inputs) (signals_of (other_words words))) tables) name ≡ true) (λ h. h)
     (λ gates table g e h.

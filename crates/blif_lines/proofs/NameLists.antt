@@ -1,8 +1,8 @@
--- Lists of names: what holds of all of them, how often a name stands in them.
+-- Lists of names: what holds of all of them, and how often a name occurs in them.
 use Rattle.std.specs.Prelude.{◌≡◌, ℕ, zero, suc, ◌+◌, ◌<◌, ◌≤◌, Bool, true, false, not, ◌&&◌, ◌||◌, nat_lt, List, [], ◌∷◌, ◌++◌, map, take, count_by, find, Some, None, cond, bytes_eq, if◌then◌else◌}
 use Rattle.std.specs.List.{AllByRecursion}
 use Rattle.std.proofs.Common.{refl, sym, ◌∙◌, ap, subst, arith}
-use Rattle.std.proofs.lemmas.Bool.{ltb-false, ltb-true}
+use Rattle.std.proofs.lemmas.Bool.{ltb-false, ltb-true, and_from}
 use Rattle.std.proofs.lemmas.List.Sums.{sum_by-cons, sum_by-append}
 use Rattle.std.proofs.lemmas.Slice.Eq.{bytes_eq-Decides}
 use Rattle.circuit_model.specs.Names.{has, all_different}
@@ -21,9 +21,6 @@ and_left false b e = e
 pub and_right : (a b : Bool) → (a && b) ≡ true → b ≡ true
 and_right true b e = e
 and_right false b e = absurd (cc)
-
-pub and_true : (a b : Bool) → a ≡ true → b ≡ true → (a && b) ≡ true
-and_true a b e f = rw (e, f) refl
 
 -- facts of all items of a list
 
@@ -90,7 +87,7 @@ all_of_has P (first ∷ names) h =
     either true b e = refl
     either false b e = e
 
--- how often a name stands in a list
+-- how often a name occurs in a list
 
 abbrev pub times : List (List ℕ) → List ℕ → ℕ
 times names name = count_by (bytes_eq name) names
@@ -154,7 +151,7 @@ pub once_different : (names : List (List ℕ)) → ((name : List ℕ) → times 
 unfolding all_different
 once_different [] h = refl
 once_different (first ∷ names) h =
-    and_true (not (has names first)) (all_different names) (ap not (not_there names first none)) (once_different names rest)
+    and_from (not (has names first)) (all_different names) (ap not (not_there names first none)) (once_different names rest)
   where
     none : times names first ≡ 0
     none = let more : times (first ∷ names) first ≡ 1 + times names first = times_one first first names (own_name first) in let most : times (first ∷ names) first ≤ 1 = h first in omega arith

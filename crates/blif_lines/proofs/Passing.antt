@@ -1,11 +1,12 @@
--- What holds of the draft before the first line, and is kept by each line without a fault, holds behind the last one.
+-- What holds of the draft before the first line, and is kept by each line without a fault, holds
+-- after the last one.
 
 use Rattle.std.specs.Prelude.{◌≡◌, Bool, true, false, Option, Some, None, Result, Ok, Err, List, [], ◌∷◌}
 use Rattle.std.specs.List.{AllByRecursion}
 use Rattle.std.proofs.Common.{refl, subst}
 use Rattle.circuit_model.specs.declared.circuit.Circuit.{Circuit}
 use Rattle.sis_text.specs.Entries.{Entry}
-use Rattle.genlib_format.specs.declared.gate.Gate.{Gate as TheGate}
+use Rattle.genlib_format.specs.declared.gate.Gate.{Gate}
 use Rattle.blif_lines.specs.Reader.{unless}
 use Rattle.blif_lines.specs.Steps.{take_entries, no_lines, kept_of, kept_fault, kept_circuit, is_kept_machine, kept_head_fault, kept_head, read_kept_as, read_kept, finish}
 use Rattle.blif_lines.specs.declared.fault.BlifFault.{BlifFault}
@@ -15,7 +16,7 @@ use Rattle.blif_lines.specs.declared.draft.Draft.{Draft}
 use Rattle.blif_lines.proofs.Agreement.{fault_at, next_at, taken_entry}
 
 -- an invariant of the steps over lines of some kind
-pub kept_through : (library : Option (List TheGate)) (Inv : Draft → Type 0) (Fits : Entry → Type 0) (lines : List Entry) (draft last : Draft)
+pub kept_through : (library : Option (List Gate)) (Inv : Draft → Type 0) (Fits : Entry → Type 0) (lines : List Entry) (draft last : Draft)
     → ((line : Entry) (one : Draft) → Fits line → fault_at library one line ≡ None → Inv one → Inv (next_at library one line))
     → AllByRecursion Fits lines → Inv draft → take_entries library draft lines ≡ Ok last → Inv last
 unfolding take_entries
@@ -28,21 +29,21 @@ kept_through library Inv Fits (line ∷ lines) draft last keep fits i e =
     step None f rec = rec f (rw (taken_entry library draft line None f) at e)
     step (Some fault) f rec = absurd (let wrong = rw (taken_entry library draft line (Some fault) f) at e in cc)
 
--- the draft behind the last line, where a circuit is read
-pub record LastDraft (library : Option (List TheGate)) (lines : List Entry) (circuit : Circuit) : Type 0 where
+-- the draft after the last line, if a circuit is read
+pub record LastDraft (library : Option (List Gate)) (lines : List Entry) (circuit : Circuit) : Type 0 where
   pub draft : Draft
   pub taken : take_entries library no_lines lines ≡ Ok draft
   pub whole : kept_fault (kept_of draft) ≡ None
   pub circuit_is : kept_circuit (kept_of draft) ≡ circuit
 
 -- the same where the head of a machine is read
-pub record LastHead (library : Option (List TheGate)) (lines : List Entry) (head : Head) : Type 0 where
+pub record LastHead (library : Option (List Gate)) (lines : List Entry) (head : Head) : Type 0 where
   pub draft : Draft
   pub taken : take_entries library no_lines lines ≡ Ok draft
   pub whole : kept_head_fault (kept_of draft) ≡ None
   pub head_is : kept_head (kept_of draft) ≡ head
 
-pub last_draft : (library : Option (List TheGate)) (lines : List Entry) (circuit : Circuit) → finish (take_entries library no_lines lines) ≡ Ok (content.Circuit circuit) → LastDraft library lines circuit
+pub last_draft : (library : Option (List Gate)) (lines : List Entry) (circuit : Circuit) → finish (take_entries library no_lines lines) ≡ Ok (content.Circuit circuit) → LastDraft library lines circuit
 unfolding read_kept
 last_draft library lines circuit e = by (take_entries library no_lines lines) refl e
   where
@@ -62,7 +63,7 @@ last_draft library lines circuit e = by (take_entries library no_lines lines) re
     by (Ok draft) t f = which draft t (is_kept_machine (kept_of draft)) f
     by (Err fault) t f = absurd (cc)
 
-pub last_head : (library : Option (List TheGate)) (lines : List Entry) (head : Head) → finish (take_entries library no_lines lines) ≡ Ok (content.Head head) → LastHead library lines head
+pub last_head : (library : Option (List Gate)) (lines : List Entry) (head : Head) → finish (take_entries library no_lines lines) ≡ Ok (content.Head head) → LastHead library lines head
 unfolding read_kept
 last_head library lines head e = by (take_entries library no_lines lines) refl e
   where

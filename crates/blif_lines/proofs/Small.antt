@@ -1,4 +1,5 @@
--- What is read keeps the limits: each draft does, and each step keeps it so; with it the shape of tables.
+-- What is read keeps the limits: each draft does, and each step keeps it so; with it the shape of
+-- tables.
 
 use Rattle.std.specs.Prelude.{◌≡◌, ℕ, ◌+◌, ◌-◌, ◌<◌, ◌≤◌, ◌==◌, length, take, Bool, true, false, not, ◌||◌, bytes_eq, nat_le, nat_lt, Option, Some, None, Ok, List, [], ◌∷◌, ◌++◌, map, slice_index, codes}
 use Rattle.std.specs.List.{AllByRecursion}
@@ -51,7 +52,7 @@ pub length_with : (tables : List Table) (reading : Reading) → length (tables_w
 unfolding tables_with
 length_with tables reading = length-append tables (reading.table ∷ [])
 
--- a `.names` line without a fault has few inputs, and few tables and latches stand before it
+-- a `.names` line without a fault has few inputs, and few tables and latches come before it
 abbrev pub names_causes : ℕ → ℕ → List (List ℕ) → List (Option BlifFault)
 names_causes nodes number words = when (is_none words) (BadArity number) ∷ long_fault words ∷ one_too_many nodes ∷ many_inputs (input_words words) ∷ []
 
@@ -164,7 +165,8 @@ pub good_gate : (gates : List TheGate) (cell : List ℕ) (words : List (List ℕ
 good_gate gates cell words table sound e =
     let small = gate_small gates cell words table sound e in record { rows = small.0; inputs = small.1; shaped = gate_shaped gates cell words table e }
 
--- a fact of tables that lines keep: a new table has it, a row leaves it, and the tables of gates have it
+-- a fact of tables that lines keep: a new table has it, a row leaves it, and the tables of gates
+-- have it
 pub record AreKept (library : Option (List TheGate)) (P : Table → Type 0) : Type 0 where
   pub new : (words : List (List ℕ)) → length (input_words words) ≤ MAX_INPUTS → P (table_of words [])
   pub row : (reading : Reading) (number : ℕ) (bytes : List ℕ) → reading_fault reading number bytes ≡ None → P reading.table → P (with_row reading bytes).table

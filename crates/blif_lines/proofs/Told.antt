@@ -1,4 +1,5 @@
--- What is read is sound: the lists of the draft tell of its tables and latches what the checks need.
+-- What is read is sound: the lists of the draft have what the checks need of its tables and
+-- latches.
 
 use Rattle.std.specs.Prelude.{◌≡◌, ℕ, zero, suc, ◌+◌, ◌≤◌, ◌<◌, Bool, true, false, not, ◌||◌, Option, Some, None, List, [], ◌∷◌, ◌++◌, map, find, bytes_eq, codes, option_to_list, unwrap_or, if◌then◌else◌}
 use Rattle.std.specs.List.{AllByRecursion, filter}
@@ -51,8 +52,9 @@ read_names tables latches outputs = table_inputs tables ++ (inputs_of latches ++
 abbrev pub own_tables : Draft → List Table
 own_tables draft = model_of draft.has_part draft.model_tables (tables_with draft.tables draft.reading)
 
--- the ports are those that the inputs and the outputs have, the driven signals those that latches and tables drive, and
--- what a table, latch or output reads is among the read ones; timing goes with latches, and its control is not `NIL`
+-- the ports are those that the inputs and the outputs have, the driven signals those that latches
+-- and tables drive, and what a table, latch or output reads is among the read ones; timing goes
+-- with latches, and its control is not `NIL`
 pub record IsToldDraft (draft : Draft) : Type 0 where
   pub ports : (name : List ℕ) → times draft.ports name ≡ times draft.inputs name + times draft.outputs name
   pub drives : (name : List ℕ) → times draft.drives name ≡ times (states_of draft.latches) name + times (outputs_of (own_tables draft)) name
@@ -166,7 +168,7 @@ told_latch library draft number words whole is t = record {
   not_nil = nil_with draft.latches draft.timing (timing_of words) t.not_nil (nil_not words);
 }
 
--- a gate's table stands behind those of the model
+-- a gate's table comes after those of the model
 pub told_gate : (library : Option (List TheGate)) (draft : Draft) (number : ℕ) (words whole : List (List ℕ)) → draft.has_part ≡ false → IsToldDraft draft → IsToldDraft (with_line library Gate draft number words whole)
 unfolding closed tables_with
 told_gate library draft number words whole own t =

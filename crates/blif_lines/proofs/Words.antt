@@ -1,4 +1,4 @@
--- Words as they stand in a text: what is said of them goes by their bytes.
+-- Words as slices of a text: definitions about them go by their bytes.
 use Rattle.std.specs.Prelude.{◌≡◌, ℕ, ◌+◌, ◌-◌, ◌<◌, ◌≤◌, length, take, List, [], ◌∷◌, ◌++◌, min}
 use Rattle.std.specs.Borrow.{Bor}
 use Rattle.std.specs.List.{take-map}
@@ -11,7 +11,7 @@ use Rattle.blif_lines.specs.Lines.{last_word, joined, input_words}
 pub texts_more : (words : List (Bor (List ℕ))) (i : ℕ) (d : Bor (List ℕ)) → i < length words → texts (take (i + 1) words) ≡ texts (take i words) ++ (get_or words i d).now ∷ []
 texts_more words i d h = rw (take_more words i d h) (map-append (λ (word : Bor (List ℕ)). word.now) (take i words) (get_or words i d ∷ []))
 
--- the last word is the one at the last place
+-- the last word is the one of the last index
 pub last_by : (word : Bor (List ℕ)) (words : List (Bor (List ℕ))) (d : Bor (List ℕ)) → last_word (texts (word ∷ words)) ≡ (get_or (word ∷ words) (length words) d).now
 unfolding last_word
 last_by word [] d = refl

@@ -1,6 +1,6 @@
--- When the head of a machine is right: what holds of each one that is read.
--- Source: BLIF appendix of the SIS report (UCB/ERL M92/41): a model's ports are known by their names, and no port stands twice. The
--- limit on names is the project's own.
+-- When the head of a machine is sound: what holds of each one that is read. Source: BLIF appendix
+-- of the SIS report (UCB/ERL M92/41): a model's ports are known by their names, and no port occurs
+-- twice. The limit on names is the project's own.
 use Rattle.std.specs.Prelude.{◌≡◌, ℕ, ◌≤◌, true, List, [], ◌∷◌, ◌++◌, length, unwrap_or}
 use Rattle.std.specs.List.{AllByRecursion}
 use Rattle.sis_base.specs.Written.{is_word}
@@ -12,7 +12,7 @@ use Rattle.sis_base.specs.declared.limits.TheConstants.{MAX_NAME}
 abbrev pub listed_ports_of : Head → List (List ℕ)
 listed_ports_of head = unwrap_or head.inputs [] ++ unwrap_or head.outputs []
 
--- each name is a word, and no port stands twice
+-- each name is a word, and no port occurs twice
 pub record IsSoundHead (head : Head) : Type 0 where
   pub words : AllByRecursion (λ (name : List ℕ). is_word name ≡ true) (head.name ∷ listed_ports_of head)
   pub once : all_different (listed_ports_of head) ≡ true

@@ -1,6 +1,5 @@
--- What a logical line is, by its first word.
--- Source: BLIF appendix of the SIS report (UCB/ERL M92/41): a line that begins with `.` is a declaration, any
--- other one a row of a table.
+-- What a logical line is, by its first word. Source: BLIF appendix of the SIS report (UCB/ERL
+-- M92/41): a line that begins with `.` is a declaration, any other one a row of a table.
 use Rattle.std.specs.Prelude.{ℕ, Bool, true, false, List, [], ◌∷◌, bytes_eq, codes, if◌then◌else◌}
 use Rattle.circuit_model.specs.Names.{has}
 use Rattle.sis_text.specs.Words.{begins_with}
@@ -9,7 +8,8 @@ use Rattle.line_words.specs.LineWords.{first_word}
 use Rattle.blif_lines.specs.declared.keyword.Keyword.{Keyword}
 use Rattle.blif_lines.specs.declared.keyword.Keyword.TheVariants.{Model, Inputs, Outputs, Clock, Names, Latch, Gate, StartKiss, DontCare, End, Skipped, Row, Other}
 
--- the words whose lines are read past: they tell of areas, delays, loads and events, of which nothing is kept
+-- the words whose lines are skipped: they describe areas, delays, loads and events, none of which
+-- is kept
 unfoldable pub skipped_words : List (List ℕ)
 skipped_words =
     codes ".latch_order" ∷ codes ".code" ∷ codes ".area" ∷ codes ".delay" ∷ codes ".wire_load_slope" ∷ codes ".wire"
@@ -17,8 +17,8 @@ skipped_words =
     ∷ codes ".input_drive" ∷ codes ".default_input_drive" ∷ codes ".output_load" ∷ codes ".default_output_load"
     ∷ codes ".max_input_load" ∷ codes ".default_max_input_load" ∷ codes ".cycle" ∷ codes ".clock_event" ∷ []
 
--- the kind of a line by its first word; `.end_kiss` is none of a model's words, since the line that ends a KISS2 part is not among
--- its lines
+-- the kind of a line by its first word; `.end_kiss` is not a word of a model, since the line that
+-- ends a KISS2 part is not among its lines
 unfoldable pub keyword_of : List ℕ → Keyword
 keyword_of word =
     if bytes_eq word (codes ".model") then Model

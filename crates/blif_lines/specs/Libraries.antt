@@ -1,10 +1,10 @@
--- A library that may be missing.
--- Source: the genlib format of SIS (UCB/ERL M92/41). Without a library each line of a gate is refused.
+-- A library that may be missing. Source: the genlib format of SIS (UCB/ERL M92/41). Without a
+-- library each line of a gate is refused.
 use Rattle.std.specs.Prelude.{Option, Some, None, List}
 use Rattle.genlib_format.specs.declared.gate.Gate.{Gate}
-use Rattle.genlib_format.specs.Soundness.{IsSound}
+use Rattle.genlib_format.specs.Soundness.{IsSoundGates}
 
--- a library is sound where there is one
+-- a library is sound if there is one
 abbrev pub IsSoundLibrary : Option (List Gate) → Type 0
 IsSoundLibrary None = Unit {0}
-IsSoundLibrary (Some gates) = IsSound gates
+IsSoundLibrary (Some gates) = IsSoundGates gates

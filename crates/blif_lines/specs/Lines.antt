@@ -1,8 +1,8 @@
--- What is wrong with one logical line of a model, given the lines before it.
--- Source: BLIF appendix of the SIS report (UCB/ERL M92/41): `.model`, `.inputs`, `.outputs`, `.clock`, `.names` with its
--- rows, `.latch`, `.gate`, `.start_kiss`, `.exdc` with the don't-care part behind it, and `.end`. The order of the causes and
--- the limits are the project's own. The lines of a KISS2 part are not among these lines, but for the one that begins it.
--- The lines before a line are given newest first.
+-- What is wrong with one logical line of a model, given the lines before it. Source: BLIF appendix
+-- of the SIS report (UCB/ERL M92/41): `.model`, `.inputs`, `.outputs`, `.clock`, `.names` with its
+-- rows, `.latch`, `.gate`, `.start_kiss`, `.exdc` followed by the don't-care part, and `.end`. The
+-- order of the causes and the limits are the project's own. The lines of a KISS2 part are not among
+-- these lines, except the one that begins it. The lines before a line are given newest first.
 use Rattle.std.specs.Prelude.{ℕ, ◌+◌, ◌-◌, Bool, true, false, not, ◌&&◌, ◌||◌, ◌==◌, nat_le, nat_lt, Option, Some, None, Result, Ok, Err, List, [], ◌∷◌, map, reverse, length, take, drop, find, flat_map, take_while, count_by, codes, bytes_eq, slice_index, if◌then◌else◌}
 use Rattle.std.specs.List.{list_all, list_any}
 use Rattle.std.specs.Option.{option_map}
@@ -23,7 +23,7 @@ use Rattle.blif_lines.specs.declared.fault.BlifFault.{BlifFault}
 use Rattle.blif_lines.specs.declared.fault.BlifFault.TheVariants.{UnknownWord, BadArity, BadRow, MixedPhase, BadLatch, SecondModel, NoLibrary, UnknownGate, BadPins, Limit}
 use Rattle.sis_base.specs.declared.limits.TheConstants.{MAX_INPUTS, MAX_NODES, MAX_ROWS}
 
--- a fault where a test holds
+-- a fault if a test holds
 abbrev pub when : Bool → BlifFault → Option BlifFault
 when test fault = if test then Some fault else None
 
@@ -66,7 +66,8 @@ begins_part kind = false
 unfoldable pub has_part : List Entry → Bool
 has_part back = list_any (λ line. begins_part (kind_of line)) back
 
--- where a line stands behind the lines before it: in the model itself, in its don't-care part, or behind the end
+-- the part of a line, by the lines before it: the model itself, its don't-care part, or after the
+-- end
 unfoldable pub part_behind : List Entry → Part
 part_behind back = if is_ended back then part.Behind else (if has_part back then part.DontCare else part.Model)
 
@@ -79,29 +80,30 @@ begins_kiss kind = false
 unfoldable pub has_kiss : List Entry → Bool
 has_kiss lines = list_any (λ line. begins_kiss (kind_of line)) lines
 
--- whether a place is in the model itself
+-- whether a part is the model itself
 abbrev pub is_in_model : Part → Bool
 is_in_model part.Model = true
 is_in_model place = false
 
--- whether a place is in the don't-care part
+-- whether a part is the don't-care part
 abbrev pub is_in_dont_care : Part → Bool
 is_in_dont_care part.DontCare = true
 is_in_dont_care place = false
 
--- whether a place is behind the end
+-- whether a part is after the end
 abbrev pub is_behind : Part → Bool
 is_behind part.Behind = true
 is_behind place = false
 
--- the lines that count towards the limit of tables and latches: those of tables, latches and gates, in the don't-care part too
+-- the lines that count towards the limit of tables and latches: those of tables, latches and gates,
+-- also in the don't-care part
 abbrev pub is_node_kind : Keyword → Bool
 is_node_kind Names = true
 is_node_kind Latch = true
 is_node_kind Gate = true
 is_node_kind kind = false
 
--- how many tables, latches and gates the lines before have
+-- the number of tables, latches and gates in the lines before
 unfoldable pub nodes_in : List Entry → ℕ
 nodes_in back = count_by (λ line. is_node_kind (kind_of line)) back
 
@@ -109,7 +111,7 @@ nodes_in back = count_by (λ line. is_node_kind (kind_of line)) back
 abbrev pub long_fault : List (List ℕ) → Option BlifFault
 long_fault names = option_map (λ len. Limit limit.Name len) (long_name names)
 
--- one table, latch or gate more than `MAX_NODES`
+-- one more table, latch or gate than `MAX_NODES`
 abbrev pub one_too_many : ℕ → Option BlifFault
 one_too_many nodes = when (nat_le MAX_NODES nodes) (Limit limit.Tables (MAX_NODES + 1))
 
@@ -125,7 +127,8 @@ is_init word = bytes_eq word (codes "0") || bytes_eq word (codes "1") || bytes_e
 abbrev pub is_latch_kind : List ℕ → Bool
 is_latch_kind word = bytes_eq word (codes "fe") || bytes_eq word (codes "re") || bytes_eq word (codes "ah") || bytes_eq word (codes "al")
 
--- whether words may stand behind a latch's signals: its kind with a control, its start value, both or none
+-- whether words may follow a latch's signals: its kind with a control, its start value, both or
+-- none
 abbrev pub is_latch_end : List (List ℕ) → Bool
 is_latch_end [] = true
 is_latch_end (init ∷ []) = is_init init
@@ -133,13 +136,13 @@ is_latch_end (kind ∷ control ∷ []) = is_latch_kind kind
 is_latch_end (kind ∷ control ∷ init ∷ []) = is_latch_kind kind && is_init init
 is_latch_end (kind ∷ control ∷ init ∷ word ∷ words) = false
 
--- whether words are those of a latch: its input, its output, and what may stand behind them
+-- whether words are those of a latch: its input, its output, and what may follow them
 abbrev pub is_latch : List (List ℕ) → Bool
 is_latch [] = false
 is_latch (input ∷ []) = false
 is_latch (input ∷ output ∷ words) = is_latch_end words
 
--- the words of a latch that are names: its input, its output, and its control where it has one
+-- the words of a latch that are names: its input, its output, and its control if it has one
 abbrev pub latch_names : List (List ℕ) → List (List ℕ)
 latch_names (input ∷ output ∷ kind ∷ control ∷ words) = input ∷ output ∷ control ∷ []
 latch_names words = take 2 words
@@ -157,7 +160,7 @@ unfoldable pub is_row_of : ℕ → List ℕ → Bool
 is_row_of width bytes =
     length bytes == width + 1 && list_all is_character (take width bytes) && list_all is_output_character (drop width bytes)
 
--- the character behind the inputs' ones
+-- the character after those of the inputs
 abbrev pub output_character : ℕ → List ℕ → ℕ
 output_character width bytes = slice_index bytes width
 
@@ -166,7 +169,7 @@ abbrev pub has_phase_of : ℕ → List (List ℕ) → List ℕ → Bool
 has_phase_of width [] bytes = true
 has_phase_of width (row ∷ rows) bytes = output_character width bytes == output_character width row
 
--- what is wrong with bytes as a further row of a table of this width, behind these rows
+-- what is wrong with bytes as a further row of a table of this width, after these rows
 unfoldable pub table_row_fault : ℕ → List (List ℕ) → ℕ → List ℕ → Option BlifFault
 table_row_fault width rows number bytes = first_of
     (when (not (is_row_of width bytes)) (BadRow number)
@@ -174,31 +177,32 @@ table_row_fault width rows number bytes = first_of
     ∷ when (nat_le MAX_ROWS (length rows)) (Limit limit.Rows (MAX_ROWS + 1))
     ∷ [])
 
--- the newest line that is no row
+-- the newest line that is not a row
 abbrev pub heading : List Entry → Option Entry
 heading back = find (λ line. not (is_row line)) back
 
--- the rows behind the newest line that is no row, in file order
+-- the rows after the newest line that is not a row, in file order
 abbrev pub rows_behind : List Entry → List (List ℕ)
 rows_behind back = map (λ (line : Entry). joined line.words) (reverse (take_while is_row back))
 
--- what is wrong with bytes as a row behind a heading: a row belongs to a `.names` line
+-- what is wrong with bytes as a row after a heading: a row belongs to a `.names` line
 abbrev pub row_fault_under : Keyword → List (List ℕ) → List (List ℕ) → ℕ → List ℕ → Option BlifFault
 row_fault_under Names words rows number bytes = table_row_fault (length words - 1) rows number bytes
 row_fault_under kind words rows number bytes = Some (BadRow number)
 
--- what is wrong with bytes as a row behind the newest line that is no row, if there is one
+-- what is wrong with bytes as a row after the newest line that is not a row, if there is one
 abbrev pub row_fault : Option Entry → List (List ℕ) → ℕ → List ℕ → Option BlifFault
 row_fault None rows number bytes = Some (BadRow number)
 row_fault (Some line) rows number bytes = row_fault_under (kind_of line) (other_words line.words) rows number bytes
 
--- what is wrong with the words behind the first of a `.model` line, where begun tells whether a line stands before it
+-- what is wrong with the words after the first of a `.model` line; `begun` says whether a line
+-- precedes it
 unfoldable pub model_fault : Part → Bool → ℕ → List (List ℕ) → Option BlifFault
 model_fault place begun number words = first_of
     (when (is_in_dont_care place) (UnknownWord number) ∷ when (nat_lt 1 (length words)) (BadArity number)
     ∷ when begun (SecondModel number) ∷ long_fault words ∷ [])
 
--- what is wrong with a line of ports; in the don't-care part it is read past
+-- what is wrong with a line of ports; in the don't-care part it is skipped
 unfoldable pub ports_fault : Part → ℕ → List (List ℕ) → Option BlifFault
 ports_fault part.Model number words = long_fault words
 ports_fault part.DontCare number words = None
@@ -208,44 +212,45 @@ ports_fault part.Behind number words = Some (UnknownWord number)
 unfoldable pub clock_fault : Part → ℕ → List (List ℕ) → Option BlifFault
 clock_fault place number words = first_of (when (not (is_in_model place)) (UnknownWord number) ∷ long_fault words ∷ [])
 
--- what is wrong with a `.names` line, where so many tables, latches and gates stand before it
+-- what is wrong with a `.names` line, after so many tables, latches and gates
 unfoldable pub names_fault : Part → ℕ → ℕ → List (List ℕ) → Option BlifFault
 names_fault place nodes number words = first_of
     (when (is_behind place) (UnknownWord number) ∷ when (is_none words) (BadArity number) ∷ long_fault words ∷ one_too_many nodes
     ∷ many_inputs (input_words words) ∷ [])
 
--- what is wrong with a `.latch` line, where so many tables, latches and gates stand before it
+-- what is wrong with a `.latch` line, after so many tables, latches and gates
 unfoldable pub latch_fault : Part → ℕ → ℕ → List (List ℕ) → Option BlifFault
 latch_fault place nodes number words = first_of
     (when (not (is_in_model place)) (UnknownWord number) ∷ when (not (is_latch words)) (BadLatch number)
     ∷ long_fault (latch_names words) ∷ one_too_many nodes ∷ [])
 
--- what is wrong with the cell and the pairs of a gate, by what a library reads of them
+-- what is wrong with the cell and the pairs of a gate, by the result of a library
 abbrev pub cell_fault : ℕ → Result Table GateFault → Option BlifFault
 cell_fault number (Ok table) = None
 cell_fault number (Err gate.UnknownGate) = Some (UnknownGate number)
 cell_fault number (Err gate.BadPins) = Some (BadPins number)
 
--- the same by a library that may be missing
+-- the same with a library that may be missing
 abbrev pub library_fault : Option (List TheGate) → ℕ → List (List ℕ) → Option BlifFault
 library_fault None number words = Some (NoLibrary number)
 library_fault (Some library) number words = cell_fault number (read_gate library (first_word words) (other_words words))
 
--- what is wrong with a `.gate` line, where so many tables, latches and gates stand before it
+-- what is wrong with a `.gate` line, after so many tables, latches and gates
 unfoldable pub gate_fault : Option (List TheGate) → Part → ℕ → ℕ → List (List ℕ) → Option BlifFault
 gate_fault library place nodes number words = first_of
     (when (not (is_in_model place)) (UnknownWord number) ∷ when (is_none words) (BadArity number) ∷ library_fault library number words
     ∷ long_fault (signals_of (other_words words)) ∷ one_too_many nodes ∷ [])
 
--- what is wrong with the line that begins a KISS2 part, where had tells whether one began before it
+-- what is wrong with the line that begins a KISS2 part; `had` says whether an earlier one began
 unfoldable pub start_fault : Part → Bool → ℕ → Option BlifFault
 start_fault place had number = when (not (is_in_model place) || had) (UnknownWord number)
 
--- what is wrong with the line that begins the don't-care part, or with one that is read past
+-- what is wrong with the line that begins the don't-care part, or with one that is skipped
 abbrev pub place_fault : Part → ℕ → Option BlifFault
 place_fault place number = when (not (is_in_model place)) (UnknownWord number)
 
--- what is wrong with a line behind the lines before it, by its kind: its number, its words behind the first, all words
+-- what is wrong with a line after the lines before it, by its kind: its number, its words after the
+-- first, all words
 abbrev pub fault_as : Option (List TheGate) → Keyword → List Entry → ℕ → List (List ℕ) → List (List ℕ) → Option BlifFault
 fault_as library Model back number words whole = model_fault (part_behind back) (not (is_none back)) number words
 fault_as library Inputs back number words whole = ports_fault (part_behind back) number words

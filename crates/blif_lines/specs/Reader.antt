@@ -1,8 +1,10 @@
--- What a model's logical lines are read as: the first fault, or the circuit that they say, or the head of a machine.
--- Source: BLIF appendix of the SIS report (UCB/ERL M92/41): a model is its ports, clocks, latches and tables; several port
--- lines add up, and ports without a line are found; tables may stand in any order; each signal has one driver, tables form
--- no cycle, and all latches share one clock; tables behind `.exdc` are the don't-care part. A model with a KISS2 part and
--- without a table, a latch or a gate of its own is a machine; what stands in that part is not among these lines.
+-- What a model's logical lines are read as: the first fault, or the circuit that they describe, or
+-- the head of a machine. Source: BLIF appendix of the SIS report (UCB/ERL M92/41): a model is its
+-- ports, clocks, latches and tables; several port lines add up, and ports without a line are found;
+-- tables may come in any order; each signal has one driver, tables form no cycle, and all latches
+-- share one clock; tables after `.exdc` are the don't-care part. A model with a KISS2 part and
+-- without a table, a latch or a gate of its own is a machine; the lines of that part are not among
+-- these lines.
 use Rattle.std.specs.Prelude.{◌≡◌, ℕ, ◌-◌, Bool, true, false, not, ◌&&◌, ◌==◌, Option, Some, None, Result, Ok, Err, List, [], ◌∷◌, ◌++◌, map, length, take, drop, find, flat_map, take_while, bytes_eq, codes, slice_index, if◌then◌else◌}
 use Rattle.std.specs.List.{filter, list_any}
 use Rattle.std.specs.Option.{option_map, option_or}
@@ -41,7 +43,7 @@ unfoldable pub first_line_fault : Option (List TheGate) → List Entry → List 
 first_line_fault library back [] = None
 first_line_fault library back (line ∷ lines) = option_or (line_fault library back line) (first_line_fault library (line ∷ back) lines)
 
--- the words of all lines, each line by its kind and its words behind the first
+-- the words of all lines, each line by its kind and its words after the first
 abbrev pub of_lines : {A : Type 0} → (Keyword → List (List ℕ) → List A) → List Entry → List A
 of_lines words_of lines = flat_map (λ line. words_of (kind_of line) (other_words line.words)) lines
 
@@ -49,7 +51,7 @@ of_lines words_of lines = flat_map (λ line. words_of (kind_of line) (other_word
 unfoldable pub model_lines : List Entry → List Entry
 model_lines lines = take_while (λ line. not (begins_part (kind_of line))) lines
 
--- the lines of the don't-care part: the one that begins it, and those behind it
+-- the lines of the don't-care part: the one that begins it, and those after it
 unfoldable pub part_lines : List Entry → List Entry
 part_lines lines = drop (length (model_lines lines)) lines
 
@@ -83,12 +85,12 @@ abbrev pub latch_output : List (List ℕ) → List (List ℕ)
 latch_output [] = []
 latch_output (input ∷ words) = take 1 words
 
--- the table of a gate, where its cell and its pairs are right
+-- the table of a gate, if its cell and its pairs are right
 abbrev pub right_table : Result Table GateFault → List Table
 right_table (Ok table) = table ∷ []
 right_table (Err fault) = []
 
--- the table that the words of a `.gate` line say, by a library that may be missing
+-- the table of the words of a `.gate` line, by a library that may be missing
 abbrev pub gate_tables : Option (List TheGate) → List (List ℕ) → List Table
 gate_tables None words = []
 gate_tables (Some library) words = right_table (read_gate library (first_word words) (other_words words))
@@ -146,15 +148,17 @@ lists_inputs lines = list_any (λ line. is_inputs_kind (kind_of line)) lines
 unfoldable pub lists_outputs : List Entry → Bool
 lists_outputs lines = list_any (λ line. is_outputs_kind (kind_of line)) lines
 
--- the names that are not among others, each once, where it comes first
+-- the names that are not among others, each once, in order of first mention
 unfoldable pub names_beside : List (List ℕ) → List (List ℕ) → List (List ℕ)
 names_beside others names = each_once (filter (λ name. not (has others name)) names)
 
--- the inputs: those that lines list; without such a line the signals that tables, latches and gates read and nothing drives
+-- the inputs: those that lines list; without such a line the signals that tables, latches and gates
+-- read and nothing drives
 unfoldable pub inputs_in : Option (List TheGate) → List Entry → List (List ℕ)
 inputs_in library lines = if lists_inputs lines then of_lines listed_inputs lines else names_beside (drives_in library lines) (reads_within library lines)
 
--- the outputs: those that lines list; without such a line the signals that are driven and that no table, latch or gate reads
+-- the outputs: those that lines list; without such a line the signals that are driven and that no
+-- table, latch or gate reads
 unfoldable pub outputs_in : Option (List TheGate) → List Entry → List (List ℕ)
 outputs_in library lines = if lists_outputs lines then of_lines listed_outputs lines else names_beside (reads_within library lines) (drives_in library lines)
 
@@ -166,8 +170,8 @@ ports_in lines = of_lines listed_ports lines
 unfoldable pub clocks_in : List Entry → List (List ℕ)
 clocks_in lines = of_lines listed_clocks lines
 
--- the start value of a latch, by the words behind its output: the last of one or three, and 3, which is not known, where
--- none is written
+-- the start value of a latch, by the words after its output: the last of one or three, and 3, which
+-- is unknown, if none is written
 abbrev pub init_of : List (List ℕ) → ℕ
 init_of (init ∷ []) = slice_index init 0 - 48
 init_of (kind ∷ control ∷ init ∷ words) = slice_index init 0 - 48
@@ -178,12 +182,12 @@ abbrev pub latch_of : List (List ℕ) → List TheLatch
 latch_of (input ∷ output ∷ rest) = record { input = input; output = output; init = init_of rest } ∷ []
 latch_of words = []
 
--- the latch that a line says, if it is one of a latch
+-- the latch of a line, if it is a `.latch` line
 abbrev pub latches_by : Keyword → List (List ℕ) → List TheLatch
 latches_by Latch words = latch_of words
 latches_by kind words = []
 
--- the latches that lines say, in file order
+-- the latches of lines, in file order
 unfoldable pub latches_in : List Entry → List TheLatch
 latches_in lines = of_lines latches_by lines
 
@@ -194,11 +198,11 @@ kind_by word =
     else (if bytes_eq word (codes "re") then Re
     else (if bytes_eq word (codes "ah") then Ah else Al))
 
--- the control of a latch by its word; `NIL` is none
+-- the control of a latch by its word; none for `NIL`
 abbrev pub control_by : List ℕ → Option (List ℕ)
 control_by word = if bytes_eq word (codes "NIL") then None else Some word
 
--- the kind and the control of a latch's words, where they are written
+-- the kind and the control of a latch's words, if they are written
 abbrev pub timing_of : List (List ℕ) → Option Timing
 timing_of (input ∷ output ∷ kind ∷ control ∷ words) = Some (record { kind = kind_by kind; control = control_by control })
 timing_of words = None
@@ -239,18 +243,18 @@ same_control None None = true
 same_control (Some name) (Some other) = bytes_eq name other
 same_control control other = false
 
--- whether two timings are the same; none is one of them
+-- whether two timings are the same, or both missing
 abbrev pub same_timing : Option Timing → Option Timing → Bool
 same_timing None None = true
 same_timing (Some timing) (Some other) = same_kind timing.kind other.kind && same_control timing.control other.control
 same_timing timing other = false
 
--- the number of the first latch's line whose timing is not that of the first latch
+-- the line number of the first latch whose timing is not that of the first latch
 unfoldable pub mixed_clock : List Entry → Option ℕ
 mixed_clock lines =
     option_map (λ (line : Entry). line.number) (find (λ line. not (same_timing (timing_in lines) (timing_at line))) (latch_lines lines))
 
--- the control, where a table, a latch or a gate drives it
+-- the control, if a table, a latch or a gate drives it
 unfoldable pub gated_clock : Option (List TheGate) → List Entry → Option (List ℕ)
 gated_clock library lines = find (has (drives_in library lines)) (control_of (timing_in lines))
 
@@ -272,13 +276,14 @@ table_of words rows = record {
   phase = phase_by (length words - 1) rows;
 }
 
--- the table that a line says, as it is written, with the rows that follow it; that of a gate has its rows from the library
+-- the table of a line, as it is written, with the rows that follow it; that of a gate has its rows
+-- from the library
 abbrev pub tables_by : Option (List TheGate) → Keyword → List (List ℕ) → List (List ℕ) → List Table
 tables_by library Names words rows = table_of words rows ∷ []
 tables_by library Gate words rows = gate_tables library words
 tables_by library kind words rows = []
 
--- the tables that lines say, in file order
+-- the tables of lines, in file order
 unfoldable pub tables_in : Option (List TheGate) → List Entry → List Table
 tables_in library [] = []
 tables_in library (line ∷ lines) =
@@ -295,8 +300,8 @@ unfoldable pub model_name : List Entry → List ℕ
 model_name [] = codes "top"
 model_name (line ∷ lines) = named_by (kind_of line) (other_words line.words)
 
--- the circuit that the lines say: each table of its own has each of its inputs once, those of the don't-care part stand as
--- they are written
+-- the circuit of the lines: each table of its own has each of its inputs once, those of the
+-- don't-care part are as they are written
 unfoldable pub circuit_of : Option (List TheGate) → List Entry → Circuit
 circuit_of library lines = record {
   name = model_name lines;
@@ -309,8 +314,9 @@ circuit_of library lines = record {
   dont_care = tables_in library (part_lines lines);
 }
 
--- what is wrong with the model itself, of its lines, but for cycles: a port listed twice, a latch that is timed otherwise
--- than the first one, a control that is driven, a signal driven twice, one that is read and not driven
+-- what is wrong with the model itself, except for cycles: a port listed twice, a latch whose timing
+-- is not that of the first, a control that is driven, a signal driven twice, one that is read and
+-- not driven
 unfoldable pub model_names_fault : Option (List TheGate) → List Entry → Option BlifFault
 model_names_fault library lines = first_of
     (option_map (λ name. NameTwice name) (first_listed_twice (of_lines listed_inputs lines) (of_lines listed_outputs lines) (ports_in lines))
@@ -324,8 +330,8 @@ model_names_fault library lines = first_of
 abbrev pub leaves_in : Option (List TheGate) → List Entry → List (List ℕ)
 leaves_in library lines = inputs_in library lines ++ map (λ (latch : TheLatch). latch.output) (latches_in lines)
 
--- what is wrong with the whole file: with the model's names, with its don't-care part, and last a table that is reached
--- from itself
+-- what is wrong with the whole file: with the model's names, with its don't-care part, and last a
+-- table that is reached from itself
 unfoldable pub whole_fault : Option (List TheGate) → List Entry → Option BlifFault
 whole_fault library lines = first_of
     (model_names_fault library (model_lines lines)
@@ -337,15 +343,17 @@ whole_fault library lines = first_of
 unfoldable pub has_nodes : List Entry → Bool
 has_nodes lines = list_any (λ line. is_node_kind (kind_of line)) lines
 
--- whether lines say a machine: a KISS2 part begins among them, and no table, latch or gate stands in the model itself
+-- whether lines describe a machine: a KISS2 part begins among them, and the model itself has no
+-- table, latch or gate
 unfoldable pub is_machine : List Entry → Bool
 is_machine lines = has_kiss lines && not (has_nodes (model_lines lines))
 
--- names that are listed, where a line lists any
+-- names that are listed, if a line lists any
 abbrev pub listed_where : Bool → List (List ℕ) → Option (List (List ℕ))
 listed_where listed names = if listed then Some names else None
 
--- what the lines say of a machine beside its KISS2 part: its name, and its ports where lines list them
+-- what the lines say of a machine outside its KISS2 part: its name, and its ports if lines list
+-- them
 unfoldable pub head_of : List Entry → Head
 head_of lines = record {
   name = model_name lines;
@@ -353,12 +361,12 @@ head_of lines = record {
   outputs = listed_where (lists_outputs (model_lines lines)) (of_lines listed_outputs (model_lines lines));
 }
 
--- what is wrong with a machine's listed ports: one that is listed twice, be it among the inputs, among the outputs, or once among
--- each, which is to say twice among all ports
+-- what is wrong with a machine's listed ports: one that is listed twice, among the inputs, among
+-- the outputs, or once among each, that is, twice among all ports
 unfoldable pub head_fault : List Entry → Option BlifFault
 head_fault lines = option_map (λ name. NameTwice name) (first_listed_twice (ports_in (model_lines lines)) [] (ports_in (model_lines lines)))
 
--- a fault of the whole, or what it says where there is none
+-- a fault of the whole, or what is read if there is none
 abbrev pub unless : {A : Type 0} → Option BlifFault → A → Result A BlifFault
 unless None read = Ok read
 unless (Some fault) read = Err fault
@@ -368,17 +376,17 @@ abbrev pub read_whole : Option (List TheGate) → Bool → List Entry → Result
 read_whole library true lines = unless (head_fault lines) (content.Head (head_of lines))
 read_whole library false lines = unless (whole_fault library lines) (content.Circuit (circuit_of library lines))
 
--- the first fault of a line, or what is read of the whole where there is none
+-- the first fault of a line, or what is read of the whole if there is none
 abbrev pub first_fault : {A : Type 0} → Option BlifFault → Result A BlifFault → Result A BlifFault
 first_fault None read = read
 first_fault (Some fault) read = Err fault
 
--- what a model's logical lines are read as, with a library where there is one: the first fault of a line, then one of the
--- whole, else the circuit, or the head of a machine
+-- what a model's logical lines are read as, with a library if there is one: the first fault of a
+-- line, then one of the whole, otherwise the circuit, or the head of a machine
 unfoldable pub read_lines : Option (List TheGate) → List Entry → Result Content BlifFault
 read_lines library lines = first_fault (first_line_fault library [] lines) (read_whole library (is_machine lines) lines)
 
--- what a reader answers, beside what it should; want of memory is free
+-- what a reader answers, compared with what it should; want of memory is always allowed
 abbrev pub Reads : Result Content ReadFault → Result Content BlifFault → Type 0
 Reads (Ok read) should = should ≡ Ok read
 Reads (Err (read_fault.Fault fault)) should = should ≡ Err fault

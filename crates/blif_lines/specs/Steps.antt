@@ -1,7 +1,7 @@
--- The reader's own steps: what it keeps of the lines that it has taken, and what one more line makes of that.
--- Source: BLIF appendix of the SIS report (UCB/ERL M92/41). What a file says is defined in Lines and Reader; these are
--- the steps of the code, which goes through the lines once. A law says that both come to the same.
--- Clauses of private functions alone cite this module; no public clause needs it.
+-- The reader's own steps: what it keeps of the lines that it has read, and what one more line adds
+-- to that. Source: BLIF appendix of the SIS report (UCB/ERL M92/41). Lines and Reader define what a
+-- file describes; these are the steps of the code, which goes through the lines once. A law says
+-- that both agree. Only clauses of private functions cite this module.
 use Rattle.std.specs.Prelude.{◌≡◌, ℕ, ◌+◌, Bool, true, false, not, ◌&&◌, ◌||◌, ◌==◌, nat_le, Option, Some, None, Result, Ok, Err, List, [], ◌∷◌, ◌++◌, map, find, length, codes, if◌then◌else◌}
 use Rattle.std.specs.Option.{option_map}
 use Rattle.circuit_model.specs.Names.{has, all_different}
@@ -46,7 +46,7 @@ mark_for (row ∷ rows) mark byte = mark
 abbrev pub width_of : Reading → ℕ
 width_of reading = length reading.table.inputs
 
--- the output character of the table that is being read, where these bytes are its next row
+-- the output character of the table that is being read, if these bytes are its next row
 abbrev pub mark_with : Reading → List ℕ → ℕ
 mark_with reading bytes = mark_for reading.table.rows reading.mark (output_character (width_of reading) bytes)
 
@@ -58,12 +58,12 @@ reading_fault reading number bytes = first_of
     ∷ when (nat_le MAX_ROWS (length reading.table.rows)) (Limit limit.Rows (MAX_ROWS + 1))
     ∷ [])
 
--- what is wrong with bytes as a row, where a table is being read or none is
+-- what is wrong with bytes as a row, by the table that is being read, if there is one
 abbrev pub fault_behind : Option Reading → ℕ → List ℕ → Option BlifFault
 fault_behind None number bytes = Some (BadRow number)
 fault_behind (Some reading) number bytes = reading_fault reading number bytes
 
--- what is wrong with a row, by its place and the table that is being read
+-- what is wrong with a row, by its part of the file and the table that is being read
 unfoldable pub next_fault : Part → Option Reading → ℕ → List ℕ → Option BlifFault
 next_fault place reading number bytes = first_of (when (is_behind place) (UnknownWord number) ∷ fault_behind reading number bytes ∷ [])
 
@@ -84,24 +84,24 @@ abbrev pub row_behind : Option Reading → List ℕ → Option Reading
 row_behind None bytes = None
 row_behind (Some reading) bytes = Some (with_row reading bytes)
 
--- the tables, with the one that was being read behind them
+-- the tables, followed by the one that was being read
 unfoldable pub tables_with : List Table → Option Reading → List Table
 tables_with tables None = tables
 tables_with tables (Some reading) = tables ++ reading.table ∷ []
 
--- the draft with the table that was being read behind the others
+-- the draft with the table that was being read added to the others
 unfoldable pub closed : Draft → Draft
 closed draft = record draft { begun = true; tables = tables_with draft.tables draft.reading; reading = None }
 
--- where the next line stands, by whether there was an end and whether the don't-care part has begun
+-- the part of the next line, by whether there was an end and whether the don't-care part has begun
 unfoldable pub place_at : Bool → Bool → Part
 place_at ended has_part = if ended then part.Behind else (if has_part then part.DontCare else part.Model)
 
--- where the next line stands
+-- the part of the next line
 abbrev pub place_of : Draft → Part
 place_of draft = place_at draft.ended draft.has_part
 
--- what is wrong with a line that follows: its kind, its number, its words behind the first, all its words
+-- what is wrong with the next line: its kind, its number, its words after the first, all its words
 abbrev pub draft_fault : Option (List TheGate) → Keyword → Draft → ℕ → List (List ℕ) → List (List ℕ) → Option BlifFault
 draft_fault library Model draft number words whole = model_fault (place_of draft) draft.begun number words
 draft_fault library Inputs draft number words whole = ports_fault (place_of draft) number words
@@ -117,23 +117,23 @@ draft_fault library Skipped draft number words whole = place_fault (place_of dra
 draft_fault library Row draft number words whole = next_fault (place_of draft) draft.reading number (joined whole)
 draft_fault library Other draft number words whole = Some (UnknownWord number)
 
--- the names with more behind them, where the lists of the model still grow
+-- the names with more appended, while the lists of the model still grow
 abbrev pub with_more : Bool → List (List ℕ) → List (List ℕ) → List (List ℕ)
 with_more true names more = names
 with_more false names more = names ++ more
 
--- the timing of the first latch, where one more latch has its own
+-- the timing of the first latch, after one more latch with its own
 unfoldable pub timing_with : List TheLatch → Option Timing → Option Timing → Option Timing
 timing_with [] timing own = own
 timing_with (latch ∷ latches) timing own = timing
 
--- the line of the first latch that is timed otherwise than the first one, where one more latch with its own timing stands in
--- a line of this number
+-- the line of the first latch whose timing is not that of the first, after one more latch with its
+-- own timing in a line of this number
 unfoldable pub mixed_with : Option ℕ → Option Timing → ℕ → Option Timing → Option ℕ
 mixed_with None timing number own = if same_timing timing own then None else Some number
 mixed_with (Some line) timing number own = Some line
 
--- what a line makes of the draft
+-- the draft after a line
 abbrev pub with_line : Option (List TheGate) → Keyword → Draft → ℕ → List (List ℕ) → List (List ℕ) → Draft
 with_line library Model draft number words whole = record (closed draft) { name = named_by Model words }
 with_line library Inputs draft number words whole = record (closed draft) {
@@ -182,7 +182,7 @@ with_line library Skipped draft number words whole = closed draft
 with_line library Row draft number words whole = record draft { begun = true; reading = row_behind draft.reading (joined whole) }
 with_line library Other draft number words whole = draft
 
--- a line of a kind taken into what is kept, or its fault
+-- a line of a kind added to what is kept, or its fault
 unfoldable pub take_as : Option (List TheGate) → Keyword → Draft → ℕ → List (List ℕ) → List (List ℕ) → Result Draft BlifFault
 take_as library kind draft number words whole = unless (draft_fault library kind draft number words whole) (with_line library kind draft number words whole)
 
@@ -190,7 +190,7 @@ take_as library kind draft number words whole = unless (draft_fault library kind
 unfoldable pub take_entry : Option (List TheGate) → Draft → Entry → Result Draft BlifFault
 take_entry library draft line = take_as library (keyword_of (first_word line.words)) draft line.number (other_words line.words) line.words
 
--- the next step behind one without a fault; a fault stays
+-- the next step after one without a fault; a fault stays
 abbrev pub onward : Result Draft BlifFault → (Draft → Result Draft BlifFault) → Result Draft BlifFault
 onward (Ok draft) next = next draft
 onward (Err fault) next = Err fault
@@ -236,15 +236,16 @@ abbrev pub part_of : Bool → List Table → List Table
 part_of true tables = tables
 part_of false tables = []
 
--- the ports that are listed, or those that are found where no line lists any
+-- the ports that are listed, or those that are found if no line lists any
 abbrev pub listed_or : Bool → List (List ℕ) → List (List ℕ) → List (List ℕ)
 listed_or true listed found = listed
 listed_or false listed found = found
 
--- what is kept of a model's lines: whether a KISS2 part begins, the name, whether lines list inputs and outputs, the listed
--- ones, all ports in order, clocks, the signals that are driven, those that are read, those that tables, latches and gates
--- read before a line lists inputs, the latches with their timing and the line of the first that is timed otherwise, the
--- tables, those of the don't-care part
+-- what is kept of a model's lines: whether a KISS2 part begins, the name, whether lines list inputs
+-- and outputs, the listed ones, all ports in order, clocks, the signals that are driven, those that
+-- are read, those that tables, latches and gates read before a line lists inputs, the latches with
+-- their timing and the line of the first whose timing differs, the tables, those of the don't-care
+-- part
 pub record Kept : Type 0 where
   pub has_kiss : Bool
   pub name : List ℕ
@@ -263,7 +264,7 @@ pub record Kept : Type 0 where
   pub tables : List Table
   pub dont_care : List Table
 
--- what is kept behind the last line
+-- what is kept after the last line
 abbrev pub kept_of : Draft → Kept
 kept_of draft = record {
   has_kiss = draft.has_kiss;
@@ -284,36 +285,38 @@ kept_of draft = record {
   dont_care = part_of draft.has_part (tables_with draft.tables draft.reading);
 }
 
--- the inputs: those that are listed, else those that are read within and not driven
+-- the inputs: those that are listed, otherwise those that tables, latches and gates read and
+-- nothing drives
 abbrev pub kept_inputs : Kept → List (List ℕ)
 kept_inputs kept = listed_or kept.lists_inputs kept.inputs (names_beside kept.drives kept.inner)
 
--- the outputs: those that are listed, else those that are driven and not read
+-- the outputs: those that are listed, otherwise those that are driven and not read
 abbrev pub kept_outputs : Kept → List (List ℕ)
 kept_outputs kept = listed_or kept.lists_outputs kept.outputs (names_beside kept.reads kept.drives)
 
--- the leaves: inputs and what latches drive
+-- the leaves: inputs and latch outputs
 abbrev pub kept_leaves : Kept → List (List ℕ)
 kept_leaves kept = kept_inputs kept ++ map (λ (latch : TheLatch). latch.output) kept.latches
 
--- what is wrong with the latches' timing, by the line of the first that is timed otherwise and what is driven
+-- what is wrong with the latches' timing, by the line of the first whose timing differs and the
+-- signals that are driven
 unfoldable pub timing_fault : Option ℕ → Option Timing → List (List ℕ) → Option BlifFault
 timing_fault mixed timing drives = first_of
     (option_map (λ number. MixedClock number) mixed ∷ option_map (λ name. GatedClock name) (find (has drives) (control_of timing)) ∷ [])
 
--- what is wrong with the drivers, of inputs, driven and read signals
+-- what is wrong with the drivers, by the inputs and the driven and read signals
 unfoldable pub drivers_fault : List (List ℕ) → List (List ℕ) → List (List ℕ) → Option BlifFault
 drivers_fault inputs drives reads = first_of
     (option_map (λ name. TwoDrivers name) (first_again inputs drives)
     ∷ option_map (λ name. Undriven name) (first_missing (inputs ++ drives) reads) ∷ [])
 
--- what is wrong with the tables, of the leaves, the don't-care part and the model's tables
+-- what is wrong with the tables, by the leaves, the don't-care part and the model's tables
 unfoldable pub tables_fault : List (List ℕ) → List Table → List Table → Option BlifFault
 tables_fault leaves dont_care tables = first_of
     (option_map (λ name. BadExdc name) (first_bad_part_name leaves dont_care)
     ∷ option_map (λ name. Cycle name) (first_on_cycle tables) ∷ [])
 
--- what is wrong with what is listed: a port that stands twice, the timing of the latches
+-- what is wrong with what is listed: a port that occurs twice, the timing of the latches
 unfoldable pub listed_fault : List (List ℕ) → List (List ℕ) → List (List ℕ) → Option ℕ → Option Timing → List (List ℕ) → Option BlifFault
 listed_fault inputs outputs ports mixed timing drives = first_of
     (option_map (λ name. NameTwice name) (first_listed_twice inputs outputs ports) ∷ timing_fault mixed timing drives ∷ [])
@@ -362,7 +365,7 @@ read_kept_as false kept = unless (kept_fault kept) (content.Circuit (kept_circui
 unfoldable pub read_kept : Kept → Result Content BlifFault
 read_kept kept = read_kept_as (is_kept_machine kept) kept
 
--- the draft behind the last line, with its ports and with the tables of the model and of the part
+-- the draft after the last line, with its ports and with the tables of the model and of the part
 unfoldable pub settled : Draft → Draft
 settled draft = record draft {
   inputs = kept_inputs (kept_of draft);
@@ -391,28 +394,30 @@ settled_fault draft = first_of
     (drivers_fault draft.inputs draft.drives draft.reads
     ∷ tables_fault (draft.inputs ++ map (λ (latch : TheLatch). latch.output) draft.latches) draft.tables draft.model_tables ∷ [])
 
--- the tables drive different signals where no port stands twice and no signal is driven twice
+-- the tables drive different signals if no port occurs twice and no signal is driven twice
 abbrev pub HasApartTables : Kept → Type 0
 HasApartTables kept =
     first_listed_twice kept.inputs kept.outputs kept.ports ≡ None → first_again (kept_inputs kept) kept.drives ≡ None
     → all_different (outputs_of kept.tables) ≡ true
 
--- what is read of a draft behind the last line
+-- what is read of a draft after the last line
 abbrev pub finished : Draft → Result Content BlifFault
 finished draft = read_kept (kept_of draft)
 
--- what is read behind the last line, if no line had a fault
+-- what is read after the last line, if no line had a fault
 abbrev pub finish : Result Draft BlifFault → Result Content BlifFault
 finish (Ok draft) = finished draft
 finish (Err fault) = Err fault
 
--- what a step answers and leaves, beside what it should come to; want of memory is free
+-- the answer and the result of a step, compared with what they should be; want of memory is always
+-- allowed
 abbrev pub Takes : Result (Unit {0}) ReadFault → Draft → Result Draft BlifFault → Type 0
 Takes (Ok done) draft should = should ≡ Ok draft
 Takes (Err (read_fault.Fault fault)) draft should = should ≡ Err fault
 Takes (Err read_fault.Memory) draft should = Unit {0}
 
--- what is answered for a line of a gate, beside the fault and the tables that it should say; want of memory is free
+-- the answer for a line of a gate, compared with the fault and the tables that it should have; want
+-- of memory is always allowed
 abbrev pub IsTable : Result Table ReadFault → Option BlifFault → List Table → Type 0
 IsTable (Ok table) fault tables = (fault ≡ None) × (tables ≡ table ∷ [])
 IsTable (Err (read_fault.Fault one)) fault tables = fault ≡ Some one

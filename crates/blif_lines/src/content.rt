@@ -2,7 +2,8 @@
 
 use circuit_model::{Circuit, Name, Names};
 
-/// What a model says of a machine beside its KISS2 part: its name, and its ports where lines list them.
+/// What a model says of a machine outside its KISS2 part: its name, and its ports if lines list
+/// them.
 #[derive(Debug, Drop, PartialEq)]
 pub struct Head {
     pub name: Name,
@@ -10,7 +11,7 @@ pub struct Head {
     pub outputs: Option<Names>,
 }
 
-/// What a model's lines say: a circuit, or the head of a machine.
+/// What a model's lines describe: a circuit, or the head of a machine.
 #[derive(Debug, Drop, PartialEq)]
 pub enum Content {
     Circuit(Circuit),

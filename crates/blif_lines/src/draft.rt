@@ -1,4 +1,10 @@
 //! What is kept of the lines that are read, and what each kind of line makes of it.
+//!
+//! Source: BLIF appendix of the SIS report (UCB/ERL M92/41). A `Draft` has the name, ports, clocks,
+//! latches and tables of the lines so far, the signals that they drive and read, and the table
+//! whose rows are being read. `take` adds one line or returns its fault, exactly as `take_entry` of
+//! `specs/Steps.antt`; proofs of this crate relate these steps to the definition of the whole
+//! (`specs/Lines.antt`, `specs/Reader.antt`). After an error the draft has no meaning.
 
 ghost use Rattle.std.specs.Prelude.{◌≡◌, ℕ, Option, List, ◌<◌, [], length, option_copied, IfOk, OnOk, OnErr, IfSome};
 ghost use Rattle.sis_text.specs.Entries.{Entry};
@@ -6,7 +12,7 @@ ghost use Rattle.line_words.specs.LineWords.{texts};
 ghost use Rattle.genlib_format.specs.declared.gate.Gate.{Gate as TheGate};
 ghost use Rattle.blif_lines.specs.declared.keyword.Keyword.{Keyword};
 ghost use Rattle.blif_lines.specs.Reader.{named_by, table_of};
-ghost use Rattle.blif_lines.specs.Steps.{with_row, row_behind as behind, tables_with, closed, place_at as place_by, take_as, take_entry, no_lines, is_kept_machine, kept_of, Takes};
+ghost use Rattle.blif_lines.specs.Steps.{with_row, row_behind, tables_with, closed, place_at, take_as, take_entry, no_lines, is_kept_machine, kept_of, Takes};
 
 use crate::fault::{BlifFault, ReadFault};
 use crate::gate_words::{add_gate_signals, gate_table};
@@ -28,18 +34,23 @@ use sis_base::{Copied, Sequence, Whole};
 use std::alloc::{AllocError, AllocFailed, Global};
 use std::mem;
 
-/// The table whose rows are read, and the output character of its rows, once there is one.
+/// The table whose rows are being read, and the output character of its rows, once there is one.
 #[derive(Drop)]
 pub struct Reading {
     pub table: Table,
     pub mark: u8,
 }
 
-/// What the lines so far say: whether there was one, an end, the line that begins the don't-care part, and the one that begins
-/// a KISS2 part. Of the model's own lines: the name, the ports that are listed and whether a line lists some, all ports in order,
-/// clocks, the signals that are driven, those that are read, those that nodes read before a line lists inputs; latches, the timing
-/// of the first, the line of the first that is timed otherwise; and the model's tables, once the part has begun. The tables
-/// that were read last, without the one whose rows are read; and how many tables, latches and gates there are.
+/// What the lines so far say: whether there was one, an end, the line that begins the don't-care
+/// part, and the one that begins a KISS2 part.
+///
+/// Of the model's own lines: the name, the ports that are listed and whether a line lists some, all
+/// ports in order, clocks, the signals that are driven, those that are read, those that nodes read
+/// before a line lists inputs; latches, the timing of the first, the line of the first whose timing
+/// differs; and the model's tables, once the don't-care part has begun.
+///
+/// The tables that were read last, without the one whose rows are being read; and the number of
+/// tables, latches and gates.
 #[derive(Drop)]
 pub struct Draft {
     pub begun: bool,
@@ -66,7 +77,7 @@ pub struct Draft {
 }
 
 impl Reading {
-    /// The table with one more row; an error only for want of memory.
+    /// The table with one more row.
     #[tactic(auto, unfolding(crate::specs::Steps::with_row))]
     fn with(self, alloc: Global, bytes: &[u8]) -> Result<Self, AllocError>
         requires { length self.table.inputs < length bytes.now }
@@ -96,14 +107,14 @@ impl Reading {
     }
 }
 
-/// What is read of a table after one more row; an error only for want of memory.
+/// The table that is being read, after one more row.
 fn row_behind(
     alloc: Global,
     reading: Option<Reading>,
     bytes: &[u8],
 ) -> Result<Option<Reading>, AllocError>
     requires { IfSome reading (λ one. length one.table.inputs < length bytes.now) }
-    ensures { IfOk result (λ next. next ≡ behind reading bytes.now) }
+    ensures { IfOk result (λ next. next ≡ row_behind reading bytes.now) }
 {
     match reading {
         None => Ok(None),
@@ -111,7 +122,7 @@ fn row_behind(
     }
 }
 
-/// The table of a `.names` line, without rows; an error only for want of memory.
+/// The table of a `.names` line, without rows.
 #[tactic(auto, unfolding(crate::specs::Reader::table_of))]
 fn new_table(alloc: Global, words: &[&[u8]]) -> Result<Table, AllocError>
     ensures { IfOk result (λ table. table ≡ table_of (texts words.now) []) }
@@ -127,7 +138,7 @@ fn new_table(alloc: Global, words: &[&[u8]]) -> Result<Table, AllocError>
     })
 }
 
-/// The name of a model, by the words of its line; an error only for want of memory.
+/// The name of a model, by the words of its line.
 fn model_name(alloc: Global, words: &[&[u8]]) -> Result<Name, AllocError>
     ensures { IfOk result (λ name. name ≡ named_by Keyword.Model (texts words.now)) }
 {
@@ -137,7 +148,7 @@ fn model_name(alloc: Global, words: &[&[u8]]) -> Result<Name, AllocError>
     }
 }
 
-/// Tables with the one that was read behind them. An error only for want of memory; then none is put.
+/// Appends the table that was being read. On an error the tables stay.
 #[tactic(auto, unfolding(crate::specs::Steps::tables_with))]
 pub fn with_reading(tables: &mut Tables, reading: Option<Reading>) -> Result<(), AllocFailed<Table>>
     ensures ok { OnOk result (tables.new ≡ tables_with tables.old reading) }
@@ -152,10 +163,10 @@ pub fn with_reading(tables: &mut Tables, reading: Option<Reading>) -> Result<(),
     }
 }
 
-/// Where the next line stands.
+/// The part of the next line.
 #[tactic(auto, unfolding(crate::specs::Steps::place_at))]
 fn place_at(ended: bool, has_part: bool) -> Part
-    ensures { result ≡ place_by ended has_part }
+    ensures { result ≡ place_at ended has_part }
 {
     if ended {
         Part::Behind
@@ -167,7 +178,7 @@ fn place_at(ended: bool, has_part: bool) -> Part
 }
 
 impl Draft {
-    /// The draft before the first line; an error only for want of memory.
+    /// The draft before the first line.
     pub fn new(alloc: Global) -> Result<Self, AllocError>
         ensures { IfOk result (λ draft. draft ≡ no_lines) }
     {
@@ -196,7 +207,7 @@ impl Draft {
         })
     }
 
-    /// Ends the table whose rows were read; an error only for want of memory.
+    /// Ends the table whose rows were being read.
     #[tactic(auto, unfolding(crate::specs::Steps::closed))]
     fn close(&mut self) -> Result<(), AllocFailed<Table>>
         ensures { OnOk result (self.new ≡ closed self.old) }
@@ -207,10 +218,11 @@ impl Draft {
         Ok(())
     }
 
-    /// Takes a `.model` line.
+    /// Reads a `.model` line.
     #[tactic(auto, unfolding(crate::specs::Steps::take_as, crate::specs::Steps::closed))]
     fn take_model(&mut self, alloc: Global, number: usize, words: &[&[u8]]) -> Result<(), ReadFault>
-        ensures { (library : Option (List TheGate)) (whole : List (List ℕ)) → Takes result self.new (take_as library Keyword.Model self.old number (texts words.now) whole) }
+        ensures { (library : Option (List TheGate)) (whole : List (List ℕ)) → Takes result self.new
+            (take_as library Keyword.Model self.old number (texts words.now) whole) }
     {
         let place = place_at(self.ended, self.has_part);
         if let Some(fault) = model_fault(place, self.begun, number, words) {
@@ -221,7 +233,7 @@ impl Draft {
         Ok(())
     }
 
-    /// Takes an `.inputs` line.
+    /// Reads an `.inputs` line.
     #[tactic(auto, unfolding(crate::specs::Steps::take_as, crate::specs::Steps::closed))]
     fn take_inputs(
         &mut self,
@@ -229,7 +241,8 @@ impl Draft {
         number: usize,
         words: &[&[u8]],
     ) -> Result<(), ReadFault>
-        ensures { (library : Option (List TheGate)) (whole : List (List ℕ)) → Takes result self.new (take_as library Keyword.Inputs self.old number (texts words.now) whole) }
+        ensures { (library : Option (List TheGate)) (whole : List (List ℕ)) → Takes result self.new
+            (take_as library Keyword.Inputs self.old number (texts words.now) whole) }
     {
         let place = place_at(self.ended, self.has_part);
         if let Some(fault) = ports_fault(place, number, words) {
@@ -242,7 +255,7 @@ impl Draft {
         Ok(())
     }
 
-    /// Takes an `.outputs` line.
+    /// Reads an `.outputs` line.
     #[tactic(auto, unfolding(crate::specs::Steps::take_as, crate::specs::Steps::closed))]
     fn take_outputs(
         &mut self,
@@ -250,7 +263,8 @@ impl Draft {
         number: usize,
         words: &[&[u8]],
     ) -> Result<(), ReadFault>
-        ensures { (library : Option (List TheGate)) (whole : List (List ℕ)) → Takes result self.new (take_as library Keyword.Outputs self.old number (texts words.now) whole) }
+        ensures { (library : Option (List TheGate)) (whole : List (List ℕ)) → Takes result self.new
+            (take_as library Keyword.Outputs self.old number (texts words.now) whole) }
     {
         let place = place_at(self.ended, self.has_part);
         if let Some(fault) = ports_fault(place, number, words) {
@@ -264,10 +278,11 @@ impl Draft {
         Ok(())
     }
 
-    /// Takes a `.clock` line.
+    /// Reads a `.clock` line.
     #[tactic(auto, unfolding(crate::specs::Steps::take_as, crate::specs::Steps::closed))]
     fn take_clock(&mut self, alloc: Global, number: usize, words: &[&[u8]]) -> Result<(), ReadFault>
-        ensures { (library : Option (List TheGate)) (whole : List (List ℕ)) → Takes result self.new (take_as library Keyword.Clock self.old number (texts words.now) whole) }
+        ensures { (library : Option (List TheGate)) (whole : List (List ℕ)) → Takes result self.new
+            (take_as library Keyword.Clock self.old number (texts words.now) whole) }
     {
         let place = place_at(self.ended, self.has_part);
         if let Some(fault) = clock_fault(place, number, words) {
@@ -278,10 +293,11 @@ impl Draft {
         Ok(())
     }
 
-    /// Takes a `.names` line.
+    /// Reads a `.names` line.
     #[tactic(auto, unfolding(crate::specs::Steps::take_as, crate::specs::Steps::closed))]
     fn take_names(&mut self, alloc: Global, number: usize, words: &[&[u8]]) -> Result<(), ReadFault>
-        ensures { (library : Option (List TheGate)) (whole : List (List ℕ)) → Takes result self.new (take_as library Keyword.Names self.old number (texts words.now) whole) }
+        ensures { (library : Option (List TheGate)) (whole : List (List ℕ)) → Takes result self.new
+            (take_as library Keyword.Names self.old number (texts words.now) whole) }
     {
         let place = place_at(self.ended, self.has_part);
         if let Some(fault) = names_fault(place, self.nodes, number, words) {
@@ -300,10 +316,11 @@ impl Draft {
         Ok(())
     }
 
-    /// Takes a `.latch` line.
+    /// Reads a `.latch` line.
     #[tactic(auto, unfolding(crate::specs::Steps::take_as, crate::specs::Steps::closed))]
     fn take_latch(&mut self, alloc: Global, number: usize, words: &[&[u8]]) -> Result<(), ReadFault>
-        ensures { (library : Option (List TheGate)) (whole : List (List ℕ)) → Takes result self.new (take_as library Keyword.Latch self.old number (texts words.now) whole) }
+        ensures { (library : Option (List TheGate)) (whole : List (List ℕ)) → Takes result self.new
+            (take_as library Keyword.Latch self.old number (texts words.now) whole) }
     {
         let place = place_at(self.ended, self.has_part);
         if let Some(fault) = latch_fault(place, self.nodes, number, words) {
@@ -323,10 +340,11 @@ impl Draft {
         Ok(())
     }
 
-    /// Takes the line that begins the don't-care part.
+    /// Reads the line that begins the don't-care part.
     #[tactic(auto, unfolding(crate::specs::Steps::take_as, crate::specs::Steps::closed))]
     fn take_part(&mut self, alloc: Global, number: usize) -> Result<(), ReadFault>
-        ensures { (library : Option (List TheGate)) (words whole : List (List ℕ)) → Takes result self.new (take_as library Keyword.DontCare self.old number words whole) }
+        ensures { (library : Option (List TheGate)) (words whole : List (List ℕ))
+            → Takes result self.new (take_as library Keyword.DontCare self.old number words whole) }
     {
         let place = place_at(self.ended, self.has_part);
         if let Some(fault) = place_fault(place, number) {
@@ -338,20 +356,22 @@ impl Draft {
         Ok(())
     }
 
-    /// Takes an `.end` line.
+    /// Reads an `.end` line.
     #[tactic(auto, unfolding(crate::specs::Steps::take_as, crate::specs::Steps::closed))]
     fn take_end(&mut self) -> Result<(), ReadFault>
-        ensures { (library : Option (List TheGate)) (number : ℕ) (words whole : List (List ℕ)) → Takes result self.new (take_as library Keyword.End self.old number words whole) }
+        ensures { (library : Option (List TheGate)) (number : ℕ) (words whole : List (List ℕ))
+            → Takes result self.new (take_as library Keyword.End self.old number words whole) }
     {
         self.close()?;
         self.ended = true;
         Ok(())
     }
 
-    /// Takes a line that is read past.
+    /// Reads a line that is skipped.
     #[tactic(auto, unfolding(crate::specs::Steps::take_as, crate::specs::Steps::closed))]
     fn take_skipped(&mut self, number: usize) -> Result<(), ReadFault>
-        ensures { (library : Option (List TheGate)) (words whole : List (List ℕ)) → Takes result self.new (take_as library Keyword.Skipped self.old number words whole) }
+        ensures { (library : Option (List TheGate)) (words whole : List (List ℕ))
+            → Takes result self.new (take_as library Keyword.Skipped self.old number words whole) }
     {
         let place = place_at(self.ended, self.has_part);
         if let Some(fault) = place_fault(place, number) {
@@ -361,10 +381,11 @@ impl Draft {
         Ok(())
     }
 
-    /// Takes a row.
+    /// Reads a row.
     #[tactic(auto, unfolding(crate::specs::Steps::take_as))]
     fn take_row(&mut self, alloc: Global, number: usize, whole: &[&[u8]]) -> Result<(), ReadFault>
-        ensures { (library : Option (List TheGate)) (words : List (List ℕ)) → Takes result self.new (take_as library Keyword.Row self.old number words (texts whole.now)) }
+        ensures { (library : Option (List TheGate)) (words : List (List ℕ)) → Takes result self.new
+            (take_as library Keyword.Row self.old number words (texts whole.now)) }
     {
         let bytes = joined(alloc, whole)?;
         let place = place_at(self.ended, self.has_part);
@@ -377,7 +398,7 @@ impl Draft {
         Ok(())
     }
 
-    /// Takes a `.gate` line, by a library that may be missing.
+    /// Reads a `.gate` line, by a library that may be missing.
     #[tactic(auto, unfolding(crate::specs::Steps::take_as, crate::specs::Steps::closed))]
     fn take_gate(
         &mut self,
@@ -386,11 +407,13 @@ impl Draft {
         number: usize,
         words: &[&[u8]],
     ) -> Result<(), ReadFault>
-        ensures { (whole : List (List ℕ)) → Takes result self.new (take_as (option_copied library.entry) Keyword.Gate self.old number (texts words.now) whole) }
+        ensures { (whole : List (List ℕ)) → Takes result self.new
+            (take_as (option_copied library.entry) Keyword.Gate self.old number
+            (texts words.now) whole) }
     {
         let place = place_at(self.ended, self.has_part);
         let table = gate_table(alloc, library, place, self.nodes, number, words)?;
-        // A whole, so that letting it go is one call.
+        // Wrapped in a `Whole`, so that dropping it is one call.
         let table = Whole { it: table };
         self.close()?;
         let inputs = table.it.inputs.as_slice();
@@ -402,10 +425,11 @@ impl Draft {
         Ok(())
     }
 
-    /// Takes the line that begins a KISS2 part.
+    /// Reads the line that begins a KISS2 part.
     #[tactic(auto, unfolding(crate::specs::Steps::take_as, crate::specs::Steps::closed))]
     fn take_kiss(&mut self, number: usize) -> Result<(), ReadFault>
-        ensures { (library : Option (List TheGate)) (words whole : List (List ℕ)) → Takes result self.new (take_as library Keyword.StartKiss self.old number words whole) }
+        ensures { (library : Option (List TheGate)) (words whole : List (List ℕ))
+            → Takes result self.new (take_as library Keyword.StartKiss self.old number words whole) }
     {
         let place = place_at(self.ended, self.has_part);
         if let Some(fault) = start_fault(place, self.has_kiss, number) {
@@ -416,7 +440,8 @@ impl Draft {
         Ok(())
     }
 
-    /// Takes one line, by its number and its words, with a library or without one. After an error the draft stands for nothing.
+    /// Reads one line, by its number and its words, with a library or without one. After an error
+    /// the draft has no meaning.
     #[tactic(auto, unfolding(crate::specs::Steps::take_entry))]
     pub fn take(
         &mut self,
@@ -425,7 +450,8 @@ impl Draft {
         number: usize,
         words: &[&[u8]],
     ) -> Result<(), ReadFault>
-        ensures { Takes result self.new (take_entry (option_copied library.entry) self.old (record { number = number; words = texts words.now })) }
+        ensures { Takes result self.new (take_entry (option_copied library.entry) self.old
+            (record { number = number; words = texts words.now })) }
     {
         let others = other_words(words);
         match keyword_of(first_word(words)) {
@@ -445,7 +471,7 @@ impl Draft {
         }
     }
 
-    /// Whether the lines say a machine: a KISS2 part begins, and nothing is driven.
+    /// Whether the lines describe a machine: a KISS2 part begins, and nothing is driven.
     pub fn is_machine(&self) -> bool
         ensures { result ≡ is_kept_machine (kept_of self.now) }
     {

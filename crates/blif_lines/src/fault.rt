@@ -1,4 +1,5 @@
-//! What is wrong with a file.
+//! What is wrong with a BLIF file. `BlifFault` has the faults of `specs/Lines.antt` and
+//! `specs/Reader.antt`, and those of a KISS2 part; `ReadFault` adds want of memory.
 
 use circuit_model::Name;
 use kiss_format::KissFault;
@@ -9,52 +10,58 @@ use std::alloc::{AllocError, AllocFailed};
 pub enum LimitKind {
     /// The bytes of a name: `MAX_NAME`.
     Name,
-    /// The tables, latches and gates of a model, its don't-care part among them: `MAX_NODES`.
+    /// The tables, latches and gates of a model, including its don't-care part: `MAX_NODES`.
     Tables,
     /// The rows of a table: `MAX_ROWS`.
     Rows,
-    /// The inputs of a table: 1,000.
+    /// The inputs of a table: `MAX_INPUTS`.
     Inputs,
 }
 
 /// Why a file is not read as a circuit. Lines are numbers of physical lines, from 1.
 #[derive(Debug, Drop, PartialEq)]
 pub enum BlifFault {
-    /// A line whose first word begins with `.` and is not known; any line but `.model` and `.end` behind `.end`; in the
-    /// don't-care part any line but those of tables, ports and the end; a second don't-care or KISS2 part.
+    /// A line whose first word begins with `.` and is not known; any line but `.model` and `.end`
+    /// after `.end`; in the don't-care part any line but those of tables, ports and the end; a
+    /// second don't-care or KISS2 part.
     UnknownWord(usize),
     /// `.model` with two words or more, `.names` or `.gate` without one.
     BadArity(usize),
-    /// A line that is no row of a table that is being read.
+    /// A line that is not a row of a table that is being read.
     BadRow(usize),
     /// A row whose output differs from that of its table's first row.
     MixedPhase(usize),
-    /// A `.latch` line whose words are not two signals, then a known kind and its control or neither, then a digit up to 3 or nothing.
+    /// A `.latch` line whose words are not two signals, then a known kind and its control or
+    /// neither, then a digit up to 3 or nothing.
     BadLatch(usize),
     /// A `.model` line that is not the first logical line.
     SecondModel(usize),
-    /// A `.gate` line, while there is no library.
+    /// A `.gate` line without a library.
     NoLibrary(usize),
     /// A `.gate` line whose cell the library does not have.
     UnknownGate(usize),
-    /// A `.gate` line with a word behind the cell that is no pair, or whose pairs do not name each pin and the output once.
+    /// A `.gate` line with a word after the cell that is not a pair, or whose pairs do not name
+    /// each pin and the output once.
     BadPins(usize),
-    /// A limit is passed; the number is what was reached.
+    /// A limit is exceeded; the number is what was reached.
     Limit(LimitKind, usize),
-    /// A name that is listed twice among the inputs, or twice among the outputs; or a machine's output that is its input.
+    /// A name that is listed twice among the inputs, or twice among the outputs; or a machine's
+    /// output that is its input.
     NameTwice(Name),
-    /// What is wrong with a machine's KISS2 part; or the line of its `.i`, else of its `.o`, where lines list another number of ports.
+    /// What is wrong with a machine's KISS2 part; or the line of its `.i`, otherwise of its `.o`,
+    /// if lines list another number of ports.
     BadKiss(KissFault),
     /// The line of the first latch whose kind or control is not that of the first latch.
     MixedClock(usize),
     /// A control of latches that a table, a latch or a gate drives.
     GatedClock(Name),
-    /// What a line drives that is an input or driven by an earlier line.
+    /// A signal that a line drives and that is an input or driven by an earlier line.
     TwoDrivers(Name),
-    /// What is read and driven by nothing.
+    /// A signal that is read and not driven.
     Undriven(Name),
-    /// What is wrong with the first wrong table of the don't-care part: its output, where one before it has that too or where
-    /// it is reached from itself; or what it reads and what is neither a table of the part nor a leaf.
+    /// What is wrong with the first wrong table of the don't-care part: its output, if an earlier
+    /// one has that too or if it is reached from itself; or a name that it reads and that is
+    /// neither a table of the part nor a leaf.
     BadExdc(Name),
     /// The output of the first table that is reached from itself through tables.
     Cycle(Name),
@@ -65,7 +72,7 @@ pub enum BlifFault {
 pub enum ReadFault {
     /// The file has a fault.
     Fault(BlifFault),
-    /// Memory was wanting.
+    /// Memory ran out.
     Memory,
 }
 

@@ -1,24 +1,30 @@
-//! What is wrong with a whole file whose lines are right.
+//! The faults of a whole file whose lines are right by themselves.
+//!
+//! Source: BLIF appendix of the SIS report (UCB/ERL M92/41): each signal has one driver, tables
+//! form no cycle, and all latches share one clock. The checks are in this order: ports listed
+//! twice, the timing of latches, drivers, the don't-care part, cycles. Each call returns exactly
+//! the fault that `specs/Steps.antt` defines over a draft. The search for cycles requires that no
+//! two tables drive one signal, which the earlier checks give.
 
 ghost use Rattle.std.specs.Prelude.{◌≡◌, ◌++◌, true, None, [], map, find, option_copied, IfOk, OnOk};
 ghost use Rattle.std.specs.Option.{option_map};
 ghost use Rattle.circuit_model.specs.Names.{has, all_different};
 ghost use Rattle.circuit_model.specs.Soundness.{outputs_of, control_of};
-ghost use Rattle.circuit_model.specs.declared.circuit.Latch.{Latch as TheLatch};
-ghost use Rattle.circuit_checks.specs.NameChecks.{first_again as again_in, first_listed_twice as listed_twice_in};
+ghost use Rattle.circuit_model.specs.declared.circuit.Latch.{Latch};
+ghost use Rattle.circuit_checks.specs.NameChecks.{first_again, first_listed_twice};
 ghost use Rattle.blif_lines.specs.declared.fault.BlifFault.TheVariants.{NameTwice};
-ghost use Rattle.blif_lines.specs.Steps.{listed_fault as listed_fault_by, timing_fault as timing_fault_by, drivers_fault as drivers_fault_by, tables_fault as tables_fault_by, settled_fault as settled_fault_by};
+ghost use Rattle.blif_lines.specs.Steps.{listed_fault, timing_fault, drivers_fault, tables_fault, settled_fault};
 
 use crate::draft::Draft;
 use crate::fault::BlifFault;
 use circuit_checks::{
     first_again, first_bad_part_name, first_listed_twice, first_missing, first_on_cycle,
 };
-use circuit_model::{Latch, Name, Names, Table, Timing};
+use circuit_model::{Latch, Name, Names, Table, Timing, has_name};
 use sis_base::{Copied, Sequence};
 use std::alloc::{AllocError, Global};
 
-/// Puts copies of some names behind others; an error only for want of memory.
+/// Appends copies of some names.
 fn add_copies(alloc: Global, names: &mut Names, others: &[Name]) -> Result<(), AllocError>
     ensures { OnOk result (names.new ≡ names.old ++ others.now) }
 {
@@ -28,23 +34,15 @@ fn add_copies(alloc: Global, names: &mut Names, others: &[Name]) -> Result<(), A
     Ok(())
 }
 
-/// Puts copies of what latches drive behind names; an error only for want of memory.
+/// Appends copies of latch outputs.
 fn add_states(alloc: Global, names: &mut Names, latches: &[Latch]) -> Result<(), AllocError>
-    ensures { OnOk result (names.new ≡ names.old ++ map (λ (latch : TheLatch). latch.output) latches.now) }
+    ensures { OnOk result (names.new ≡ names.old ++ map
+        (λ (latch : Latch). latch.output) latches.now) }
 {
     for latch in latches {
         names.push(latch.output.copy(alloc)?)?;
     }
     Ok(())
-}
-
-/// Whether a name is among some.
-fn has_name(names: &[Name], name: &Name) -> bool
-    ensures { result ≡ has names.now name.now }
-{
-    names
-        .iter()
-        .any(|other| name.as_slice() == other.as_slice())
 }
 
 /// The control, where it is among the driven signals.
@@ -66,8 +64,8 @@ fn driven_control<'a>(timing: &'a Option<Timing>, drives: &[Name]) -> Option<&'a
     }
 }
 
-/// What is wrong with the latches' timing: the line of the first that is timed otherwise, else the control where it is
-/// driven. An error only for want of memory.
+/// What is wrong with the latches' timing: the line of the first whose timing differs, otherwise
+/// the control if it is driven.
 #[tactic(auto, unfolding(crate::specs::Steps::timing_fault, crate::specs::Lines::first_of))]
 fn timing_fault(
     alloc: Global,
@@ -75,7 +73,7 @@ fn timing_fault(
     timing: &Option<Timing>,
     drives: &[Name],
 ) -> Result<Option<BlifFault>, AllocError>
-    ensures { IfOk result (λ fault. fault ≡ timing_fault_by mixed timing.now drives.now) }
+    ensures { IfOk result (λ fault. fault ≡ timing_fault mixed timing.now drives.now) }
 {
     if let Some(number) = mixed {
         return Ok(Some(BlifFault::MixedClock(number)));
@@ -86,12 +84,14 @@ fn timing_fault(
     Ok(None)
 }
 
-/// What is wrong with a draft as its lines list it: the first port that is listed twice, else the timing of its latches.
-/// An error only for want of memory.
+/// What is wrong with what the lines of a draft list: the first port that is listed twice,
+/// otherwise the timing of its latches.
 #[tactic(auto, unfolding(crate::specs::Steps::listed_fault, crate::specs::Lines::first_of))]
 pub fn listed_fault(alloc: Global, draft: &Draft) -> Result<Option<BlifFault>, AllocError>
-    ensures fault { IfOk result (λ fault. fault ≡ listed_fault_by draft.now.inputs draft.now.outputs draft.now.ports draft.now.mixed draft.now.timing draft.now.drives) }
-    ensures once { IfOk result (λ fault. fault ≡ None → listed_twice_in draft.now.inputs draft.now.outputs draft.now.ports ≡ None) }
+    ensures fault { IfOk result (λ fault. fault ≡ listed_fault draft.now.inputs draft.now.outputs
+        draft.now.ports draft.now.mixed draft.now.timing draft.now.drives) }
+    ensures once { IfOk result (λ fault. fault ≡ None
+        → first_listed_twice draft.now.inputs draft.now.outputs draft.now.ports ≡ None) }
 {
     let inputs = draft.inputs.as_slice();
     let outputs = draft.outputs.as_slice();
@@ -102,8 +102,8 @@ pub fn listed_fault(alloc: Global, draft: &Draft) -> Result<Option<BlifFault>, A
     Ok(fault)
 }
 
-/// What is wrong with the drivers: the first signal that is driven twice, else the first that is read and not driven.
-/// An error only for want of memory.
+/// What is wrong with the drivers: the first signal that is driven twice, otherwise the first that
+/// is read and not driven.
 #[tactic(auto, unfolding(crate::specs::Steps::drivers_fault, crate::specs::Lines::first_of))]
 fn drivers_fault(
     alloc: Global,
@@ -111,8 +111,8 @@ fn drivers_fault(
     drives: &[Name],
     reads: &[Name],
 ) -> Result<Option<BlifFault>, AllocError>
-    ensures fault { IfOk result (λ fault. fault ≡ drivers_fault_by inputs.now drives.now reads.now) }
-    ensures apart { IfOk result (λ fault. fault ≡ None → again_in inputs.now drives.now ≡ None) }
+    ensures fault { IfOk result (λ fault. fault ≡ drivers_fault inputs.now drives.now reads.now) }
+    ensures apart { IfOk result (λ fault. fault ≡ None → first_again inputs.now drives.now ≡ None) }
 {
     if let Some(name) = first_again(alloc, inputs, drives)? {
         return Ok(Some(BlifFault::TwoDrivers(name.copy(alloc)?)));
@@ -126,8 +126,8 @@ fn drivers_fault(
     Ok(None)
 }
 
-/// What is wrong with tables: the name by which the first wrong one of the don't-care part is wrong, else the first of the
-/// model that is reached from itself. An error only for want of memory.
+/// What is wrong with tables: the name that is wrong with the first wrong one of the don't-care
+/// part, otherwise the first of the model that is reached from itself.
 #[tactic(auto, unfolding(crate::specs::Steps::tables_fault, crate::specs::Lines::first_of))]
 fn tables_fault(
     alloc: Global,
@@ -136,7 +136,7 @@ fn tables_fault(
     tables: &[Table],
 ) -> Result<Option<BlifFault>, AllocError>
     requires { all_different (outputs_of tables.now) ≡ true }
-    ensures { IfOk result (λ fault. fault ≡ tables_fault_by leaves.now dont_care.now tables.now) }
+    ensures { IfOk result (λ fault. fault ≡ tables_fault leaves.now dont_care.now tables.now) }
 {
     if let Some(name) = first_bad_part_name(alloc, leaves, dont_care)? {
         return Ok(Some(BlifFault::BadExdc(name)));
@@ -147,11 +147,12 @@ fn tables_fault(
     Ok(None)
 }
 
-/// What is wrong with a draft that is settled: its drivers, else its tables. An error only for want of memory.
+/// What is wrong with a draft that is settled: its drivers, otherwise its tables.
 #[tactic(auto, unfolding(crate::specs::Steps::settled_fault, crate::specs::Lines::first_of))]
 pub fn settled_fault(alloc: Global, draft: &Draft) -> Result<Option<BlifFault>, AllocError>
-    requires { again_in draft.now.inputs draft.now.drives ≡ None → all_different (outputs_of draft.now.model_tables) ≡ true }
-    ensures { IfOk result (λ fault. fault ≡ settled_fault_by draft.now) }
+    requires { first_again draft.now.inputs draft.now.drives ≡ None → all_different
+        (outputs_of draft.now.model_tables) ≡ true }
+    ensures { IfOk result (λ fault. fault ≡ settled_fault draft.now) }
 {
     let inputs = draft.inputs.as_slice();
     let drives = draft.drives.as_slice();
@@ -171,9 +172,10 @@ pub fn settled_fault(alloc: Global, draft: &Draft) -> Result<Option<BlifFault>, 
     Ok(fault)
 }
 
-/// What is wrong with the listed ports of a machine: the first that is listed twice. An error only for want of memory.
+/// What is wrong with the listed ports of a machine: the first that is listed twice.
 pub fn head_fault(alloc: Global, ports: &[Name]) -> Result<Option<BlifFault>, AllocError>
-    ensures { IfOk result (λ fault. fault ≡ option_map (λ name. NameTwice name) (listed_twice_in ports.now [] ports.now)) }
+    ensures { IfOk result (λ fault. fault ≡ option_map (λ name. NameTwice name)
+        (first_listed_twice ports.now [] ports.now)) }
 {
     let others = Names::new(alloc);
     match first_listed_twice(alloc, ports, others.as_slice(), ports)? {

@@ -1,9 +1,10 @@
-//! Gates by the words of their lines, with a library or without one.
+//! `.gate` lines: the table that a line gives by a library, or its fault. Without a library each
+//! such line is refused (`specs/Lines.antt`).
 
 ghost use Rattle.std.specs.Prelude.{◌≡◌, ◌<◌, option_copied, IfOk, OnOk, OnErr};
 ghost use Rattle.std.specs.List.{filter};
 ghost use Rattle.circuit_model.specs.Names.{has};
-ghost use Rattle.line_words.specs.LineWords.{texts, other_words as others_of};
+ghost use Rattle.line_words.specs.LineWords.{texts, other_words};
 ghost use Rattle.blif_gates.specs.GateLines.{signals_of};
 ghost use Rattle.blif_lines.specs.Lines.{gate_fault, library_fault};
 ghost use Rattle.blif_lines.specs.Reader.{gate_tables};
@@ -19,15 +20,16 @@ use line_words::{first_word, other_words};
 use sis_base::limits::MAX_NODES;
 use std::alloc::{AllocError, Global};
 
-/// The table that the cell and the pairs of a `.gate` line say. An error says what is wrong with them, or that there is no
-/// library; or that memory was wanting.
+/// The table of the cell and the pairs of a `.gate` line. An error says what is wrong with them, or
+/// that there is no library; or want of memory.
 fn cell_table(
     alloc: Global,
     library: Option<&Library>,
     number: usize,
     words: &[&[u8]],
 ) -> Result<Table, ReadFault>
-    ensures { IsTable result (library_fault (option_copied library.entry) number (texts words.now)) (gate_tables (option_copied library.entry) (texts words.now)) }
+    ensures { IsTable result (library_fault (option_copied library.entry) number (texts words.now))
+        (gate_tables (option_copied library.entry) (texts words.now)) }
 {
     let Some(library) = library else {
         return Err(ReadFault::Fault(BlifFault::NoLibrary(number)));
@@ -39,8 +41,8 @@ fn cell_table(
     }
 }
 
-/// The table that the words of a `.gate` line behind the first say; `nodes` tables, latches and gates stand before it. An error says
-/// what is wrong with the line, or that memory was wanting.
+/// The table of the words of a `.gate` line after the first, after `nodes` tables, latches and
+/// gates. An error says what is wrong with the line, or is want of memory.
 #[tactic(auto, unfolding(crate::specs::Lines::gate_fault, crate::specs::Lines::first_of))]
 pub fn gate_table(
     alloc: Global,
@@ -50,7 +52,8 @@ pub fn gate_table(
     number: usize,
     words: &[&[u8]],
 ) -> Result<Table, ReadFault>
-    ensures table { IsTable result (gate_fault (option_copied library.entry) place nodes number (texts words.now)) (gate_tables (option_copied library.entry) (texts words.now)) }
+    ensures table { IsTable result (gate_fault (option_copied library.entry) place nodes number
+        (texts words.now)) (gate_tables (option_copied library.entry) (texts words.now)) }
     ensures room { IfOk result (λ _. nodes < MAX_NODES) }
 {
     if !is_in_model(place) {
@@ -69,8 +72,8 @@ pub fn gate_table(
     Ok(table)
 }
 
-/// Puts the signals of a `.gate` line that its table reads behind the last of some names, where
-/// they still grow. An error only for want of memory; then nothing is put.
+/// Appends the signals of a `.gate` line that its table reads, while the names still grow. On an
+/// error the names stay.
 pub fn add_gate_signals(
     alloc: Global,
     had: bool,
@@ -79,7 +82,7 @@ pub fn add_gate_signals(
     inputs: &[Name],
 ) -> Result<(), AllocError>
     ensures ok { OnOk result (names.new ≡ with_more had names.old
-        (filter (has inputs.now) (signals_of (others_of (texts words.now))))) }
+        (filter (has inputs.now) (signals_of (other_words (texts words.now))))) }
     ensures err { OnErr result (names.new ≡ names.old) }
 {
     if !had {

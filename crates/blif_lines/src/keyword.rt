@@ -1,6 +1,7 @@
-//! What a logical line is, by its first word.
+//! The kinds of logical lines of a model, by their first words.
 
-/// The kinds of lines: the dotted words that are known, those whose lines are read past, rows, and every other dotted word.
+/// The kinds of lines: the dotted words that are known, those whose lines are skipped, rows, and
+/// every other dotted word.
 #[derive(Clone, Copy, Debug, PartialEq, Eq)]
 pub enum Keyword {
     Model,

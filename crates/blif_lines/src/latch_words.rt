@@ -1,15 +1,20 @@
-//! Latches by the words of their lines.
+//! Latches from the words of their `.latch` lines.
+//!
+//! Source: BLIF appendix of the SIS report (UCB/ERL M92/41): an input and an output, then a kind
+//! with a control, or neither, then a start value, which is 3 (unknown) if it is missing. All
+//! latches share one timing, that of the first; `mixed_at` keeps the line of the first latch with
+//! another one. The results are those of `specs/Reader.antt` and `specs/Steps.antt`.
 
 ghost use Rattle.std.specs.Prelude.{◌≡◌, ◌-◌, ◌++◌, IfOk, OnOk, OnErr, slice_index};
 ghost use Rattle.line_words.specs.LineWords.{texts};
-ghost use Rattle.blif_lines.specs.Reader.{latch_of, init_of as init_by, kind_by, control_by, timing_of as timing_by, same_kind as same_kinds, same_control as same_controls, same_timing as same_timings};
+ghost use Rattle.blif_lines.specs.Reader.{latch_of, init_of, kind_by, control_by, timing_of, same_kind, same_control, same_timing};
 ghost use Rattle.blif_lines.specs.Steps.{timing_with, mixed_with};
 
 use circuit_model::{Kind, Latch, Latches, Name, Timing};
 use line_words::name_of;
 use std::alloc::{AllocError, Global};
 
-/// The start value that a word says: the digit that it begins with.
+/// The start value of a word: the digit that it begins with.
 fn digit_of(word: &[u8]) -> u8
     ensures { result ≡ slice_index word.now 0 - 48 }
 {
@@ -19,9 +24,10 @@ fn digit_of(word: &[u8]) -> u8
     }
 }
 
-/// The start value of a latch, by the words behind its output: the last of one or three, and 3 where there is none.
+/// The start value of a latch, by the words after its output: the last of one or three, and 3 if
+/// there is none.
 fn init_of(words: &[&[u8]]) -> u8
-    ensures { result ≡ init_by (texts words.now) }
+    ensures { result ≡ init_of (texts words.now) }
 {
     match words {
         [init] => digit_of(init),
@@ -30,8 +36,7 @@ fn init_of(words: &[&[u8]]) -> u8
     }
 }
 
-/// Puts the latch of a line behind some latches. An error only for want of memory; then nothing is
-/// put.
+/// Appends the latch of a line. On an error the latches stay.
 pub fn add_latch(alloc: Global, latches: &mut Latches, words: &[&[u8]]) -> Result<(), AllocError>
     ensures ok { OnOk result (latches.new ≡ latches.old ++ latch_of (texts words.now)) }
     ensures err { OnErr result (latches.new ≡ latches.old) }
@@ -65,7 +70,7 @@ fn kind_of(word: &[u8]) -> Kind
     }
 }
 
-/// The control of a latch by its word, `NIL` for none; an error only for want of memory.
+/// The control of a latch by its word; none for `NIL`.
 fn control_of(alloc: Global, word: &[u8]) -> Result<Option<Name>, AllocError>
     ensures { IfOk result (λ control. control ≡ control_by word.now) }
 {
@@ -75,9 +80,9 @@ fn control_of(alloc: Global, word: &[u8]) -> Result<Option<Name>, AllocError>
     Ok(Some(name_of(alloc, word)?))
 }
 
-/// The kind and the control of a latch, where its line says them; an error only for want of memory.
+/// The kind and the control of a latch, if its line has them.
 pub fn timing_of(alloc: Global, words: &[&[u8]]) -> Result<Option<Timing>, AllocError>
-    ensures { IfOk result (λ timing. timing ≡ timing_by (texts words.now)) }
+    ensures { IfOk result (λ timing. timing ≡ timing_of (texts words.now)) }
 {
     match words {
         [_, _, kind, control, ..] => Ok(Some(Timing {
@@ -90,7 +95,7 @@ pub fn timing_of(alloc: Global, words: &[&[u8]]) -> Result<Option<Timing>, Alloc
 
 /// Whether two kinds are the same.
 fn same_kind(kind: Kind, other: Kind) -> bool
-    ensures { result ≡ same_kinds kind other }
+    ensures { result ≡ same_kind kind other }
 {
     match (kind, other) {
         (Kind::Fe, Kind::Fe) | (Kind::Re, Kind::Re) | (Kind::Ah, Kind::Ah) | (Kind::Al, Kind::Al) =>
@@ -101,7 +106,7 @@ fn same_kind(kind: Kind, other: Kind) -> bool
 
 /// Whether two controls are the same.
 fn same_control(control: &Option<Name>, other: &Option<Name>) -> bool
-    ensures { result ≡ same_controls control.now other.now }
+    ensures { result ≡ same_control control.now other.now }
 {
     match (control, other) {
         (None, None) => true,
@@ -112,7 +117,7 @@ fn same_control(control: &Option<Name>, other: &Option<Name>) -> bool
 
 /// Whether two timings are the same.
 fn same_timing(timing: &Option<Timing>, other: &Option<Timing>) -> bool
-    ensures { result ≡ same_timings timing.now other.now }
+    ensures { result ≡ same_timing timing.now other.now }
 {
     match (timing, other) {
         (None, None) => true,
@@ -123,7 +128,7 @@ fn same_timing(timing: &Option<Timing>, other: &Option<Timing>) -> bool
     }
 }
 
-/// The timing of the first latch, where one more behind `latches` has its own.
+/// The timing of the first latch, after one more than `latches` with its own.
 #[tactic(auto, unfolding(crate::specs::Steps::timing_with))]
 pub fn shared<'a>(
     latches: &[Latch],
@@ -138,7 +143,7 @@ pub fn shared<'a>(
     }
 }
 
-/// Keeps the timing of the first latch, where one more behind `latches` has its own.
+/// Keeps the timing of the first latch, after one more than `latches` with its own.
 #[tactic(auto, unfolding(crate::specs::Steps::timing_with))]
 pub fn keep_timing(latches: &[Latch], timing: &mut Option<Timing>, own: Option<Timing>)
     ensures { timing.new ≡ timing_with latches.now timing.old own }
@@ -149,7 +154,8 @@ pub fn keep_timing(latches: &[Latch], timing: &mut Option<Timing>, own: Option<T
     }
 }
 
-/// The line of the first latch that is timed otherwise than the first, where one more stands in line `number`.
+/// The line of the first latch whose timing is not that of the first, after one more in line
+/// `number`.
 #[tactic(auto, unfolding(crate::specs::Steps::mixed_with))]
 pub fn mixed_at(
     mixed: Option<usize>,

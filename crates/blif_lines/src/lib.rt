@@ -1,11 +1,14 @@
-//! Reads the logical lines of a model in the Berkeley Logic Interchange Format (appendix of the SIS report, UCB/ERL M92/41): ports,
-//! clocks, latches, tables and gates in any order, and a don't-care part, as a circuit; or, where a KISS2 part begins and
-//! no table, latch or gate stands in the model itself, the head of a machine.
+//! Reads the logical lines of a model in the Berkeley Logic Interchange Format (appendix of the SIS
+//! report, UCB/ERL M92/41): ports, clocks, latches, tables and gates in any order, and a don't-care
+//! part, as a circuit; or, if a KISS2 part begins and the model itself has no table, latch or gate,
+//! the head of a machine.
 //!
-//! `specs/Lines` says what is wrong with a line, given the lines before it; `specs/Reader` what must hold of the whole, and what
-//! the lines say. `read_lines` answers that or the first fault, exactly; `reading_laws` has what holds of it. A gate is read as its
-//! table, by the library at hand. The lines inside of a KISS2 part are no lines of the model. The code takes line by line into a
-//! draft (`specs/Steps`); that its steps come to the definition is proved once, for all lists of lines.
+//! `specs/Lines.antt` says what is wrong with a line, given the lines before it;
+//! `specs/Reader.antt` what must hold of the whole, and what the lines describe. `read_lines`
+//! returns exactly that or the first fault; `reading_laws` has the laws of what is read. A gate is
+//! read as its table, by the given library. The lines inside a KISS2 part are not lines of the
+//! model. The code takes line after line into a draft (`specs/Steps.antt`); a proof for all lists
+//! of lines says that its steps agree with the definition.
 #![tactic(auto)]
 
 mod content;

@@ -1,9 +1,15 @@
 //! What is wrong with a line: the first of its causes.
+//!
+//! Source: BLIF appendix of the SIS report (UCB/ERL M92/41); the order of the causes and the limits
+//! are the project's own (`specs/Lines.antt`). The calls get what the lines before said: the part
+//! of the file, the number of tables, latches and gates, and the table whose rows are being read.
+//! Each returns exactly the fault of the definition for its kind of line; for tables, latches and
+//! gates, none means that there is room for one more.
 
 ghost use Rattle.std.specs.Prelude.{◌≡◌, ◌<◌, ◌==◌, Some, None, length, IfSome};
 ghost use Rattle.line_words.specs.LineWords.{texts};
-ghost use Rattle.blif_lines.specs.Lines.{long_fault as long_fault_by, one_too_many as one_too_many_by, is_init as is_init_word, is_latch_kind as is_latch_kind_word, is_latch_end as is_latch_end_of, is_latch as is_latch_line, latch_names as latch_names_of, is_in_model as is_model_place, is_behind as is_behind_place, model_fault as model_fault_by, ports_fault as ports_fault_by, clock_fault as clock_fault_by, names_fault as names_fault_by, latch_fault as latch_fault_by, start_fault as start_fault_by, place_fault as place_fault_by};
-ghost use Rattle.blif_lines.specs.Steps.{reading_fault as reading_fault_by, next_fault as next_fault_by};
+ghost use Rattle.blif_lines.specs.Lines.{long_fault, one_too_many, is_init, is_latch_kind, is_latch_end, is_latch, latch_names, is_in_model, is_behind, model_fault, ports_fault, clock_fault, names_fault, latch_fault, start_fault, place_fault};
+ghost use Rattle.blif_lines.specs.Steps.{reading_fault, next_fault};
 
 use crate::draft::Reading;
 use crate::fault::{BlifFault, LimitKind};
@@ -13,9 +19,9 @@ use crate::word_list::{first_words, front_words};
 use line_words::long_name;
 use sis_base::limits::{MAX_INPUTS, MAX_NODES, MAX_ROWS};
 
-/// Whether a place is in the model itself.
+/// Whether a part is the model itself.
 pub fn is_in_model(place: Part) -> bool
-    ensures { result ≡ is_model_place place }
+    ensures { result ≡ is_in_model place }
 {
     match place {
         Part::Model => true,
@@ -23,9 +29,9 @@ pub fn is_in_model(place: Part) -> bool
     }
 }
 
-/// Whether a place is behind the end.
+/// Whether a part is after the end.
 fn is_behind(place: Part) -> bool
-    ensures { result ≡ is_behind_place place }
+    ensures { result ≡ is_behind place }
 {
     match place {
         Part::Behind => true,
@@ -35,7 +41,7 @@ fn is_behind(place: Part) -> bool
 
 /// The fault of the first word that is longer than a name may be.
 fn long_fault(words: &[&[u8]]) -> Option<BlifFault>
-    ensures { result ≡ long_fault_by (texts words.now) }
+    ensures { result ≡ long_fault (texts words.now) }
 {
     match long_name(words) {
         None => None,
@@ -43,9 +49,9 @@ fn long_fault(words: &[&[u8]]) -> Option<BlifFault>
     }
 }
 
-/// The fault of one table, latch or gate more than a model may have.
+/// The fault of one more table, latch or gate than a model may have.
 pub fn one_too_many(nodes: usize) -> Option<BlifFault>
-    ensures value { result ≡ one_too_many_by nodes }
+    ensures value { result ≡ one_too_many nodes }
     ensures room { result ≡ None → nodes < MAX_NODES }
 {
     if nodes >= MAX_NODES {
@@ -54,10 +60,11 @@ pub fn one_too_many(nodes: usize) -> Option<BlifFault>
     None
 }
 
-/// What is wrong with the words of a `.model` line behind the first; `begun` says whether a line stands before it.
+/// What is wrong with the words of a `.model` line after the first; `begun` says whether a line
+/// precedes it.
 #[tactic(auto, unfolding(crate::specs::Lines::model_fault, crate::specs::Lines::first_of))]
 pub fn model_fault(place: Part, begun: bool, number: usize, words: &[&[u8]]) -> Option<BlifFault>
-    ensures { result ≡ model_fault_by place begun number (texts words.now) }
+    ensures { result ≡ model_fault place begun number (texts words.now) }
 {
     if let Part::DontCare = place {
         return Some(BlifFault::UnknownWord(number));
@@ -71,10 +78,10 @@ pub fn model_fault(place: Part, begun: bool, number: usize, words: &[&[u8]]) -> 
     long_fault(words)
 }
 
-/// What is wrong with the words of a line of ports behind the first.
+/// What is wrong with the words of a line of ports after the first.
 #[tactic(auto, unfolding(crate::specs::Lines::ports_fault, crate::specs::Lines::first_of))]
 pub fn ports_fault(place: Part, number: usize, words: &[&[u8]]) -> Option<BlifFault>
-    ensures { result ≡ ports_fault_by place number (texts words.now) }
+    ensures { result ≡ ports_fault place number (texts words.now) }
 {
     match place {
         Part::Model => long_fault(words),
@@ -83,10 +90,10 @@ pub fn ports_fault(place: Part, number: usize, words: &[&[u8]]) -> Option<BlifFa
     }
 }
 
-/// What is wrong with the words of a line of clocks behind the first.
+/// What is wrong with the words of a line of clocks after the first.
 #[tactic(auto, unfolding(crate::specs::Lines::clock_fault, crate::specs::Lines::first_of))]
 pub fn clock_fault(place: Part, number: usize, words: &[&[u8]]) -> Option<BlifFault>
-    ensures { result ≡ clock_fault_by place number (texts words.now) }
+    ensures { result ≡ clock_fault place number (texts words.now) }
 {
     if !is_in_model(place) {
         return Some(BlifFault::UnknownWord(number));
@@ -94,10 +101,11 @@ pub fn clock_fault(place: Part, number: usize, words: &[&[u8]]) -> Option<BlifFa
     long_fault(words)
 }
 
-/// What is wrong with the words of a `.names` line behind the first; `nodes` tables, latches and gates stand before it.
+/// What is wrong with the words of a `.names` line after the first, after `nodes` tables, latches
+/// and gates.
 #[tactic(auto, unfolding(crate::specs::Lines::names_fault, crate::specs::Lines::first_of))]
 pub fn names_fault(place: Part, nodes: usize, number: usize, words: &[&[u8]]) -> Option<BlifFault>
-    ensures value { result ≡ names_fault_by place nodes number (texts words.now) }
+    ensures value { result ≡ names_fault place nodes number (texts words.now) }
     ensures room { result ≡ None → nodes < MAX_NODES }
 {
     if is_behind(place) {
@@ -121,7 +129,7 @@ pub fn names_fault(place: Part, nodes: usize, number: usize, words: &[&[u8]]) ->
 
 /// Whether a word is the start value of a latch.
 fn is_init(word: &[u8]) -> bool
-    ensures { result ≡ is_init_word word.now }
+    ensures { result ≡ is_init word.now }
 {
     word == b"0".as_slice()
         || word == b"1".as_slice()
@@ -131,7 +139,7 @@ fn is_init(word: &[u8]) -> bool
 
 /// Whether a word is the kind of a latch.
 fn is_latch_kind(word: &[u8]) -> bool
-    ensures { result ≡ is_latch_kind_word word.now }
+    ensures { result ≡ is_latch_kind word.now }
 {
     word == b"fe".as_slice()
         || word == b"re".as_slice()
@@ -139,9 +147,9 @@ fn is_latch_kind(word: &[u8]) -> bool
         || word == b"al".as_slice()
 }
 
-/// Whether words may stand behind a latch's signals: a kind with a control, a start value, both or none.
+/// Whether words may follow a latch's signals: a kind with a control, a start value, both or none.
 fn is_latch_end(words: &[&[u8]]) -> bool
-    ensures { result ≡ is_latch_end_of (texts words.now) }
+    ensures { result ≡ is_latch_end (texts words.now) }
 {
     match words {
         [] => true,
@@ -152,9 +160,9 @@ fn is_latch_end(words: &[&[u8]]) -> bool
     }
 }
 
-/// Whether words are an input, an output, and what may stand behind them.
+/// Whether words are an input, an output, and what may follow them.
 fn is_latch(words: &[&[u8]]) -> bool
-    ensures { result ≡ is_latch_line (texts words.now) }
+    ensures { result ≡ is_latch (texts words.now) }
 {
     match words {
         [_, _, end @ ..] => is_latch_end(end),
@@ -164,7 +172,7 @@ fn is_latch(words: &[&[u8]]) -> bool
 
 /// The fault of the first name of a latch that is too long: its input, its output or its control.
 fn long_latch_name(words: &[&[u8]]) -> Option<BlifFault>
-    ensures { result ≡ long_fault_by (latch_names_of (texts words.now)) }
+    ensures { result ≡ long_fault (latch_names (texts words.now)) }
 {
     match words {
         [input, output, _, control, ..] => long_fault([*input, *output, *control].as_slice()),
@@ -172,10 +180,11 @@ fn long_latch_name(words: &[&[u8]]) -> Option<BlifFault>
     }
 }
 
-/// What is wrong with the words of a `.latch` line behind the first; `nodes` tables, latches and gates stand before it.
+/// What is wrong with the words of a `.latch` line after the first, after `nodes` tables, latches
+/// and gates.
 #[tactic(auto, unfolding(crate::specs::Lines::latch_fault, crate::specs::Lines::first_of))]
 pub fn latch_fault(place: Part, nodes: usize, number: usize, words: &[&[u8]]) -> Option<BlifFault>
-    ensures value { result ≡ latch_fault_by place nodes number (texts words.now) }
+    ensures value { result ≡ latch_fault place nodes number (texts words.now) }
     ensures room { result ≡ None → nodes < MAX_NODES }
 {
     if !is_in_model(place) {
@@ -190,10 +199,10 @@ pub fn latch_fault(place: Part, nodes: usize, number: usize, words: &[&[u8]]) ->
     one_too_many(nodes)
 }
 
-/// What is wrong with the line that begins a KISS2 part; `had` says whether one began before it.
+/// What is wrong with the line that begins a KISS2 part; `had` says whether an earlier one began.
 #[tactic(auto, unfolding(crate::specs::Lines::start_fault))]
 pub fn start_fault(place: Part, had: bool, number: usize) -> Option<BlifFault>
-    ensures { result ≡ start_fault_by place had number }
+    ensures { result ≡ start_fault place had number }
 {
     if !is_in_model(place) || had {
         return Some(BlifFault::UnknownWord(number));
@@ -201,9 +210,9 @@ pub fn start_fault(place: Part, had: bool, number: usize) -> Option<BlifFault>
     None
 }
 
-/// What is wrong with the line that begins the don't-care part, or with one that is read past.
+/// What is wrong with the line that begins the don't-care part, or with one that is skipped.
 pub fn place_fault(place: Part, number: usize) -> Option<BlifFault>
-    ensures { result ≡ place_fault_by place number }
+    ensures { result ≡ place_fault place number }
 {
     if !is_in_model(place) {
         return Some(BlifFault::UnknownWord(number));
@@ -214,7 +223,7 @@ pub fn place_fault(place: Part, number: usize) -> Option<BlifFault>
 /// What is wrong with bytes as one more row of the table that is being read.
 #[tactic(auto, unfolding(crate::specs::Steps::reading_fault, crate::specs::Lines::first_of))]
 fn reading_fault(reading: &Reading, number: usize, bytes: &[u8]) -> Option<BlifFault>
-    ensures value { result ≡ reading_fault_by reading.now number bytes.now }
+    ensures value { result ≡ reading_fault reading.now number bytes.now }
     ensures room { result ≡ None → length reading.now.table.inputs < length bytes.now }
 {
     let width = reading.table.inputs.len();
@@ -231,7 +240,7 @@ fn reading_fault(reading: &Reading, number: usize, bytes: &[u8]) -> Option<BlifF
     None
 }
 
-/// What is wrong with bytes as a row behind the lines before it.
+/// What is wrong with bytes as a row after the lines before it.
 #[tactic(auto, unfolding(crate::specs::Steps::next_fault, crate::specs::Lines::first_of))]
 pub fn row_fault(
     place: Part,
@@ -239,8 +248,9 @@ pub fn row_fault(
     number: usize,
     bytes: &[u8],
 ) -> Option<BlifFault>
-    ensures value { result ≡ next_fault_by place reading.now number bytes.now }
-    ensures room { result ≡ None → IfSome reading.now (λ one. length one.table.inputs < length bytes.now) }
+    ensures value { result ≡ next_fault place reading.now number bytes.now }
+    ensures room { result ≡ None → IfSome reading.now
+        (λ one. length one.table.inputs < length bytes.now) }
 {
     if is_behind(place) {
         return Some(BlifFault::UnknownWord(number));

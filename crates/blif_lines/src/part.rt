@@ -1,6 +1,6 @@
-//! Where a line stands in a file.
+//! The parts of a file.
 
-/// The model itself, its don't-care part (behind an `.exdc` line), or what stands behind an `.end` line.
+/// The model itself, its don't-care part (after an `.exdc` line), or what follows an `.end` line.
 #[derive(Clone, Copy, Debug, PartialEq, Eq)]
 pub enum Part {
     Model,

@@ -1,9 +1,11 @@
-//! Ports that no line lists: the names that are beside others.
+//! Ports that no line lists: the names among some that are not among others, each once, in order of
+//! first mention (`names_beside` of `specs/Reader.antt`). Inputs are read and not driven, outputs
+//! driven and not read.
 
 ghost use Rattle.std.specs.Prelude.{◌≡◌, not, ◌++◌, ◌∷◌, [], IfOk, OnOk, OnErr, if◌then◌else◌};
 ghost use Rattle.circuit_model.specs.Names.{has};
 ghost use Rattle.circuit_checks.specs.Sets.{with_name, Alike};
-ghost use Rattle.blif_lines.specs.Reader.{names_beside as beside};
+ghost use Rattle.blif_lines.specs.Reader.{names_beside};
 ghost use Rattle.blif_lines.specs.Steps.{listed_or};
 
 use circuit_model::{Name, Names};
@@ -11,7 +13,7 @@ use indexmap::IndexSet;
 use sis_base::{Copied, Sequence};
 use std::alloc::{AllocError, Global};
 
-/// Puts a name into a set, and says whether it is new; an error only for want of memory.
+/// Adds a name to a set, and returns whether it is new.
 fn add(set: &mut IndexSet<Name>, name: Name) -> Result<bool, AllocError>
     ensures added { IfOk result (λ added. added ≡ not (has set.old.keys name)) }
     ensures names { OnOk result (set.new.keys ≡ with_name set.old.keys name) }
@@ -19,7 +21,7 @@ fn add(set: &mut IndexSet<Name>, name: Name) -> Result<bool, AllocError>
     Ok(set.insert(name)?)
 }
 
-/// The set of some names; an error only for want of memory.
+/// The set of some names.
 fn set_of(alloc: Global, names: &[Name]) -> Result<IndexSet<Name>, AllocError>
     ensures { IfOk result (λ set. Alike set.keys names.now) }
 {
@@ -30,7 +32,7 @@ fn set_of(alloc: Global, names: &[Name]) -> Result<IndexSet<Name>, AllocError>
     Ok(set)
 }
 
-/// Puts a name into a set, and behind others where it is new; an error only for want of memory.
+/// Adds a name to a set, and appends it to others if it is new.
 fn add_new(
     alloc: Global,
     known: &mut IndexSet<Name>,
@@ -38,7 +40,8 @@ fn add_new(
     name: &Name,
 ) -> Result<(), AllocError>
     ensures known { OnOk result (known.new.keys ≡ with_name known.old.keys name.now) }
-    ensures found { OnOk result (found.new ≡ (if has known.old.keys name.now then found.old else found.old ++ name.now ∷ [])) }
+    ensures found { OnOk result (found.new ≡ (if has known.old.keys name.now then found.old else
+        found.old ++ name.now ∷ [])) }
 {
     if add(known, name.copy(alloc)?)? {
         found.push(name.copy(alloc)?)?;
@@ -46,9 +49,9 @@ fn add_new(
     Ok(())
 }
 
-/// The names that are not among others, each once, where it comes first; an error only for want of memory.
+/// The names that are not among others, each once, in order of first mention.
 fn names_beside(alloc: Global, others: &[Name], names: &[Name]) -> Result<Names, AllocError>
-    ensures { IfOk result (λ found. found ≡ beside others.now names.now) }
+    ensures { IfOk result (λ found. found ≡ names_beside others.now names.now) }
 {
     let mut known = set_of(alloc, others)?;
     let mut found = Sequence::new(alloc);
@@ -58,8 +61,8 @@ fn names_beside(alloc: Global, others: &[Name], names: &[Name]) -> Result<Names,
     Ok(found)
 }
 
-/// Makes ports that no line lists those of some names that are not among others. An error only for
-/// want of memory; then the ports stay.
+/// Sets ports that no line lists to those of `names` that are not among `others`. On an error the
+/// ports stay.
 pub fn find_ports(
     alloc: Global,
     listed: bool,
@@ -68,7 +71,7 @@ pub fn find_ports(
     names: &[Name],
 ) -> Result<(), AllocError>
     ensures ok { OnOk result (ports.new
-        ≡ listed_or listed ports.old (beside others.now names.now)) }
+        ≡ listed_or listed ports.old (names_beside others.now names.now)) }
     ensures err { OnErr result (ports.new ≡ ports.old) }
 {
     if !listed {

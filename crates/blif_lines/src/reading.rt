@@ -1,4 +1,10 @@
 //! Reads the lines of a model as a circuit, or as the head of a machine.
+//!
+//! Source: BLIF appendix of the SIS report (UCB/ERL M92/41). The lines are given in two runs, those
+//! before a KISS2 part and those after it. They are taken one by one into a draft, up to the first
+//! with a fault; then the whole is checked and settled. `read_lines` returns exactly the content or
+//! the first fault of `read_lines` in `specs/Reader.antt`; `reading_laws` says that it is sound if
+//! the words of the lines are words.
 
 ghost use Rattle.std.specs.Prelude.{◌++◌, true, false, map, option_copied};
 ghost use Rattle.sis_text.specs.Entries.{entry_at};
@@ -15,7 +21,7 @@ use sis_base::Whole;
 use sis_text::{Line, texts_at};
 use std::alloc::Global;
 
-/// Takes one logical line of a text.
+/// Reads one logical line of a text.
 fn take_line(
     alloc: Global,
     source: &[u8],
@@ -23,13 +29,14 @@ fn take_line(
     library: Option<&Library>,
     draft: &mut Draft,
 ) -> Result<(), ReadFault>
-    ensures { Takes result draft.new (take_entry (option_copied library.entry) draft.old (entry_at source.now line.now)) }
+    ensures { Takes result draft.new (take_entry (option_copied library.entry) draft.old
+        (entry_at source.now line.now)) }
 {
     let words = texts_at(alloc, source, line.words.as_slice())?;
     draft.take(alloc, library, line.number, words.as_slice())
 }
 
-/// Takes the logical lines of a text, up to the first that has a fault.
+/// Reads the logical lines of a text, up to the first that has a fault.
 fn take_lines(
     alloc: Global,
     source: &[u8],
@@ -37,7 +44,8 @@ fn take_lines(
     library: Option<&Library>,
     draft: &mut Draft,
 ) -> Result<(), ReadFault>
-    ensures { Takes result draft.new (take_entries (option_copied library.entry) draft.old (map (entry_at source.now) lines.now)) }
+    ensures { Takes result draft.new (take_entries (option_copied library.entry) draft.old
+        (map (entry_at source.now) lines.now)) }
 {
     for line in lines {
         take_line(alloc, source, line, library, draft)?;
@@ -45,7 +53,7 @@ fn take_lines(
     Ok(())
 }
 
-/// Takes two runs of logical lines, one behind the other, up to the first line that has a fault.
+/// Reads two runs of logical lines, one after the other, up to the first line that has a fault.
 fn take_runs(
     alloc: Global,
     source: &[u8],
@@ -54,13 +62,14 @@ fn take_runs(
     library: Option<&Library>,
     draft: &mut Draft,
 ) -> Result<(), ReadFault>
-    ensures { Takes result draft.new (take_entries (option_copied library.entry) draft.old (map (entry_at source.now) front.now ++ map (entry_at source.now) back.now)) }
+    ensures { Takes result draft.new (take_entries (option_copied library.entry) draft.old
+        (map (entry_at source.now) front.now ++ map (entry_at source.now) back.now)) }
 {
     take_lines(alloc, source, front, library, draft)?;
     take_lines(alloc, source, back, library, draft)
 }
 
-/// The head of a machine, of the draft behind the last line, if no port is listed twice.
+/// The head of a machine, from the draft after the last line, if no port is listed twice.
 fn read_head(alloc: Global, draft: Whole<Draft>) -> Result<Content, ReadFault>
     ensures { Reads result (read_kept_as true (kept_of draft.it)) }
 {
@@ -70,7 +79,7 @@ fn read_head(alloc: Global, draft: Whole<Draft>) -> Result<Content, ReadFault>
     Ok(Content::Head(head_of(draft.into_it())))
 }
 
-/// The circuit of the draft behind the last line, if nothing is wrong with the whole.
+/// The circuit of the draft after the last line, if nothing is wrong with the whole.
 #[tactic(auto, unfolding(crate::specs::Steps::kept_fault, crate::specs::Steps::settled, crate::specs::Steps::settled_fault, crate::specs::Lines::first_of))]
 fn read_circuit(alloc: Global, draft: Whole<Draft>) -> Result<Content, ReadFault>
     requires { HasApartTables (kept_of draft.it) }
@@ -87,7 +96,8 @@ fn read_circuit(alloc: Global, draft: Whole<Draft>) -> Result<Content, ReadFault
     Ok(Content::Circuit(circuit_of(alloc, draft)?))
 }
 
-/// What is read of a draft behind the last line: its circuit or the head of a machine, if nothing is wrong with the whole.
+/// What is read of a draft after the last line: its circuit or the head of a machine, if nothing is
+/// wrong with the whole.
 #[tactic(auto, unfolding(crate::specs::Steps::read_kept))]
 fn finish(alloc: Global, draft: Whole<Draft>) -> Result<Content, ReadFault>
     requires { HasApartTables (kept_of draft.it) }
@@ -100,8 +110,9 @@ fn finish(alloc: Global, draft: Whole<Draft>) -> Result<Content, ReadFault>
     }
 }
 
-/// Reads logical lines of a text as a model, in two runs one behind the other: those before a KISS2 part, and those behind it.
-/// An error says the first fault of a line, in file order, else the first of the whole; or that memory was wanting.
+/// Reads logical lines of a text as a model, in two runs: those before a KISS2 part, and those
+/// after it. An error is the first fault of a line, in file order, otherwise the first of the
+/// whole; or want of memory.
 pub fn read_lines(
     alloc: Global,
     source: &[u8],
@@ -109,10 +120,11 @@ pub fn read_lines(
     back: &[Line],
     library: Option<&Library>,
 ) -> Result<Content, ReadFault>
-    ensures { Reads result (read_lines (option_copied library.entry) (map (entry_at source.now) front.now ++ map (entry_at source.now) back.now)) }
+    ensures { Reads result (read_lines (option_copied library.entry)
+        (map (entry_at source.now) front.now ++ map (entry_at source.now) back.now)) }
 {
     let draft = Draft::new(alloc)?;
-    // A whole, so that letting it go is one call.
+    // Wrapped in a `Whole`, so that dropping it is one call.
     let mut draft = Whole { it: draft };
     take_runs(alloc, source, front, back, library, &mut draft.it)?;
     finish(alloc, draft)

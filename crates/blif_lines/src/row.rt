@@ -1,4 +1,5 @@
-//! The rows of tables, by their characters.
+//! The rows of tables, by their characters: one for each input, then the output's, which all rows
+//! of a table share.
 
 ghost use Rattle.std.specs.Prelude.{◌≡◌, ◌<◌, ◌++◌, ◌∷◌, [], true, length, IfOk};
 ghost use Rattle.std.specs.List.{list_all};
@@ -28,7 +29,7 @@ pub fn is_row(width: usize, bytes: &[u8]) -> bool
     are_characters(&bytes[..width]) && are_output_characters(&bytes[width..])
 }
 
-/// The output character that all rows have, where one more row has `byte`.
+/// The output character that all rows have, after one more row with `byte`.
 #[tactic(auto, unfolding(crate::specs::Steps::mark_for))]
 pub fn mark_of(rows: &[Row], mark: u8, byte: u8) -> u8
     ensures { result ≡ mark_for rows.now mark byte }
@@ -39,7 +40,7 @@ pub fn mark_of(rows: &[Row], mark: u8, byte: u8) -> u8
     }
 }
 
-/// Rows with one more; an error only for want of memory.
+/// Rows with one more.
 pub fn appended(rows: Rows, row: Row) -> Result<Rows, AllocError>
     ensures { IfOk result (λ more. more ≡ rows ++ row ∷ []) }
 {

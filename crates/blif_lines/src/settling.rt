@@ -1,4 +1,10 @@
-//! What is made of the draft behind the last line: its ports, its two lists of tables, its circuit; or the head of a machine.
+//! What is made of a draft after the last line: its ports, its two lists of tables, its circuit; or
+//! the head of a machine.
+//!
+//! Ports that no line lists are found, and the tables are separated into the model's and those of
+//! the don't-care part (`settled` of `specs/Steps.antt`). In the circuit each table of the model
+//! has each of its inputs once; the tables of the don't-care part stay as they are written. The
+//! lists of the draft are moved into the circuit, not copied.
 
 ghost use Rattle.std.specs.Prelude.{◌≡◌, map, IfOk, OnOk};
 ghost use Rattle.circuit_tables.specs.Folding.{folded};
@@ -8,12 +14,12 @@ use crate::content::Head;
 use crate::draft::{Draft, with_reading};
 use crate::ports::find_ports;
 use circuit_model::{Circuit, Tables};
-use circuit_tables::fold_table;
+use circuit_tables::merge_repeated_inputs;
 use sis_base::{Sequence, Whole};
 use std::alloc::{AllocError, Global};
 use std::mem;
 
-/// Finds the ports that no line lists, and parts the tables; an error only for want of memory.
+/// Finds the ports that no line lists, and separates the tables.
 #[tactic(auto, unfolding(crate::specs::Steps::settled))]
 pub fn settle(alloc: Global, draft: &mut Draft) -> Result<(), AllocError>
     ensures { OnOk result (draft.new ≡ settled draft.old) }
@@ -40,18 +46,18 @@ pub fn settle(alloc: Global, draft: &mut Draft) -> Result<(), AllocError>
     Ok(())
 }
 
-/// The tables, each with each of its inputs once; an error only for want of memory.
+/// The tables, each with each of its inputs once.
 fn folded_tables(alloc: Global, tables: Tables) -> Result<Tables, AllocError>
     ensures { IfOk result (λ less. less ≡ map folded tables) }
 {
     let mut less = Sequence::new(alloc);
     for table in tables.into_vec() {
-        less.push(fold_table(alloc, table)?)?;
+        less.push(merge_repeated_inputs(alloc, table)?)?;
     }
     Ok(less)
 }
 
-/// The circuit of a draft that is settled, with other tables in place of the model's.
+/// The circuit of a draft that is settled, with other tables for the model.
 fn circuit_with(draft: Draft, model_tables: Tables) -> Circuit
     ensures { result ≡ record {
       name = draft.name;
@@ -86,7 +92,7 @@ fn circuit_with(draft: Draft, model_tables: Tables) -> Circuit
     }
 }
 
-/// The circuit of a draft that is settled; an error only for want of memory.
+/// The circuit of a draft that is settled.
 pub fn circuit_of(alloc: Global, draft: Whole<Draft>) -> Result<Circuit, AllocError>
     ensures { IfOk result (λ circuit. circuit ≡ settled_circuit draft.it) }
 {
@@ -96,7 +102,7 @@ pub fn circuit_of(alloc: Global, draft: Whole<Draft>) -> Result<Circuit, AllocEr
     Ok(circuit_with(draft.into_it(), folded))
 }
 
-/// The head of a machine, of the draft behind the last line.
+/// The head of a machine, from the draft after the last line.
 pub fn head_of(draft: Draft) -> Head
     ensures { result ≡ kept_head (kept_of draft) }
 {

@@ -1,13 +1,18 @@
-//! The words of one line, as they stand in the text that is read.
+//! The words of one line of a model, as slices of the text that is read.
+//!
+//! Source: BLIF appendix of the SIS report (UCB/ERL M92/41). `keyword_of` returns the kind of a
+//! line by its first word, exactly as `specs/Keyword.antt`; the lines of areas, delays, loads and
+//! events are skipped. The other calls return the last word, all words but the last, the first few,
+//! a latch's output, or the bytes of all words joined, as a row is written.
 
 ghost use Rattle.std.specs.Prelude.{◌≡◌, take, bytes_eq, codes, IfOk, OnOk, OnErr, if◌then◌else◌};
 ghost use Rattle.std.specs.List.{list_any};
 ghost use Rattle.circuit_model.specs.Names.{has};
 ghost use Rattle.sis_text.specs.Words.{begins_with};
 ghost use Rattle.line_words.specs.LineWords.{texts};
-ghost use Rattle.blif_lines.specs.Keyword.{keyword_of as kind_by, skipped_words};
-ghost use Rattle.blif_lines.specs.Lines.{input_words, last_word as last_of, joined as all_bytes};
-ghost use Rattle.blif_lines.specs.Reader.{latch_output as output_of};
+ghost use Rattle.blif_lines.specs.Keyword.{keyword_of, skipped_words};
+ghost use Rattle.blif_lines.specs.Lines.{input_words, last_word, joined};
+ghost use Rattle.blif_lines.specs.Reader.{latch_output};
 ghost use Rattle.blif_lines.specs.Steps.{with_more};
 
 use crate::keyword::Keyword;
@@ -18,7 +23,7 @@ use std::alloc::{AllocError, Global};
 /// What a line is, by its first word.
 #[tactic(auto, unfolding(crate::specs::Keyword::keyword_of))]
 pub fn keyword_of(word: &[u8]) -> Keyword
-    ensures { result ≡ kind_by word.now }
+    ensures { result ≡ keyword_of word.now }
 {
     if word == b".model".as_slice() {
         Keyword::Model
@@ -33,9 +38,16 @@ pub fn keyword_of(word: &[u8]) -> Keyword
     }
 }
 
-/// What a line is that is no line of the model, its ports or its clocks.
+/// The kind of a line that is not one of the model, its ports or its clocks.
 fn node_keyword(word: &[u8]) -> Keyword
-    ensures { result ≡ (if bytes_eq word.now (codes ".names") then Keyword.Names else (if bytes_eq word.now (codes ".latch") then Keyword.Latch else (if bytes_eq word.now (codes ".gate") then Keyword.Gate else (if bytes_eq word.now (codes ".start_kiss") then Keyword.StartKiss else (if bytes_eq word.now (codes ".exdc") then Keyword.DontCare else (if bytes_eq word.now (codes ".end") then Keyword.End else (if has skipped_words word.now then Keyword.Skipped else (if begins_with 46 word.now then Keyword.Other else Keyword.Row)))))))) }
+    ensures { result ≡ (if bytes_eq word.now (codes ".names") then Keyword.Names else
+        (if bytes_eq word.now (codes ".latch") then Keyword.Latch else
+        (if bytes_eq word.now (codes ".gate") then Keyword.Gate else
+        (if bytes_eq word.now (codes ".start_kiss") then Keyword.StartKiss else
+        (if bytes_eq word.now (codes ".exdc") then Keyword.DontCare else
+        (if bytes_eq word.now (codes ".end") then Keyword.End else
+        (if has skipped_words word.now then Keyword.Skipped else
+        (if begins_with 46 word.now then Keyword.Other else Keyword.Row)))))))) }
 {
     if word == b".names".as_slice() {
         Keyword::Names
@@ -56,14 +68,14 @@ fn node_keyword(word: &[u8]) -> Keyword
     }
 }
 
-/// Whether a word is one of some.
+/// Whether a word is among others.
 fn is_among(words: &[&[u8]], word: &[u8]) -> bool
     ensures { result ≡ list_any (λ one. bytes_eq word.now one.now) words.now }
 {
     words.iter().any(|other| word == *other)
 }
 
-/// Whether a line with this first word is read past.
+/// Whether a line with this first word is skipped.
 fn is_skipped(word: &[u8]) -> bool
     ensures { result ≡ has skipped_words word.now }
 {
@@ -100,9 +112,9 @@ fn dotted_or_row(word: &[u8]) -> Keyword
     }
 }
 
-/// The last word; the empty one where there is none.
+/// The last word; the empty one if there is none.
 pub fn last_word<'a>(words: &[&'a [u8]]) -> &'a [u8]
-    ensures { result.now ≡ last_of (texts words.now) }
+    ensures { result.now ≡ last_word (texts words.now) }
 {
     match words {
         [] => b"".as_slice(),
@@ -129,7 +141,7 @@ pub fn first_words<'a, 'w>(words: &'w [&'a [u8]], count: usize) -> &'w [&'a [u8]
 
 /// The output of a latch, by the words of its line.
 pub fn latch_output<'a, 'w>(words: &'w [&'a [u8]]) -> &'w [&'a [u8]]
-    ensures { texts result.now ≡ output_of (texts words.now) }
+    ensures { texts result.now ≡ latch_output (texts words.now) }
 {
     match words {
         [] => words,
@@ -137,8 +149,7 @@ pub fn latch_output<'a, 'w>(words: &'w [&'a [u8]]) -> &'w [&'a [u8]]
     }
 }
 
-/// Puts a name for each word behind the last of some names, where they still grow. An error only
-/// for want of memory; then nothing is put.
+/// Appends a name for each word, while the names still grow. On an error the names stay.
 pub fn add_more(
     alloc: Global,
     had: bool,
@@ -154,9 +165,9 @@ pub fn add_more(
     Ok(())
 }
 
-/// The bytes of all words, one word behind the other; an error only for want of memory.
+/// The bytes of all words, one after the other.
 pub fn joined(alloc: Global, words: &[&[u8]]) -> Result<Vec<u8>, AllocError>
-    ensures { IfOk result (λ bytes. bytes.items ≡ all_bytes (texts words.now)) }
+    ensures { IfOk result (λ bytes. bytes.items ≡ joined (texts words.now)) }
 {
     let mut bytes = Vec::new(alloc);
     for word in words {

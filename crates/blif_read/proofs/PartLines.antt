@@ -40,7 +40,7 @@ begins_by_word word = by (bytes_eq word (codes ".start_kiss")) refl
     by true e = subst (λ one. true ≡ begins_kiss (keyword_of one)) (sym ((bytes_eq-Decides word (codes ".start_kiss")).0 e)) (sym start_begins)
     by false e = rw e (sym (other_begins _ _ _ _ _ _ _ _ _ _ _))
 
--- all lines stand up to a place behind the last, and none behind it
+-- all lines come before an index past the last, and none after it
 pub all_to : (lines : List Line) (place : ℕ) → length lines ≤ place → lines ≡ take (place + 1) lines
 all_to lines place h = sym (take_all (place + 1) lines (omega (arith, h)))
 

@@ -1,8 +1,9 @@
 -- A machine under the names of a head: as many ports as before, all different, and what holds of the names of both holds of its names.
-use Rattle.std.proofs.Common.{◌≡◌, ℕ, Bool, true, false, not, ◌&&◌, ◌||◌, ◌==◌, cond, Option, Some, None, List, [], ◌∷◌, ◌++◌, length, bytes_eq, find, unwrap_or, refl, sym, ◌∙◌, ap, arith}
+use Rattle.std.proofs.Common.{◌≡◌, ℕ, Bool, true, false, not, ◌&&◌, ◌==◌, cond, Option, Some, None, List, [], ◌∷◌, ◌++◌, length, bytes_eq, find, unwrap_or, refl, sym, ◌∙◌, ap, arith}
 use Rattle.std.specs.List.{AllByRecursion}
 use Rattle.std.proofs.lemmas.Bool.Decides.{nat_tests}
 use Rattle.std.proofs.lemmas.List.{append-nil}
+use Rattle.std.proofs.lemmas.Bool.{or_from, or_parts}
 use Rattle.circuit_model.specs.Names.{has, all_different}
 use Rattle.circuit_checks.proofs.Naming.{has_append, same_bytes}
 use Rattle.circuit_checks.proofs.Counting.{first_different, rest_different}
@@ -51,14 +52,6 @@ none_found test name names e = by (test name) refl e
     by true t none = absurd (let no : Some name ≡ None = none in cc)
     by false t none = (t, none)
 
-neither : (a b : Bool) → (a || b) ≡ false → (a ≡ false) × (b ≡ false)
-neither true b e = absurd (let no : true ≡ false = e in cc)
-neither false b e = (refl, e)
-
-both_not : (a b : Bool) → a ≡ false → b ≡ false → (a || b) ≡ false
-both_not true b e f = e
-both_not false b e f = f
-
 both : (a b : Bool) → a ≡ false → b ≡ true → (not a && b) ≡ true
 both true b e f = absurd (let no : true ≡ false = e in cc)
 both false b e f = f
@@ -67,7 +60,7 @@ front_different : (xs ys : List (List ℕ)) → all_different (xs ++ ys) ≡ tru
 unfolding all_different
 front_different [] ys d = refl
 front_different (x ∷ xs) ys d =
-    let lacks = neither (has xs x) (has ys x) (sym (has_append xs ys x) ∙ first_different x (xs ++ ys) d) in
+    let lacks = or_parts (has xs x) (has ys x) (sym (has_append xs ys x) ∙ first_different x (xs ++ ys) d) in
     both (has xs x) (all_different xs) lacks.0 (front_different xs ys (rest_different x (xs ++ ys) d))
 
 back_different : (xs ys : List (List ℕ)) → all_different (xs ++ ys) ≡ true → all_different ys ≡ true
@@ -79,16 +72,16 @@ unfolding all_different
 apart_different [] ys d k e = k
 apart_different (x ∷ xs) ys d k e =
     let none = none_found (has ys) x xs e in
-    both (has (xs ++ ys) x) (all_different (xs ++ ys)) (has_append xs ys x ∙ both_not (has xs x) (has ys x) (first_different x xs d) none.0)
+    both (has (xs ++ ys) x) (all_different (xs ++ ys)) (has_append xs ys x ∙ or_from (has xs x) (has ys x) (first_different x xs d) none.0)
     (apart_different xs ys (rest_different x xs d) k none.1)
 
 one_less : (x : List ℕ) (xs ys : List (List ℕ)) → find (has (x ∷ xs)) ys ≡ None → (has ys x ≡ false) × (find (has xs) ys ≡ None)
 one_less x xs [] e = (refl, refl)
 one_less x xs (y ∷ ys) e =
     let none = none_found (has (x ∷ xs)) y ys e in
-    let here = neither (bytes_eq y x) (has xs y) none.0 in
+    let here = or_parts (bytes_eq y x) (has xs y) none.0 in
     let rest = one_less x xs ys none.1 in
-    (both_not (bytes_eq x y) (has ys x) (same_bytes x y ∙ here.0) rest.0, rw here.1 rest.1)
+    (or_from (bytes_eq x y) (has ys x) (same_bytes x y ∙ here.0) rest.0, rw here.1 rest.1)
 
 none_other : (xs ys : List (List ℕ)) → find (has xs) ys ≡ None → find (has ys) xs ≡ None
 none_other [] ys e = refl

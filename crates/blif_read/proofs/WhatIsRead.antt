@@ -8,15 +8,15 @@ use Rattle.genlib_format.specs.declared.gate.Gate.{Gate}
 use Rattle.circuit_model.specs.declared.circuit.Circuit.{Circuit}
 use Rattle.circuit_model.specs.Counts.{IsWithinLimits}
 use Rattle.circuit_model.specs.Soundness.{IsSound}
-use Rattle.circuit_model.specs.MachineSoundness.{IsSound as IsSoundMachine, IsShaped, all_names}
+use Rattle.circuit_model.specs.MachineSoundness.{IsSoundMachine, IsShaped, all_names}
 use Rattle.circuit_model.specs.declared.machine.Machine.{Machine}
 use Rattle.circuit_model.specs.declared.machine.MachineRow.{MachineRow}
 use Rattle.circuit_model.specs.declared.machine.Spec.{Spec}
 use Rattle.circuit_model.specs.declared.machine.Spec.TheVariants as spec
-use Rattle.kiss_format.specs.Reader.{read_lines as read_table, inputs_line, outputs_line}
+use Rattle.kiss_format.specs.Reader.{read_machine_lines, inputs_line, outputs_line}
 use Rattle.kiss_format.specs.Trips.{IsWithinLimits as IsSmallMachine}
 use Rattle.kiss_format.specs.declared.fault.KissFault.{KissFault}
-use Rattle.kiss_format.proofs.Sound.{read_sound as table_sound, read_short as table_short, read_limited}
+use Rattle.kiss_format.proofs.Sound.{read_sound, read_short, read_limited}
 use Rattle.blif_lines.specs.Libraries.{IsSoundLibrary}
 use Rattle.blif_lines.proofs.WhatIsRead.{sound_read, sound_head_read, small_read, short_read, short_head_read}
 use Rattle.blif_lines.specs.Heads.{IsSoundHead, HasShortHead}
@@ -58,16 +58,16 @@ machine_holds P head part (Ok machine) read e holds = by (machine_fault head par
 
 spec_holds : (P : Spec → Type 0) (part : List Entry) (model : Result Content BlifFault) (read : Spec) → spec_with part model ≡ Ok read
     → ((circuit : Circuit) → model ≡ Ok (content.Circuit circuit) → P (spec.Circuit circuit))
-    → ((head : Head) (machine : Machine) → model ≡ Ok (content.Head head) → read_table part ≡ Ok machine → machine_fault head part machine ≡ None → P (spec.Machine (named head machine)))
+    → ((head : Head) (machine : Machine) → model ≡ Ok (content.Head head) → read_machine_lines part ≡ Ok machine → machine_fault head part machine ≡ None → P (spec.Machine (named head machine)))
     → P read
 spec_holds P part (Err fault) read e circuits machines = absurd (let no : Err fault ≡ ok read = e in cc)
 spec_holds P part (Ok (content.Circuit circuit)) read e circuits machines = subst P (same_ok (spec.Circuit circuit) read e) (circuits circuit refl)
 spec_holds P part (Ok (content.Head head)) read e circuits machines =
-    machine_holds P head part (read_table part) read e (λ machine table none. machines head machine refl table none)
+    machine_holds P head part (read_machine_lines part) read e (λ machine table none. machines head machine refl table none)
 
 read_holds : (P : Spec → Type 0) (library : Option (List Gate)) (lines : List Entry) (read : Spec) → read_lines library lines ≡ Ok read
     → ((circuit : Circuit) → read_model library (lines_beside lines) ≡ Ok (content.Circuit circuit) → P (spec.Circuit circuit))
-    → ((head : Head) (machine : Machine) → read_model library (lines_beside lines) ≡ Ok (content.Head head) → read_table (kiss_lines lines) ≡ Ok machine
+    → ((head : Head) (machine : Machine) → read_model library (lines_beside lines) ≡ Ok (content.Head head) → read_machine_lines (kiss_lines lines) ≡ Ok machine
     → machine_fault head (kiss_lines lines) machine ≡ None → P (spec.Machine (named head machine)))
     → P read
 unfolding read_lines
@@ -147,7 +147,7 @@ spec_sound library lines read words e =
     let of_model = model_holds (λ (line : Entry). AllByRecursion (λ word. is_word word ≡ true) line.words) lines words in
     read_holds IsSoundSpec library lines read e (λ circuit model. sound_read library (lines_beside lines) circuit of_model model)
     (λ head machine model table none. named_sound head machine (no_fault head (kiss_lines lines) machine none) (sound_head_read library (lines_beside lines) head of_model model)
-    (table_sound (kiss_lines lines) machine (kiss_holds (λ (line : Entry). AllByRecursion (λ word. is_word word ≡ true) line.words) lines words) table))
+    (read_sound (kiss_lines lines) machine (kiss_holds (λ (line : Entry). AllByRecursion (λ word. is_word word ≡ true) line.words) lines words) table))
 
 pub spec_small : (library : Option (List Gate)) (lines : List Entry) (read : Spec) → IsSoundLibrary library → read_lines library lines ≡ Ok read → IsSmallSpec read
 spec_small library lines read known e =
@@ -158,4 +158,4 @@ pub spec_short : (library : Option (List Gate)) (lines : List Entry) (read : Spe
 spec_short library lines read e =
     read_holds HasShortSpec library lines read e (λ circuit model. short_read library (lines_beside lines) circuit model)
     (λ head machine model table none.
-    names_hold (λ (name : List ℕ). length name ≤ MAX_NAME) head machine (short_head_read library (lines_beside lines) head model).names (table_short (kiss_lines lines) machine table))
+    names_hold (λ (name : List ℕ). length name ≤ MAX_NAME) head machine (short_head_read library (lines_beside lines) head model).names (read_short (kiss_lines lines) machine table))

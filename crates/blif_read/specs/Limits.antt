@@ -4,7 +4,7 @@ use Rattle.std.specs.Prelude.{ℕ, ◌≤◌, List, length}
 use Rattle.std.specs.List.{AllByRecursion}
 use Rattle.circuit_model.specs.Counts.{IsWithinLimits}
 use Rattle.circuit_model.specs.Soundness.{IsSound}
-use Rattle.circuit_model.specs.MachineSoundness.{IsSound as IsSoundMachine, all_names}
+use Rattle.circuit_model.specs.MachineSoundness.{IsSoundMachine, all_names}
 use Rattle.circuit_model.specs.declared.machine.Spec.{Spec}
 use Rattle.circuit_model.specs.declared.machine.Spec.TheVariants as spec
 use Rattle.kiss_format.specs.Trips.{IsWithinLimits as IsSmallMachine}
@@ -16,7 +16,8 @@ abbrev pub IsSoundSpec : Spec → Type 0
 IsSoundSpec (spec.Circuit circuit) = IsSound circuit
 IsSoundSpec (spec.Machine machine) = IsSoundMachine machine
 
--- a circuit keeps the limits on tables, a machine those on rows, on states and on their names
+-- a circuit is within the limits on tables, a machine within those on rows, on states and on their
+-- names
 abbrev pub IsSmallSpec : Spec → Type 0
 IsSmallSpec (spec.Circuit circuit) = IsWithinLimits circuit
 IsSmallSpec (spec.Machine machine) = IsSmallMachine machine

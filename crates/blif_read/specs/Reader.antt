@@ -1,7 +1,8 @@
--- What a file's logical lines are read as: the first fault, or the circuit or the machine that they say.
--- Source: BLIF appendix of the SIS report (UCB/ERL M92/41): a model with a state table and without a table, a latch or a gate of its
--- own is that machine, under the model's names of ports. The made names of ports that no line lists, and the order of the causes, are
--- the project's own.
+-- What a file's logical lines are read as: the first fault, or the circuit or the machine that they
+-- describe. Source: BLIF appendix of the SIS report (UCB/ERL M92/41): a model with a state table
+-- and without a table, a latch or a gate of its own is that machine, under the model's names of
+-- ports. The made names of ports that no line lists, and the order of the causes, are the project's
+-- own.
 use Rattle.std.specs.Prelude.{◌≡◌, ℕ, not, ◌==◌, Option, Some, None, Result, Ok, Err, List, [], ◌∷◌, length, find, unwrap_or}
 use Rattle.std.specs.Option.{option_map, option_or}
 use Rattle.circuit_model.specs.Names.{has}
@@ -12,7 +13,7 @@ use Rattle.circuit_model.specs.declared.machine.Spec.{Spec}
 use Rattle.circuit_model.specs.declared.machine.Spec.TheVariants as spec
 use Rattle.kiss_format.specs.declared.fault.KissFault.{KissFault}
 use Rattle.kiss_format.specs.declared.fault.KissFault.TheVariants.{BadHeader}
-use Rattle.kiss_format.specs.Reader.{read_lines as read_table, inputs_line, outputs_line}
+use Rattle.kiss_format.specs.Reader.{read_machine_lines, inputs_line, outputs_line}
 use Rattle.blif_lines.specs.Lines.{when, first_of}
 use Rattle.blif_lines.specs.Reader.{read_lines as read_model, unless}
 use Rattle.blif_lines.specs.declared.content.Head.{Head}
@@ -24,13 +25,14 @@ use Rattle.blif_lines.specs.declared.fault.ReadFault.{ReadFault}
 use Rattle.blif_lines.specs.declared.fault.ReadFault.TheVariants as read_fault
 use Rattle.blif_read.specs.Parts.{kiss_lines, lines_beside}
 
--- what is wrong where a line tells another number of ports than are listed: its line is a bad header. A state table that is
--- read has such a line.
+-- a line that gives another number of ports than are listed is a bad header; a state table that is
+-- read has such a line
 abbrev pub count_fault : Option (List (List ℕ)) → List (List ℕ) → Option ℕ → Option BlifFault
 count_fault None made line = None
 count_fault (Some listed) made line = when (not (length listed == length made)) (BadKiss (BadHeader (unwrap_or line 0)))
 
--- the first of the names that are listed for one kind of ports that is one of the made names of the other kind
+-- the first of the names that are listed for one kind of ports that is one of the made names of the
+-- other kind
 abbrev pub made_again : Option (List (List ℕ)) → Option (List (List ℕ)) → List (List ℕ) → Option (List ℕ)
 made_again (Some listed) None made = find (has made) listed
 made_again listed other made = None
@@ -39,7 +41,7 @@ made_again listed other made = None
 abbrev pub made_twice : Head → Machine → Option (List ℕ)
 made_twice head machine = option_or (made_again head.inputs head.outputs machine.outputs) (made_again head.outputs head.inputs machine.inputs)
 
--- what is wrong with a state table beside the head of its machine
+-- what is wrong with a state table, given the head of its machine
 unfoldable pub machine_fault : Head → List Entry → Machine → Option BlifFault
 machine_fault head part machine = first_of
     (count_fault head.inputs machine.inputs (inputs_line part) ∷ count_fault head.outputs machine.outputs (outputs_line part)
@@ -58,17 +60,18 @@ abbrev pub machine_with : Head → List Entry → Result Machine KissFault → R
 machine_with head part (Err fault) = Err (BadKiss fault)
 machine_with head part (Ok machine) = unless (machine_fault head part machine) (spec.Machine (named head machine))
 
--- what the content of a model and the lines of its KISS2 part are read as: a circuit stands for itself, and the part is read past
+-- what the content of a model and the lines of its KISS2 part are read as: a circuit is read as
+-- itself, and the part is skipped
 abbrev pub spec_with : List Entry → Result Content BlifFault → Result Spec BlifFault
 spec_with part (Err fault) = Err fault
 spec_with part (Ok (content.Circuit circuit)) = Ok (spec.Circuit circuit)
-spec_with part (Ok (content.Head head)) = machine_with head part (read_table part)
+spec_with part (Ok (content.Head head)) = machine_with head part (read_machine_lines part)
 
--- what a file's logical lines are read as, with a library where there is one
+-- what a file's logical lines are read as, with a library if there is one
 unfoldable pub read_lines : Option (List Gate) → List Entry → Result Spec BlifFault
 read_lines library lines = spec_with (kiss_lines lines) (read_model library (lines_beside lines))
 
--- what a reader answers, beside what it should; want of memory is free
+-- what a reader answers, compared with what it should; want of memory is always allowed
 abbrev pub Reads : Result Spec ReadFault → Result Spec BlifFault → Type 0
 Reads (Ok read) should = should ≡ Ok read
 Reads (Err (read_fault.Fault fault)) should = should ≡ Err fault

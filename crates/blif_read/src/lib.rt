@@ -1,10 +1,13 @@
-//! Reads a text in the Berkeley Logic Interchange Format (appendix of the SIS report, UCB/ERL M92/41) as a circuit or as a machine.
+//! Reads a text in the Berkeley Logic Interchange Format (appendix of the SIS report, UCB/ERL
+//! M92/41) as a circuit or as a machine.
 //!
-//! A KISS2 part stands between `.start_kiss` and `.end_kiss` (`specs/Parts`); the lines beside it are those of a model, which
-//! `blif_lines` reads, and those in it those of a table, which `kiss_format` reads. A model with a part and without a table, a latch
-//! or a gate is that machine, under the model's names of ports; any other one is its circuit, and the part is read past
-//! (`specs/Reader`). `read` answers what the text says, or the first fault, exactly; what it answers is sound, and keeps the limits
-//! (`specs/Limits`). `reading_laws` has the same for lists of lines.
+//! A KISS2 part is between `.start_kiss` and `.end_kiss` (`specs/Parts.antt`); the lines outside it
+//! are those of a model, which `blif_lines` reads, and those in it those of a table, which
+//! `kiss_format` reads. A model with a part and without a table, a latch or a gate is that machine,
+//! under the model's names of ports; any other one is its circuit, and the part is skipped
+//! (`specs/Reader.antt`). `read` returns exactly what the text describes, or the first fault. What
+//! it returns is sound, and keeps the limits if the library is sound (`specs/Limits.antt`).
+//! `reading_laws` has the same for lists of lines.
 #![tactic(auto)]
 
 mod machine;

@@ -1,4 +1,9 @@
-//! The lines of a KISS2 part, and those of the model beside it, as runs of the lines of a text.
+//! The lines of a KISS2 part and those of the model, as slices of the lines of a text.
+//!
+//! Source: BLIF appendix of the SIS report (UCB/ERL M92/41): a state table is between `.start_kiss`
+//! and `.end_kiss`; without `.end_kiss` the part goes to the end of the file. Each call returns
+//! exactly the lines of `specs/Parts.antt`. The line that begins the part belongs to the model, the
+//! one that ends it to neither.
 
 ghost use Rattle.std.specs.Prelude.{◌≡◌, ◌+◌, not, map, length, take, drop, take_while};
 ghost use Rattle.sis_text.specs.declared.places.Line.{Line};
@@ -35,9 +40,10 @@ fn ends_kiss(source: &[u8], line: &Line) -> bool
     first_word(source, line) == b".end_kiss".as_slice()
 }
 
-/// How many lines stand before the first that begins a KISS2 part.
+/// The number of lines before the first that begins a KISS2 part.
 fn begin_place(source: &[u8], lines: &[Line]) -> usize
-    ensures { result ≡ length (take_while (λ (line : Line). not (begins_kiss (kind_of (entry_at source.now line)))) lines.now) }
+    ensures { result ≡ length (take_while (λ (line : Line). not
+        (begins_kiss (kind_of (entry_at source.now line)))) lines.now) }
 {
     lines
         .iter()
@@ -45,9 +51,10 @@ fn begin_place(source: &[u8], lines: &[Line]) -> usize
         .count()
 }
 
-/// How many lines stand before the first that ends a KISS2 part.
+/// The number of lines before the first that ends a KISS2 part.
 fn end_place(source: &[u8], lines: &[Line]) -> usize
-    ensures { result ≡ length (take_while (λ (line : Line). not (ends_kiss (entry_at source.now line))) lines.now) }
+    ensures { result ≡ length (take_while (λ (line : Line). not
+        (ends_kiss (entry_at source.now line))) lines.now) }
 {
     lines
         .iter()
@@ -55,7 +62,7 @@ fn end_place(source: &[u8], lines: &[Line]) -> usize
         .count()
 }
 
-/// The lines up to a place, with the one that stands there.
+/// The lines up to and including that of an index.
 #[tactic(auto, using(crate::proofs::PartLines::all_to))]
 fn lines_to(lines: &[Line], place: usize) -> &[Line]
     ensures { result.now ≡ take (place + 1) lines.now }
@@ -67,7 +74,7 @@ fn lines_to(lines: &[Line], place: usize) -> &[Line]
     }
 }
 
-/// The lines behind a place, without the one that stands there.
+/// The lines after that of an index.
 #[tactic(auto, using(crate::proofs::PartLines::none_behind))]
 fn lines_behind(lines: &[Line], place: usize) -> &[Line]
     ensures { result.now ≡ drop (place + 1) lines.now }
@@ -79,31 +86,35 @@ fn lines_behind(lines: &[Line], place: usize) -> &[Line]
     }
 }
 
-/// The lines behind the first that begins a KISS2 part; none where no line does.
+/// The lines after the first that begins a KISS2 part; none if no line does.
 fn lines_behind_begin<'a>(source: &[u8], lines: &'a [Line]) -> &'a [Line]
-    ensures { map (entry_at source.now) result.now ≡ drop (front_count (map (entry_at source.now) lines.now)) (map (entry_at source.now) lines.now) }
+    ensures { map (entry_at source.now) result.now ≡ drop
+        (front_count (map (entry_at source.now) lines.now)) (map (entry_at source.now) lines.now) }
 {
     lines_behind(lines, begin_place(source, lines))
 }
 
-/// The lines up to the first that begins a KISS2 part, that line among them; all lines where none begins one.
+/// The lines up to and including the first that begins a KISS2 part; all lines if none begins one.
 pub fn front_lines<'a>(source: &[u8], lines: &'a [Line]) -> &'a [Line]
-    ensures { map (entry_at source.now) result.now ≡ front_lines (map (entry_at source.now) lines.now) }
+    ensures { map (entry_at source.now) result.now ≡ front_lines
+        (map (entry_at source.now) lines.now) }
 {
     lines_to(lines, begin_place(source, lines))
 }
 
-/// The lines of the KISS2 part: those behind the line that begins it, before the first that ends it.
+/// The lines of the KISS2 part: those after the line that begins it, before the first that ends it.
 pub fn kiss_lines<'a>(source: &[u8], lines: &'a [Line]) -> &'a [Line]
-    ensures { map (entry_at source.now) result.now ≡ kiss_lines (map (entry_at source.now) lines.now) }
+    ensures { map (entry_at source.now) result.now ≡ kiss_lines
+        (map (entry_at source.now) lines.now) }
 {
     let rest = lines_behind_begin(source, lines);
     &rest[..end_place(source, rest)]
 }
 
-/// The lines behind the one that ends the KISS2 part.
+/// The lines after the one that ends the KISS2 part.
 pub fn rest_lines<'a>(source: &[u8], lines: &'a [Line]) -> &'a [Line]
-    ensures { map (entry_at source.now) result.now ≡ rest_lines (map (entry_at source.now) lines.now) }
+    ensures { map (entry_at source.now) result.now ≡ rest_lines
+        (map (entry_at source.now) lines.now) }
 {
     let rest = lines_behind_begin(source, lines);
     lines_behind(rest, end_place(source, rest))

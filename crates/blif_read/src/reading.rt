@@ -1,4 +1,5 @@
-//! Reads a text as a circuit or as a machine.
+//! Reads a text as a circuit or as a machine: splits it into logical lines, reads those of the
+//! model, and for the head of a machine those of the KISS2 part (`specs/Reader.antt`).
 
 ghost use Rattle.std.specs.Prelude.{◌≡◌, map, option_copied, IfOk};
 ghost use Rattle.sis_text.specs.Entries.{entry_at, entries_of};
@@ -14,7 +15,7 @@ use genlib_format::Library;
 use sis_text::{Line, logical_lines};
 use std::alloc::Global;
 
-/// Reads the logical lines of a text. An error says the first fault, or that memory was wanting.
+/// Reads the logical lines of a text. An error is the first fault, or want of memory.
 #[tactic(auto, unfolding(crate::specs::Parts::lines_beside, crate::specs::Reader::read_lines))]
 fn read_lines(
     alloc: Global,
@@ -22,7 +23,8 @@ fn read_lines(
     lines: &[Line],
     library: Option<&Library>,
 ) -> Result<Spec, ReadFault>
-    ensures { Reads result (read_lines (option_copied library.entry) (map (entry_at source.now) lines.now)) }
+    ensures { Reads result (read_lines (option_copied library.entry)
+        (map (entry_at source.now) lines.now)) }
 {
     let front = front_lines(source, lines);
     let back = rest_lines(source, lines);
@@ -33,7 +35,7 @@ fn read_lines(
     }
 }
 
-/// Reads a text. An error says the first fault, or that memory was wanting.
+/// Reads a text. An error is the first fault, or want of memory.
 fn read_text(alloc: Global, bytes: &[u8], library: Option<&Library>) -> Result<Spec, ReadFault>
     ensures { Reads result (read_lines (option_copied library.entry) (entries_of bytes.now)) }
 {
@@ -41,8 +43,9 @@ fn read_text(alloc: Global, bytes: &[u8], library: Option<&Library>) -> Result<S
     read_lines(alloc, bytes, lines.as_slice(), library)
 }
 
-/// Reads a text as a circuit or as a machine, with a library of gates where there is one. An error says the first fault of a line of
-/// the model, in file order, else the first of the model as a whole, else the first of its KISS2 part; or that memory was wanting.
+/// Reads a text as a circuit or as a machine, with a library of gates if there is one. An error is
+/// the first fault of a line of the model, in file order, otherwise the first of the model as a
+/// whole, otherwise the first of its KISS2 part; or want of memory.
 pub fn read(alloc: Global, bytes: &[u8], library: Option<&Library>) -> Result<Spec, ReadFault>
     ensures reads { Reads result (read_lines (option_copied library.entry) (entries_of bytes.now)) }
     ensures sound { IfOk result IsSoundSpec }

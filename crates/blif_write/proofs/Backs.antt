@@ -1,5 +1,5 @@
--- The lines before a line: how many tables and latches they have, whether the model has ended, and the rows of the
--- table that is being read.
+-- The lines before a line: how many tables and latches they have, whether the model has ended, and
+-- the rows of the table that is being read.
 use Rattle.std.proofs.Common.{◌≡◌, refl, ℕ, suc, ◌+◌, ◌≤◌, Bool, true, false, cond, not, ◌||◌, Some, List, [], ◌∷◌, ◌++◌, ap, ◌∙◌, arith, map, reverse, take_while, if◌then◌else◌}
 use Rattle.std.proofs.lemmas.List.{reverse-append, map-append}
 use Rattle.std.proofs.lemmas.List.Sums.{take_while-cons, sum_by-cons}
@@ -11,7 +11,8 @@ use Rattle.blif_lines.specs.declared.keyword.Keyword.{Keyword}
 use Rattle.blif_lines.specs.declared.keyword.Keyword.TheVariants.{Names, Row}
 use Rattle.sis_base.specs.declared.limits.TheConstants.{MAX_NODES}
 
--- the model has not ended, its don't-care part has begun or not, and so many tables and latches may still come
+-- the model has not ended, its don't-care part has begun or not, and so many tables and latches may
+-- still come
 pub record Goes (had : Bool) (room : ℕ) (back : List Entry) : Type 0 where
   pub going : is_ended back ≡ false
   pub part : has_part back ≡ had
@@ -46,7 +47,7 @@ goes_node kind had room line back e not_end node goes =
     let n : nodes_in (line ∷ back) ≡ 1 + nodes_in back = nodes_more kind line back e ∙ ap (λ (b : Bool). cond b 1 0 + nodes_in back) node in
     record { going = going_more kind line back e not_end goes.going; part = part_more kind had line back e goes.part; few = omega (arith, n, goes.few) }
 
--- behind a `.names` line, and behind a row more
+-- after a `.names` line, and after one more row
 pub heading_names : (line : Entry) (back : List Entry) → kind_of line ≡ Names → heading (line ∷ back) ≡ Some line
 heading_names line back e = ap (λ (k : Keyword). cond (not (is_row_kind k)) (Some line) (heading back)) e
 

@@ -13,7 +13,7 @@ use Rattle.circuit_model.specs.declared.circuit.Table.{Table}
 use Rattle.circuit_tables.specs.Folding.{each_once, folded_rows, constant_one, with_rows, folded}
 use Rattle.circuit_tables.proofs.Folded.{folded_same, folded_driver}
 use Rattle.circuit_tables.proofs.Once.{has-each_once}
-use Rattle.genlib_format.specs.declared.gate.Gate.{Gate as TheGate}
+use Rattle.genlib_format.specs.declared.gate.Gate.{Gate}
 use Rattle.line_words.specs.LineWords.{first_word, other_words}
 use Rattle.netlist.specs.declared.mapped.Placed.{Placed}
 use Rattle.blif_gates.specs.GateLines.{signals_of, gate_table}
@@ -59,7 +59,7 @@ phase_keeps table e = λ name. by name (all_different table.inputs)
     by name true = refl
     by name false = rows_keep table (folded_rows table.inputs table.rows) name e
 
-gate_keeps : (library : Option (List TheGate)) (words : List (List ℕ))
+gate_keeps : (library : Option (List Gate)) (words : List (List ℕ))
     → AllByRecursion KeepsReads (gate_tables library words)
 unfolding gate_table
 gate_keeps library words =
@@ -67,7 +67,7 @@ gate_keeps library words =
     (λ gates table g e. let t = told gates (first_word words) (other_words words) table e in
     (subst KeepsReads t.is (phase_keeps (gate_table t.gate (other_words words)) refl), tt))
 
-pub tables_keep : (library : Option (List TheGate)) (gates : List Placed)
+pub tables_keep : (library : Option (List Gate)) (gates : List Placed)
     → AllByRecursion KeepsReads (said_tables library gates)
 tables_keep library [] = tt
 tables_keep library (placed ∷ gates) =
@@ -75,7 +75,7 @@ tables_keep library (placed ∷ gates) =
     (gate_keeps library (gate_words placed)) (tables_keep library gates)
 
 -- a library says one table of each gate that it knows
-pub said_count : (library : Option (List TheGate)) (gates : List Placed)
+pub said_count : (library : Option (List Gate)) (gates : List Placed)
     → AllByRecursion (IsKnown library) gates → length (said_tables library gates) ≡ length gates
 said_count library [] known = refl
 said_count library (placed ∷ gates) known =
@@ -111,7 +111,7 @@ picked_all P (table ∷ tables) signals keep h =
     (picked_all P tables signals keep.1
     (all_back P (folded table).inputs (table_inputs (map folded tables)) h))
 
-pub read_known : (P : List ℕ → Type 0) (library : Option (List TheGate)) (gates : List Placed)
+pub read_known : (P : List ℕ → Type 0) (library : Option (List Gate)) (gates : List Placed)
     → AllByRecursion P (table_inputs (map folded (said_tables library gates)))
     → AllByRecursion P (said_reads library gates)
 read_known P library [] h = tt

@@ -3,7 +3,7 @@ use Rattle.std.proofs.Common.{◌≡◌, ℕ, ◌+◌, Bool, true, false, ◌&&�
 use Rattle.std.specs.Prelude.{Result, Ok, Err, slice_index_or}
 use Rattle.std.specs.List.{AllByRecursion, list_all, cons_option}
 use Rattle.std.proofs.Math.Seq.{take-append_seam, get_or-append_seam}
-use Rattle.std.proofs.lemmas.Bool.{or_left, or_right, eq-eqb}
+use Rattle.std.proofs.lemmas.Bool.{or_left, or_right, eq-eqb, and_from}
 use Rattle.std.proofs.lemmas.List.{length-append, length-map, map-append}
 use Rattle.sis_text.specs.Entries.{entries_of}
 use Rattle.circuit_model.specs.Names.{has, all_different}
@@ -21,7 +21,7 @@ use Rattle.circuit_tables.proofs.Once.{itself}
 use Rattle.circuit_tables.proofs.Folded.{folded_output}
 use Rattle.genlib_format.specs.Gates.{is_gate_name}
 use Rattle.genlib_format.specs.Reader.{gate_named}
-use Rattle.genlib_format.specs.Soundness.{IsSoundGate, IsName as IsGateName, IsSound as IsSoundGates}
+use Rattle.genlib_format.specs.Soundness.{IsSoundGate, IsName as IsGateName, IsSoundGates}
 use Rattle.genlib_format.specs.declared.gate.Gate.{Gate}
 use Rattle.blif_gates.specs.declared.reading.GateFault.{GateFault}
 use Rattle.blif_gates.specs.declared.reading.GateFault.TheVariants.{BadPins}
@@ -37,7 +37,7 @@ use Rattle.netlist.proofs.Cells.{placed_has_table}
 use Rattle.blif_lines.specs.Limits.{HasShortNames}
 use Rattle.blif_lines.specs.Lines.{cell_fault}
 use Rattle.blif_lines.specs.Reader.{right_table, gate_tables}
-use Rattle.blif_lines.proofs.NameLists.{all_append, all_front, all_kept, all_among, all_of_has, same_name, and_true}
+use Rattle.blif_lines.proofs.NameLists.{all_append, all_front, all_kept, all_among, all_of_has, same_name}
 use Rattle.blif_read.specs.Reader.{read_lines}
 use Rattle.blif_write.proofs.Words.{OfTable, OfNames, IsName, gate_words, of_names}
 use Rattle.blif_write.proofs.NoFaults.{IsShort, IsKnown}
@@ -98,7 +98,7 @@ fits library placed by known =
       different = ap all_different by.pins ∙ different;
     }
 
--- the signals at the pins, and the one behind them
+-- the signals at the pins, and the one after them
 signals_are : (library : List Gate) (placed : Placed) (by : IsPlaced library placed)
     → IsFit library placed by
     → map (signal_for (map pair_word placed.pins)) by.gate.pins
@@ -180,14 +180,14 @@ line_pairs library placed by fit words =
     length-map placed.pins pair_word ∙ sym (length-map placed.pins (λ (c : Connection). c.pin))
     ∙ ap (λ (names : List (List ℕ)). length names) by.pins
     ∙ length-append by.gate.pins (by.gate.output ∷ []) in
-    and_true (length line == length by.gate.pins + 1)
+    and_from (length line == length by.gate.pins + 1)
     (list_all is_pair line &&
     (list_all (has (named_pins line)) by.gate.pins && has (named_pins line) by.gate.output))
     (eq-eqb (length line) (length by.gate.pins + 1) count)
-    (and_true (list_all is_pair line)
+    (and_from (list_all is_pair line)
     (list_all (has (named_pins line)) by.gate.pins && has (named_pins line) by.gate.output)
     (are_pairs placed.pins fit.plain words)
-    (and_true (list_all (has (named_pins line)) by.gate.pins) (has (named_pins line) by.gate.output)
+    (and_from (list_all (has (named_pins line)) by.gate.pins) (has (named_pins line) by.gate.output)
     (among_front by.gate.pins (by.gate.output ∷ []) (named_pins line) named)
     (last_among by.gate.pins by.gate.output (named_pins line) named)))
 

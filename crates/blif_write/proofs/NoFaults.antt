@@ -136,7 +136,8 @@ latch_taken library number room back timing latch goes t h =
       ),
     )
 
--- a library knows a placed gate: it finds no fault with the words of its line, they are words, and its signals are short
+-- a library knows a placed gate: it finds no fault with the words of its line, they are words, and
+-- its signals are short
 pub record IsKnown (library : Option (List TheGate)) (placed : Placed) : Type 0 where
   pub right : (number : ℕ) → library_fault library number (gate_words placed) ≡ None
   pub words : HasGateWords placed
@@ -201,7 +202,7 @@ pub record Reads (table : Table) (number : ℕ) (done : List (List Tri)) (back :
 abbrev HasWidth : ℕ → List Tri → Type 0
 HasWidth width row = length row ≡ width
 
--- as a row of a table of this width, behind these rows
+-- as a row of a table of this width, after these rows
 row_fits : (width number : ℕ) (phase : Bool) (row : List Tri) (done : List (List Tri)) → length row ≡ width → AllByRecursion (HasWidth width) done → length done < MAX_ROWS → table_row_fault width (map (row_text phase) done) number (row_text phase row) ≡ None
 unfolding table_row_fault
 row_fits width number phase row done e h few =
@@ -232,7 +233,7 @@ row_line_taken library table place number row done back going reads e h few =
     ∙ none_of (when (is_behind (part_behind back)) (UnknownWord number) ∷ row_fault (heading back) (rows_behind back) number (joined (line.first ∷ line.others)) ∷ [])
     (not_when (is_behind (part_behind back)) (UnknownWord number) going, (fault, tt))
 
--- behind some lines the others have no fault
+-- after some lines the others have no fault
 abbrev pub Passes : (library : Option (List TheGate)) → Bool → ℕ → List Written → Type 0
 Passes library had room rest = (back : List Entry) (number : ℕ) → Goes had room back → first_line_fault library back (numbered number rest) ≡ None
 

@@ -3,7 +3,7 @@ use Rattle.std.proofs.Common.{◌≡◌, ℕ, ◌+◌, ◌==◌, Bool, true, fal
 use Rattle.std.specs.List.{AllByRecursion, list_all}
 use Rattle.std.specs.Option.{option_map_or}
 use Rattle.std.proofs.Math.Seq.{drop-append-add}
-use Rattle.std.proofs.lemmas.Bool.{or_parts, not-true}
+use Rattle.std.proofs.lemmas.Bool.{or_parts, not-true, and_from}
 use Rattle.std.proofs.lemmas.List.{append_assoc}
 use Rattle.std.proofs.lemmas.List.Sums.{take_while-cons}
 use Rattle.sis_base.specs.Written.{is_blank, is_empty, is_word_byte, is_word}
@@ -15,10 +15,10 @@ use Rattle.genlib_format.specs.Gates.{is_gate_name}
 use Rattle.netlist.specs.Lines.{pair_word}
 use Rattle.netlist.specs.declared.mapped.Connection.{Connection}
 use Rattle.blif_gates.specs.GateLines.{pin_in, signal_in, is_pair, pins_of, signals_of, signal_for}
-use Rattle.blif_lines.proofs.NameLists.{and_left, and_right, and_true}
+use Rattle.blif_lines.proofs.NameLists.{and_left, and_right}
 use Rattle.blif_write.proofs.Words.{IsName}
 
--- a byte of a name is no `=`, and may stand in a word
+-- a byte of a name is not `=`, and may occur in a word
 second_of : (a b c d e f g h i : Bool) → (a || b || c || d || e || f || g || h || i) ≡ false
     → b ≡ false
 second_of a b c d e f g h i none =
@@ -56,13 +56,13 @@ in_word byte h =
 all_in_word : (name : List ℕ) → list_all is_name_byte name ≡ true
     → list_all is_word_byte name ≡ true
 all_in_word [] h = refl
-all_in_word (byte ∷ name) h = and_true (is_word_byte byte) (list_all is_word_byte name)
+all_in_word (byte ∷ name) h = and_from (is_word_byte byte) (list_all is_word_byte name)
     (in_word byte (and_left _ _ h)) (all_in_word name (and_right _ _ h))
 
 -- a name of a library is a word
 pub name_is_word : (name : List ℕ) → is_gate_name name ≡ true → is_word name ≡ true
 unfolding is_gate_name is_word
-name_is_word name h = and_true (not (is_empty name)) (list_all is_word_byte name) (and_left _ _ h)
+name_is_word name h = and_from (not (is_empty name)) (list_all is_word_byte name) (and_left _ _ h)
     (all_in_word name (and_right _ _ h))
 
 -- names without a byte that parts them
@@ -81,7 +81,7 @@ pair_is connection = append_assoc connection.pin (codes "=") connection.signal
 bytes_both : (front back : List ℕ) → list_all is_word_byte front ≡ true
     → list_all is_word_byte back ≡ true → list_all is_word_byte (front ++ 61 ∷ back) ≡ true
 bytes_both [] back f b = b
-bytes_both (byte ∷ front) back f b = and_true (is_word_byte byte)
+bytes_both (byte ∷ front) back f b = and_from (is_word_byte byte)
     (list_all is_word_byte (front ++ 61 ∷ back)) (and_left _ _ f)
     (bytes_both front back (and_right _ _ f) b)
 
@@ -94,7 +94,7 @@ pair_is_word : (connection : Connection) → IsPlain connection.pin → IsName c
 unfolding is_word
 pair_is_word connection plain word =
     ap is_word (pair_is connection)
-    ∙ and_true (not (is_empty (connection.pin ++ 61 ∷ connection.signal)))
+    ∙ and_from (not (is_empty (connection.pin ++ 61 ∷ connection.signal)))
     (list_all is_word_byte (connection.pin ++ 61 ∷ connection.signal))
     (some_bytes connection.pin connection.signal)
     (bytes_both connection.pin connection.signal (all_in_word connection.pin plain)
@@ -152,7 +152,7 @@ pub are_pairs : (pins : List Connection)
 unfolding is_word
 are_pairs [] plain words = refl
 are_pairs (connection ∷ pins) plain words =
-    and_true (is_pair (pair_word connection)) (list_all is_pair (map pair_word pins))
+    and_from (is_pair (pair_word connection)) (list_all is_pair (map pair_word pins))
     (ap (λ (signal : List ℕ). not (is_empty signal)) (signal_back connection plain.0)
     ∙ and_left _ _ words.0) (are_pairs pins plain.1 words.1)
 

@@ -5,11 +5,11 @@ use Rattle.std.specs.List.{AllByRecursion}
 use Rattle.std.proofs.lemmas.Grind.{flat_map-append}
 use Rattle.std.proofs.lemmas.List.{length-append, length-map, map-append}
 use Rattle.sis_base.specs.Written.{lines_text}
-use Rattle.genlib_format.specs.declared.gate.Gate.{Gate as TheGate}
+use Rattle.genlib_format.specs.declared.gate.Gate.{Gate}
 use Rattle.sis_text.specs.Entries.{Entry, entries_of}
 use Rattle.sis_text.proofs.Readback.{read_back}
 use Rattle.circuit_model.specs.declared.circuit.Table.{Table}
-use Rattle.circuit_model.specs.declared.circuit.Latch.{Latch as TheLatch}
+use Rattle.circuit_model.specs.declared.circuit.Latch.{Latch}
 use Rattle.circuit_model.specs.declared.circuit.Timing.{Timing}
 use Rattle.circuit_model.specs.declared.circuit.Circuit.{Circuit}
 use Rattle.circuit_model.specs.Names.{has, all_different}
@@ -44,11 +44,11 @@ use Rattle.blif_write.proofs.GateTables.{KeepsReads, keeps_reads, acyclic_before
 use Rattle.blif_write.proofs.Said.{lines_of, own_of, listed_inputs_said, listed_outputs_said, inputs_said, outputs_said, ports_said, clocks_said, drives_said, reads_said, latches_said_back, timing_said, unmixed, name_said, tables_said_back, model_said, part_said, said_tables, said_reads}
 
 -- the circuit with the tables of gates before its own
-abbrev pub whole : Option (List TheGate) → List Placed → Circuit → Circuit
+abbrev pub whole : Option (List Gate) → List Placed → Circuit → Circuit
 whole library gates base = record base { tables = map folded (said_tables library gates) ++ base.tables }
 
 -- the checks on the whole
-all_read : (library : Option (List TheGate)) (gates : List Placed) (base : Circuit) → IsSound (whole library gates base)
+all_read : (library : Option (List Gate)) (gates : List Placed) (base : Circuit) → IsSound (whole library gates base)
     → AllByRecursion (λ (name : List ℕ). has (given (whole library gates base)) name ≡ true) (base.outputs ++ (latch_inputs base ++ (said_reads library gates ++ table_inputs base.tables)))
 unfolding taken
 all_read library gates base sound =
@@ -62,51 +62,51 @@ all_read library gates base sound =
     (all_append P (said_reads library gates) (table_inputs base.tables) (read_known P library gates (all_front P (table_inputs folds) (table_inputs base.tables) tables)) (all_back P (table_inputs folds) (table_inputs base.tables) tables)))
 
 -- what lines drive is what the circuit's latches and tables do
-drives_whole : (library : Option (List TheGate)) (gates : List Placed) (base : Circuit) → drives_in library (own_of gates base) ≡ latch_outputs base ++ outputs_of (whole library gates base).tables
+drives_whole : (library : Option (List Gate)) (gates : List Placed) (base : Circuit) → drives_in library (own_of gates base) ≡ latch_outputs base ++ outputs_of (whole library gates base).tables
 drives_whole library gates base =
     drives_said library gates base
     ∙ ap (λ names. latch_outputs base ++ (names ++ outputs_of base.tables)) (sym (folded_outputs (said_tables library gates)))
     ∙ ap (λ names. latch_outputs base ++ names) (sym (map-append (λ (table : Table). table.output) (map folded (said_tables library gates)) base.tables))
 
-twice_of : (library : Option (List TheGate)) (gates : List Placed) (base : Circuit) → IsSound (whole library gates base) → first_listed_twice (of_lines listed_inputs (own_of gates base)) (of_lines listed_outputs (own_of gates base)) (ports_in (own_of gates base)) ≡ None
+twice_of : (library : Option (List Gate)) (gates : List Placed) (base : Circuit) → IsSound (whole library gates base) → first_listed_twice (of_lines listed_inputs (own_of gates base)) (of_lines listed_outputs (own_of gates base)) (ports_in (own_of gates base)) ≡ None
 twice_of library gates base sound =
     rw (listed_inputs_said gates base, listed_outputs_said gates base, ports_said gates base) (listed_from_different base.inputs base.outputs (base.inputs ++ base.outputs) sound.inputs_once sound.outputs_once)
 
-timing_of : (library : Option (List TheGate)) (gates : List Placed) (base : Circuit) → IsSound (whole library gates base) → timing_in (own_of gates base) ≡ base.timing
+timing_of : (library : Option (List Gate)) (gates : List Placed) (base : Circuit) → IsSound (whole library gates base) → timing_in (own_of gates base) ≡ base.timing
 timing_of library gates base sound = timing_said gates base sound.control_not_nil sound.inits sound.untimed_without_latches
 
 none_has : (names controls : List (List ℕ)) → AllByRecursion (λ name. has names name ≡ false) controls → find (has names) controls ≡ None
 none_has names [] h = refl
 none_has names (control ∷ controls) h = ap (λ (b : Bool). cond b (Some control) (find (has names) controls)) h.0 ∙ none_has names controls h.1
 
-gated_of : (library : Option (List TheGate)) (gates : List Placed) (base : Circuit) → IsSound (whole library gates base) → gated_clock library (own_of gates base) ≡ None
+gated_of : (library : Option (List Gate)) (gates : List Placed) (base : Circuit) → IsSound (whole library gates base) → gated_clock library (own_of gates base) ≡ None
 unfolding gated_clock
 gated_of library gates base sound =
     ap (λ (drives : List (List ℕ)). find (has drives) (control_of (timing_in (own_of gates base)))) (drives_whole library gates base)
     ∙ ap (λ (timing : Option Timing). find (has (latch_outputs base ++ outputs_of (whole library gates base).tables)) (control_of timing)) (timing_of library gates base sound)
     ∙ none_has (latch_outputs base ++ outputs_of (whole library gates base).tables) (control_of base.timing) sound.control_undriven
 
-again_of : (library : Option (List TheGate)) (gates : List Placed) (base : Circuit) → IsSound (whole library gates base) → first_again (inputs_in library (own_of gates base)) (drives_in library (own_of gates base)) ≡ None
+again_of : (library : Option (List Gate)) (gates : List Placed) (base : Circuit) → IsSound (whole library gates base) → first_again (inputs_in library (own_of gates base)) (drives_in library (own_of gates base)) ≡ None
 unfolding given
 again_of library gates base sound =
     rw (inputs_said library gates base, drives_whole library gates base) (again_from_different base.inputs (latch_outputs base ++ outputs_of (whole library gates base).tables) sound.one_driver)
 
-missing_of : (library : Option (List TheGate)) (gates : List Placed) (base : Circuit) → IsSound (whole library gates base) → first_missing (inputs_in library (own_of gates base) ++ drives_in library (own_of gates base)) (reads_in library (own_of gates base)) ≡ None
+missing_of : (library : Option (List Gate)) (gates : List Placed) (base : Circuit) → IsSound (whole library gates base) → first_missing (inputs_in library (own_of gates base) ++ drives_in library (own_of gates base)) (reads_in library (own_of gates base)) ≡ None
 unfolding given
 missing_of library gates base sound =
     rw (inputs_said library gates base, drives_whole library gates base, reads_said library gates base)
     (missing_from_known (base.inputs ++ (latch_outputs base ++ outputs_of (whole library gates base).tables)) (base.outputs ++ (latch_inputs base ++ (said_reads library gates ++ table_inputs base.tables))) (all_read library gates base sound))
 
-part_of : (library : Option (List TheGate)) (gates : List Placed) (base : Circuit) → IsSound (whole library gates base) → first_bad_part_name (leaves_in library (own_of gates base)) (tables_in library (part_lines (lines_of gates base))) ≡ None
+part_of : (library : Option (List Gate)) (gates : List Placed) (base : Circuit) → IsSound (whole library gates base) → first_bad_part_name (leaves_in library (own_of gates base)) (tables_in library (part_lines (lines_of gates base))) ≡ None
 part_of library gates base sound =
     rw (inputs_said library gates base, latches_said_back gates base sound.inits, part_said library gates base sound.dont_care_shaped)
     (part_passes (leaf_names base) base.dont_care sound.dont_care_once sound.dont_care_known sound.dont_care_acyclic)
 
 -- the circuit's own tables
-shaped_of : (library : Option (List TheGate)) (gates : List Placed) (base : Circuit) → IsSound (whole library gates base) → AllByRecursion IsShaped base.tables
+shaped_of : (library : Option (List Gate)) (gates : List Placed) (base : Circuit) → IsSound (whole library gates base) → AllByRecursion IsShaped base.tables
 shaped_of library gates base sound = all_back IsShaped (map folded (said_tables library gates)) base.tables sound.shaped
 
-once_of : (library : Option (List TheGate)) (gates : List Placed) (base : Circuit) → IsSound (whole library gates base) → AllByRecursion (λ (table : Table). all_different table.inputs ≡ true) base.tables
+once_of : (library : Option (List Gate)) (gates : List Placed) (base : Circuit) → IsSound (whole library gates base) → AllByRecursion (λ (table : Table). all_different table.inputs ≡ true) base.tables
 once_of library gates base sound = all_back (λ (table : Table). all_different table.inputs ≡ true) (map folded (said_tables library gates)) base.tables sound.table_inputs_once
 
 all_folded_same : (tables : List Table) → AllByRecursion (λ (table : Table). all_different table.inputs ≡ true) tables → map folded tables ≡ tables
@@ -114,19 +114,19 @@ all_folded_same [] e = refl
 all_folded_same (table ∷ tables) e =
     ap (λ (first : Table). first ∷ map folded tables) (folded_same table e.0) ∙ ap (λ (more : List Table). table ∷ more) (all_folded_same tables e.1)
 
-folded_whole : (library : Option (List TheGate)) (gates : List Placed) (base : Circuit) → IsSound (whole library gates base) → map folded (said_tables library gates ++ base.tables) ≡ (whole library gates base).tables
+folded_whole : (library : Option (List Gate)) (gates : List Placed) (base : Circuit) → IsSound (whole library gates base) → map folded (said_tables library gates ++ base.tables) ≡ (whole library gates base).tables
 folded_whole library gates base sound =
     map-append folded (said_tables library gates) base.tables
     ∙ ap (λ (tables : List Table). map folded (said_tables library gates) ++ tables) (all_folded_same base.tables (once_of library gates base sound))
 
-cycle_of : (library : Option (List TheGate)) (gates : List Placed) (base : Circuit) → IsSound (whole library gates base) → first_on_cycle (tables_in library (own_of gates base)) ≡ None
+cycle_of : (library : Option (List Gate)) (gates : List Placed) (base : Circuit) → IsSound (whole library gates base) → first_on_cycle (tables_in library (own_of gates base)) ≡ None
 cycle_of library gates base sound =
     let tables = said_tables library gates ++ base.tables in
     let keep : AllByRecursion KeepsReads tables = all_append KeepsReads (said_tables library gates) base.tables (tables_keep library gates) (keeps_reads base.tables (once_of library gates base sound)) in
     ap first_on_cycle (tables_said_back library gates base (shaped_of library gates base sound))
     ∙ none_from_acyclic tables (acyclic_before tables keep (subst IsAcyclic (sym (folded_whole library gates base sound)) sound.acyclic))
 
-no_names_fault : (library : Option (List TheGate)) (gates : List Placed) (base : Circuit) → IsSound (whole library gates base) → model_names_fault library (own_of gates base) ≡ None
+no_names_fault : (library : Option (List Gate)) (gates : List Placed) (base : Circuit) → IsSound (whole library gates base) → model_names_fault library (own_of gates base) ≡ None
 unfolding model_names_fault
 no_names_fault library gates base sound =
     let lines = own_of gates base in
@@ -148,7 +148,7 @@ no_names_fault library gates base sound =
       ),
     )
 
-no_whole_fault : (library : Option (List TheGate)) (gates : List Placed) (base : Circuit) → IsSound (whole library gates base) → whole_fault library (lines_of gates base) ≡ None
+no_whole_fault : (library : Option (List Gate)) (gates : List Placed) (base : Circuit) → IsSound (whole library gates base) → whole_fault library (lines_of gates base) ≡ None
 unfolding whole_fault
 no_whole_fault library gates base sound =
     let own = own_of gates base in
@@ -163,16 +163,16 @@ no_whole_fault library gates base sound =
     )
 
 -- the circuit that the lines say
-abbrev circuit_with : List ℕ → List (List ℕ) → List (List ℕ) → List (List ℕ) → Option Timing → List TheLatch → List Table → List Table → Circuit
+abbrev circuit_with : List ℕ → List (List ℕ) → List (List ℕ) → List (List ℕ) → Option Timing → List Latch → List Table → List Table → Circuit
 circuit_with name inputs outputs clocks timing latches tables dont_care =
     record { name = name; inputs = inputs; outputs = outputs; clocks = clocks; timing = timing; latches = latches; tables = tables; dont_care = dont_care }
 
-circuit_same : (name : List ℕ) (inputs outputs clocks : List (List ℕ)) (timing : Option Timing) (latches : List TheLatch) (tables dont_care : List Table) (circuit : Circuit)
+circuit_same : (name : List ℕ) (inputs outputs clocks : List (List ℕ)) (timing : Option Timing) (latches : List Latch) (tables dont_care : List Table) (circuit : Circuit)
     → name ≡ circuit.name → inputs ≡ circuit.inputs → outputs ≡ circuit.outputs → clocks ≡ circuit.clocks → timing ≡ circuit.timing → latches ≡ circuit.latches → tables ≡ circuit.tables → dont_care ≡ circuit.dont_care
     → circuit_with name inputs outputs clocks timing latches tables dont_care ≡ circuit
 circuit_same name inputs outputs clocks timing latches tables dont_care circuit a b c d e f g h = rw (a, b, c, d, e, f, g, h) refl
 
-circuit_back : (library : Option (List TheGate)) (gates : List Placed) (base : Circuit) → IsSound (whole library gates base) → circuit_of library (lines_of gates base) ≡ whole library gates base
+circuit_back : (library : Option (List Gate)) (gates : List Placed) (base : Circuit) → IsSound (whole library gates base) → circuit_of library (lines_of gates base) ≡ whole library gates base
 unfolding circuit_of
 circuit_back library gates base sound =
     let lines = model_lines (lines_of gates base) in
@@ -185,7 +185,7 @@ circuit_back library gates base sound =
     (part_said library gates base sound.dont_care_shaped)
 
 -- both
-names_of_base : (P : List ℕ → Type 0) (library : Option (List TheGate)) (gates : List Placed) (base : Circuit) → OfNames P (whole library gates base) → OfNames P base
+names_of_base : (P : List ℕ → Type 0) (library : Option (List Gate)) (gates : List Placed) (base : Circuit) → OfNames P (whole library gates base) → OfNames P base
 names_of_base P library gates base h = record {
   name = h.name;
   inputs = h.inputs;
@@ -197,7 +197,7 @@ names_of_base P library gates base h = record {
   dont_care = h.dont_care;
 }
 
-few_nodes : (library : Option (List TheGate)) (gates : List Placed) (base : Circuit) → AllByRecursion (IsKnown library) gates → IsWithinLimits (whole library gates base)
+few_nodes : (library : Option (List Gate)) (gates : List Placed) (base : Circuit) → AllByRecursion (IsKnown library) gates → IsWithinLimits (whole library gates base)
     → length gates + length base.tables + length base.latches + length base.dont_care ≤ MAX_NODES
 few_nodes library gates base known limits =
     let count : length (map folded (said_tables library gates) ++ base.tables) ≡ length (map folded (said_tables library gates)) + length base.tables = length-append (map folded (said_tables library gates)) base.tables in
@@ -205,14 +205,14 @@ few_nodes library gates base known limits =
     let each : length (said_tables library gates) ≡ length gates = said_count library gates known in
     omega (arith, limits.nodes, count, same, each)
 
-no_line_fault_of : (library : Option (List TheGate)) (gates : List Placed) (base : Circuit) → AllByRecursion (IsKnown library) gates → IsSound (whole library gates base) → IsWithinLimits (whole library gates base) → HasShortNames (whole library gates base)
+no_line_fault_of : (library : Option (List Gate)) (gates : List Placed) (base : Circuit) → AllByRecursion (IsKnown library) gates → IsSound (whole library gates base) → IsWithinLimits (whole library gates base) → HasShortNames (whole library gates base)
     → first_line_fault library [] (lines_of gates base) ≡ None
 no_line_fault_of library gates base known sound limits short =
     no_line_fault library gates base known (names_of_base IsShort library gates base (of_names IsShort (whole library gates base) short.names))
     (all_back IsSmallTable (map folded (said_tables library gates)) base.tables limits.tables) limits.dont_care
     (shaped_of library gates base sound) sound.dont_care_shaped (few_nodes library gates base known limits)
 
-lines_read : (library : Option (List TheGate)) (gates : List Placed) (base : Circuit) → AllByRecursion (IsKnown library) gates → IsSound (whole library gates base) → IsWithinLimits (whole library gates base) → HasShortNames (whole library gates base)
+lines_read : (library : Option (List Gate)) (gates : List Placed) (base : Circuit) → AllByRecursion (IsKnown library) gates → IsSound (whole library gates base) → IsWithinLimits (whole library gates base) → HasShortNames (whole library gates base)
     → read_model library (lines_of gates base) ≡ Ok (content.Circuit (whole library gates base))
 unfolding read_model is_machine
 lines_read library gates base known sound limits short =
@@ -222,15 +222,15 @@ lines_read library gates base known sound limits short =
     ∙ ap (λ (fault : Option BlifFault). unless fault (content.Circuit (circuit_of library lines))) (no_whole_fault library gates base sound)
     ∙ ap (λ (read : Circuit). Ok (content.Circuit read)) (circuit_back library gates base sound)
 
-gates_have_words : (library : Option (List TheGate)) (gates : List Placed) → AllByRecursion (IsKnown library) gates → AllByRecursion HasGateWords gates
+gates_have_words : (library : Option (List Gate)) (gates : List Placed) → AllByRecursion (IsKnown library) gates → AllByRecursion HasGateWords gates
 gates_have_words library gates known = all_kept (IsKnown library) HasGateWords gates (λ placed one. one.words) known
 
-text_lines : (library : Option (List TheGate)) (gates : List Placed) (base : Circuit) → AllByRecursion (IsKnown library) gates → IsSound (whole library gates base) → entries_of (lines_text (lines_with_gates gates base)) ≡ lines_of gates base
+text_lines : (library : Option (List Gate)) (gates : List Placed) (base : Circuit) → AllByRecursion (IsKnown library) gates → IsSound (whole library gates base) → entries_of (lines_text (lines_with_gates gates base)) ≡ lines_of gates base
 text_lines library gates base known sound =
     read_back (lines_with_gates gates base)
     (lines_written gates base (gates_have_words library gates known) (names_of_base IsName library gates base (of_names IsName (whole library gates base) sound.words)))
 
-pub whole_read : (library : Option (List TheGate)) (gates : List Placed) (base : Circuit) → AllByRecursion (IsKnown library) gates → IsSound (whole library gates base) → IsWithinLimits (whole library gates base) → HasShortNames (whole library gates base)
+pub whole_read : (library : Option (List Gate)) (gates : List Placed) (base : Circuit) → AllByRecursion (IsKnown library) gates → IsSound (whole library gates base) → IsWithinLimits (whole library gates base) → HasShortNames (whole library gates base)
     → read_lines library (entries_of (lines_text (lines_with_gates gates base))) ≡ Ok (spec.Circuit (whole library gates base))
 unfolding read_lines
 whole_read library gates base known sound limits short =
@@ -239,6 +239,6 @@ whole_read library gates base known sound limits short =
     ∙ ap (spec_with (kiss_lines (lines_of gates base))) (lines_read library gates base known sound limits short)
 
 -- a circuit is one without gates
-pub text_read : (library : Option (List TheGate)) (circuit : Circuit) → IsSound circuit → IsWithinLimits circuit → HasShortNames circuit → read_lines library (entries_of (text_of circuit)) ≡ Ok (spec.Circuit circuit)
+pub text_read : (library : Option (List Gate)) (circuit : Circuit) → IsSound circuit → IsWithinLimits circuit → HasShortNames circuit → read_lines library (entries_of (text_of circuit)) ≡ Ok (spec.Circuit circuit)
 unfolding text_of circuit_lines lines_with_gates
 text_read library circuit sound limits short = whole_read library [] circuit tt sound limits short

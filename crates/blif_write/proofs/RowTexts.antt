@@ -8,11 +8,12 @@ use Rattle.circuit_model.specs.declared.circuit.Tri.TheVariants.{Zero, One, Free
 use Rattle.circuit_model.specs.declared.circuit.Table.{Table}
 use Rattle.circuit_model.specs.Text.{character, digit_of_phase, row_line}
 use Rattle.circuit_model.specs.Soundness.{IsShaped}
-use Rattle.line_words.specs.LineWords.{is_character, character_of}
+use Rattle.line_words.specs.LineWords.{character_of}
 use Rattle.blif_lines.specs.Lines.{is_output_character, joined, is_row_of, output_character, has_phase_of, input_words, last_word}
 use Rattle.blif_lines.specs.Reader.{row_of, phase_by, table_of}
+use Rattle.kiss_format.proofs.WrittenRows.{characters_pass}
 
--- the byte of a phase, and the characters of a row with its phase behind
+-- the byte of a phase, and the characters of a row followed by its phase
 abbrev pub phase_byte : Bool → ℕ
 phase_byte true = 49
 phase_byte false = 48
@@ -29,7 +30,7 @@ unfolding joined row_line
 row_joined phase [] = digit_joined phase
 row_joined phase (place ∷ row) = ap (λ text. map character (place ∷ row) ++ text) (digit_joined phase)
 
--- where a row has a character for each place
+-- if a row has a character for each column
 text_length : (width : ℕ) (phase : Bool) (row : List Tri) → length row ≡ width → length (row_text phase row) ≡ width + 1
 text_length width phase row e = omega (arith, length-append (map character row) (phase_byte phase ∷ []), length-map row character, e)
 
@@ -45,12 +46,6 @@ text_phase width phase row e = drop_at (map character row) (phase_byte phase ∷
 text_output : (width : ℕ) (phase : Bool) (row : List Tri) → length row ≡ width → output_character width (row_text phase row) ≡ phase_byte phase
 text_output width phase row e = get_or_at (map character row) (phase_byte phase) [] 0 width (marks_length width row e)
 
-marks_pass : (row : List Tri) → list_all is_character (map character row) ≡ true
-marks_pass [] = refl
-marks_pass (Zero ∷ row) = marks_pass row
-marks_pass (One ∷ row) = marks_pass row
-marks_pass (Free ∷ row) = marks_pass row
-
 phase_passes : (phase : Bool) → list_all is_output_character (phase_byte phase ∷ []) ≡ true
 phase_passes true = refl
 phase_passes false = refl
@@ -58,7 +53,7 @@ phase_passes false = refl
 pub row_taken : (width : ℕ) (phase : Bool) (row : List Tri) → length row ≡ width → is_row_of width (row_text phase row) ≡ true
 unfolding is_row_of
 row_taken width phase row e =
-    rw (text_marks width phase row e, text_phase width phase row e, eq-eqb (length (row_text phase row)) (width + 1) (text_length width phase row e), marks_pass row, phase_passes phase) refl
+    rw (text_marks width phase row e, text_phase width phase row e, eq-eqb (length (row_text phase row)) (width + 1) (text_length width phase row e), characters_pass row, phase_passes phase) refl
 
 same_phase : (phase : Bool) → (phase_byte phase == phase_byte phase) ≡ true
 same_phase true = refl

@@ -1,13 +1,13 @@
--- The names of a circuit part by part, and that its lines are made of words, with gates before its tables.
+-- The names of a circuit part by part, and that its lines are made of words, with gates before its
+-- tables.
 use Rattle.std.proofs.Common.{◌≡◌, ℕ, zero, suc, Bool, true, false, Option, Some, None, List, [], ◌∷◌, ◌++◌, refl, sym, ap, ◌∙◌, map, flat_map, codes}
 use Rattle.std.specs.Prelude.{option_to_list}
 use Rattle.std.proofs.lemmas.List.{append_assoc, append-nil}
-use Rattle.std.specs.List.{All, AllByRecursion, list_all}
+use Rattle.std.specs.List.{All, AllByRecursion}
 use Rattle.std.proofs.lemmas.List.Elements.{All-from_recursion}
-use Rattle.sis_base.specs.Written.{is_word, is_word_byte, Written}
+use Rattle.sis_base.specs.Written.{is_word, Written}
 use Rattle.sis_text.specs.Written.{IsLineOfWords}
 use Rattle.circuit_model.specs.declared.circuit.Tri.{Tri}
-use Rattle.circuit_model.specs.declared.circuit.Tri.TheVariants.{Zero, One, Free}
 use Rattle.circuit_model.specs.declared.circuit.Kind.{Kind}
 use Rattle.circuit_model.specs.declared.circuit.Kind.TheVariants.{Fe, Re, Ah, Al}
 use Rattle.circuit_model.specs.declared.circuit.Timing.{Timing}
@@ -20,6 +20,7 @@ use Rattle.circuit_model.specs.Text.{dotted, character, digit_of_phase, row_line
 use Rattle.netlist.specs.Lines.{pair_word, gate_line, lines_with_gates}
 use Rattle.netlist.specs.declared.mapped.Placed.{Placed}
 use Rattle.blif_lines.proofs.NameLists.{all_front, all_back, all_append}
+use Rattle.kiss_format.proofs.Trip.{characters_plain}
 
 -- a fact of each name of a circuit, part by part
 abbrev pub OfLatch : (List ℕ → Type 0) → Latch → Type 0
@@ -79,7 +80,7 @@ abbrev pub part_written : List Table → List Written
 part_written [] = []
 part_written (table ∷ tables) = dotted (codes ".exdc") [] ∷ flat_map table_lines (table ∷ tables) ++ end_lines
 
--- the words of a gate's line behind the first
+-- the words of a gate's line after the first
 abbrev pub gate_words : Placed → List (List ℕ)
 gate_words placed = placed.cell ∷ map pair_word placed.pins
 
@@ -120,15 +121,9 @@ unfolding is_word
 digit_is_word true = refl
 digit_is_word false = refl
 
-characters_pass : (row : List Tri) → list_all is_word_byte (map character row) ≡ true
-characters_pass [] = refl
-characters_pass (Zero ∷ row) = characters_pass row
-characters_pass (One ∷ row) = characters_pass row
-characters_pass (Free ∷ row) = characters_pass row
-
 row_is_word : (place : Tri) (row : List Tri) → is_word (map character (place ∷ row)) ≡ true
 unfolding is_word
-row_is_word place row = characters_pass (place ∷ row)
+row_is_word place row = characters_plain (place ∷ row)
 
 abbrev HasWords : Written → Type 0
 HasWords line = AllByRecursion IsName (line.first ∷ line.others)

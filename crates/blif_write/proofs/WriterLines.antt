@@ -1,29 +1,13 @@
 -- Steps of the writing of lines.
-use Rattle.std.proofs.Common.{◌≡◌, ℕ, zero, suc, ◌-◌, ◌+◌, min, codes, ◌==◌, ◌&&◌, not, Bool, true, false, List, [], ◌∷◌, ◌++◌, length, get_or, map, cond, refl, arith}
+use Rattle.std.proofs.Common.{◌≡◌, ℕ, zero, suc, ◌-◌, ◌+◌, min, codes, ◌==◌, Bool, true, false, List, [], ◌∷◌, ◌++◌, length, map, cond, refl, arith}
 use Rattle.std.specs.List.{flat_map}
 use Rattle.std.proofs.lemmas.List.Concat.{flat_map-cons}
 use Rattle.std.proofs.lemmas.Grind.{common_steps}
 use Rattle.std.proofs.lemmas.Bool.Decides.{nat_tests}
-use Rattle.sis_base.specs.Written.{ends_open, spaced, joined_words, line_text, lines_text}
+use Rattle.sis_base.specs.Written.{spaced, joined_words, line_text, lines_text}
 use Rattle.circuit_model.specs.declared.circuit.Tri.{Tri}
 use Rattle.circuit_model.specs.declared.circuit.Table.{Table}
 use Rattle.circuit_model.specs.Text.{row_line, character, digit_of_phase, init_word, dotted, dont_care_lines, table_lines}
-
-last_behind : (byte : ℕ) (bytes : List ℕ) → ends_open (byte ∷ bytes) ≡ (get_or (byte ∷ bytes) (length bytes) 0 == 92)
-unfolding ends_open
-last_behind byte [] = refl
-last_behind byte (next ∷ bytes) = last_behind next bytes
-
-not_zero : (n : ℕ) → not (suc n == 0) ≡ true
-not_zero n = grind (arith, nat_tests)
-
--- the last byte tells
-pub ends_open_last : (text : List ℕ) → ends_open text ≡ (not (length text == 0) && (get_or text (length text - 1) 0 == 92))
-unfolding ends_open
-ends_open_last [] = refl
-ends_open_last (byte ∷ bytes) =
-    let less : length (byte ∷ bytes) - 1 ≡ length bytes = omega arith in
-    rw (not_zero (length bytes), less) (last_behind byte bytes)
 
 -- words and a last one
 pub words_and_last : (words : List (List ℕ)) (last : List ℕ) → flat_map spaced (words ++ last ∷ []) ≡ flat_map spaced words ++ spaced last

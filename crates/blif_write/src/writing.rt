@@ -1,10 +1,15 @@
-//! The text of a circuit or a netlist, as it is written: each line as words with one blank between,
-//! put behind what is there.
+//! The text of a circuit or a netlist: each line as words with one blank between, appended to a
+//! text.
+//!
+//! Source: BLIF appendix of the SIS report (UCB/ERL M92/41); the order of the lines is that of
+//! `specs/Text.antt` in circuit_model and `specs/Lines.antt` in netlist, and no line is wrapped.
+//! The public calls append or return exactly the definition's text. The text is built apart and
+//! appended when it is complete: if memory runs out, the text given stays as it was. The private
+//! calls may leave a part.
 
-ghost use Rattle.std.specs.Prelude.{◌≡◌, ◌≤◌, ◌++◌, ◌∷◌, [], map, flat_map, drop, length, codes, IfOk, OnOk, OnErr};
-ghost use Rattle.sis_base.specs.Written.{ends_open, line_end, line_text, lines_text, spaced, joined_words};
+ghost use Rattle.std.specs.Prelude.{◌≡◌, ◌++◌, ◌∷◌, [], map, flat_map, codes, IfOk, OnOk, OnErr};
+ghost use Rattle.sis_base.specs.Written.{line_text, lines_text, spaced, joined_words};
 ghost use Rattle.circuit_model.specs.Text.{
-  character,
   clock_lines,
   control_word,
   digit_of_phase,
@@ -21,38 +26,9 @@ ghost use Rattle.circuit_model.specs.Text.{
 ghost use Rattle.netlist.specs.Lines.{pair_word, gate_line, lines_with_gates, netlist_text_of};
 
 use circuit_model::{Circuit, Kind, Latch, Name, Row, Table, Timing, Tri};
+use line_words::{end_line, put_characters, put_word};
 use netlist::{Connection, Mapped, Placed};
 use std::alloc::{AllocError, Global};
-
-/// Whether the last byte is `\`, which would join the next line.
-#[tactic(auto, using(crate::proofs::WriterLines::ends_open_last))]
-fn ends_open(text: &[u8]) -> bool
-    ensures { result ≡ ends_open text.now }
-{
-    !text.is_empty() && text[text.len() - 1] == 92
-}
-
-/// Ends the line that begins at `start`.
-#[tactic(auto, unfolding(sis_base::specs::Written::line_end))]
-fn end_line(out: &mut Vec<u8>, start: usize) -> Result<(), AllocError>
-    requires { start ≤ length out.old.items }
-    ensures { OnOk result (out.new.items ≡ out.old.items ++ line_end (drop start out.old.items)) }
-{
-    if ends_open(&out[start..]) {
-        out.push(32)?;
-    }
-    out.push(10)?;
-    Ok(())
-}
-
-/// Puts a word with a blank before it.
-fn put_word(out: &mut Vec<u8>, word: &[u8]) -> Result<(), AllocError>
-    ensures { OnOk result (out.new.items ≡ out.old.items ++ spaced word.now) }
-{
-    out.push(32)?;
-    out.extend_from_slice(word)?;
-    Ok(())
-}
 
 /// Puts words, each with a blank before it.
 #[tactic(auto, using(std::proofs::lemmas::Grind::common_steps))]
@@ -65,7 +41,7 @@ fn put_words(out: &mut Vec<u8>, words: &[Name]) -> Result<(), AllocError>
     Ok(())
 }
 
-/// Puts a line: a first word and others.
+/// Appends a line: a first word and others.
 #[tactic(auto, unfolding(sis_base::specs::Written::line_text, sis_base::specs::Written::joined_words))]
 fn put_line(out: &mut Vec<u8>, first: &[u8], others: &[Name]) -> Result<(), AllocError>
     ensures { OnOk result
@@ -78,7 +54,7 @@ fn put_line(out: &mut Vec<u8>, first: &[u8], others: &[Name]) -> Result<(), Allo
     Ok(())
 }
 
-/// Puts a line: a first word, others, and a last one.
+/// Appends a line: a first word, others, and a last one.
 #[tactic(auto, unfolding(sis_base::specs::Written::line_text, sis_base::specs::Written::joined_words), using(crate::proofs::WriterLines::words_and_last, std::proofs::lemmas::Grind::common_steps))]
 fn put_line_to(
     out: &mut Vec<u8>,
@@ -98,33 +74,11 @@ fn put_line_to(
     Ok(())
 }
 
-/// The character of a place of a row.
-fn character(place: Tri) -> u8
-    ensures { result ≡ character place }
-{
-    match place {
-        Tri::Zero => 48,
-        Tri::One => 49,
-        Tri::Free => 45,
-    }
-}
-
 /// The digit of a phase.
 fn phase_digit(phase: bool) -> u8
     ensures { result ∷ [] ≡ digit_of_phase phase }
 {
     if phase { 49 } else { 48 }
-}
-
-/// Puts the characters of a row.
-#[tactic(auto, using(std::proofs::lemmas::Grind::common_steps))]
-fn put_characters(out: &mut Vec<u8>, row: &[Tri]) -> Result<(), AllocError>
-    ensures { OnOk result (out.new.items ≡ out.old.items ++ map character row.now) }
-{
-    for place in row {
-        out.push(character(*place))?;
-    }
-    Ok(())
 }
 
 /// Puts a row: its characters and the phase, or the phase alone where there are no inputs.
@@ -142,7 +96,7 @@ fn put_row(out: &mut Vec<u8>, phase: bool, row: &[Tri]) -> Result<(), AllocError
     Ok(())
 }
 
-/// Puts rows of one phase.
+/// Appends rows of one phase.
 #[tactic(auto, unfolding(sis_base::specs::Written::lines_text), using(std::proofs::lemmas::Grind::common_steps))]
 fn put_rows(out: &mut Vec<u8>, phase: bool, rows: &[Row]) -> Result<(), AllocError>
     ensures { OnOk result
@@ -154,7 +108,7 @@ fn put_rows(out: &mut Vec<u8>, phase: bool, rows: &[Row]) -> Result<(), AllocErr
     Ok(())
 }
 
-/// Puts a table: its heading and its rows.
+/// Appends a table: its heading and its rows.
 #[tactic(auto, unfolding(circuit_model::specs::Text::table_lines, sis_base::specs::Written::lines_text), using(std::proofs::lemmas::Grind::common_steps))]
 fn put_table(out: &mut Vec<u8>, table: &Table) -> Result<(), AllocError>
     ensures { OnOk result (out.new.items ≡ out.old.items ++ lines_text (table_lines table.now)) }
@@ -169,7 +123,7 @@ fn put_table(out: &mut Vec<u8>, table: &Table) -> Result<(), AllocError>
     Ok(())
 }
 
-/// Puts tables.
+/// Appends tables.
 #[tactic(auto, unfolding(sis_base::specs::Written::lines_text), using(std::proofs::lemmas::Grind::common_steps))]
 fn put_tables(out: &mut Vec<u8>, tables: &[Table]) -> Result<(), AllocError>
     ensures { OnOk result
@@ -193,7 +147,7 @@ fn kind_word(kind: Kind) -> &'static [u8]
     }
 }
 
-/// The word of a control; no control is written `NIL`.
+/// The word of a control; `NIL` for none.
 fn control_word(control: &Option<Name>) -> &[u8]
     ensures { result.now ≡ control_word control.now }
 {
@@ -203,7 +157,7 @@ fn control_word(control: &Option<Name>) -> &[u8]
     }
 }
 
-/// The digit of a latch's first value.
+/// The digit of a latch's start value.
 #[tactic(auto, using(crate::proofs::WriterLines::init_digit))]
 fn init_digit(init: u8) -> u8
     ensures { result ∷ [] ≡ init_word init }
@@ -211,7 +165,7 @@ fn init_digit(init: u8) -> u8
     48 + init.min(3)
 }
 
-/// Puts the words of a timing, if there is one, each with a blank before it.
+/// Appends the words of a timing, if there is one, each with a blank before it.
 #[tactic(auto, unfolding(circuit_model::specs::Text::timing_words), using(std::proofs::lemmas::Grind::common_steps))]
 fn put_timing(out: &mut Vec<u8>, timing: &Option<Timing>) -> Result<(), AllocError>
     ensures { OnOk result
@@ -224,7 +178,7 @@ fn put_timing(out: &mut Vec<u8>, timing: &Option<Timing>) -> Result<(), AllocErr
     Ok(())
 }
 
-/// Puts a latch's input and output.
+/// Appends a latch's input and output.
 #[tactic(auto, using(std::proofs::lemmas::Grind::common_steps))]
 fn put_latch_ends(out: &mut Vec<u8>, latch: &Latch) -> Result<(), AllocError>
     ensures { OnOk result
@@ -235,7 +189,7 @@ fn put_latch_ends(out: &mut Vec<u8>, latch: &Latch) -> Result<(), AllocError>
     Ok(())
 }
 
-/// Puts a latch's first value.
+/// Appends a latch's start value.
 #[tactic(auto, using(std::proofs::lemmas::Grind::common_steps))]
 fn put_init(out: &mut Vec<u8>, init: u8) -> Result<(), AllocError>
     ensures { OnOk result (out.new.items ≡ out.old.items ++ spaced (init_word init)) }
@@ -245,7 +199,7 @@ fn put_init(out: &mut Vec<u8>, init: u8) -> Result<(), AllocError>
     Ok(())
 }
 
-/// Puts a latch's line without its end.
+/// Appends a latch's line without its end.
 #[tactic(auto, unfolding(circuit_model::specs::Text::latch_line, sis_base::specs::Written::joined_words), using(crate::proofs::WriterLines::latch_words, std::proofs::lemmas::Grind::common_steps))]
 fn put_latch_words(
     out: &mut Vec<u8>,
@@ -262,7 +216,7 @@ fn put_latch_words(
     Ok(())
 }
 
-/// Puts a latch's line.
+/// Appends a latch's line.
 #[tactic(auto, unfolding(sis_base::specs::Written::line_text), using(std::proofs::lemmas::Grind::common_steps))]
 fn put_latch(out: &mut Vec<u8>, timing: &Option<Timing>, latch: &Latch) -> Result<(), AllocError>
     ensures { OnOk result
@@ -274,7 +228,7 @@ fn put_latch(out: &mut Vec<u8>, timing: &Option<Timing>, latch: &Latch) -> Resul
     Ok(())
 }
 
-/// Puts latches.
+/// Appends latches.
 #[tactic(auto, unfolding(sis_base::specs::Written::lines_text), using(std::proofs::lemmas::Grind::common_steps))]
 fn put_latches(
     out: &mut Vec<u8>,
@@ -290,7 +244,7 @@ fn put_latches(
     Ok(())
 }
 
-/// Puts a pin and its signal as one word, with a blank before it.
+/// Appends a pin and its signal as one word, with a blank before it.
 #[tactic(auto, using(std::proofs::lemmas::Grind::common_steps))]
 fn put_pair(out: &mut Vec<u8>, connection: &Connection) -> Result<(), AllocError>
     ensures { OnOk result (out.new.items ≡ out.old.items ++ spaced (pair_word connection.now)) }
@@ -301,7 +255,7 @@ fn put_pair(out: &mut Vec<u8>, connection: &Connection) -> Result<(), AllocError
     Ok(())
 }
 
-/// Puts pins and their signals, each pair with a blank before it.
+/// Appends pins and their signals, each pair with a blank before it.
 #[tactic(auto, using(std::proofs::lemmas::Grind::common_steps))]
 fn put_pairs(out: &mut Vec<u8>, pins: &[Connection]) -> Result<(), AllocError>
     ensures { OnOk result
@@ -313,7 +267,7 @@ fn put_pairs(out: &mut Vec<u8>, pins: &[Connection]) -> Result<(), AllocError>
     Ok(())
 }
 
-/// Puts a gate's line without its end.
+/// Appends a gate's line without its end.
 #[tactic(auto, unfolding(netlist::specs::Lines::gate_line, sis_base::specs::Written::joined_words), using(std::proofs::lemmas::Grind::common_steps))]
 fn put_gate_words(out: &mut Vec<u8>, gate: &Placed) -> Result<(), AllocError>
     ensures { OnOk result (out.new.items ≡ out.old.items ++ joined_words (gate_line gate.now)) }
@@ -324,7 +278,7 @@ fn put_gate_words(out: &mut Vec<u8>, gate: &Placed) -> Result<(), AllocError>
     Ok(())
 }
 
-/// Puts a gate's line.
+/// Appends a gate's line.
 #[tactic(auto, unfolding(sis_base::specs::Written::line_text), using(std::proofs::lemmas::Grind::common_steps))]
 fn put_gate(out: &mut Vec<u8>, gate: &Placed) -> Result<(), AllocError>
     ensures { OnOk result (out.new.items ≡ out.old.items ++ line_text (gate_line gate.now)) }
@@ -335,7 +289,7 @@ fn put_gate(out: &mut Vec<u8>, gate: &Placed) -> Result<(), AllocError>
     Ok(())
 }
 
-/// Puts gates.
+/// Appends gates.
 #[tactic(auto, unfolding(sis_base::specs::Written::lines_text), using(std::proofs::lemmas::Grind::common_steps))]
 fn put_gates(out: &mut Vec<u8>, gates: &[Placed]) -> Result<(), AllocError>
     ensures { OnOk result (out.new.items ≡ out.old.items ++ lines_text (map gate_line gates.now)) }
@@ -346,7 +300,7 @@ fn put_gates(out: &mut Vec<u8>, gates: &[Placed]) -> Result<(), AllocError>
     Ok(())
 }
 
-/// Puts the clocks, if there are any.
+/// Appends the clocks, if there are any.
 #[tactic(auto, unfolding(circuit_model::specs::Text::clock_lines, sis_base::specs::Written::lines_text), using(std::proofs::lemmas::Grind::common_steps))]
 fn put_clocks(out: &mut Vec<u8>, clocks: &[Name]) -> Result<(), AllocError>
     ensures { OnOk result (out.new.items ≡ out.old.items ++ lines_text (clock_lines clocks.now)) }
@@ -357,7 +311,7 @@ fn put_clocks(out: &mut Vec<u8>, clocks: &[Name]) -> Result<(), AllocError>
     Ok(())
 }
 
-/// Puts the don't-care part, if there is one.
+/// Appends the don't-care part, if there is one.
 #[tactic(auto, unfolding(circuit_model::specs::Text::dont_care_lines, sis_base::specs::Written::lines_text), using(crate::proofs::WriterLines::dont_care_text, std::proofs::lemmas::Grind::common_steps))]
 fn put_dont_care(out: &mut Vec<u8>, tables: &[Table]) -> Result<(), AllocError>
     ensures { OnOk result
@@ -370,7 +324,7 @@ fn put_dont_care(out: &mut Vec<u8>, tables: &[Table]) -> Result<(), AllocError>
     Ok(())
 }
 
-/// Puts the ports: the name of the model, the inputs and the outputs.
+/// Appends the ports: the name of the model, the inputs and the outputs.
 #[tactic(auto, unfolding(sis_base::specs::Written::lines_text), using(std::proofs::lemmas::Grind::common_steps))]
 fn put_ports(out: &mut Vec<u8>, circuit: &Circuit) -> Result<(), AllocError>
     ensures { OnOk result
@@ -385,7 +339,7 @@ fn put_ports(out: &mut Vec<u8>, circuit: &Circuit) -> Result<(), AllocError>
     Ok(())
 }
 
-/// Puts what stands between the ports and the tables: clocks, latches and gates.
+/// Appends what is between the ports and the tables: clocks, latches and gates.
 #[tactic(auto, unfolding(sis_base::specs::Written::lines_text), using(std::proofs::lemmas::Grind::common_steps))]
 fn put_cells(out: &mut Vec<u8>, gates: &[Placed], circuit: &Circuit) -> Result<(), AllocError>
     ensures { OnOk result
@@ -399,7 +353,7 @@ fn put_cells(out: &mut Vec<u8>, gates: &[Placed], circuit: &Circuit) -> Result<(
     Ok(())
 }
 
-/// Puts the tables and what stands behind them: the don't-care part and the end.
+/// Appends the tables and what follows them: the don't-care part and the end.
 #[tactic(auto, unfolding(sis_base::specs::Written::lines_text), using(std::proofs::lemmas::Grind::common_steps))]
 fn put_rest(out: &mut Vec<u8>, circuit: &Circuit) -> Result<(), AllocError>
     ensures { OnOk result
@@ -413,7 +367,7 @@ fn put_rest(out: &mut Vec<u8>, circuit: &Circuit) -> Result<(), AllocError>
     Ok(())
 }
 
-/// Puts the lines of a circuit, with gates before its tables.
+/// Appends the lines of a circuit, with gates before its tables.
 #[tactic(auto, unfolding(netlist::specs::Lines::lines_with_gates, sis_base::specs::Written::lines_text), using(std::proofs::lemmas::Grind::common_steps))]
 fn put_lines(out: &mut Vec<u8>, gates: &[Placed], circuit: &Circuit) -> Result<(), AllocError>
     ensures { OnOk result
@@ -425,8 +379,8 @@ fn put_lines(out: &mut Vec<u8>, gates: &[Placed], circuit: &Circuit) -> Result<(
     Ok(())
 }
 
-/// Puts the lines of a circuit, with gates before its tables, behind what is there; for want of
-/// memory nothing is put.
+/// Appends the lines of a circuit, with gates before its tables; on an error the text given stays
+/// as it was.
 fn append_lines(
     alloc: Global,
     gates: &[Placed],
@@ -446,9 +400,8 @@ fn append_lines(
     out.append(&mut text)
 }
 
-/// Puts the text of a circuit behind what is there: ports, clocks, latches, tables, the don't-care
-/// part, each word as it is and each line unwrapped. An error only for want of memory; then nothing
-/// is put.
+/// Appends the text of a circuit: ports, clocks, latches, tables, the don't-care part, each word as
+/// it is and no line wrapped. On an error the text given stays as it was.
 #[tactic(auto, unfolding(circuit_model::specs::Text::text_of, circuit_model::specs::Text::circuit_lines, netlist::specs::Lines::lines_with_gates))]
 pub fn circuit_text(alloc: Global, circuit: &Circuit, out: &mut Vec<u8>) -> Result<(), AllocError>
     ensures ok { OnOk result (out.new.items ≡ out.old.items ++ text_of circuit.now) }
@@ -457,8 +410,8 @@ pub fn circuit_text(alloc: Global, circuit: &Circuit, out: &mut Vec<u8>) -> Resu
     append_lines(alloc, &[], circuit, out)
 }
 
-/// Puts the text of a netlist behind what is there: as that of its circuit, with a line for each
-/// gate between latches and tables. An error only for want of memory; then nothing is put.
+/// Appends the text of a netlist: like that of its circuit, with a line for each gate between
+/// latches and tables. On an error the text given stays as it was.
 #[tactic(auto, unfolding(netlist::specs::Lines::netlist_text_of))]
 pub fn netlist_text(alloc: Global, mapped: &Mapped, out: &mut Vec<u8>) -> Result<(), AllocError>
     ensures ok { OnOk result (out.new.items ≡ out.old.items ++ netlist_text_of mapped.now) }
@@ -467,7 +420,7 @@ pub fn netlist_text(alloc: Global, mapped: &Mapped, out: &mut Vec<u8>) -> Result
     append_lines(alloc, mapped.gates.as_slice(), &mapped.base, out)
 }
 
-/// The text of a table: its heading and its rows; an error only for want of memory.
+/// The text of a table: its heading and its rows.
 pub fn table_text(alloc: Global, table: &Table) -> Result<Vec<u8>, AllocError>
     ensures { IfOk result (λ text. text.items ≡ lines_text (table_lines table.now)) }
 {
@@ -476,7 +429,7 @@ pub fn table_text(alloc: Global, table: &Table) -> Result<Vec<u8>, AllocError>
     Ok(text)
 }
 
-/// The text of tables, one after the other; an error only for want of memory.
+/// The text of tables, one after the other.
 pub fn tables_text(alloc: Global, tables: &[Table]) -> Result<Vec<u8>, AllocError>
     ensures { IfOk result (λ text. text.items ≡ lines_text (flat_map table_lines tables.now)) }
 {
@@ -485,7 +438,7 @@ pub fn tables_text(alloc: Global, tables: &[Table]) -> Result<Vec<u8>, AllocErro
     Ok(text)
 }
 
-/// The lines of latches with the timing that they share; an error only for want of memory.
+/// The lines of latches with the timing that they share.
 pub fn latches_text(
     alloc: Global,
     timing: &Option<Timing>,

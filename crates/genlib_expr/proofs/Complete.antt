@@ -96,7 +96,7 @@ less_adds (Add ∷ os) h = refl
 less_adds (Parenthesis ∷ os) h = refl
 less_adds [] h = refl
 
--- `'` behind operands that `!` took over
+-- `'` after operands to which `!` was applied
 quoted_state : (ns : List Node) (os : List Operator) → (ms : List Node) × (qs : List Operator) × (inverted ns os ≡ behind ms qs) × (inverted (ns ++ node.Not ∷ []) os ≡ behind (ms ++ node.Not ∷ []) qs)
 unfolding inverted
 quoted_state ns (Invert ∷ os) = quoted_state (ns ++ node.Not ∷ []) os
@@ -152,7 +152,7 @@ factor_product {ts} {us} {e} f = record {
 joined : (ns ms ks : List Node) (last : Node) → ((ns ++ ms) ++ ks) ++ last ∷ [] ≡ ns ++ ((ms ++ ks) ++ last ∷ [])
 joined ns ms ks last = simp append_assoc
 
--- a factor behind a product that ends in this state
+-- a factor after a product that ends in this state
 next_factor : {us vs : List Token} {e : Formula} (ns : List Node) (os : List Operator) (d : Formula) → FactorRuns us vs e → Reaches us vs (ns ++ postfix d) (Multiply ∷ os) factor_ended (behind (ns ++ postfix (product d e)) os)
 unfolding multiplied inverted postfix
 next_factor {us} {vs} {e} ns os d f = record {

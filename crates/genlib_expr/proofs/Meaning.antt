@@ -1,4 +1,5 @@
--- The tables that the code makes are those of the functions that formulas say, and their rows are Shannon's.
+-- The tables that the code makes are those of the functions that formulas say, and their rows are
+-- Shannon's.
 use Rattle.std.proofs.Common.{◌≡◌, ℕ, zero, suc, ◌+◌, ◌/◌, Bool, true, false, not, ◌&&◌, ◌||◌, if◌then◌else◌, Option, Some, None, List, [], ◌∷◌, ◌++◌, length, take, drop, map, fold, slice_index_or, refl, sym, ◌∙◌, ap, arith}
 use Rattle.std.proofs.Math.Bool.{and-true}
 use Rattle.std.proofs.Math.Seq.{take-append_seam, drop-append_seam}
@@ -119,7 +120,7 @@ unfolding newest_table
 newest_of width [] = of_constant width false
 newest_of width (e ∷ fs) = refl
 
--- the newest table behind all nodes is that of their formula
+-- the newest table after all nodes is that of their formula
 pub newest_values : (width : ℕ) (nodes : List Node) → newest_table width (fold (tables_with width) [] nodes) ≡ values width (function_of (formula_of nodes))
 unfolding table_of formula_of
 newest_values width nodes = ap (newest_table width) (nodes_tables width nodes []) ∙ newest_of width (fold built [] nodes)
@@ -160,7 +161,7 @@ high_of ls rs e = ap (λ (n : ℕ). drop n (ls ++ rs)) (half_length ls rs e) ∙
 literals : List (List Tri) → List (List (Option Bool))
 literals rows = map (map literal_of) rows
 
--- literals of rows behind those of a front
+-- literals of rows after those of a front
 behind : List Tri → List (List (Option Bool)) → List (List (Option Bool))
 behind front rows = map (λ row. map literal_of front ++ row) rows
 
@@ -219,7 +220,7 @@ listed front (suc width) f =
     (shannon width (λ point. f (false ∷ point))) (shannon width (λ point. f (true ∷ point)))
     (listed (front ++ Free ∷ []) width (λ point. f (false ∷ point))) (listed (front ++ Zero ∷ []) width (λ point. f (false ∷ point))) (listed (front ++ One ∷ []) width (λ point. f (true ∷ point)))
 
--- all rows, behind no front
+-- all rows, after an empty front
 pub rows_listed : (width : ℕ) (f : List Bool → Bool) → map (map literal_of) (rows_behind [] width (values width f)) ≡ shannon width f
 unfolding literals behind
 rows_listed width f = listed [] width f ∙ map-id (shannon width f)

@@ -24,7 +24,7 @@ pins_more known all word words e = by (is_none (fixed_token word)) e
     by true e = sym (names_with-append known (word ∷ []) (filter is_name words)) ∙ e
     by false e = sym (names_with-append known [] (filter is_name words)) ∙ e
 
--- the place among the pins so far is the place among all
+-- the index among the pins so far is the index among all
 token_stays : (known all : List (List ℕ)) (word : List ℕ) (words : List (List ℕ)) → names_with known (filter is_name (word ∷ words)) ≡ all → token_of known word ≡ token_of all word
 unfolding token_of
 token_stays known all word words e = by (fixed_token word) e

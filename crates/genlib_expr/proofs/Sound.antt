@@ -11,8 +11,8 @@ use Rattle.genlib_expr.specs.Formula.{Formula, complement, postfix}
 use Rattle.genlib_expr.specs.Grammar.{IsSum, IsProduct, IsFactor, one_product, plus, one_factor, star, beside, bang, one_primary, quote, one_constant, one_name, parentheses}
 use Rattle.genlib_expr.specs.Machine.{State, inverted, multiplied, added, factor_ended, sum_ended, awaiting, begin, closed, follow, step, finished, run, start}
 
--- what has been read from the first token to a place where an operand is to come: a sum may begin there, a product,
--- a factor, or the operand of `!`
+-- what has been read from the first token to a position where an operand is to come: a sum may
+-- begin there, a product, a factor, or the operand of `!`
 mutual
   pub data SumNext (all : List Token) : List Token → List Operator → List Node → Type 0 where
     at_start : SumNext all all [] []
@@ -31,7 +31,7 @@ mutual
     no_bang : {ts : List Token} {os : List Operator} {ns : List Node} → FactorNext all ts os ns → OperandNext all ts os ns
     one_bang : {ts : List Token} {os : List Operator} {ns : List Node} → OperandNext all (token.Bang ∷ ts) os ns → OperandNext all ts (Invert ∷ os) ns
 
--- what has been read to a place behind a factor, a product, a sum
+-- what has been read to a position after a factor, a product, a sum
 data FactorRead (all us : List Token) (os : List Operator) : List Node → Type 0 where
   factor_read : {ts : List Token} {ns : List Node} {e : Formula} → FactorNext all ts os ns → IsFactor ts us e → FactorRead all us os (ns ++ postfix e)
 
@@ -41,7 +41,7 @@ data ProductRead (all us : List Token) (os : List Operator) : List Node → Type
 data SumRead (all us : List Token) (os : List Operator) : List Node → Type 0 where
   sum_read : {ts : List Token} {ns : List Node} {e : Formula} → SumNext all ts os ns → IsSum ts us e → SumRead all us os (ns ++ postfix e)
 
--- `'` behind a factor takes the whole of it over
+-- `'` after a factor applies to the whole of it
 quoted : {ts us : List Token} {e : Formula} → IsFactor ts (token.Quote ∷ us) e → IsFactor ts us (complement e)
 quoted (bang f) = bang (quoted f)
 quoted (one_primary p) = one_primary (quote p)

@@ -35,7 +35,7 @@ unfolding finished
 finished_by nodes [] = refl
 finished_by nodes (operator ∷ waiting) = let off : (length (operator ∷ waiting) == 0) ≡ false = grind (arith, nat_tests) in rw off refl
 
--- the tokens from a place on
+-- the tokens from an index on
 run_more : (tokens : List Token) (i : ℕ) (state : State) (d : Token) → i < length tokens → run (drop i tokens) state ≡ option_map_or (run (drop (i + 1) tokens)) (step (get_or tokens i d) state) None
 unfolding run
 run_more tokens i state d inside = rw (drop_more tokens i d inside) refl

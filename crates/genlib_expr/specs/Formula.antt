@@ -1,11 +1,11 @@
--- What the expression of a gate says, and the order in which it is kept.
--- Source: the genlib format of SIS (UCB/ERL M92/41): a gate's output is a sum of products of its pins.
+-- The formula of a gate's expression, and the order in which it is kept. Source: the genlib format
+-- of SIS (UCB/ERL M92/41): a gate's output is a sum of products of its pins.
 use Rattle.std.specs.Prelude.{◌≡◌, ℕ, Bool, false, List, [], ◌∷◌, ◌++◌}
 use Rattle.std.specs.List.{fold}
 use Rattle.genlib_expr.specs.declared.node.Node.{Node}
 use Rattle.genlib_expr.specs.declared.node.Node.TheVariants.{Constant, Pin, Not, And, Or}
 
--- a formula over pins, which stand by their places
+-- a formula over pins, which are given by their indices
 pub data Formula : Type 0 where
   constant : Bool → Formula
   pin : ℕ → Formula
@@ -21,7 +21,7 @@ postfix (complement e) = postfix e ++ Not ∷ []
 postfix (product d e) = postfix d ++ postfix e ++ And ∷ []
 postfix (sum d e) = postfix d ++ postfix e ++ Or ∷ []
 
--- the formulas that stand after one node more, the newest first
+-- the stack of formulas after one more node, the newest first
 unfoldable pub built : List Formula → Node → List Formula
 built fs (Constant bit) = constant bit ∷ fs
 built fs (Pin place) = pin place ∷ fs

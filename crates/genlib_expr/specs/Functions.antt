@@ -1,5 +1,5 @@
--- The function of a formula over its pins.
--- Source: the genlib format of SIS (UCB/ERL M92/41): a gate's output is a Boolean function of its pins.
+-- The function of a formula over its pins. Source: the genlib format of SIS (UCB/ERL M92/41): a
+-- gate's output is a Boolean function of its pins.
 use Rattle.std.specs.Prelude.{ℕ, Bool, false, List, slice_index_or}
 use Rattle.genlib_expr.specs.Formula.{Formula}
 use Rattle.genlib_expr.specs.Values.{formula_value}

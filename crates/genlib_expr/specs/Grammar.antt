@@ -1,7 +1,7 @@
--- Which tokens spell which formula.
--- Source: the genlib format of SIS (UCB/ERL M92/41): `+` is the sum, `*` or nothing the product, `!` in front or `'`
--- behind the complement; the complement binds tightest, then the product, and both run from the left.
--- A part of a text is given by the tokens that are left where it begins and those that are left where it ends.
+-- Which tokens spell which formula. Source: the genlib format of SIS (UCB/ERL M92/41): `+` is the
+-- sum, `*` or nothing the product, `!` in front or `'` after the complement; the complement binds
+-- tightest, then the product, and both associate to the left. A part of a text is given by the
+-- tokens that are left at its beginning and those that are left at its end.
 use Rattle.std.specs.Prelude.{ℕ, Bool, List, [], ◌∷◌}
 use Rattle.genlib_expr.specs.declared.token.Token.{Token}
 use Rattle.genlib_expr.specs.declared.token.Token.TheVariants.{Constant, Name, Bang, Quote, Star, Plus, Open, Close}
@@ -31,6 +31,6 @@ mutual
     one_name : {us : List Token} (place : ℕ) → IsPrimary (Name place ∷ us) us (pin place)
     parentheses : {ts us : List Token} {e : Formula} → IsSum ts (Close ∷ us) e → IsPrimary (Open ∷ ts) us e
 
--- tokens that spell a formula, to the last
+-- all of the tokens spell a formula
 abbrev pub Spells : List Token → Formula → Type 0
 Spells tokens e = IsSum tokens [] e

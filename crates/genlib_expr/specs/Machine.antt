@@ -1,5 +1,5 @@
--- How an expression is read from the left with the operators that wait (Dijkstra's shunting yard); private functions
--- are held to this, and the public ones to the grammar.
+-- How an expression is read from the left with a stack of pending operators (Dijkstra's shunting
+-- yard). Private functions promise these steps, and the public ones the grammar.
 use Rattle.std.specs.Prelude.{Bool, true, false, if◌then◌else◌, Option, Some, None, List, [], ◌∷◌, ◌++◌}
 use Rattle.std.specs.Option.{option_map_or}
 use Rattle.genlib_expr.specs.declared.token.Token.{Token}
@@ -9,13 +9,13 @@ use Rattle.genlib_expr.specs.declared.node.Node.TheVariants as node
 use Rattle.genlib_expr.specs.declared.reading.Operator.{Operator}
 use Rattle.genlib_expr.specs.declared.reading.Operator.TheVariants.{Invert, Multiply, Add, Parenthesis}
 
--- the nodes so far, the operators that wait, newest first, and whether an operand has just been read
+-- the nodes so far, the pending operators, newest first, and whether an operand has just been read
 pub record State : Type 0 where
   pub nodes : List Node
   pub waiting : List Operator
   pub ready : Bool
 
--- which operator waits, the newest
+-- which operator is pending, the newest
 abbrev pub waits_to_invert : List Operator → Bool
 waits_to_invert (Invert ∷ waiting) = true
 waits_to_invert waiting = false
@@ -32,17 +32,17 @@ abbrev pub waits_to_close : List Operator → Bool
 waits_to_close (Parenthesis ∷ waiting) = true
 waits_to_close waiting = false
 
--- behind an operand: each `!` that waits is applied
+-- after an operand: each pending `!` is applied
 unfoldable pub inverted : List Node → List Operator → State
 inverted nodes (Invert ∷ waiting) = inverted (nodes ++ node.Not ∷ []) waiting
 inverted nodes waiting = record { nodes = nodes; waiting = waiting; ready = true }
 
--- behind a factor: a product that waits is applied
+-- after a factor: a pending product is applied
 unfoldable pub multiplied : List Node → List Operator → State
 multiplied nodes (Multiply ∷ waiting) = record { nodes = nodes ++ node.And ∷ []; waiting = waiting; ready = true }
 multiplied nodes waiting = record { nodes = nodes; waiting = waiting; ready = true }
 
--- behind a product: a sum that waits is applied
+-- after a product: a pending sum is applied
 unfoldable pub added : List Node → List Operator → State
 added nodes (Add ∷ waiting) = record { nodes = nodes ++ node.Or ∷ []; waiting = waiting; ready = true }
 added nodes waiting = record { nodes = nodes; waiting = waiting; ready = true }
@@ -63,7 +63,7 @@ awaiting state operator = record { nodes = state.nodes; waiting = operator ∷ s
 abbrev pub with_operand : State → Node → State
 with_operand state operand = inverted (state.nodes ++ operand ∷ []) state.waiting
 
--- a token where an operand is to come; none where it can not stand
+-- a token where an operand is to come; none if it is not allowed there
 unfoldable pub begin : Token → State → Option State
 begin (token.Constant bit) state = Some (with_operand state (node.Constant bit))
 begin (token.Name place) state = Some (with_operand state (node.Pin place))
@@ -75,12 +75,12 @@ begin token.Plus state = None
 begin token.Close state = None
 begin token.Other state = None
 
--- a parenthesis is closed; none where none is open
+-- a parenthesis is closed; none if none is open
 unfoldable pub closed : List Node → List Operator → Option State
 closed nodes (Parenthesis ∷ waiting) = Some (inverted nodes waiting)
 closed nodes waiting = None
 
--- a token behind an operand: what may begin an operand begins a factor beside the one before
+-- a token after an operand: what may begin an operand begins a factor next to the previous one
 unfoldable pub follow : Token → State → Option State
 follow token.Quote state = Some (record { nodes = state.nodes ++ node.Not ∷ []; waiting = state.waiting; ready = true })
 follow token.Star state = Some (awaiting (factor_ended state) Multiply)
@@ -92,16 +92,16 @@ follow token.Bang state = begin token.Bang (awaiting (factor_ended state) Multip
 follow token.Open state = begin token.Open (awaiting (factor_ended state) Multiply)
 follow token.Other state = None
 
--- one token more
+-- one more token
 unfoldable pub step : Token → State → Option State
 step t state = if state.ready then follow t state else begin t state
 
--- what has been read where nothing waits any more
+-- what has been read if nothing is pending any more
 unfoldable pub finished : List Node → List Operator → Option (List Node)
 finished nodes [] = Some nodes
 finished nodes (operator ∷ waiting) = None
 
--- the tokens to the end: the nodes of the expression, none where the tokens spell none
+-- the tokens to the end: the nodes of the expression, none if the tokens spell none
 unfoldable pub run : List Token → State → Option (List Node)
 run [] state = if state.ready then finished (sum_ended state).nodes (sum_ended state).waiting else None
 run (t ∷ ts) state = option_map_or (run ts) (step t state) None

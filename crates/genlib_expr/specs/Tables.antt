@@ -1,7 +1,7 @@
--- How the code computes: a function as the table of its values at all points, and its rows from the table's halves. No public
--- clause needs these definitions; the lemmas of proofs/ say that they give what `Functions` and Shannon's expansion define.
--- Source: Brayton, Hachtel, McMullen, Sangiovanni-Vincentelli, "Logic Minimization Algorithms for VLSI Synthesis" (Shannon
--- expansion).
+-- How the code computes: a function as the table of its values at all points, and its rows from the
+-- table's halves. No public clause needs these definitions; the lemmas of proofs/ say that they
+-- agree with `Functions` and Shannon's expansion. Source: Brayton, Hachtel, McMullen,
+-- Sangiovanni-Vincentelli, "Logic Minimization Algorithms for VLSI Synthesis" (Shannon expansion).
 use Rattle.std.specs.Prelude.{ℕ, zero, suc, ◌/◌, Bool, true, false, not, ◌&&◌, ◌||◌, if◌then◌else◌, List, [], ◌∷◌, ◌++◌, map, length, take, drop, slice_index_or}
 use Rattle.std.specs.Cmp.Lexicographic.{pointwise}
 use Rattle.circuit_model.specs.declared.circuit.Tri.{Tri}
@@ -10,7 +10,8 @@ use Rattle.cover_ops.specs.Shannon.{bits_equal}
 use Rattle.genlib_expr.specs.declared.node.Node.{Node}
 use Rattle.genlib_expr.specs.declared.node.Node.TheVariants.{Constant, Pin, Not, And, Or}
 
--- the values of a function at all points of a width: first those with 0 at the first place, then those with 1 there
+-- the values of a function at all points of a width: first those with 0 in the first column, then
+-- those with 1 there
 unfoldable pub values : ℕ → (List Bool → Bool) → List Bool
 values zero f = f [] ∷ []
 values (suc width) f = values width (λ point. f (false ∷ point)) ++ values width (λ point. f (true ∷ point))
@@ -45,12 +46,12 @@ sums (bit ∷ left) (other ∷ right) = (bit || other) ∷ sums left right
 abbrev pub complements : List Bool → List Bool
 complements bits = map not bits
 
--- the tables that wait, the newest first, where the newest is complemented
+-- the stack of tables, the newest first, with the newest complemented
 unfoldable pub complemented : List (List Bool) → List (List Bool)
 complemented [] = []
 complemented (table ∷ tables) = complements table ∷ tables
 
--- where the newest two are multiplied; and where they are added
+-- with the newest two multiplied; and with the newest two added
 unfoldable pub multiplied : List (List Bool) → List (List Bool)
 multiplied (right ∷ left ∷ tables) = products left right ∷ tables
 multiplied (table ∷ []) = []
@@ -61,7 +62,7 @@ added (right ∷ left ∷ tables) = sums left right ∷ tables
 added (table ∷ []) = []
 added [] = []
 
--- the tables that wait after one node more
+-- the stack of tables after one more node
 unfoldable pub tables_with : ℕ → List (List Bool) → Node → List (List Bool)
 tables_with width tables (Constant bit) = constant_values width bit ∷ tables
 tables_with width tables (Pin place) = pin_values width place ∷ tables
@@ -69,7 +70,7 @@ tables_with width tables Not = complemented tables
 tables_with width tables And = multiplied tables
 tables_with width tables Or = added tables
 
--- the newest table; that of 0 where none waits
+-- the newest table; that of 0 if there is none
 unfoldable pub newest_table : ℕ → List (List Bool) → List Bool
 newest_table width [] = constant_values width false
 newest_table width (table ∷ tables) = table
@@ -85,7 +86,8 @@ low_half table = take (length table / 2) table
 abbrev pub high_half : List Bool → List Bool
 high_half table = drop (length table / 2) table
 
--- the rows of a table behind a front: one where it is 1, none where it is 0; a dash where both halves are the same
+-- the rows of a table after a front: one where it is 1, none where it is 0; a dash if both halves
+-- are the same
 unfoldable pub rows_behind : List Tri → ℕ → List Bool → List (List Tri)
 rows_behind front zero table = if slice_index_or table 0 false then front ∷ [] else []
 rows_behind front (suc width) table =

@@ -1,6 +1,7 @@
--- The text of an expression: its words, its pins, its tokens, its depth.
--- Source: the genlib format of SIS (UCB/ERL M92/41). Spaces, tabs and the ends of lines part words; so does each of the
--- marks ! * + ( ) ' ; = #, which is a word of its own. Any other word is a name or the constant CONST0 or CONST1.
+-- The text of an expression: its words, its pins, its tokens, its depth. Source: the genlib format
+-- of SIS (UCB/ERL M92/41). Spaces, tabs and line ends separate words; so does each of the marks ! *
+-- + ( ) ' ; = #, which is a word of its own. Any other word is a name or the constant CONST0 or
+-- CONST1.
 use Rattle.std.specs.Prelude.{ℕ, ◌+◌, ◌-◌, ◌==◌, ◌&&◌, ◌||◌, not, max, Bool, true, false, if◌then◌else◌, Option, Some, None, List, [], ◌∷◌, ◌++◌, map, option_to_list, bytes_eq, codes}
 use Rattle.std.specs.List.{take_while, filter, position_or_len}
 use Rattle.sis_base.specs.Written.{is_blank}
@@ -13,19 +14,19 @@ abbrev pub is_mark : ℕ → Bool
 is_mark byte =
     byte == 33 || byte == 35 || byte == 39 || byte == 40 || byte == 41 || byte == 42 || byte == 43 || byte == 59 || byte == 61
 
--- what stands in names
+-- the bytes of names
 abbrev pub is_name_byte : ℕ → Bool
 is_name_byte byte = not (is_blank byte || byte == 10 || is_mark byte)
 
--- the word that begins with the first byte, if one does: a mark, or a name behind no other byte of a name; it ends
--- before the next byte that stands in no name
+-- the word that begins with the first byte, if one does: a mark, or a name that does not follow
+-- another byte of a name; it ends before the next byte that is not one of names
 unfoldable pub word_at : Bool → List ℕ → Option (List ℕ)
 word_at inside [] = None
 word_at inside (byte ∷ rest) =
     if is_mark byte then Some (byte ∷ [])
     else (if is_name_byte byte && not inside then Some (take_while is_name_byte (byte ∷ rest)) else None)
 
--- the words of a text; `inside` says whether a byte of a name stands before it
+-- the words of a text; `inside` says whether a byte of a name precedes it
 unfoldable pub words_from : Bool → List ℕ → List (List ℕ)
 words_from inside [] = []
 words_from inside (byte ∷ rest) = option_to_list (word_at inside (byte ∷ rest)) ++ words_from (is_name_byte byte) rest
@@ -51,7 +52,7 @@ constant_token word =
     if bytes_eq word (codes "CONST0") then Some (Constant false)
     else (if bytes_eq word (codes "CONST1") then Some (Constant true) else None)
 
--- the token of a word that is no name; none for a name
+-- the token of a word that is not a name; none for a name
 unfoldable pub fixed_token : List ℕ → Option Token
 fixed_token (byte ∷ []) = mark_token byte
 fixed_token word = constant_token word
@@ -64,14 +65,14 @@ is_none (Some token) = false
 abbrev pub is_name : List ℕ → Bool
 is_name word = is_none (fixed_token word)
 
--- the pins of an expression: its names, each once, where it comes first
+-- the pins of an expression: its names, each once, in order of first mention
 unfoldable pub pins_in : List (List ℕ) → List (List ℕ)
 pins_in words = each_once (filter is_name words)
 
 abbrev pub pins_of : List ℕ → List (List ℕ)
 pins_of text = pins_in (words_of text)
 
--- the token of a word: a name stands by its place among the pins
+-- the token of a word: a name becomes its index among the pins
 abbrev pub placed : List (List ℕ) → List ℕ → Option Token → Token
 placed pins word None = Name (position_or_len (bytes_eq word) pins)
 placed pins word (Some token) = token
@@ -86,13 +87,13 @@ tokens_in words = map (token_of (pins_in words)) words
 abbrev pub tokens_of : List ℕ → List Token
 tokens_of text = tokens_in (words_of text)
 
--- how many parentheses are open behind a token
+-- how many parentheses are open after a token
 abbrev pub level_behind : ℕ → Token → ℕ
 level_behind level Open = level + 1
 level_behind level Close = level - 1
 level_behind level token = level
 
--- the most parentheses that are open at one place, from so many on
+-- the greatest number of parentheses that are open at once, from so many on
 unfoldable pub depth_from : ℕ → List Token → ℕ
 depth_from level [] = level
 depth_from level (token ∷ tokens) = max level (depth_from (level_behind level token) tokens)

@@ -1,7 +1,7 @@
--- Words that stand in a text, by their bytes.
+-- Words as slices of a text, by their bytes.
 use Rattle.std.specs.Prelude.{ℕ, List, map}
 use Rattle.std.specs.Borrow.{Bor}
 
--- what the words say
+-- the bytes of the words
 abbrev pub texts : List (Bor (List ℕ)) → List (List ℕ)
 texts words = map (λ (word : Bor (List ℕ)). word.now) words

@@ -1,9 +1,9 @@
--- What a formula is worth.
--- Source: the genlib format of SIS (UCB/ERL M92/41): `!` is the complement, `*` the product, `+` the sum.
+-- The value of a formula. Source: the genlib format of SIS (UCB/ERL M92/41): `!` is the complement,
+-- `*` the product, `+` the sum.
 use Rattle.std.specs.Prelude.{ℕ, Bool, not, ◌&&◌, ◌||◌}
 use Rattle.genlib_expr.specs.Formula.{Formula, constant, pin, complement, product, sum}
 
--- the value of a formula where those of its pins are given
+-- the value of a formula, given those of its pins
 unfoldable pub formula_value : (ℕ → Bool) → Formula → Bool
 formula_value value (constant bit) = bit
 formula_value value (pin place) = value place

@@ -1,4 +1,8 @@
-//! The rows of an expression, and whether two expressions have one function.
+//! The rows of an expression, and whether two expressions have the same function.
+//!
+//! Source: Shannon's expansion (Brayton, Hachtel, McMullen and Sangiovanni-Vincentelli, "Logic
+//! Minimization Algorithms for VLSI Synthesis"). Both calls compute the truth table of 2^width bits
+//! first. `rows` splits it into halves at each pin in turn, with a dash if both halves are equal.
 
 ghost use Rattle.std.specs.Prelude.{◌≡◌, ◌++◌, ◌∷◌, [], map, slice_index_or, false, if◌then◌else◌, IfOk, OnOk};
 ghost use Rattle.circuit_model.specs.Values.{literal_of};
@@ -30,7 +34,7 @@ fn first_bit(table: &[bool]) -> bool
     }
 }
 
-/// A front with one character more.
+/// A front with one more character.
 fn longer(alloc: Global, front: &[Tri], character: Tri) -> Result<Row, AllocError>
     ensures { IfOk result (λ made. made ≡ front.now ++ character ∷ []) }
 {
@@ -39,7 +43,7 @@ fn longer(alloc: Global, front: &[Tri], character: Tri) -> Result<Row, AllocErro
     Ok(made)
 }
 
-/// The row of a whole front, where the function is 1 there.
+/// Appends the row of a whole front, if the function is 1 there.
 fn add_row(alloc: Global, front: &[Tri], bit: bool, rows: &mut Rows) -> Result<(), AllocError>
     ensures { OnOk result (rows.new ≡ rows.old ++ (if bit then front.now ∷ [] else [])) }
 {
@@ -49,7 +53,7 @@ fn add_row(alloc: Global, front: &[Tri], bit: bool, rows: &mut Rows) -> Result<(
     Ok(())
 }
 
-/// Puts the rows of a table, each behind a front, behind others.
+/// Appends the rows of a table, each after a front.
 #[tactic(auto, unfolding(crate::specs::Tables::rows_behind))]
 fn add_rows(
     alloc: Global,
@@ -75,11 +79,12 @@ fn add_rows(
     add_rows(alloc, front_high.as_slice(), width - 1, high, rows)
 }
 
-/// The rows of an expression over so many pins: no row where it is 0, one row of dashes where it is 1, and else those of
-/// its halves at the first pin on which it depends; an error only for want of memory.
+/// The rows of an expression over `width` pins: no row if it is 0, one row of dashes if it is 1,
+/// and otherwise those of its halves at the first pin on which it depends.
 #[tactic(auto, using(crate::proofs::Meaning::rows_listed, std::proofs::lemmas::Grind::common_steps))]
 pub fn rows(alloc: Global, width: usize, expr: &Expr) -> Result<Rows, AllocError>
-    ensures { IfOk result (λ rows. map (map literal_of) rows ≡ shannon width (function_of (formula_of expr.now))) }
+    ensures { IfOk result (λ rows. map (map literal_of) rows ≡ shannon width
+        (function_of (formula_of expr.now))) }
 {
     let table = values_of(alloc, width, expr)?;
     let mut rows = Sequence::new(alloc);
@@ -87,10 +92,11 @@ pub fn rows(alloc: Global, width: usize, expr: &Expr) -> Result<Rows, AllocError
     Ok(rows)
 }
 
-/// Whether two expressions have one value at each point of so many pins; an error only for want of memory.
+/// Whether two expressions have the same value at each point of `width` pins.
 #[tactic(auto, using(crate::proofs::Meaning::same_values, std::proofs::lemmas::Grind::common_steps))]
 pub fn agree(alloc: Global, width: usize, expr: &Expr, other: &Expr) -> Result<bool, AllocError>
-    ensures { IfOk result (λ agree. agree ≡ same width (function_of (formula_of expr.now)) (function_of (formula_of other.now))) }
+    ensures { IfOk result (λ agree. agree ≡ same width (function_of (formula_of expr.now))
+        (function_of (formula_of other.now))) }
 {
     let table = values_of(alloc, width, expr)?;
     let others = values_of(alloc, width, other)?;

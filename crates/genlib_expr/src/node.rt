@@ -1,4 +1,5 @@
-//! Expressions, kept in postfix order: operands before their operator, so that none needs a deep recursion.
+//! Expressions as nodes in postfix order: operands before their operator, so that none needs a deep
+//! recursion. The invariant of `Expr` is that its nodes are the postfix order of a formula.
 
 ghost use Rattle.std.specs.Prelude.{◌≡◌};
 ghost use Rattle.genlib_expr.specs.Formula.{ArePostfix};
@@ -6,7 +7,7 @@ ghost use Rattle.genlib_expr.specs.Formula.{ArePostfix};
 use sis_base::Sequence;
 use std::marker::Model;
 
-/// A step of an expression in postfix order. A pin stands by its place.
+/// A step of an expression in postfix order. A pin is given by its index.
 #[derive(Clone, Copy, Debug, PartialEq, Eq)]
 pub enum Node {
     Constant(bool),
@@ -16,7 +17,7 @@ pub enum Node {
     Or,
 }
 
-/// An expression, which contracts see as the list of its nodes; `formula_of` of them is its formula.
+/// An expression, which contracts see as the list of its nodes; `formula_of` gives its formula.
 #[derive(Debug, Drop)]
 pub struct Expr {
     nodes: Sequence<Node>,

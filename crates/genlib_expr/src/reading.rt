@@ -1,4 +1,9 @@
-//! An expression as it is read from the left, with the operators that wait for an operand.
+//! Reads an expression from the left with a stack of pending operators.
+//!
+//! Source: Dijkstra's shunting yard, as `specs/Machine.antt` states it for the genlib format of SIS
+//! (UCB/ERL M92/41). The state is the nodes so far in postfix order, the pending operators with the
+//! newest first, and whether an operand has just been read. `nodes_of` returns exactly what `run`
+//! of that machine gives; proofs of this crate relate it to the grammar. There is no recursion.
 
 ghost use Rattle.std.specs.Prelude.{◌≡◌, ◌++◌, ◌∷◌, [], Some, None, option_map, IfOk, OnOk, if◌then◌else◌};
 ghost use Rattle.genlib_expr.specs.Machine.{State, waits_to_invert, waits_to_multiply, waits_to_add, waits_to_close, inverted, added, factor_ended, sum_ended, awaiting, with_operand, begin, closed, follow, step, finished, run, start};
@@ -9,7 +14,8 @@ use std::alloc::{AllocError, Global};
 use std::collections::VecDeque;
 use std::marker::Model;
 
-/// An operator that waits: `!` for its operand, a product or a sum for its right one, a parenthesis for its end.
+/// A pending operator: `!` waits for its operand, a product or a sum for its right one, a
+/// parenthesis for its end.
 #[derive(Clone, Copy, Debug, PartialEq, Eq)]
 pub enum Operator {
     Invert,
@@ -18,7 +24,8 @@ pub enum Operator {
     Parenthesis,
 }
 
-/// The nodes so far, the operators that wait, newest first, and whether an operand has just been read.
+/// The nodes so far, the pending operators, newest first, and whether an operand has just been
+/// read.
 #[derive(Drop)]
 struct Reader {
     nodes: Vec<Node>,
@@ -71,7 +78,7 @@ impl Reader {
         }
     }
 
-    /// Each `!` that waits is applied to the operand that has been read.
+    /// Applies each pending `!` to the operand that has been read.
     #[tactic(auto, using(crate::proofs::Waiting::inverted_more, crate::proofs::Waiting::inverted_done, std::proofs::lemmas::Grind::common_steps))]
     fn invert(&mut self) -> Result<(), AllocError>
         ensures { OnOk result (self.new ≡ inverted self.old.nodes self.old.waiting) }
@@ -84,7 +91,7 @@ impl Reader {
         Ok(())
     }
 
-    /// A factor has ended.
+    /// Ends a factor.
     #[tactic(auto, using(crate::proofs::Waiting::multiplied_by, std::proofs::lemmas::Grind::common_steps))]
     fn end_factor(&mut self) -> Result<(), AllocError>
         ensures { OnOk result (self.new ≡ factor_ended self.old) }
@@ -97,7 +104,7 @@ impl Reader {
         Ok(())
     }
 
-    /// A product has ended.
+    /// Ends a product.
     #[tactic(auto, using(crate::proofs::Waiting::added_by, std::proofs::lemmas::Grind::common_steps))]
     fn end_product(&mut self) -> Result<(), AllocError>
         ensures { OnOk result (self.new ≡ added self.old.nodes self.old.waiting) }
@@ -110,7 +117,7 @@ impl Reader {
         Ok(())
     }
 
-    /// A sum has ended.
+    /// Ends a sum.
     fn end_sum(&mut self) -> Result<(), AllocError>
         ensures { OnOk result (self.new ≡ sum_ended self.old) }
     {
@@ -118,7 +125,7 @@ impl Reader {
         self.end_product()
     }
 
-    /// An operator waits.
+    /// Adds a pending operator.
     fn wait(&mut self, operator: Operator) -> Result<(), AllocError>
         ensures { OnOk result (self.new ≡ awaiting self.old operator) }
     {
@@ -127,7 +134,7 @@ impl Reader {
         Ok(())
     }
 
-    /// An operand has been read.
+    /// Adds an operand.
     fn put(&mut self, operand: Node) -> Result<(), AllocError>
         ensures { OnOk result (self.new ≡ with_operand self.old operand) }
     {
@@ -135,10 +142,11 @@ impl Reader {
         self.invert()
     }
 
-    /// Takes a token where an operand is to come, and says whether it can stand there.
+    /// Reads a token where an operand is to come, and returns whether it is allowed there.
     #[tactic(auto, unfolding(crate::specs::Machine::begin))]
     fn begin(&mut self, token: Token) -> Result<bool, AllocError>
-        ensures { IfOk result (λ stands. begin token self.old ≡ (if stands then Some self.new else None)) }
+        ensures { IfOk result (λ stands. begin token self.old
+            ≡ (if stands then Some self.new else None)) }
     {
         match token {
             Token::Constant(bit) => {
@@ -165,10 +173,11 @@ impl Reader {
         }
     }
 
-    /// Closes a parenthesis, and says whether one was open.
+    /// Closes a parenthesis, and returns whether one was open.
     #[tactic(auto, using(crate::proofs::Waiting::closed_by, std::proofs::lemmas::Grind::common_steps))]
     fn close(&mut self) -> Result<bool, AllocError>
-        ensures { IfOk result (λ stands. closed self.old.nodes self.old.waiting ≡ (if stands then Some self.new else None)) }
+        ensures { IfOk result (λ stands. closed self.old.nodes self.old.waiting
+            ≡ (if stands then Some self.new else None)) }
     {
         if self.waits_to_close() {
             self.waiting.pop_front();
@@ -178,19 +187,22 @@ impl Reader {
         Ok(false)
     }
 
-    /// Takes what begins a factor beside the one before.
+    /// Reads a token that begins a factor next to the previous one.
     fn begin_beside(&mut self, token: Token) -> Result<bool, AllocError>
-        ensures { IfOk result (λ stands. begin token (awaiting (factor_ended self.old) Operator.Multiply) ≡ (if stands then Some self.new else None)) }
+        ensures { IfOk result (λ stands. begin token
+            (awaiting (factor_ended self.old) Operator.Multiply)
+            ≡ (if stands then Some self.new else None)) }
     {
         self.end_factor()?;
         self.wait(Operator::Multiply)?;
         self.begin(token)
     }
 
-    /// Takes a token behind an operand, and says whether it can stand there.
+    /// Reads a token after an operand, and returns whether it is allowed there.
     #[tactic(auto, unfolding(crate::specs::Machine::follow))]
     fn follow(&mut self, token: Token) -> Result<bool, AllocError>
-        ensures { IfOk result (λ stands. follow token self.old ≡ (if stands then Some self.new else None)) }
+        ensures { IfOk result (λ stands. follow token self.old
+            ≡ (if stands then Some self.new else None)) }
     {
         match token {
             Token::Quote => {
@@ -220,10 +232,11 @@ impl Reader {
         }
     }
 
-    /// Takes a token, and says whether it can stand there.
+    /// Reads a token, and returns whether it is allowed there.
     #[tactic(auto, unfolding(crate::specs::Machine::step))]
     fn step(&mut self, token: Token) -> Result<bool, AllocError>
-        ensures { IfOk result (λ stands. step token self.old ≡ (if stands then Some self.new else None)) }
+        ensures { IfOk result (λ stands. step token self.old
+            ≡ (if stands then Some self.new else None)) }
     {
         if self.ready {
             self.follow(token)
@@ -232,7 +245,7 @@ impl Reader {
         }
     }
 
-    /// The nodes, where nothing waits.
+    /// The nodes, if nothing is pending.
     #[tactic(auto, using(crate::proofs::Waiting::finished_by, std::proofs::lemmas::Grind::common_steps))]
     fn into_nodes(self) -> Option<Vec<Node>>
         ensures { option_map (λ made. made.items) result ≡ finished self.nodes self.waiting }
@@ -244,7 +257,7 @@ impl Reader {
         None
     }
 
-    /// The nodes where the tokens end; none where something still waits.
+    /// The nodes at the end of the tokens; none if something is still pending.
     #[tactic(auto, unfolding(crate::specs::Machine::run))]
     fn finish(self) -> Result<Option<Vec<Node>>, AllocError>
         ensures { IfOk result (λ nodes. option_map (λ made. made.items) nodes ≡ run [] self) }
@@ -258,7 +271,7 @@ impl Reader {
     }
 }
 
-/// The nodes of the formula that the tokens spell; none where they spell none.
+/// The nodes of the formula that the tokens spell; none if they spell none.
 pub(crate) fn nodes_of(alloc: Global, tokens: &[Token]) -> Result<Option<Vec<Node>>, AllocError>
     ensures { IfOk result (λ nodes. option_map (λ made. made.items) nodes ≡ run tokens.now start) }
 {

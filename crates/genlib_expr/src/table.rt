@@ -1,4 +1,10 @@
-//! The values of an expression at all points of its pins.
+//! The truth table of an expression over its pins.
+//!
+//! Source: Shannon's expansion (Brayton, Hachtel, McMullen and Sangiovanni-Vincentelli, "Logic
+//! Minimization Algorithms for VLSI Synthesis"). The postfix nodes are evaluated over a stack of
+//! tables, each of 2^width bits: those with 0 at the first pin come before those with 1 there
+//! (`specs/Tables.antt`). `values_of` returns the values of the expression's function at all
+//! points, in that order.
 
 ghost use Rattle.std.specs.Prelude.{◌≡◌, ◌≤◌, ◌∷◌, ◌++◌, None, [], fold, length, map, IfOk, IfSome, OnOk};
 ghost use Rattle.genlib_expr.specs.Formula.{formula_of};
@@ -10,10 +16,11 @@ use sis_base::Sequence;
 use std::alloc::{AllocError, Global};
 use std::collections::VecDeque;
 
-/// The values of a function at all points of its inputs, those with 0 at the first input before those with 1 there.
+/// The values of a function at all points of its inputs, those with 0 at the first input before
+/// those with 1 there.
 pub(crate) type Bits = Sequence<bool>;
 
-/// A list with another behind it.
+/// A list followed by another.
 fn joined(first: Vec<bool>, second: Vec<bool>) -> Result<Vec<bool>, AllocError>
     ensures { IfOk result (λ made. made.items ≡ first.items ++ second.items) }
 {
@@ -109,16 +116,17 @@ fn sums(alloc: Global, left: &[bool], right: &[bool]) -> Result<Bits, AllocError
     Ok(Sequence::from_vec(made))
 }
 
-/// The newest two of the tables that wait.
+/// The newest two tables of the stack.
 #[derive(Drop)]
 struct Pair {
     left: Bits,
     right: Bits,
 }
 
-/// Takes the newest two off, where there are two.
+/// Takes the newest two tables off the stack, if there are two.
 fn take_two(waiting: &mut VecDeque<Bits>) -> Option<Pair>
-    ensures some { IfSome result (λ two. waiting.old.items ≡ two.right ∷ two.left ∷ waiting.new.items) }
+    ensures some { IfSome result (λ two. waiting.old.items
+        ≡ two.right ∷ two.left ∷ waiting.new.items) }
     ensures none { result ≡ None → length waiting.old.items ≤ 1 }
 {
     let right = waiting.pop_front()?;
@@ -126,7 +134,7 @@ fn take_two(waiting: &mut VecDeque<Bits>) -> Option<Pair>
     Some(Pair { left, right })
 }
 
-/// The newest table is complemented, where there is one.
+/// Complements the newest table, if there is one.
 #[tactic(auto, unfolding(crate::specs::Tables::complemented))]
 fn complement_newest(alloc: Global, waiting: &mut VecDeque<Bits>) -> Result<(), AllocError>
     ensures { OnOk result (waiting.new.items ≡ complemented waiting.old.items) }
@@ -141,7 +149,7 @@ fn complement_newest(alloc: Global, waiting: &mut VecDeque<Bits>) -> Result<(), 
     }
 }
 
-/// The newest two tables are multiplied, where there are two; and else none is left.
+/// Multiplies the newest two tables, if there are two; otherwise none is left.
 #[tactic(auto, unfolding(crate::specs::Tables::multiplied))]
 fn multiply_newest(alloc: Global, waiting: &mut VecDeque<Bits>) -> Result<(), AllocError>
     ensures { OnOk result (waiting.new.items ≡ multiplied waiting.old.items) }
@@ -159,7 +167,7 @@ fn multiply_newest(alloc: Global, waiting: &mut VecDeque<Bits>) -> Result<(), Al
     }
 }
 
-/// The newest two tables are added, where there are two; and else none is left.
+/// Adds the newest two tables, if there are two; otherwise none is left.
 #[tactic(auto, unfolding(crate::specs::Tables::added))]
 fn add_newest(alloc: Global, waiting: &mut VecDeque<Bits>) -> Result<(), AllocError>
     ensures { OnOk result (waiting.new.items ≡ added waiting.old.items) }
@@ -177,7 +185,7 @@ fn add_newest(alloc: Global, waiting: &mut VecDeque<Bits>) -> Result<(), AllocEr
     }
 }
 
-/// A table is put before those that wait.
+/// Pushes a table on the stack.
 fn put(waiting: &mut VecDeque<Bits>, bits: Vec<bool>) -> Result<(), AllocError>
     ensures { OnOk result (waiting.new.items ≡ bits.items ∷ waiting.old.items) }
 {
@@ -185,7 +193,7 @@ fn put(waiting: &mut VecDeque<Bits>, bits: Vec<bool>) -> Result<(), AllocError>
     Ok(())
 }
 
-/// Takes one node more.
+/// Evaluates one more node.
 #[tactic(auto, unfolding(crate::specs::Tables::tables_with))]
 fn take_node(
     alloc: Global,
@@ -204,7 +212,7 @@ fn take_node(
     }
 }
 
-/// The tables that wait at the end of nodes, the newest first.
+/// The stack of tables after some nodes, the newest first.
 fn run(alloc: Global, width: usize, nodes: &[Node]) -> Result<VecDeque<Bits>, AllocError>
     ensures { IfOk result (λ waiting. waiting.items ≡ fold (tables_with width) [] nodes.now) }
 {
@@ -215,7 +223,7 @@ fn run(alloc: Global, width: usize, nodes: &[Node]) -> Result<VecDeque<Bits>, Al
     Ok(waiting)
 }
 
-/// The newest of the tables that wait.
+/// The newest table of the stack.
 #[tactic(auto, unfolding(crate::specs::Tables::newest_table))]
 fn newest(alloc: Global, width: usize, waiting: VecDeque<Bits>) -> Result<Bits, AllocError>
     ensures { IfOk result (λ table. table ≡ newest_table width waiting.items) }
@@ -227,7 +235,7 @@ fn newest(alloc: Global, width: usize, waiting: VecDeque<Bits>) -> Result<Bits, 
     }
 }
 
-/// The values of an expression at all points of so many pins; an error only for want of memory.
+/// The values of an expression at all points of `width` pins.
 #[tactic(auto, using(crate::proofs::Meaning::newest_values, std::proofs::lemmas::Grind::common_steps))]
 pub(crate) fn values_of(alloc: Global, width: usize, expr: &Expr) -> Result<Bits, AllocError>
     ensures { IfOk result (λ table. table ≡ values width (function_of (formula_of expr.now))) }

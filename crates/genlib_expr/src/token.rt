@@ -1,6 +1,6 @@
 //! The tokens of an expression.
 
-/// A token. A name stands as the place of its pin; `Other` is a character that no expression has.
+/// A token. A name is the index of its pin; `Other` is a character that no expression has.
 #[derive(Clone, Copy, Debug, PartialEq, Eq)]
 pub enum Token {
     Constant(bool),

@@ -1,4 +1,9 @@
-//! The tokens of an expression and its pins.
+//! The tokens of an expression, and its pins.
+//!
+//! Source: the genlib format of SIS (UCB/ERL M92/41). A word is a mark, one of the constants
+//! `CONST0` and `CONST1`, or a name; a name becomes the index of its pin, and the pins are the
+//! names, each once, in order of first mention (`specs/Text.antt`). `depth_of` is the greatest
+//! number of parentheses that are open at once.
 
 ghost use Rattle.std.specs.Prelude.{◌≡◌, ◌<◌, ◌^◌, ◌≤◌, ◌+◌, ◌∷◌, [], max, IfOk, OnOk};
 ghost use Rattle.std.specs.List.{filter};
@@ -12,7 +17,7 @@ use circuit_model::Name;
 use indexmap::IndexSet;
 use std::alloc::{AllocError, Global};
 
-/// Tokens, and the pins by whose places names stand in them.
+/// Tokens, and the pins whose indices are the names in them.
 #[derive(Drop)]
 pub(crate) struct Tokens {
     pub tokens: Vec<Token>,
@@ -57,7 +62,7 @@ fn constant_token(word: &[u8]) -> Option<Token>
     }
 }
 
-/// The token of a word that is no name.
+/// The token of a word that is not a name.
 #[tactic(auto, unfolding(crate::specs::Text::fixed_token))]
 fn fixed_token(word: &[u8]) -> Option<Token>
     ensures { result ≡ fixed_token word.now }
@@ -68,18 +73,19 @@ fn fixed_token(word: &[u8]) -> Option<Token>
     }
 }
 
-/// The name of a word; an error only for want of memory.
+/// The name of a word.
 fn name_of(alloc: Global, word: &[u8]) -> Result<Name, AllocError>
     ensures { IfOk result (λ name. name ≡ word.now) }
 {
     Name::from_slice(alloc, word)
 }
 
-/// The token of a word, whose name is put behind the pins where it is new.
+/// The token of a word; a new name is added to the pins.
 #[tactic(auto, unfolding(crate::specs::Text::token_of, circuit_tables::specs::Listing::names_with))]
 fn token_of(alloc: Global, pins: &mut IndexSet<Name>, word: &[u8]) -> Result<Token, AllocError>
     ensures token { IfOk result (λ token. token ≡ token_of pins.old.keys word.now) }
-    ensures pins { OnOk result (pins.new.keys ≡ names_with pins.old.keys (filter is_name (word.now ∷ []))) }
+    ensures pins { OnOk result (pins.new.keys ≡ names_with pins.old.keys
+        (filter is_name (word.now ∷ []))) }
 {
     if let Some(token) = fixed_token(word) {
         return Ok(token);
@@ -88,7 +94,7 @@ fn token_of(alloc: Global, pins: &mut IndexSet<Name>, word: &[u8]) -> Result<Tok
     Ok(Token::Name(place))
 }
 
-/// The tokens of words, and the pins; an error only for want of memory.
+/// The tokens of words, and the pins.
 #[tactic(auto, using(crate::proofs::Placing::tokens_done))]
 pub(crate) fn tokens_of(alloc: Global, words: &[&[u8]]) -> Result<Tokens, AllocError>
     ensures tokens { IfOk result (λ made. made.tokens.items ≡ tokens_in (texts words.now)) }
@@ -102,7 +108,7 @@ pub(crate) fn tokens_of(alloc: Global, words: &[&[u8]]) -> Result<Tokens, AllocE
     Ok(Tokens { tokens, pins })
 }
 
-/// How many parentheses are open behind a token.
+/// How many parentheses are open after a token.
 fn level_behind(level: usize, token: Token) -> usize
     requires { level + 1 < 2 ^ 64 }
     ensures value { result ≡ level_behind level token }
@@ -122,7 +128,7 @@ fn larger(first: usize, second: usize) -> usize
     if first < second { second } else { first }
 }
 
-/// The most parentheses that are open at one place.
+/// The greatest number of parentheses that are open at once.
 
 pub(crate) fn depth_of(tokens: &[Token]) -> usize
     ensures { result ≡ depth_from 0 tokens.now }

@@ -1,4 +1,5 @@
-//! The words of an expression.
+//! The words of an expression: marks, and longest runs of other bytes between blanks, line ends and
+//! marks (`specs/Text.antt`). Each word is a slice of the text.
 
 ghost use Rattle.std.specs.Prelude.{◌≡◌, ◌≤◌, false, length, option_copied, IfOk};
 ghost use Rattle.std.specs.List.{take_while};
@@ -22,14 +23,14 @@ pub(crate) fn is_mark(byte: u8) -> bool
         || byte == b'='
 }
 
-/// Whether a byte stands in names.
+/// Whether a byte may occur in names.
 fn is_name_byte(byte: u8) -> bool
     ensures { result ≡ is_name_byte byte }
 {
     !(byte == b'\t' || byte == b'\r' || byte == b' ' || byte == b'\n' || is_mark(byte))
 }
 
-/// How many bytes of a name stand in front.
+/// The number of bytes of the name at the front.
 fn name_len(text: &[u8]) -> usize
     ensures value { result ≡ length (take_while is_name_byte text.now) }
     ensures within { result ≤ length text.now }
@@ -37,7 +38,7 @@ fn name_len(text: &[u8]) -> usize
     text.iter().take_while(|byte| is_name_byte(**byte)).count()
 }
 
-/// The name in front.
+/// The name at the front.
 #[tactic(auto, using(crate::proofs::WordSteps::front_taken, std::proofs::lemmas::Grind::common_steps))]
 fn name_at(text: &[u8]) -> &[u8]
     ensures { result.now ≡ take_while is_name_byte text.now }
@@ -64,7 +65,7 @@ fn word_at(inside: bool, text: &[u8]) -> Option<&[u8]>
     }
 }
 
-/// The words of an expression, in order; an error only for want of memory.
+/// The words of an expression, in order.
 #[tactic(auto, using(crate::proofs::WordSteps::words_more, crate::proofs::WordSteps::words_done, std::proofs::lemmas::Grind::common_steps))]
 pub(crate) fn words_of<'a>(alloc: Global, text: &'a [u8]) -> Result<Vec<&'a [u8]>, AllocError>
     ensures { IfOk result (λ words. texts words.items ≡ words_from false text.now) }

@@ -74,7 +74,7 @@ found (first ∷ gates) i gate name at is = by (bytes_eq name first.cell) refl i
         absurd (let off = sym hit ∙ e in cc)
     by false e (suc i) at rest = let r = rest i at in record { gate = r.gate; is = rw e r.is }
 
--- the first gate of a name stands at a place and has the name
+-- the first gate of a name has an index and has the name
 pub record Placed (gates : List Gate) (name : List ℕ) (gate : Gate) : Type 0 where
   pub place : ℕ
   pub at : slice_get gates place ≡ Some gate
@@ -100,7 +100,7 @@ last_or (first ∷ gates) last (suc i) gate at = last_or gates last i gate at
 abbrev pub AreCells : List Gate → Type 0
 AreCells gates = (i j : ℕ) (gate other : Gate) → slice_get gates i ≡ Some gate → slice_get gates j ≡ Some other → gate.cell ≡ other.cell → IsOneCell gate other
 
--- what the gates before it tell of the last
+-- what the gates before it imply for the last
 abbrev pub Joins : List Gate → Gate → Type 0
 Joins gates last = (i : ℕ) (gate : Gate) → slice_get gates i ≡ Some gate → gate.cell ≡ last.cell → IsOneCell gate last
 

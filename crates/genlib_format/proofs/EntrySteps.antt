@@ -22,7 +22,7 @@ pub entries_done : (count i : ℕ) (words : List Lined) → count ≤ i → entr
 unfolding entries_within
 entries_done count i words h = let e : count - i ≡ 0 = omega (arith, h) in ap (λ (n : ℕ). entries_within n words) e
 
--- one entry more behind those that were found
+-- one more entry after those that were found
 pub entry_pushed : (count i : ℕ) (words rest : List Lined) (found more all : List Entry) (entry : Entry) (o : Option Entry) → i < count → entry_at words ≡ option_map (λ e. record { made = e; rest = rest }) o → o ≡ Some entry
     → more ≡ found ++ entry ∷ [] → found ++ entries_within (count - i) words ≡ all → more ++ entries_within (count - (i + 1)) rest ≡ all
 entry_pushed count i words rest found more all entry o h at is push so_far =

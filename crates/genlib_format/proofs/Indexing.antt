@@ -12,7 +12,7 @@ same_name x y h = (bytes_eq-Decides x y).0 h
 name_is : (x : List ℕ) → bytes_eq x x ≡ true
 name_is x = (bytes_eq-Decides x x).1 refl
 
--- the gate at the place is the first of the name
+-- the gate of the index is the first of the name
 at_place : Option ℕ → List Gate → Option Gate
 at_place None gates = None
 at_place (Some i) gates = slice_get gates i
@@ -40,7 +40,7 @@ pub named_none : (gates : List Gate) (index : List ℕ → Option ℕ) (name : L
 unfolding at_place IsIndex
 named_none gates index name is e = sym (ap (λ (o : Option ℕ). at_place o gates) (sym e ∙ is name) ∙ named_is gates name)
 
--- the place with one gate more
+-- the index with one more gate
 place_more : Option ℕ → Bool → ℕ → Option ℕ
 place_more (Some i) test n = Some i
 place_more None true n = Some n
@@ -78,7 +78,7 @@ index_kept gates index gate is known name = is name ∙ by (place_of gates name)
         let gone : is_some (index gate.cell) ≡ false = ap is_some (is gate.cell ∙ ap (place_of gates) (sym (same_name name gate.cell t)) ∙ e) in
         absurd (let off = sym known ∙ gone in cc)
 
--- a gate of a new name is put into the index
+-- a gate of a new name is added to the index
 pub index_more : (gates : List Gate) (old new : List ℕ → Option ℕ) (gate : Gate) → IsIndex gates old → is_some (old gate.cell) ≡ false
     → ((other : List ℕ) → new other ≡ (if bytes_eq gate.cell other then Some (length gates) else old other)) → IsIndex (gates ++ gate ∷ []) new
 unfolding IsIndex place_more
@@ -108,7 +108,7 @@ pub nothing_indexed : (index : List ℕ → Option ℕ) → ((name : List ℕ) �
 unfolding IsIndex place_of
 nothing_indexed index none name = none name
 
--- what a look-up by place gives
+-- the result of a look-up by index
 found_at : (gates : List Gate) (i : ℕ) (gate : Gate) → i < length gates → gate ≡ get_or gates i gate → Some gate ≡ slice_get gates i
 found_at [] i gate h e = absurd (omega (arith, h))
 found_at (first ∷ gates) zero gate h e = ap (λ (g : Gate). Some g) e

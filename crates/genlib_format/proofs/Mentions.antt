@@ -4,6 +4,7 @@ use Rattle.std.proofs.Common.{None, List, [], ◌∷◌, ◌++◌, map, slice_in
 use Rattle.std.proofs.Common.{codes, ◌==◌, refl, sym, ◌∙◌, ap, subst, append_assoc}
 use Rattle.std.specs.List.{AllByRecursion, position_or_len}
 use Rattle.std.proofs.lemmas.List.{append-nil}
+use Rattle.std.proofs.lemmas.Bool.{or_right}
 use Rattle.circuit_model.specs.Names.{has}
 use Rattle.circuit_tables.specs.Folding.{each_once}
 use Rattle.circuit_tables.proofs.Once.{same_name, itself, first_place, has-each_once}
@@ -19,14 +20,14 @@ use Rattle.genlib_expr.specs.Grammar.{one_constant, one_name, parentheses}
 use Rattle.genlib_expr.specs.Text.{mark_token, constant_token, fixed_token, is_mark, is_name}
 use Rattle.genlib_expr.specs.Text.{pins_in, placed, token_of, tokens_in, tokens_of, words_of}
 use Rattle.genlib_expr.specs.Text.{pins_of}
-use Rattle.genlib_expr.specs.Text.{is_none as no_token}
+use Rattle.genlib_expr.specs.Text.{is_none}
 use Rattle.genlib_expr.specs.Machine.{run, start}
 use Rattle.genlib_expr.proofs.Spelling.{read_is_spelled, read_is_postfix}
 use Rattle.genlib_format.specs.Spelling.{nodes_in}
 use Rattle.genlib_format.proofs.Spelled.{nodes_run}
 use Rattle.genlib_format.specs.Soundness.{pin_places, mentions}
 
-places_both : (xs ys : List Node) → pin_places (xs ++ ys) ≡ pin_places xs ++ pin_places ys
+pub places_both : (xs ys : List Node) → pin_places (xs ++ ys) ≡ pin_places xs ++ pin_places ys
 unfolding pin_places
 places_both [] ys = refl
 places_both (node.Pin place ∷ xs) ys = ap (λ (ns : List ℕ). place ∷ ns) (places_both xs ys)
@@ -36,7 +37,7 @@ places_both (node.And ∷ xs) ys = places_both xs ys
 places_both (node.Or ∷ xs) ys = places_both xs ys
 
 -- the pins of a formula, in order
-leaves : Formula → List ℕ
+pub leaves : Formula → List ℕ
 leaves (constant bit) = []
 leaves (pin place) = place ∷ []
 leaves (complement e) = leaves e
@@ -64,7 +65,7 @@ leaves_are (sum d e) =
     ∙ ap (λ (ns : List ℕ). ns ++ pin_places (postfix e)) (leaves_are d)
     ∙ ap (λ (ns : List ℕ). leaves d ++ ns) (leaves_are e)
 
--- the places of names among tokens
+-- the indices of names among tokens
 token_places : List Token → List ℕ
 token_places [] = []
 token_places (token.Name place ∷ ts) = place ∷ token_places ts
@@ -211,7 +212,7 @@ plain_places token.Open ts h = refl
 plain_places token.Close ts h = refl
 plain_places token.Other ts h = refl
 
--- the name at the place of a name
+-- the name of the index of a name
 name_at_place : (names : List (List ℕ)) (name : List ℕ) → has names name ≡ true
     → slice_index_or names (position_or_len (bytes_eq name) names) [] ≡ name
 name_at_place [] name h = absurd (let off = h in cc)
@@ -231,10 +232,10 @@ Known pins word = is_name word ≡ true → has pins word ≡ true
 
 first_at : (pins : List (List ℕ)) (word : List ℕ) (words : List (List ℕ)) (ts : List Token)
     (o : Option Token)
-    → Plain o → (no_token o ≡ true → has pins word ≡ true)
+    → Plain o → (is_none o ≡ true → has pins word ≡ true)
     → map (λ place. slice_index_or pins place []) (token_places ts) ≡ filter is_name words
     → map (λ place. slice_index_or pins place []) (token_places (placed pins word o ∷ ts))
-    ≡ cond (no_token o) (word ∷ filter is_name words) (filter is_name words)
+    ≡ cond (is_none o) (word ∷ filter is_name words) (filter is_name words)
 unfolding token_places
 first_at pins word words ts None plain known rest =
     ap (λ (name : List ℕ). name ∷ map (λ place. slice_index_or pins place []) (token_places ts))
@@ -251,10 +252,6 @@ names_at pins [] known = refl
 names_at pins (word ∷ words) known =
     first_at pins word words (map (token_of pins) words) (fixed_token word)
     (plain_token word) known.0 (names_at pins words known.1)
-
-or_right : (a b : Bool) → b ≡ true → (a || b) ≡ true
-or_right true b h = refl
-or_right false b h = h
 
 own_first : (word : List ℕ) (words : List (List ℕ)) → is_name word ≡ true
     → has (filter is_name (word ∷ words)) word ≡ true

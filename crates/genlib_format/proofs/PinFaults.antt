@@ -5,7 +5,7 @@ use Rattle.circuit_model.specs.Names.{has}
 use Rattle.genlib_format.specs.declared.pins.PinLine.{PinLine}
 use Rattle.genlib_format.specs.Faults.{star, has_line, wrong_line}
 
--- whether the name of a line behind others is wrong
+-- whether the name of a line after others is wrong
 abbrev pub is_wrong : List PinLine → List (List ℕ) → List ℕ → Bool
 is_wrong before pins name = not (bytes_eq star name || has pins name) || has_line before name
 

@@ -9,7 +9,7 @@ use Rattle.genlib_format.specs.Statements.{Part}
 use Rattle.genlib_format.specs.Pins.{is_phase, are_numbers, begins_pin, no_pins, with_pins}
 use Rattle.genlib_format.specs.Pins.{with_pin, and_pins, pin_at, pins_at}
 
--- the pin of nine words and more, by their places
+-- the pin of nine words and more, by their indices
 abbrev pub pin_by : List Lined → Lined → PinLine
 pin_by words o = record {
   name = (get_or words 1 o).word;

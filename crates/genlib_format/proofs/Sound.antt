@@ -30,7 +30,7 @@ use Rattle.genlib_format.specs.Reader.{block_for, gate_of, gate_named, is_same_c
 use Rattle.genlib_format.specs.Reader.{twice_fault, settled, entry_fault, gates_with, onward}
 use Rattle.genlib_format.specs.Reader.{read_entries, library_of}
 use Rattle.genlib_format.specs.Answers.{Reads}
-use Rattle.genlib_format.specs.Soundness.{IsName, mentions, IsSoundGate, IsOneCell, IsSound}
+use Rattle.genlib_format.specs.Soundness.{IsName, mentions, IsSoundGate, IsOneCell, IsSoundGates}
 use Rattle.genlib_format.proofs.WellNamed.{IsNamed, HasNames, IsFit, all_named, pins_fit}
 use Rattle.genlib_expr.specs.declared.node.Node.{Node}
 use Rattle.genlib_expr.specs.Formula.{ArePostfix}
@@ -183,8 +183,8 @@ sound_settled first gate one sound cell = record {
 
 -- one gate more
 sound_with : (gates : List Gate) (gate : Gate) (o : Option Gate) → gate_named gates gate.cell ≡ o
-    → IsSound gates → IsSoundGate gate → twice_fault o gate ≡ None
-    → IsSound (gates ++ settled o gate ∷ [])
+    → IsSoundGates gates → IsSoundGate gate → twice_fault o gate ≡ None
+    → IsSoundGates (gates ++ settled o gate ∷ [])
 sound_with gates gate None is sound alone e =
     record {
       each = each_more gates gate sound.each alone;
@@ -208,16 +208,16 @@ sound_with gates gate (Some first) is sound alone e =
     passed true h = refl
     passed false h = absurd (let off = h in cc)
 
-sound_lines : (gates : List Gate) (lines : GateLines) → IsNamed lines → IsSound gates
+sound_lines : (gates : List Gate) (lines : GateLines) → IsNamed lines → IsSoundGates gates
     → lines_fault lines ≡ None → twice_fault (gate_named gates lines.cell) (gate_of lines) ≡ None
-    → IsSound (gates ++ settled (gate_named gates lines.cell) (gate_of lines) ∷ [])
+    → IsSoundGates (gates ++ settled (gate_named gates lines.cell) (gate_of lines) ∷ [])
 unfolding gate_of
 sound_lines gates lines named sound none alone =
     sound_with gates (gate_of lines) (gate_named gates lines.cell) refl sound
     (sound_gate lines named none) alone
 
-sound_entry : (count : ℕ) (gates : List Gate) (e : Entry) → HasNames e → IsSound gates
-    → entry_fault count gates e ≡ None → IsSound (gates_with gates e)
+sound_entry : (count : ℕ) (gates : List Gate) (e : Entry) → HasNames e → IsSoundGates gates
+    → entry_fault count gates e ≡ None → IsSoundGates (gates_with gates e)
 unfolding entry_fault gates_with
 sound_entry count gates (entry.Misshapen line) named sound none = sound
 sound_entry count gates entry.Latch named sound none = sound
@@ -227,30 +227,30 @@ sound_entry count gates (entry.Gate lines) named sound none =
     sound_lines gates lines named sound a.0 b.0
 
 pub entries_sound : (count : ℕ) (gates : List Gate) (entries : List Entry) (made : List Gate)
-    → AllByRecursion HasNames entries → IsSound gates → read_entries count gates entries ≡ Ok made
-    → IsSound made
+    → AllByRecursion HasNames entries → IsSoundGates gates → read_entries count gates entries ≡ Ok made
+    → IsSoundGates made
 unfolding read_entries
 entries_sound count gates [] made named sound e =
-    subst IsSound (let one : Ok gates ≡ Ok made = e in cc) sound
+    subst IsSoundGates (let one : Ok gates ≡ Ok made = e in cc) sound
 entries_sound count gates (first ∷ entries) made named sound e =
     by (entry_fault count gates first) refl e
     (λ s h. entries_sound (suc count) (gates_with gates first) entries made named.1 s h)
   where
     by : (o : Option LibFault) → entry_fault count gates first ≡ o
         → onward o (read_entries (suc count) (gates_with gates first) entries) ≡ Ok made
-        → (IsSound (gates_with gates first)
-        → read_entries (suc count) (gates_with gates first) entries ≡ Ok made → IsSound made)
-        → IsSound made
+        → (IsSoundGates (gates_with gates first)
+        → read_entries (suc count) (gates_with gates first) entries ≡ Ok made → IsSoundGates made)
+        → IsSoundGates made
     by None is h rest = rest (sound_entry count gates first named.0 sound is) h
     by (Some fault) is h rest = absurd (let off = h in cc)
 
-nothing_sound : IsSound []
+nothing_sound : IsSoundGates []
 nothing_sound =
     record { each = tt; cells = λ i j gate other at there e. absurd (let off = at in cc) }
 
 -- what a file is read as is sound
 pub library_sound : (bytes : List ℕ) (r : Result (List Gate) ReadFault) → Reads r (library_of bytes)
-    → IfOk r IsSound
+    → IfOk r IsSoundGates
 unfolding library_of
 library_sound bytes (Ok gates) e =
     entries_sound 0 [] (entries_of (words_in bytes)) gates

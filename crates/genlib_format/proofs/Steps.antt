@@ -7,7 +7,7 @@ use Rattle.genlib_expr.proofs.WordSteps.{front_taken}
 use Rattle.sis_text.specs.declared.places.Span.{Span}
 use Rattle.genlib_format.specs.Words.{before, lined, line_words, words_from}
 
--- as many bytes as stand before the mark are those
+-- as many bytes as precede the mark are those bytes
 pub before_taken : (mark : ℕ) (text : List ℕ) → take (length (before mark text)) text ≡ before mark text
 unfolding before
 before_taken mark text = front_taken (λ byte. not (byte == mark)) text

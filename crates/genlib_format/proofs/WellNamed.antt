@@ -5,11 +5,11 @@ use Rattle.std.specs.Option.{option_map_or}
 use Rattle.std.proofs.lemmas.List.Sums.{take_while-cons}
 use Rattle.sis_base.specs.Written.{is_empty}
 use Rattle.sis_text.specs.Words.{bytes_at}
-use Rattle.sis_text.specs.Words.{words_of as spans_of}
+use Rattle.sis_text.specs.Words.{words_of}
 use Rattle.circuit_tables.specs.Folding.{each_once}
 use Rattle.genlib_expr.specs.declared.token.Token.TheVariants.{Bang, Quote, Star, Plus, Open, Close, Other}
 use Rattle.genlib_expr.specs.Text.{is_mark, is_name_byte, word_at, words_from, mark_token, fixed_token, is_name, pins_in, pins_of}
-use Rattle.genlib_expr.specs.Text.{is_none as no_token}
+use Rattle.genlib_expr.specs.Text.{is_none}
 use Rattle.genlib_format.specs.declared.words.Lined.{Lined}
 use Rattle.genlib_format.specs.declared.gates.GateLines.{GateLines}
 use Rattle.genlib_format.specs.declared.pins.PinLine.{PinLine}
@@ -57,7 +57,7 @@ maybe_named false words name e = absurd (none_is_some e)
 
 output_named : (statement name : List ℕ) → output_of statement ≡ Some name → is_gate_name name ≡ true
 unfolding output_of
-output_named statement name e = maybe_named _ (map (bytes_at (before 61 statement)) (spans_of (before 61 statement))) name e
+output_named statement name e = maybe_named _ (map (bytes_at (before 61 statement)) (words_of (before 61 statement))) name e
 
 with_pins_named : (line : ℕ) (cell area : List ℕ) (statement : Part (List ℕ)) (output : List ℕ) (part : Part GateLines) → is_gate_name cell ≡ true → is_gate_name output ≡ true
     → with_pins_at line cell area statement output ≡ Some part → IsNamed part.made
@@ -143,7 +143,7 @@ Fits : List ℕ → Type 0
 Fits word = is_name word ≡ true → is_gate_name word ≡ true
 
 marked : (a b c d e f m : Bool) → m ≡ true
-    → no_token (if a then Some Bang else (if b then Some Quote else (if c then Some Star else (if d then Some Plus else (if e then Some Open else (if f then Some Close else (if m then Some Other else None))))))) ≡ false
+    → is_none (if a then Some Bang else (if b then Some Quote else (if c then Some Star else (if d then Some Plus else (if e then Some Open else (if f then Some Close else (if m then Some Other else None))))))) ≡ false
 marked true b c d e f m h = refl
 marked false true c d e f m h = refl
 marked false false true d e f m h = refl

@@ -1,4 +1,4 @@
--- Worked lines of pins: the phase is one of three, and each of the six words behind it is a number.
+-- Worked lines of pins: the phase is one of three, and each of the six words after it is a number.
 use Rattle.std.proofs.Common.{◌≡◌, ℕ, Result, Ok, Err, List, [], ◌∷◌, ◌++◌, refl}
 use Rattle.std.specs.Prelude.{codes}
 use Rattle.sis_text.specs.Decimals.{number_of, whole_part, fraction_part, are_parts, decimal_of}

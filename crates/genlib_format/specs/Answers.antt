@@ -1,5 +1,5 @@
--- What a reader answers, beside what it should; want of memory is free.
--- Source: the project's own.
+-- What a reader answers, compared with what it should; want of memory is always allowed. Source:
+-- the project's own.
 use Rattle.std.specs.Prelude.{◌≡◌, ℕ, Option, Some, None, Result, Ok, Err, List}
 use Rattle.genlib_expr.specs.Text.{pins_of, depth_of}
 use Rattle.genlib_expr.specs.declared.expression.Parsed.{Parsed}
@@ -16,14 +16,13 @@ Gives (Ok value) fault should = (fault ≡ None) × (value ≡ should)
 Gives (Err (read_fault.Fault found)) fault should = fault ≡ Some found
 Gives (Err read_fault.Memory) fault should = Unit {0}
 
--- what a step leaves, and the fault that it should have
+-- the result of a step, and the fault that it should have
 abbrev pub Leaves : {A : Type 0} → Result (Unit {0}) ReadFault → A → Option LibFault → A → Type 0
 Leaves (Ok done) new fault should = (fault ≡ None) × (new ≡ should)
 Leaves (Err (read_fault.Fault found)) new fault should = fault ≡ Some found
 Leaves (Err read_fault.Memory) new fault should = Unit {0}
 
--- the expression of a text, with its pins and its depth, or the fault of its line where it spells
--- none
+-- the expression of a text, with its pins and its depth, or the fault of its line if it spells none
 abbrev pub Parses : Result Parsed ReadFault → ℕ → List ℕ → Type 0
 Parses (Ok parsed) line text =
     (nodes_in text ≡ Some parsed.expr) × (parsed.pins ≡ pins_of text)
@@ -31,7 +30,7 @@ Parses (Ok parsed) line text =
 Parses (Err (read_fault.Fault fault)) line text = (nodes_in text ≡ None) × (fault ≡ BadExpr line)
 Parses (Err read_fault.Memory) line text = Unit {0}
 
--- the whole
+-- the library that was read, or the fault
 abbrev pub Reads : Result (List Gate) ReadFault → Result (List Gate) LibFault → Type 0
 Reads (Ok gates) should = should ≡ Ok gates
 Reads (Err (read_fault.Fault fault)) should = should ≡ Err fault

@@ -1,6 +1,5 @@
--- The entries of a library file.
--- Source: the genlib format of SIS (UCB/ERL M92/41): `GATE` begins the entry of a gate, `LATCH` that of a latch, which runs to
--- the next `GATE` or `LATCH`.
+-- The entries of a library file. Source: the genlib format of SIS (UCB/ERL M92/41): `GATE` begins
+-- the entry of a gate, `LATCH` that of a latch, which runs to the next `GATE` or `LATCH`.
 use Rattle.std.specs.Prelude.{ℕ, zero, suc, Bool, not, ◌||◌, if◌then◌else◌, Option, Some, None, List, [], ◌∷◌, length, drop, bytes_eq, codes}
 use Rattle.std.specs.List.{take_while}
 use Rattle.std.specs.Option.{option_map_or}
@@ -18,30 +17,30 @@ is_gate lined = bytes_eq lined.word (codes "GATE")
 abbrev pub is_latch : Lined → Bool
 is_latch lined = bytes_eq lined.word (codes "LATCH")
 
--- the words from the next on that begins an entry
+-- the words from the next one on that begins an entry
 unfoldable pub from_entry : List Lined → List Lined
 from_entry words = drop (length (take_while (λ word. not (is_gate word || is_latch word)) words)) words
 
--- a gate that was read; where none was, an entry without the shape of one, and what follows it is not read
+-- a gate that was read; if none was, an entry without the right shape, after which nothing is read
 abbrev pub gate_entry : ℕ → Option (Part GateLines) → Part Entry
 gate_entry line None = record { made = Misshapen line; rest = [] }
 gate_entry line (Some part) = record { made = Gate part.made; rest = part.rest }
 
--- a latch, which is read past
+-- a latch, which is skipped
 abbrev pub latch_entry : List Lined → Part Entry
 latch_entry words = record { made = Latch; rest = from_entry words }
 
--- an entry that begins with another word; what follows it is not read
+-- an entry that begins with another word; nothing is read after it
 abbrev pub other_entry : ℕ → Part Entry
 other_entry line = record { made = Misshapen line; rest = [] }
 
--- the first entry, by its first word and the words behind that
+-- the first entry, by its first word and the words after that
 unfoldable pub entry_from : Lined → List Lined → Part Entry
 entry_from first words =
     if is_gate first then gate_entry first.line (gate_at (first ∷ words))
     else (if is_latch first then latch_entry words else other_entry first.line)
 
--- the first entry; none where no word is left
+-- the first entry; none if no word is left
 unfoldable pub entry_at : List Lined → Option (Part Entry)
 entry_at [] = None
 entry_at (first ∷ words) = Some (entry_from first words)

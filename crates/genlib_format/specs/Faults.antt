@@ -1,7 +1,7 @@
--- What is wrong with the entry of a gate.
--- Source: the genlib format of SIS (UCB/ERL M92/41): area, loads and delays are numbers, each pin
--- of the expression has one PIN line, and one line with the name `*` stands for all pins without
--- one of their own. The order of the causes and the limits are the project's own.
+-- What is wrong with the entry of a gate. Source: the genlib format of SIS (UCB/ERL M92/41): area,
+-- loads and delays are numbers, each pin of the expression has one PIN line, and one line with the
+-- name `*` is for all pins without one of their own. The order of the causes and the limits are the
+-- project's own.
 use Rattle.std.specs.Prelude.{ℕ, Bool, not, ◌&&◌, ◌||◌, nat_lt, is_none, if◌then◌else◌}
 use Rattle.std.specs.Prelude.{Option, Some, None, List, [], ◌∷◌, ◌++◌, length, find, option_map}
 use Rattle.std.specs.Prelude.{bytes_eq, codes}
@@ -18,7 +18,7 @@ use Rattle.genlib_format.specs.declared.fault.LibFault.TheVariants.{BadNumber, B
 use Rattle.genlib_format.specs.declared.fault.LibFault.TheVariants.{Limit}
 use Rattle.sis_base.specs.declared.limits.TheConstants.{MAX_NAME, MAX_NESTING, MAX_PINS}
 
--- a fault where a test holds
+-- a fault if a test holds
 abbrev pub when : Bool → LibFault → Option LibFault
 when test fault = if test then Some fault else None
 
@@ -28,7 +28,7 @@ first_of [] = None
 first_of (None ∷ causes) = first_of causes
 first_of (Some cause ∷ causes) = Some cause
 
--- a number is wanting: the area, or one of the six of a pin
+-- a number is missing: the area, or one of the six of a pin
 unfoldable pub number_fault : GateLines → Option LibFault
 number_fault lines =
     let good = is_number lines.area && list_all (λ (pin : PinLine). pin.is_numeric) lines.pins in
@@ -44,8 +44,8 @@ long_name names =
     option_map (λ (name : List ℕ). Limit limit.Name (length name))
     (find (λ name. nat_lt MAX_NAME (length name)) names)
 
--- a name of more than `MAX_NAME` bytes, more than `MAX_NESTING` parentheses in one another, more
--- than `MAX_PINS` pins
+-- a name of more than `MAX_NAME` bytes, more than `MAX_NESTING` nested parentheses, more than
+-- `MAX_PINS` pins
 unfoldable pub limit_fault : GateLines → Option LibFault
 limit_fault lines = first_of
     (long_name (lines.cell ∷ lines.output ∷ pins_of lines.text)
@@ -54,7 +54,7 @@ limit_fault lines = first_of
     (Limit limit.Pins (length (pins_of lines.text)))
     ∷ [])
 
--- the name that stands for all pins without a line of their own
+-- the name of the line for all pins without a line of their own
 abbrev pub star : List ℕ
 star = codes "*"
 
@@ -66,7 +66,7 @@ is_named name line = bytes_eq name line.name
 abbrev pub has_line : List PinLine → List ℕ → Bool
 has_line lines name = list_any (is_named name) lines
 
--- the first name of a line that is neither `*` nor a pin, or that a line before it has
+-- the first name of a line that is neither `*` nor a pin, or that an earlier line has
 unfoldable pub wrong_line : List PinLine → List (List ℕ) → List PinLine → Option (List ℕ)
 wrong_line before pins [] = None
 wrong_line before pins (line ∷ lines) =
@@ -74,7 +74,7 @@ wrong_line before pins (line ∷ lines) =
     then Some line.name
     else wrong_line (before ++ line ∷ []) pins lines
 
--- the first pin without a line, where no line stands for all others
+-- the first pin without a line, if no line is for all others
 unfoldable pub bare_pin : List PinLine → List (List ℕ) → Option (List ℕ)
 bare_pin lines pins =
     if has_line lines star then None else find (λ pin. not (has_line lines pin)) pins
@@ -91,7 +91,7 @@ unfoldable pub pin_fault : GateLines → Option LibFault
 pin_fault lines =
     option_map (λ name. BadPin name) (wrong_name lines.output (pins_of lines.text) lines.pins)
 
--- what is wrong with the entry of a gate, whatever stands before it
+-- what is wrong with the entry of a gate, whatever precedes it
 unfoldable pub lines_fault : GateLines → Option LibFault
 lines_fault lines = first_of
     (number_fault lines ∷ expression_fault lines ∷ limit_fault lines ∷ pin_fault lines ∷ [])

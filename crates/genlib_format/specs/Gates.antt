@@ -1,12 +1,12 @@
--- The entry of a gate.
--- Source: the genlib format of SIS (UCB/ERL M92/41): `GATE cell area output=expression;` and the lines of its pins. The
--- cell may stand in double quotes, which are dropped.
+-- The entry of a gate. Source: the genlib format of SIS (UCB/ERL M92/41): `GATE cell area
+-- output=expression;` and the lines of its pins. The cell may be in double quotes, which are
+-- dropped.
 use Rattle.std.specs.Prelude.{ℕ, ◌-◌, ◌==◌, ◌&&◌, not, nat_lt, Bool, if◌then◌else◌, Option, Some, None, List, [], ◌∷◌, length, take, drop, map, get_or, option_map}
 use Rattle.std.specs.List.{list_all}
 use Rattle.std.specs.Option.{option_map_or}
 use Rattle.sis_base.specs.Written.{is_empty}
 use Rattle.sis_text.specs.Words.{bytes_at}
-use Rattle.sis_text.specs.Words.{words_of as spans_of}
+use Rattle.sis_text.specs.Words.{words_of}
 use Rattle.genlib_expr.specs.Text.{is_name_byte}
 use Rattle.genlib_format.specs.declared.words.Lined.{Lined}
 use Rattle.genlib_format.specs.declared.gates.GateLines.{GateLines}
@@ -22,7 +22,7 @@ is_gate_name bytes = not (is_empty bytes) && list_all is_name_byte bytes
 unfoldable pub name_in : List ℕ → Option (List ℕ)
 name_in word = if is_gate_name word then Some word else None
 
--- a word without the quotation marks round it, if both stand there
+-- a word without the double quotes around it, if it has both
 unfoldable pub unquoted : List ℕ → List ℕ
 unquoted word =
     if nat_lt 1 (length word) && get_or word 0 0 == 34 && get_or word (length word - 1) 0 == 34
@@ -38,7 +38,7 @@ only_name words = None
 unfoldable pub output_of : List ℕ → Option (List ℕ)
 output_of statement =
     if nat_lt (length (before 61 statement)) (length statement)
-    then only_name (map (bytes_at (before 61 statement)) (spans_of (before 61 statement)))
+    then only_name (map (bytes_at (before 61 statement)) (words_of (before 61 statement)))
     else None
 
 -- a gate whose cell, area, statement and output are read, with the lines of its pins
@@ -51,7 +51,7 @@ unfoldable pub with_statement_at : ℕ → List ℕ → List Lined → List ℕ 
 with_statement_at line area words cell =
     option_map_or (λ statement. option_map_or (with_pins_at line cell area statement) (output_of statement.made) None) (statement_at words) None
 
--- the entry of a gate, from the word GATE on; none where it has not the shape of one
+-- the entry of a gate, from the word GATE on; none if it does not have the right shape
 unfoldable pub gate_at : List Lined → Option (Part GateLines)
 gate_at (gate ∷ cell ∷ area ∷ words) = option_map_or (with_statement_at gate.line area.word words) (name_in (unquoted cell.word)) None
 gate_at words = None

@@ -18,7 +18,7 @@ is_phase word =
 abbrev pub is_number : List ℕ → Bool
 is_number word = is_some (decimal_of word)
 
--- whether all of some words are numbers
+-- whether all words are numbers
 abbrev pub are_numbers : List Lined → Bool
 are_numbers words = list_all (λ lined. is_number lined.word) words
 
@@ -31,7 +31,7 @@ begins_pin (lined ∷ words) = bytes_eq lined.word (codes "PIN")
 abbrev pub no_pins : List Lined → Part (List PinLine)
 no_pins words = record { made = []; rest = words }
 
--- pins behind others
+-- pins appended to others
 abbrev pub with_pins : List PinLine → Part (List PinLine) → Part (List PinLine)
 with_pins pins part = record { made = pins ++ part.made; rest = part.rest }
 
@@ -39,14 +39,14 @@ with_pins pins part = record { made = pins ++ part.made; rest = part.rest }
 abbrev pub with_pin : PinLine → Part (List PinLine) → Part (List PinLine)
 with_pin pin part = record { made = pin ∷ part.made; rest = part.rest }
 
--- a pin and those behind it; none where either is none
+-- a pin and those after it; none if either is none
 unfoldable pub and_pins : Option PinLine → Option (Part (List PinLine))
     → Option (Part (List PinLine))
 and_pins None part = None
 and_pins (Some pin) part = option_map (with_pin pin) part
 
 -- the pin of a line: the word PIN, a name, a phase and six numbers, which `number_fault` judges;
--- none where words are wanting or the phase is none
+-- none if words are missing or the phase is not one
 unfoldable pub pin_at : List Lined → Option PinLine
 pin_at (pin ∷ name ∷ phase ∷ load ∷ max ∷ rise ∷ rise_fanout ∷ fall ∷ fall_fanout ∷ words) =
     let numbers = load ∷ max ∷ rise ∷ rise_fanout ∷ fall ∷ fall_fanout ∷ [] in
@@ -60,7 +60,7 @@ pin_at (pin ∷ name ∷ phase ∷ load ∷ max ∷ rise ∷ rise_fanout ∷ fal
     else None
 pin_at words = None
 
--- the lines of pins that stand in front, as long as PIN begins one; none where one is no pin's
+-- the lines of pins at the front, as long as PIN begins one; none if one is not a pin's
 unfoldable pub pins_at : List Lined → Option (Part (List PinLine))
 pins_at (pin ∷ name ∷ phase ∷ load ∷ max ∷ rise ∷ rise_fanout ∷ fall ∷ fall_fanout ∷ words) =
     let line = pin ∷ name ∷ phase ∷ load ∷ max ∷ rise ∷ rise_fanout ∷ fall ∷ fall_fanout ∷ [] in

@@ -26,7 +26,7 @@ use Rattle.genlib_format.specs.Faults.{when, first_of, star, is_named, lines_fau
 use Rattle.genlib_format.specs.Spelling.{nodes_in}
 use Rattle.sis_base.specs.declared.limits.TheConstants.{MAX_GATES}
 
--- the number of a word; 0 where it is none
+-- the number of a word; 0 if it is not one
 unfoldable pub number_in : List ℕ → Decimal
 number_in word = record { 0 = unwrap_or (decimal_of word) 0 }
 
@@ -34,7 +34,7 @@ number_in word = record { 0 = unwrap_or (decimal_of word) 0 }
 unfoldable pub block_in : PinLine → Block
 block_in line = record { rise = number_in line.rise; fall = number_in line.fall }
 
--- the line of a pin: that of its name, else the one that stands for all others
+-- the line of a pin: that of its name, otherwise the one for all others
 unfoldable pub line_for : List PinLine → List ℕ → Option PinLine
 line_for lines pin = option_or (find (is_named pin) lines) (find (is_named star) lines)
 
@@ -44,7 +44,7 @@ block_for lines pin =
     option_map_or block_in (line_for lines pin)
     (record { rise = record { 0 = 0 }; fall = record { 0 = 0 } })
 
--- the gate that an entry says: its pins are the names of its expression, in order of first mention
+-- the gate of an entry: its pins are the names of its expression, in order of first mention
 unfoldable pub gate_of : GateLines → Gate
 gate_of lines = record {
   cell = lines.cell;
@@ -84,16 +84,16 @@ abbrev pub twice_fault : Option Gate → Gate → Option LibFault
 twice_fault None gate = None
 twice_fault (Some first) gate = when (not (is_same_cell first gate)) (GateTwice gate.cell)
 
--- a gate behind the first of its name has the delays of that
+-- a later gate of a name has the delays of the first
 abbrev pub settled : Option Gate → Gate → Gate
 settled None gate = gate
 settled (Some first) gate = with_blocks gate first
 
--- one entry of a gate or latch more than `MAX_GATES`
+-- one more entry of a gate or latch than `MAX_GATES`
 abbrev pub one_too_many : ℕ → Option LibFault
 one_too_many count = when (nat_le MAX_GATES count) (Limit limit.Gates (MAX_GATES + 1))
 
--- what is wrong with an entry behind so many entries, of which these gates were read
+-- what is wrong with an entry after so many entries, of which these gates were read
 unfoldable pub entry_fault : ℕ → List Gate → Entry → Option LibFault
 entry_fault count gates (entry.Misshapen line) = Some (BadEntry line)
 entry_fault count gates entry.Latch = one_too_many count
@@ -103,24 +103,24 @@ entry_fault count gates (entry.Gate lines) = first_of
     ∷ one_too_many count
     ∷ [])
 
--- the gates behind an entry
+-- the gates after an entry
 unfoldable pub gates_with : List Gate → Entry → List Gate
 gates_with gates (entry.Misshapen line) = gates
 gates_with gates entry.Latch = gates
 gates_with gates (entry.Gate lines) =
     gates ++ settled (gate_named gates lines.cell) (gate_of lines) ∷ []
 
--- a fault, or what is read where there is none
+-- a fault, or what is read if there is none
 abbrev pub unless : {A : Type 0} → Option LibFault → A → Result A LibFault
 unless None value = Ok value
 unless (Some fault) value = Err fault
 
--- what is read on behind an entry
+-- a fault, or what is read after an entry without one
 abbrev pub onward : Option LibFault → Result (List Gate) LibFault → Result (List Gate) LibFault
 onward None rest = rest
 onward (Some fault) rest = Err fault
 
--- what entries are read as behind so many entries and these gates: the first fault, or all gates in
+-- what entries are read as after so many entries and these gates: the first fault, or all gates in
 -- order
 unfoldable pub read_entries : ℕ → List Gate → List Entry → Result (List Gate) LibFault
 read_entries count gates [] = Ok gates

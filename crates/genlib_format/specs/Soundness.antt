@@ -1,6 +1,6 @@
--- When a library is sound.
--- Source: the genlib format of SIS (UCB/ERL M92/41): a gate's pins are the names of its expression, each pin has its delays,
--- and a gate is known by its name. The limits are the project's own.
+-- When a library is sound. Source: the genlib format of SIS (UCB/ERL M92/41): a gate's pins are the
+-- names of its expression, each pin has its delays, and a gate is known by its name. The limits are
+-- the project's own.
 use Rattle.std.specs.Prelude.{◌≡◌, ℕ, ◌<◌, ◌≤◌, ◌^◌, Bool, true, false, Some, List, [], ◌∷◌, length, map, slice_get, slice_index_or}
 use Rattle.std.specs.List.{AllByRecursion}
 use Rattle.circuit_model.specs.Names.{has, all_different}
@@ -18,7 +18,7 @@ use Rattle.sis_base.specs.declared.limits.TheConstants.{MAX_NAME, MAX_PINS}
 abbrev pub IsName : List ℕ → Type 0
 IsName name = (is_gate_name name ≡ true) × (length name ≤ MAX_NAME)
 
--- the places of pins among nodes, in order
+-- the indices of pins among nodes, in order
 unfoldable pub pin_places : List Node → List ℕ
 pin_places [] = []
 pin_places (Pin place ∷ nodes) = place ∷ pin_places nodes
@@ -27,7 +27,7 @@ pin_places (Not ∷ nodes) = pin_places nodes
 pin_places (And ∷ nodes) = pin_places nodes
 pin_places (Or ∷ nodes) = pin_places nodes
 
--- the names of an expression over pins, as often and in the order as it mentions them
+-- the names in an expression over pins, as often and in the order in which it mentions them
 abbrev pub mentions : List (List ℕ) → List Node → List (List ℕ)
 mentions pins nodes = map (λ place. slice_index_or pins place []) (pin_places nodes)
 
@@ -58,6 +58,6 @@ pub record IsOneCell (gate other : Gate) : Type 0 where
   pub delays : gate.blocks ≡ other.blocks
 
 -- each gate is sound, and gates of one name are one cell
-pub record IsSound (gates : List Gate) : Type 0 where
+pub record IsSoundGates (gates : List Gate) : Type 0 where
   pub each : AllByRecursion IsSoundGate gates
   pub cells : (i j : ℕ) (gate other : Gate) → slice_get gates i ≡ Some gate → slice_get gates j ≡ Some other → gate.cell ≡ other.cell → IsOneCell gate other

@@ -1,6 +1,5 @@
--- What the text of an expression spells.
--- Source: the genlib format of SIS (UCB/ERL M92/41), whose grammar is `Spells`. It gives a text at
--- most one formula.
+-- The formula that the text of an expression spells. Source: the genlib format of SIS (UCB/ERL
+-- M92/41), whose grammar is `Spells`. It gives a text at most one formula.
 use Rattle.std.specs.Prelude.{◌≡◌, ℕ, Option, Some, None, option_map, List, refl}
 use Rattle.std.proofs.Common.{sym}
 use Rattle.genlib_expr.specs.declared.node.Node.{Node}
@@ -15,7 +14,7 @@ abbrev pub IsSpelled : List ℕ → Option Formula → Type 0
 IsSpelled text (Some e) = Spells (tokens_of text) e
 IsSpelled text None = (e : Formula) → Spells (tokens_of text) e → ⊥
 
--- what a text spells, with the proof that it does; how it is found is of no matter
+-- what a text spells, with the proof that it does; how it is found does not matter
 unfoldable pub spelling_of : (text : List ℕ) → (o : Option Formula) × IsSpelled text o
 spelling_of text = found (run (tokens_of text) start) refl
   where
@@ -25,7 +24,7 @@ spelling_of text = found (run (tokens_of text) start) refl
     found (Some nodes) e =
         (Some (formula_of nodes), read_is_spelled (tokens_of text) nodes (sym e))
 
--- the formula that a text spells; none where it spells none
+-- the formula that a text spells; none if it spells none
 unfoldable pub formula_in : List ℕ → Option Formula
 formula_in text = (spelling_of text).0
 

@@ -1,6 +1,6 @@
--- The statement of a gate, which ends at the first `;`.
--- Source: the genlib format of SIS (UCB/ERL M92/41): `output=expression;` runs over any words and lines, and a blank has no
--- other meaning in it; what follows the `;` needs no blank before it.
+-- The statement of a gate, which ends at the first `;`. Source: the genlib format of SIS (UCB/ERL
+-- M92/41): `output=expression;` extends over any words and lines, and a blank has no other meaning
+-- in it; what follows the `;` needs no blank before it.
 use Rattle.std.specs.Prelude.{ℕ, not, nat_lt, Bool, if◌then◌else◌, Option, Some, None, List, [], ◌∷◌, ◌++◌, length, drop, flat_map}
 use Rattle.std.specs.List.{take_while}
 use Rattle.sis_base.specs.Written.{is_empty, spaced}
@@ -11,7 +11,7 @@ use Rattle.genlib_format.specs.Words.{before, behind}
 unfoldable pub has_end : Lined → Bool
 has_end lined = nat_lt (length (before 59 lined.word)) (length lined.word)
 
--- what is read, and the words behind it
+-- what is read, and the words after it
 pub record Part (A : Type 0) : Type 0 where
   pub made : A
   pub rest : List Lined
@@ -24,16 +24,16 @@ whole_words words = take_while (λ word. not (has_end word)) words
 unfoldable pub text_of : List Lined → List ℕ
 text_of words = flat_map (λ lined. spaced lined.word) words
 
--- what stands behind the `;` of a word is a word of its own, unless it is nothing
+-- the bytes after the `;` of a word are a word of their own, unless there are none
 unfoldable pub left_behind : Lined → List Lined → List Lined
 left_behind lined words =
     if is_empty (behind 59 lined.word) then words else record { line = lined.line; word = behind 59 lined.word } ∷ words
 
--- a text and what stands before the `;` of the next word
+-- a text with the bytes before the `;` of the next word
 unfoldable pub ended : List ℕ → List Lined → Option (Part (List ℕ))
 ended front [] = None
 ended front (lined ∷ words) = Some (record { made = front ++ spaced (before 59 lined.word); rest = left_behind lined words })
 
--- the text before the first `;`, a blank before each word; none where there is no `;`
+-- the text before the first `;`, a blank before each word; none if there is no `;`
 unfoldable pub statement_at : List Lined → Option (Part (List ℕ))
 statement_at words = ended (text_of (whole_words words)) (drop (length (whole_words words)) words)

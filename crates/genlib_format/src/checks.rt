@@ -1,29 +1,35 @@
-//! What is wrong with the entry of a gate, whatever stands before it.
+//! The faults of the entry of a gate that do not depend on the entries before it.
+//!
+//! Source: the genlib format of SIS (UCB/ERL M92/41); the order of the causes and the limits are
+//! the project's own (`specs/Faults.antt`). A number that is missing, a limit that is exceeded, and
+//! a wrong name: the output as a pin, a PIN line of no pin or of a pin that has one, and a pin
+//! without a line. Each call returns exactly the fault of the definition, the first in its order.
 
 ghost use Rattle.std.specs.Prelude.{◌≡◌, ◌≤◌, bytes_eq, ℕ, List, ◌∷◌, [], ◌&&◌, ◌||◌, not, nat_lt};
 ghost use Rattle.std.specs.Prelude.{None, length, find, map, option_map, option_copied, take};
 ghost use Rattle.std.specs.List.{list_all, list_any};
 ghost use Rattle.circuit_model.specs.Names.{has};
 ghost use Rattle.genlib_expr.specs.Text.{pins_of, depth_of};
-ghost use Rattle.genlib_format.specs.declared.pins.PinLine.{PinLine as ThePinLine};
+ghost use Rattle.genlib_format.specs.declared.pins.PinLine.{PinLine};
 ghost use Rattle.genlib_format.specs.Faults.{number_fault, limit_fault, star, is_named, has_line};
 ghost use Rattle.genlib_format.specs.Faults.{wrong_line, bare_pin, wrong_name, long_name};
 
 use crate::fault::{LibFault, LimitKind};
 use crate::gates::GateLines;
 use crate::pins::{PinLine, is_number};
+use circuit_model::has_name;
 use genlib_expr::Parsed;
 use sis_base::Name;
 use sis_base::limits::{MAX_NAME, MAX_NESTING, MAX_PINS};
 
 /// Whether the numbers of all pins are numbers.
 fn are_numeric(pins: &[PinLine]) -> bool
-    ensures { result ≡ list_all (λ (pin : ThePinLine). pin.is_numeric) pins.now }
+    ensures { result ≡ list_all (λ (pin : PinLine). pin.is_numeric) pins.now }
 {
     pins.iter().all(|pin| pin.is_numeric)
 }
 
-/// The fault of a number that is wanting.
+/// The fault of a missing number.
 #[tactic(auto, unfolding(crate::specs::Faults::number_fault))]
 pub fn number_fault(lines: &GateLines) -> Option<LibFault>
     ensures { result ≡ number_fault lines.now }
@@ -34,14 +40,15 @@ pub fn number_fault(lines: &GateLines) -> Option<LibFault>
     Some(LibFault::BadNumber(lines.line))
 }
 
-/// The first of some names that is longer than a name may be.
+/// The first name that is too long.
 fn first_long(names: &[Name]) -> Option<&Name>
-    ensures { option_copied result ≡ find (λ (name : List ℕ). nat_lt MAX_NAME (length name)) names.now }
+    ensures { option_copied result ≡ find (λ (name : List ℕ). nat_lt MAX_NAME (length name))
+        names.now }
 {
     names.iter().find(|name| name.len() > MAX_NAME)
 }
 
-/// The fault of the first of some names that is too long.
+/// The fault of the first name that is too long.
 #[tactic(auto, unfolding(crate::specs::Faults::long_name))]
 fn long_name(names: &[Name]) -> Option<LibFault>
     ensures { result ≡ long_name names.now }
@@ -66,7 +73,7 @@ fn names_fault(cell: &Name, output: &Name, pins: &[Name]) -> Option<LibFault>
     long_name(pins)
 }
 
-/// The fault of a limit that is passed.
+/// The fault of a limit that is exceeded.
 #[tactic(auto, unfolding(crate::specs::Faults::limit_fault, crate::specs::Faults::first_of))]
 pub fn limit_fault(lines: &GateLines, parsed: &Parsed) -> Option<LibFault>
     requires pins { parsed.now.pins ≡ pins_of lines.now.text }
@@ -86,13 +93,6 @@ pub fn limit_fault(lines: &GateLines, parsed: &Parsed) -> Option<LibFault>
     None
 }
 
-/// Whether a name is among some.
-pub fn has(names: &[Name], name: &Name) -> bool
-    ensures { result ≡ has names.now name.now }
-{
-    names.iter().any(|other| name == other)
-}
-
 /// Whether a name has a line.
 pub fn has_line(lines: &[PinLine], name: &[u8]) -> bool
     ensures { result ≡ has_line lines.now name.now }
@@ -100,15 +100,16 @@ pub fn has_line(lines: &[PinLine], name: &[u8]) -> bool
     lines.iter().any(|line| name == line.name.as_slice())
 }
 
-/// Whether the name of a line is neither `*` nor a pin, or has a line before.
+/// Whether the name of a line is neither `*` nor a pin, or already has a line.
 fn is_wrong(before: &[PinLine], pins: &[Name], name: &Name) -> bool
     ensures { result ≡ (not (bytes_eq star name.now || has pins.now name.now)
         || has_line before.now name.now) }
 {
-    !(b"*".as_slice() == name.as_slice() || has(pins, name)) || has_line(before, name.as_slice())
+    !(b"*".as_slice() == name.as_slice() || has_name(pins, name))
+        || has_line(before, name.as_slice())
 }
 
-/// The first name of a line that is neither `*` nor a pin, or that a line before it has.
+/// The first name of a line that is neither `*` nor a pin, or that an earlier line has.
 #[tactic(auto, using(crate::proofs::PinFaults::line_wrong, crate::proofs::PinFaults::line_right, crate::proofs::PinFaults::lines_done, std::proofs::lemmas::Grind::common_steps))]
 fn wrong_line<'a>(pins: &[Name], lines: &'a [PinLine]) -> Option<&'a Name>
     ensures { option_copied result ≡ wrong_line [] pins.now lines.now }
@@ -129,7 +130,7 @@ fn first_bare<'a>(lines: &[PinLine], pins: &'a [Name]) -> Option<&'a Name>
     pins.iter().find(|pin| !has_line(lines, pin.as_slice()))
 }
 
-/// The first pin without a line, where no line stands for all others.
+/// The first pin without a line, if no line is for all others.
 #[tactic(auto, unfolding(crate::specs::Faults::bare_pin))]
 fn bare_pin<'a>(lines: &[PinLine], pins: &'a [Name]) -> Option<&'a Name>
     ensures { option_copied result ≡ bare_pin lines.now pins.now }
@@ -145,7 +146,7 @@ fn bare_pin<'a>(lines: &[PinLine], pins: &'a [Name]) -> Option<&'a Name>
 pub fn wrong_name<'a>(output: &'a Name, pins: &'a [Name], lines: &'a [PinLine]) -> Option<&'a Name>
     ensures { option_copied result ≡ wrong_name output.now pins.now lines.now }
 {
-    if has(pins, output) {
+    if has_name(pins, output) {
         return Some(output);
     }
     if let Some(name) = wrong_line(pins, lines) {

@@ -1,8 +1,13 @@
 //! The entries of a library file.
+//!
+//! Source: the genlib format of SIS (UCB/ERL M92/41): `GATE` and `LATCH` begin entries.
+//! `entries_of` returns exactly the entries of `specs/Entries.antt`: gates as they are written,
+//! latches only as a mark, since they are skipped, and as the last one an entry without the right
+//! shape, after which nothing is read.
 
 ghost use Rattle.std.specs.Prelude.{◌≡◌, ◌<◌, ◌≤◌, ◌∷◌, List, [], length, not, ◌||◌, option_map, IfOk};
 ghost use Rattle.std.specs.List.{take_while};
-ghost use Rattle.genlib_format.specs.declared.words.Lined.{Lined as TheLined};
+ghost use Rattle.genlib_format.specs.declared.words.Lined.{Lined};
 ghost use Rattle.genlib_format.specs.Gates.{gate_at};
 ghost use Rattle.genlib_format.specs.Entries.{is_gate, is_latch, from_entry, gate_entry, entry_from, entry_at, entries_of};
 ghost use Rattle.genlib_format.specs.Statements.{Part};
@@ -15,11 +20,11 @@ use std::alloc::{AllocError, Global};
 /// An entry of a library file.
 #[derive(Debug, Drop)]
 pub enum Entry {
-    /// A gate, as its entry writes it.
+    /// A gate, as its entry is written.
     Gate(GateLines),
     /// A latch, which is not used.
     Latch,
-    /// Words that have the shape of no entry, by the line of the first.
+    /// Words without the shape of an entry, by the line of the first.
     Misshapen(usize),
 }
 
@@ -37,9 +42,10 @@ fn is_latch(lined: &Lined) -> bool
     lined.word.as_slice() == b"LATCH".as_slice()
 }
 
-/// How many words stand before the next that begins an entry.
+/// The number of words before the next one that begins an entry.
 fn words_before_entry(words: &[Lined]) -> usize
-    ensures value { result ≡ length (take_while (λ word. not (is_gate word || is_latch word)) words.now) }
+    ensures value { result ≡ length (take_while (λ word. not (is_gate word || is_latch word))
+        words.now) }
     ensures within { result ≤ length words.now }
 {
     words
@@ -50,7 +56,8 @@ fn words_before_entry(words: &[Lined]) -> usize
 
 /// Reads the entry of a gate.
 fn gate_entry(rest: &mut Rest, alloc: Global, line: usize) -> Result<Entry, AllocError>
-    ensures { IfOk result (λ entry. gate_entry line (gate_at rest.old) ≡ record { made = entry; rest = rest.new }) }
+    ensures { IfOk result (λ entry. gate_entry line (gate_at rest.old)
+        ≡ record { made = entry; rest = rest.new }) }
 {
     match gate_lines(rest, alloc)? {
         Some(lines) => Ok(Entry::Gate(lines)),
@@ -61,20 +68,22 @@ fn gate_entry(rest: &mut Rest, alloc: Global, line: usize) -> Result<Entry, Allo
     }
 }
 
-/// Reads past the entry of a latch.
+/// Skips the entry of a latch.
 #[tactic(auto, unfolding(crate::specs::Entries::from_entry))]
 fn skip_latch(rest: &mut Rest)
     requires { 0 < length rest.old }
-    ensures { (first : TheLined) (others : List TheLined) → rest.old ≡ first ∷ others → rest.new ≡ from_entry others }
+    ensures { (first : Lined) (others : List Lined) → rest.old ≡ first ∷ others → rest.new
+        ≡ from_entry others }
 {
     rest.skip(1);
     rest.skip(words_before_entry(rest.ahead()));
 }
 
-/// Reads the first entry; none where no word is left.
+/// Reads the first entry; none if no word is left.
 #[tactic(auto, unfolding(crate::specs::Entries::entry_at, crate::specs::Entries::entry_from))]
 fn next_entry(rest: &mut Rest, alloc: Global) -> Result<Option<Entry>, AllocError>
-    ensures { IfOk result (λ found. entry_at rest.old ≡ option_map (λ entry. record { made = entry; rest = rest.new }) found) }
+    ensures { IfOk result (λ found. entry_at rest.old ≡ option_map
+        (λ entry. record { made = entry; rest = rest.new }) found) }
 {
     let Some(first) = rest.ahead().first() else {
         return Ok(None);
@@ -91,7 +100,7 @@ fn next_entry(rest: &mut Rest, alloc: Global) -> Result<Option<Entry>, AllocErro
     Ok(Some(Entry::Misshapen(line)))
 }
 
-/// The entries of the words of a file, to the first without the shape of one; an error only for want of memory.
+/// The entries of the words of a file, up to the first without the right shape.
 #[tactic(auto, unfolding(crate::specs::Entries::entries_of), using(crate::proofs::EntrySteps::entry_more, crate::proofs::EntrySteps::entry_last, crate::proofs::EntrySteps::entries_done, std::proofs::lemmas::Grind::common_steps))]
 pub fn entries_of(alloc: Global, words: Vec<Lined>) -> Result<Vec<Entry>, AllocError>
     ensures { IfOk result (λ found. found.items ≡ entries_of words.items) }

@@ -1,4 +1,5 @@
-//! What is wrong with a library file.
+//! What is wrong with a library file. `LibFault` has the faults of `specs/Faults.antt` and
+//! `specs/Reader.antt`; `ReadFault` adds want of memory.
 
 use sis_base::Name;
 use std::alloc::{AllocError, AllocFailed};
@@ -8,9 +9,9 @@ use std::alloc::{AllocError, AllocFailed};
 pub enum LimitKind {
     /// The bytes of a name: `MAX_NAME`.
     Name,
-    /// The parentheses of an expression in one another: 64.
+    /// The nested parentheses of an expression: `MAX_NESTING`.
     Depth,
-    /// The pins of a gate: 15.
+    /// The pins of a gate: `MAX_PINS`.
     Pins,
     /// The entries of gates and latches: `MAX_GATES`.
     Gates,
@@ -19,15 +20,16 @@ pub enum LimitKind {
 /// Why a file is not read as a library. Lines are those of an entry's first word, from 1.
 #[derive(Debug, Drop, PartialEq)]
 pub enum LibFault {
-    /// Words that have the shape of no entry.
+    /// Words without the shape of an entry.
     BadEntry(usize),
-    /// An area or a delay that is no number.
+    /// An area or a delay that is not a number.
     BadNumber(usize),
     /// A text that spells no expression.
     BadExpr(usize),
-    /// A limit is passed; the number is what was reached.
+    /// A limit is exceeded; the number is what was reached.
     Limit(LimitKind, usize),
-    /// A name that is no pin or has two lines, a pin that is the output, or a pin without a line.
+    /// A name that is not a pin or has two lines, a pin that is the output, or a pin without a
+    /// line.
     BadPin(Name),
     /// A second gate of a name that is not the same cell as the first.
     GateTwice(Name),
@@ -38,7 +40,7 @@ pub enum LibFault {
 pub enum ReadFault {
     /// The file has a fault.
     Fault(LibFault),
-    /// Memory was wanting.
+    /// Memory ran out.
     Memory,
 }
 

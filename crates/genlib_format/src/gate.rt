@@ -1,4 +1,10 @@
-//! The gate that an entry says.
+//! The gate that an entry describes.
+//!
+//! Source: the genlib format of SIS (UCB/ERL M92/41). `gate_of` checks the numbers, reads the
+//! expression, checks limits and pins, and returns exactly the gate or the first fault of
+//! `specs/Reader.antt` and `specs/Faults.antt`. The pins of a gate are the names of its expression
+//! in order of first mention; each has the delays of its own PIN line, or those of the line `*`.
+//! `Gate::rows` returns the rows of Shannon's expansion.
 
 ghost use Rattle.std.specs.Prelude.{◌≡◌, ◌∷◌, [], Some, find, map, length, option_copied, IfOk};
 ghost use Rattle.circuit_model.specs.Values.{literal_of};
@@ -22,8 +28,7 @@ use sis_base::{Copied, Name, Sequence};
 use sis_text::Decimal;
 use std::alloc::{AllocError, Global};
 
-/// How long a pin's change takes to come out, in millionths, where the output rises and where it
-/// falls.
+/// The delays of a pin, in millionths, for a rising and for a falling output.
 #[derive(Clone, Copy, Debug, PartialEq, Eq)]
 pub struct Block {
     pub rise: Decimal,
@@ -40,7 +45,7 @@ impl Copied for Block {
 pub type Blocks = Sequence<Block>;
 
 /// A gate of a library: its cell, its area in millionths, its output, its pins in order of first
-/// mention, its expression over their places, and the delays of each pin.
+/// mention, its expression over their indices, and the delays of each pin.
 #[derive(Debug, Drop)]
 pub struct Gate {
     pub cell: Name,
@@ -52,8 +57,7 @@ pub struct Gate {
 }
 
 impl Gate {
-    /// The rows of the gate's function over its pins, in the order of Shannon's expansion; an error
-    /// only for want of memory.
+    /// The rows of the gate's function over its pins, in the order of Shannon's expansion.
     pub fn rows(&self, alloc: Global) -> Result<Rows, AllocError>
         ensures { IfOk result (λ rows. map (map literal_of) rows
             ≡ shannon (length self.now.pins) (function_of (formula_of self.now.expr))) }
@@ -62,7 +66,7 @@ impl Gate {
     }
 }
 
-/// The number of a word; 0 where it is none.
+/// The number of a word; 0 if it is not one.
 #[tactic(auto, unfolding(crate::specs::Reader::number_in))]
 fn number_in(word: &Name) -> Decimal
     ensures { result ≡ number_in word.now }
@@ -91,7 +95,7 @@ fn line_named<'a>(lines: &'a [PinLine], name: &[u8]) -> Option<&'a PinLine>
     lines.iter().find(|line| name == line.name.as_slice())
 }
 
-/// The line of a pin: that of its name, else the one that stands for all others.
+/// The line of a pin: that of its name, otherwise the one for all others.
 #[tactic(auto, unfolding(crate::specs::Reader::line_for))]
 fn line_for<'a>(lines: &'a [PinLine], pin: &Name) -> Option<&'a PinLine>
     ensures { option_copied result ≡ line_for lines.now pin.now }
@@ -127,7 +131,7 @@ fn blocks_for(alloc: Global, lines: &[PinLine], pins: &[Name]) -> Result<Blocks,
     Ok(made)
 }
 
-/// The expression of an entry; `BadExpr` of its line just where its text spells none.
+/// The expression of an entry; `BadExpr` of its line exactly if its text spells none.
 fn expression(alloc: Global, line: usize, text: &[u8]) -> Result<Parsed, ReadFault>
     ensures { Parses result line text.now }
 {
@@ -180,7 +184,7 @@ fn gate_with(alloc: Global, lines: GateLines, parsed: Parsed) -> Result<Gate, Al
     })
 }
 
-/// The gate that an entry says, or what is wrong with it, whatever stands before it.
+/// The gate of an entry, or what is wrong with it, whatever precedes it.
 #[tactic(auto, unfolding(crate::specs::Faults::first_of, crate::specs::Faults::lines_fault, crate::specs::Faults::expression_fault))]
 pub fn gate_of(alloc: Global, lines: GateLines) -> Result<Gate, ReadFault>
     ensures { Gives result (lines_fault lines) (gate_of lines) }

@@ -1,4 +1,9 @@
-//! The entry of a gate.
+//! The entry of a gate: `GATE cell area output=expression;` and its PIN lines.
+//!
+//! Source: the genlib format of SIS (UCB/ERL M92/41). `gate_lines` reads one entry from the words
+//! that are left and returns exactly that of `specs/Gates.antt`, or none if it does not have the
+//! right shape. Double quotes around the cell are dropped. Numbers and the expression are kept as
+//! text, and are checked later.
 
 ghost use Rattle.std.specs.Prelude.{◌≡◌, ◌==◌, ◌&&◌, ◌||◌, not, length, map, option_map, IfOk};
 ghost use Rattle.std.specs.List.{list_all};
@@ -12,8 +17,8 @@ use sis_base::{Copied, Name, Sequence};
 use sis_text::{bytes_at, words};
 use std::alloc::{AllocError, Global};
 
-/// A gate as its entry writes it: the line of its first word, its cell without quotation marks, the word of its area, its
-/// output, the text of its expression, and the lines of its pins.
+/// A gate as its entry is written: the line of its first word, its cell without quotation marks,
+/// the word of its area, its output, the text of its expression, and the lines of its pins.
 #[derive(Debug, Drop)]
 pub struct GateLines {
     pub line: usize,
@@ -24,7 +29,7 @@ pub struct GateLines {
     pub pins: PinLines,
 }
 
-/// Whether a byte stands in names.
+/// Whether a byte may occur in names.
 fn is_name_byte(byte: u8) -> bool
     ensures { result ≡ is_name_byte byte }
 {
@@ -43,7 +48,7 @@ fn is_name_byte(byte: u8) -> bool
         || byte == b'=')
 }
 
-/// Whether all bytes stand in names.
+/// Whether all bytes may occur in names.
 fn are_name_bytes(word: &[u8]) -> bool
     ensures { result ≡ list_all is_name_byte word.now }
 {
@@ -72,7 +77,7 @@ fn name_in(alloc: Global, word: &[u8]) -> Result<Option<Name>, AllocError>
     Ok(Some(Name::from_slice(alloc, word)?))
 }
 
-/// A word without the quotation marks round it, if both stand there.
+/// A word without the double quotes around it, if it has both.
 #[tactic(auto, unfolding(crate::specs::Gates::unquoted))]
 fn unquoted(word: &[u8]) -> &[u8]
     ensures { result.now ≡ unquoted word.now }
@@ -107,10 +112,11 @@ fn bytes_of(alloc: Global, bytes: &[u8]) -> Result<Sequence<u8>, AllocError>
     Ok(Sequence::from_vec(bytes.to_vec(alloc)?))
 }
 
-/// Reads the entry of a gate, from the word `GATE` on; none where it has not the shape of one.
+/// Reads the entry of a gate, from the word `GATE` on; none if it does not have the right shape.
 #[tactic(auto, unfolding(crate::specs::Gates::gate_at, crate::specs::Gates::with_statement_at, crate::specs::Gates::with_pins_at))]
 pub fn gate_lines(rest: &mut Rest, alloc: Global) -> Result<Option<GateLines>, AllocError>
-    ensures { IfOk result (λ found. gate_at rest.old ≡ option_map (λ gate. record { made = gate; rest = rest.new }) found) }
+    ensures { IfOk result (λ found. gate_at rest.old ≡ option_map
+        (λ gate. record { made = gate; rest = rest.new }) found) }
 {
     if rest.ahead().len() < 3 {
         return Ok(None);

@@ -1,4 +1,9 @@
 //! The gates of a library, found by their names.
+//!
+//! A `Library` keeps the gates in the order of the file and an index from each name to its first
+//! gate; the invariant says that the index is right for every name (`IsIndex` of
+//! `specs/Library.antt`). Contracts see the list of gates alone. `gate` returns the first gate of a
+//! name. If memory runs out, `push` leaves the library as it was.
 
 ghost use Rattle.std.specs.Prelude.{◌≡◌, ℕ, List, Some, None, ◌++◌, ◌∷◌, [], length, bytes_eq, option_copied, if◌then◌else◌, OnOk, OnErr};
 ghost use Rattle.indexmap.specs.IndexMap.{get};
@@ -11,7 +16,7 @@ use sis_base::{Copied, Name};
 use std::alloc::{AllocError, Global};
 use std::marker::Model;
 
-/// The gates of a library file in order; contracts see them as their list.
+/// The gates of a library file, in order; contracts see them as their list.
 #[derive(Drop)]
 pub struct Library {
     gates: Vec<Gate>,
@@ -31,23 +36,25 @@ impl Model for Library {
     ghost invariant = { λ library. IsIndex library.gates.items (get bytes_eq library.firsts) };
 }
 
-/// Where the first gate of a name stands.
+/// The index of the first gate of a name.
 fn found_place(firsts: &IndexMap<Name, usize>, name: &Name) -> Option<usize>
     ensures { result ≡ get bytes_eq firsts.now name.now }
 {
     firsts.get(name).copied()
 }
 
-/// Notes the place of a name; on an error nothing changed.
+/// Sets the index of a name; on an error nothing changes.
 fn place_at(firsts: &mut IndexMap<Name, usize>, name: Name, place: usize) -> Result<(), AllocError>
-    ensures ok { OnOk result ((other : List ℕ) → get bytes_eq firsts.new other ≡ (if bytes_eq name other then Some place else get bytes_eq firsts.old other)) }
-    ensures err { OnErr result ((other : List ℕ) → get bytes_eq firsts.new other ≡ get bytes_eq firsts.old other) }
+    ensures ok { OnOk result ((other : List ℕ) → get bytes_eq firsts.new other
+        ≡ (if bytes_eq name other then Some place else get bytes_eq firsts.old other)) }
+    ensures err { OnErr result ((other : List ℕ) → get bytes_eq firsts.new other
+        ≡ get bytes_eq firsts.old other) }
 {
     let _place = firsts.insert(name, place)?;
     Ok(())
 }
 
-/// Puts a gate behind the last and notes its place; on an error nothing changed.
+/// Appends a gate and sets its index; on an error nothing changes.
 fn put_last(
     gates: &mut Vec<Gate>,
     firsts: &mut IndexMap<Name, usize>,
@@ -56,9 +63,12 @@ fn put_last(
 ) -> Result<(), AllocError>
     requires { key ≡ gate.cell }
     ensures gates_ok { OnOk result (gates.new.items ≡ gates.old.items ++ gate ∷ []) }
-    ensures firsts_ok { OnOk result ((other : List ℕ) → get bytes_eq firsts.new other ≡ (if bytes_eq key other then Some (length gates.old.items) else get bytes_eq firsts.old other)) }
+    ensures firsts_ok { OnOk result ((other : List ℕ) → get bytes_eq firsts.new other
+        ≡ (if bytes_eq key other then Some (length gates.old.items) else get bytes_eq firsts.old
+        other)) }
     ensures gates_err { OnErr result (gates.new.items ≡ gates.old.items) }
-    ensures firsts_err { OnErr result ((other : List ℕ) → get bytes_eq firsts.new other ≡ get bytes_eq firsts.old other) }
+    ensures firsts_err { OnErr result ((other : List ℕ) → get bytes_eq firsts.new other
+        ≡ get bytes_eq firsts.old other) }
 {
     let place = gates.len();
     gates.push(gate)?;
@@ -99,7 +109,7 @@ impl Library {
         }
     }
 
-    /// Puts a gate behind the last; an error only for want of memory, and then nothing changed.
+    /// Appends a gate; on an error nothing changes.
     pub(crate) fn push(&mut self, alloc: Global, gate: Gate) -> Result<(), AllocError>
         ensures ok { OnOk result (self.new ≡ self.old ++ gate ∷ []) }
         ensures err { OnErr result (self.new ≡ self.old) }

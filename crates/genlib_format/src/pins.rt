@@ -1,4 +1,6 @@
-//! The lines of a gate's pins.
+//! The PIN lines of a gate: `PIN name phase load maxload rise-block rise-fanout fall-block
+//! fall-fanout` in the genlib format of SIS (UCB/ERL M92/41). Lines are read as long as the next
+//! word is `PIN`; `number_fault` judges the six numbers later.
 
 ghost use Rattle.std.specs.Prelude.{◌≡◌, ◌≤◌, length, option_map, IfSome, IfOk};
 ghost use Rattle.genlib_format.specs.Pins.{is_phase, is_number, are_numbers};
@@ -10,7 +12,7 @@ use sis_base::{Copied, Name, Sequence};
 use sis_text::Decimal;
 use std::alloc::{AllocError, Global};
 
-/// A pin as its line writes it: its name, the words of its delays, and whether all six words behind
+/// A pin as its line is written: its name, the words of its delays, and whether all six words after
 /// its phase are numbers.
 #[derive(Debug, Drop)]
 pub struct PinLine {
@@ -40,7 +42,7 @@ pub fn is_number(word: &Name) -> bool
     Decimal::parse(word.as_slice()).is_some()
 }
 
-/// Whether all of some words are numbers.
+/// Whether all words are numbers.
 fn are_numbers(words: &[Lined]) -> bool
     ensures { result ≡ are_numbers words.now }
 {
@@ -58,7 +60,7 @@ fn begins_pin(words: &[Lined]) -> bool
     }
 }
 
-/// The pin of the line in front; none where words are wanting or the phase is none.
+/// The pin of the line at the front; none if words are missing or the phase is not one.
 #[tactic(auto, using(crate::proofs::PinSteps::pin_read, crate::proofs::PinSteps::no_phase, crate::proofs::PinSteps::pin_short, std::proofs::lemmas::Grind::common_steps))]
 fn pin_at(alloc: Global, words: &[Lined]) -> Result<Option<PinLine>, AllocError>
     ensures value { IfOk result (λ pin. pin ≡ pin_at words.now) }
@@ -75,7 +77,7 @@ fn pin_at(alloc: Global, words: &[Lined]) -> Result<Option<PinLine>, AllocError>
     }))
 }
 
-/// Reads the lines of pins that stand in front; none where one of them is no pin's.
+/// Reads the lines of pins at the front; none if one of them is not a pin's.
 #[tactic(auto, using(crate::proofs::PinSteps::pins_first, crate::proofs::PinSteps::pins_step, crate::proofs::PinSteps::pins_cut, crate::proofs::PinSteps::pins_done, std::proofs::lemmas::Grind::common_steps))]
 pub fn pin_lines(rest: &mut Rest, alloc: Global) -> Result<Option<PinLines>, AllocError>
     ensures { IfOk result (λ found. pins_at rest.old

@@ -1,4 +1,10 @@
 //! Reads a file as a library.
+//!
+//! Source: the genlib format of SIS (UCB/ERL M92/41). The entries are taken one by one, up to the
+//! first with a fault. A second gate of a name must have the same output, pins, area and function
+//! as the first, and takes its delays. `read` returns exactly the library or the first fault of
+//! `library_of` in `specs/Reader.antt`. Callers rely on the library being sound
+//! (`specs/Soundness.antt`).
 
 ghost use Rattle.std.specs.Prelude.{◌≡◌, ◌<◌, ◌&&◌, ◌==◌, None, [], ◌∷◌, ◌++◌, length, bytes_eq, option_copied, IfOk, OnOk};
 ghost use Rattle.std.specs.Cmp.Lexicographic.{pointwise};
@@ -7,7 +13,7 @@ ghost use Rattle.genlib_expr.specs.Formula.{formula_of};
 ghost use Rattle.genlib_expr.specs.Functions.{function_of};
 ghost use Rattle.genlib_format.specs.declared.entries.Entry.TheVariants.{Gate as TheGate};
 ghost use Rattle.genlib_format.specs.Answers.{Leaves, Reads};
-ghost use Rattle.genlib_format.specs.Soundness.{IsSound};
+ghost use Rattle.genlib_format.specs.Soundness.{IsSoundGates};
 ghost use Rattle.genlib_format.specs.Faults.{first_of};
 ghost use Rattle.genlib_format.specs.Reader.{gate_named, is_same_cell, twice_fault, settled, one_too_many, entry_fault, gates_with, read_entries, library_of};
 
@@ -31,14 +37,15 @@ fn are_same_names(names: &[Name], others: &[Name]) -> bool
 
 /// Whether two gates have the same output, pins and area.
 fn is_same_frame(gate: &Gate, other: &Gate) -> bool
-    ensures { result ≡ (bytes_eq gate.now.output other.now.output && pointwise bytes_eq gate.now.pins other.now.pins && gate.now.area.0 == other.now.area.0) }
+    ensures { result ≡ (bytes_eq gate.now.output other.now.output && pointwise bytes_eq
+        gate.now.pins other.now.pins && gate.now.area.0 == other.now.area.0) }
 {
     gate.output == other.output
         && are_same_names(gate.pins.as_slice(), other.pins.as_slice())
         && gate.area.0 == other.area.0
 }
 
-/// Whether two gates have the same output, pins, area and function; an error only for want of memory.
+/// Whether two gates have the same output, pins, area and function.
 #[tactic(auto, unfolding(crate::specs::Reader::is_same_cell))]
 fn is_same_cell(alloc: Global, gate: &Gate, other: &Gate) -> Result<bool, AllocError>
     ensures { IfOk result (λ same. same ≡ is_same_cell gate.now other.now) }
@@ -50,7 +57,7 @@ fn is_same_cell(alloc: Global, gate: &Gate, other: &Gate) -> Result<bool, AllocE
     Ok(same)
 }
 
-/// What is wrong with a gate behind the first of its name.
+/// What is wrong with a later gate of a name, given the first.
 fn twice_fault(
     alloc: Global,
     first: Option<&Gate>,
@@ -67,7 +74,7 @@ fn twice_fault(
     Ok(Some(LibFault::GateTwice(gate.cell.copy(alloc)?)))
 }
 
-/// A gate behind the first of its name, which has the delays of that.
+/// A later gate of a name, with the delays of the first.
 fn settled(alloc: Global, first: Option<&Gate>, gate: Gate) -> Result<Gate, AllocError>
     ensures { IfOk result (λ made. made ≡ settled (option_copied first.entry) gate) }
 {
@@ -85,7 +92,7 @@ fn settled(alloc: Global, first: Option<&Gate>, gate: Gate) -> Result<Gate, Allo
     })
 }
 
-/// The fault of one entry too many behind so many.
+/// The fault of one entry too many, after so many.
 fn one_too_many(count: usize) -> Option<LibFault>
     ensures value { result ≡ one_too_many count }
     ensures room { result ≡ None → count < MAX_GATES }
@@ -96,7 +103,7 @@ fn one_too_many(count: usize) -> Option<LibFault>
     None
 }
 
-/// What is wrong with a gate behind so many entries and those of the library.
+/// What is wrong with a gate after so many entries and those of the library.
 #[tactic(auto, unfolding(crate::specs::Faults::first_of))]
 fn gate_fault(
     alloc: Global,
@@ -104,7 +111,8 @@ fn gate_fault(
     library: &Library,
     gate: &Gate,
 ) -> Result<Option<LibFault>, AllocError>
-    ensures value { IfOk result (λ fault. fault ≡ first_of (twice_fault (gate_named library.now gate.now.cell) gate.now ∷ one_too_many count ∷ [])) }
+    ensures value { IfOk result (λ fault. fault ≡ first_of
+        (twice_fault (gate_named library.now gate.now.cell) gate.now ∷ one_too_many count ∷ [])) }
     ensures room { IfOk result (λ fault. fault ≡ None → count < MAX_GATES) }
 {
     if let Some(fault) = twice_fault(alloc, library.gate(&gate.cell), gate)? {
@@ -113,15 +121,16 @@ fn gate_fault(
     Ok(one_too_many(count))
 }
 
-/// Puts a gate into a library, with the delays of the first of its name.
+/// Adds a gate to a library, with the delays of the first of its name.
 fn put_gate(alloc: Global, library: &mut Library, gate: Gate) -> Result<(), AllocError>
-    ensures { OnOk result (library.new ≡ library.old ++ settled (gate_named library.old gate.cell) gate ∷ []) }
+    ensures { OnOk result (library.new ≡ library.old ++ settled
+        (gate_named library.old gate.cell) gate ∷ []) }
 {
     let gate = settled(alloc, library.gate(&gate.cell), gate)?;
     library.push(alloc, gate)
 }
 
-/// Takes the entry of a gate behind so many entries.
+/// Reads the entry of a gate after so many entries.
 #[tactic(auto, using(crate::proofs::ReadSteps::gate_wrong, crate::proofs::ReadSteps::gate_refused, crate::proofs::ReadSteps::gate_accepted, crate::proofs::ReadSteps::gate_put, std::proofs::lemmas::Grind::common_steps))]
 fn take_gate(
     alloc: Global,
@@ -129,7 +138,8 @@ fn take_gate(
     library: &mut Library,
     lines: GateLines,
 ) -> Result<(), ReadFault>
-    ensures value { Leaves result library.new (entry_fault count library.old (TheGate lines)) (gates_with library.old (TheGate lines)) }
+    ensures value { Leaves result library.new (entry_fault count library.old (TheGate lines))
+        (gates_with library.old (TheGate lines)) }
     ensures room { OnOk result (count < MAX_GATES) }
 {
     let gate = gate_of(alloc, lines)?;
@@ -142,7 +152,7 @@ fn take_gate(
     }
 }
 
-/// Takes an entry behind so many.
+/// Reads an entry after so many.
 #[tactic(auto, unfolding(crate::specs::Reader::entry_fault, crate::specs::Reader::gates_with))]
 fn take_entry(
     alloc: Global,
@@ -150,7 +160,8 @@ fn take_entry(
     library: &mut Library,
     entry: Entry,
 ) -> Result<(), ReadFault>
-    ensures value { Leaves result library.new (entry_fault count library.old entry) (gates_with library.old entry) }
+    ensures value { Leaves result library.new (entry_fault count library.old entry)
+        (gates_with library.old entry) }
     ensures room { OnOk result (count < MAX_GATES) }
 {
     match entry {
@@ -186,10 +197,11 @@ fn read_whole(alloc: Global, bytes: &[u8]) -> Result<Library, ReadFault>
     read_entries(alloc, entries)
 }
 
-/// Reads a file as a library. An error says the first fault in the order of the entries; or that memory was wanting.
+/// Reads a file as a library. An error is the first fault in the order of the entries, or want of
+/// memory.
 pub fn read(alloc: Global, bytes: &[u8]) -> Result<Library, ReadFault>
     ensures reads { Reads result (library_of bytes.now) }
-    ensures sound { IfOk result IsSound }
+    ensures sound { IfOk result IsSoundGates }
 {
     read_whole(alloc, bytes)
 }

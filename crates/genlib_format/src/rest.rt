@@ -1,4 +1,9 @@
 //! The words of a library file that are left to read.
+//!
+//! A `Rest` is the list of words and the index of the next; the invariant is that the index is at
+//! most their number, and contracts see the words from it on. `statement` reads the text up to the
+//! first `;`, with a blank before each word; what follows the `;` in its word stays as a word of
+//! its own (`specs/Statements.antt`).
 
 ghost use Rattle.std.specs.Prelude.{◌≡◌, ◌<◌, ◌≤◌, ◌==◌, ◌∷◌, List, Some, length, drop, option_map, IfOk};
 ghost use Rattle.genlib_format.specs.declared.words.Lined.{Lined as TheLined};
@@ -35,7 +40,7 @@ fn has_end(lined: &Lined) -> bool
     front_len(b';', lined.word.as_slice()) < lined.word.len()
 }
 
-/// How many words stand before the first with a `;`.
+/// The number of words before the first with a `;`.
 fn whole_len(words: &[Lined]) -> usize
     ensures value { result ≡ length (whole_words words.now) }
     ensures within { result ≤ length words.now }
@@ -71,7 +76,7 @@ impl Rest {
         &self.words[self.place..]
     }
 
-    /// Reads past so many words.
+    /// Skips so many words.
 
     pub fn skip(&mut self, count: usize)
         requires { count ≤ length self.old }
@@ -80,20 +85,22 @@ impl Rest {
         self.place += count;
     }
 
-    /// Puts a word in the place of the first.
+    /// Replaces the first word.
 
     fn put_first(&mut self, word: Name)
         requires { 0 < length self.old }
-        ensures { (first : TheLined) (others : List TheLined) → self.old ≡ first ∷ others → self.new ≡ record { line = first.line; word = word } ∷ others }
+        ensures { (first : TheLined) (others : List TheLined) → self.old ≡ first ∷ others → self.new
+            ≡ record { line = first.line; word = word } ∷ others }
     {
         self.words[self.place].word = word;
     }
 
-    /// Reads the word with the first `;`, and gives the text to there.
+    /// Reads the word with the first `;`, and returns the text up to there.
     #[tactic(auto, unfolding(crate::specs::Statements::ended, crate::specs::Statements::left_behind))]
     fn end(&mut self, alloc: Global, front: Vec<u8>) -> Result<Vec<u8>, AllocError>
         requires { 0 < length self.old }
-        ensures { IfOk result (λ text. ended front.items self.old ≡ Some (record { made = text.items; rest = self.new })) }
+        ensures { IfOk result (λ text. ended front.items self.old ≡ Some
+            (record { made = text.items; rest = self.new })) }
     {
         let mut text = front;
         let word = self.ahead()[0].word.as_slice();
@@ -109,10 +116,12 @@ impl Rest {
         Ok(text)
     }
 
-    /// Reads the words to the first `;`, and gives their text, a blank before each word; none where there is no `;`.
+    /// Reads the words up to the first `;`, and returns their text, with a blank before each word;
+    /// none if there is no `;`.
     #[tactic(auto, unfolding(crate::specs::Statements::statement_at), using(crate::proofs::Statements::none_ends, std::proofs::lemmas::Grind::common_steps))]
     pub fn statement(&mut self, alloc: Global) -> Result<Option<Vec<u8>>, AllocError>
-        ensures { IfOk result (λ found. statement_at self.old ≡ option_map (λ text. record { made = text.items; rest = self.new }) found) }
+        ensures { IfOk result (λ found. statement_at self.old ≡ option_map
+            (λ text. record { made = text.items; rest = self.new }) found) }
     {
         let whole = whole_len(self.ahead());
         if whole == self.ahead().len() {

@@ -1,4 +1,5 @@
-//! The words of a library file.
+//! The words of a library file, each with the number of its line. A `#` begins a comment that runs
+//! to the end of its line; blanks and line ends separate words (`specs/Words.antt`).
 
 ghost use Rattle.std.specs.Prelude.{◌≡◌, ◌==◌, ◌≤◌, ◌++◌, length, map, IfOk, OnOk};
 ghost use Rattle.std.specs.List.{slice_split};
@@ -16,7 +17,7 @@ pub struct Lined {
     pub word: Name,
 }
 
-/// How many bytes stand before the first mark.
+/// The number of bytes before the first mark.
 #[tactic(auto, unfolding(crate::specs::Words::before))]
 pub(crate) fn front_len(mark: u8, text: &[u8]) -> usize
     ensures value { result ≡ length (before mark text.now) }
@@ -25,7 +26,7 @@ pub(crate) fn front_len(mark: u8, text: &[u8]) -> usize
     text.iter().take_while(|byte| **byte != mark).count()
 }
 
-/// What stands before the first mark.
+/// The bytes before the first mark.
 #[tactic(auto, using(crate::proofs::Steps::before_taken))]
 pub(crate) fn before(mark: u8, text: &[u8]) -> &[u8]
     ensures { result.now ≡ before mark text.now }
@@ -33,7 +34,7 @@ pub(crate) fn before(mark: u8, text: &[u8]) -> &[u8]
     &text[..front_len(mark, text)]
 }
 
-/// What stands behind the first mark; nothing where there is none.
+/// The bytes after the first mark; none if there is no mark.
 #[tactic(auto, unfolding(crate::specs::Words::behind), using(std::proofs::lemmas::List::drop_min, std::proofs::lemmas::Grind::common_steps))]
 pub(crate) fn behind(mark: u8, text: &[u8]) -> &[u8]
     ensures { result.now ≡ behind mark text.now }
@@ -41,7 +42,7 @@ pub(crate) fn behind(mark: u8, text: &[u8]) -> &[u8]
     &text[(front_len(mark, text) + 1).min(text.len())..]
 }
 
-/// Puts the words of one line behind those that were found.
+/// Appends the words of one line.
 #[tactic(auto, unfolding(crate::specs::Words::line_words, crate::specs::Words::lined), using(crate::proofs::Steps::spans_more, crate::proofs::Steps::spans_done, std::proofs::lemmas::Grind::common_steps))]
 fn add_line(
     found: &mut Vec<Lined>,
@@ -67,8 +68,8 @@ fn lines_of(alloc: Global, source: &[u8]) -> Result<Vec<&[u8]>, AllocError>
     source.split(|byte| *byte == b'\n').collect(alloc)
 }
 
-/// The words of a library file, in order: comments are cut, blanks and the ends of lines part words. An error only
-/// for want of memory.
+/// The words of a library file, in order: comments are cut, and blanks and line ends separate
+/// words.
 #[tactic(auto, unfolding(crate::specs::Words::words_in), using(crate::proofs::Steps::words_more, crate::proofs::Steps::words_done, std::proofs::lemmas::Grind::common_steps))]
 pub fn words_of(alloc: Global, source: &[u8]) -> Result<Vec<Lined>, AllocError>
     ensures { IfOk result (λ found. found.items ≡ words_in source.now) }

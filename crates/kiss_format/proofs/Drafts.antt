@@ -1,5 +1,6 @@
--- What holds of a draft, line by line: its counts are small, its states are different, in the order in which rows name
--- them, and what holds of each word of the lines holds of them; its rows are shaped.
+-- What holds of a draft, line by line: its counts are small, its states are different, in the order
+-- in which rows name them, and what holds of each word of the lines holds of them; its rows are
+-- shaped.
 use Rattle.std.proofs.Common.{◌≡◌, ℕ, ◌+◌, ◌-◌, ◌*◌, ◌<◌, ◌≤◌, ◌==◌, nat_lt, nat_le, Bool, true, false, not, ◌&&◌, ◌||◌, Option, Some, None, Result, Ok, Err, List, [], ◌∷◌, ◌++◌, map, flat_map, length, bytes_eq, cond, find, refl, sym, ◌∙◌, ap, subst, arith, length-append, if◌then◌else◌}
 use Rattle.std.specs.List.{AllByRecursion, list_all, fold, range_with_len}
 use Rattle.std.specs.Option.{option_map, option_or}
@@ -8,6 +9,7 @@ use Rattle.std.proofs.lemmas.Grind.{flat_map-append}
 use Rattle.std.proofs.lemmas.List.{append-nil, length-map}
 use Rattle.std.proofs.lemmas.List.Elements.{filter_map-append}
 use Rattle.std.proofs.lemmas.List.Quantifiers.{position-Some}
+use Rattle.std.proofs.lemmas.Bool.{and_parts}
 use Rattle.circuit_model.specs.Names.{all_different}
 use Rattle.sis_text.specs.Words.{begins_with}
 use Rattle.sis_text.specs.Decimals.{is_digit, number_of}
@@ -27,11 +29,11 @@ use Rattle.kiss_format.specs.declared.fault.LimitKind.TheVariants as limit
 use Rattle.kiss_format.specs.declared.draft.Draft.{Draft}
 use Rattle.kiss_format.proofs.Agreement.{when-not, or-first, not-not, none-first, none-later, none-either, row-new, taken-by}
 use Rattle.kiss_format.proofs.Firsts.{currents, one-first}
-use Rattle.kiss_format.proofs.Mentions.{all_append, all_kept, and-parts, with_keeps, with_once, with_longer, mentions_append, words_mentioned}
+use Rattle.kiss_format.proofs.Mentions.{all_append, all_kept, with_keeps, with_once, with_longer, mentions_append, words_mentioned}
 use Rattle.kiss_format.proofs.Places.{kept}
 use Rattle.sis_base.specs.declared.limits.TheConstants.{MAX_MACHINE_ROWS, MAX_NAME, MAX_PORTS, MAX_STATES}
 
--- a number that was told is one from 1 to `MAX_PORTS`
+-- a number of ports that a header gave is one from 1 to `MAX_PORTS`
 abbrev pub IsCount : Option ℕ → Type 0
 IsCount None = Unit {0}
 IsCount (Some count) = (1 ≤ count) × (count ≤ MAX_PORTS)
@@ -40,7 +42,7 @@ IsCount (Some count) = (1 ≤ count) × (count ≤ MAX_PORTS)
 abbrev pub OfWords : Type 1
 OfWords = List ℕ → Type 0
 
--- a row has as many characters as were told
+-- a row has as many characters as the header gave
 abbrev pub HasWidths : Option ℕ → Option ℕ → MachineRow → Type 0
 HasWidths inputs outputs row = (inputs ≡ Some (length row.input)) × (outputs ≡ Some (length row.output))
 
@@ -74,12 +76,12 @@ digit_some digit is other = grind (arith, nat_tests)
 
 numeral_some : (word : List ℕ) → is_numeral word ≡ true → 1 ≤ number_of word
 unfolding number_of
-numeral_some [] h = absurd (let no : false ≡ true = (and-parts (nat_lt 0 0 && nat_le 0 4) (not (begins_with 48 [])) h).0 in cc)
+numeral_some [] h = absurd (let no : false ≡ true = (and_parts (nat_lt 0 0 && nat_le 0 4) (not (begins_with 48 [])) h).0 in cc)
 numeral_some (digit ∷ digits) h =
-    let outer = and-parts (is_digit digit && list_all is_digit digits && nat_lt 0 (length (digit ∷ digits)) && nat_le (length (digit ∷ digits)) 4) (not (digit == 48)) h in
-    let less = and-parts (is_digit digit && list_all is_digit digits && nat_lt 0 (length (digit ∷ digits))) (nat_le (length (digit ∷ digits)) 4) outer.0 in
-    let some = and-parts (is_digit digit && list_all is_digit digits) (nat_lt 0 (length (digit ∷ digits))) less.0 in
-    let first = and-parts (is_digit digit) (list_all is_digit digits) some.0 in
+    let outer = and_parts (is_digit digit && list_all is_digit digits && nat_lt 0 (length (digit ∷ digits)) && nat_le (length (digit ∷ digits)) 4) (not (digit == 48)) h in
+    let less = and_parts (is_digit digit && list_all is_digit digits && nat_lt 0 (length (digit ∷ digits))) (nat_le (length (digit ∷ digits)) 4) outer.0 in
+    let some = and_parts (is_digit digit && list_all is_digit digits) (nat_lt 0 (length (digit ∷ digits))) less.0 in
+    let first = and_parts (is_digit digit) (list_all is_digit digits) some.0 in
     let one : 1 ≤ digit - 48 = digit_some digit first.0 outer.1 in
     omega (arith, one, fold_grows (0 * 10 + (digit - 48)) digits)
 
@@ -171,7 +173,7 @@ cube_width : (told : Option ℕ) (bytes : List ℕ) → is_cube told bytes ≡ t
 cube_width None bytes e = absurd (let no : false ≡ true = e in cc)
 cube_width (Some width) bytes e =
     let len : length (map character_of bytes) ≡ length bytes = length-map bytes character_of in
-    ap Some (same-width (length bytes) width (and-parts (length bytes == width) (list_all is_character bytes) e).0 ∙ sym len)
+    ap Some (same-width (length bytes) width (and_parts (length bytes == width) (list_all is_character bytes) e).0 ∙ sym len)
 
 kept_named : (words : List (List ℕ)) → AllByRecursion (λ state. is_any state ≡ false) (kept words)
 kept_named [] = tt
@@ -208,7 +210,7 @@ unfolding first_mentions
 good_row W draft input current next output good one other is few limited short =
     let after = with_states draft.states (kept (current ∷ next ∷ [])) in
     let row : MachineRow = record { input = map character_of input; current = state_of after current; next = state_of after next; output = map character_of output } in
-    let cubes = and-parts (is_cube draft.inputs input) (is_cube draft.outputs output) is in
+    let cubes = and_parts (is_cube draft.inputs input) (is_cube draft.outputs output) is in
     let longer = with_longer draft.states (kept (current ∷ next ∷ [])) in
     let mentions : flat_map mentioned_by (draft.rows ++ row ∷ []) ≡ flat_map mentioned_by draft.rows ++ mentioned_by row =
     flat_map-append mentioned_by draft.rows (row ∷ []) ∙ ap (λ more. flat_map mentioned_by draft.rows ++ more) (append-nil (mentioned_by row)) in

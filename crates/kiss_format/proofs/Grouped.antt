@@ -1,4 +1,5 @@
--- Rows in groups: one row more, and that a row of one state clashes first with a row of its own group or of every state.
+-- Rows in groups: one row more, and that a row of one state clashes first with a row of its own
+-- group or of every state.
 use Rattle.std.proofs.Common.{◌≡◌, ℕ, zero, suc, ◌+◌, ◌%◌, ◌<◌, ◌≤◌, ◌==◌, nat_le, Bool, true, false, not, ◌&&◌, Option, Some, None, List, [], ◌∷◌, ◌++◌, length, take, drop, find, cond, get_or, slice_get, slice_index_or, replicate, IfSome, refl, sym, ◌∙◌, ap, arith, if◌then◌else◌}
 use Rattle.std.proofs.lemmas.Bool.Decides.{nat_tests}
 use Rattle.std.proofs.lemmas.List.{take_more, drop_more, drop_all, length-take-le, length-replicate, get_or-replicate}
@@ -114,7 +115,7 @@ fits earlier row e =
     and-first (may_be_one earlier.current row.current) (agree_all earlier.input row.input)
     (and-first (may_be_one earlier.current row.current && agree_all earlier.input row.input) (not (may_be_one earlier.next row.next && agree_all earlier.output row.output)) e)
 
--- a row that clashes stands first in one of the two groups
+-- a row that clashes is the first in one of the two groups
 hit_first : (test : ℕ → Bool) (current : Option ℕ) (state count place : ℕ) (own every : List ℕ) → 0 < count → test place ≡ true → may_be_one current (Some state) ≡ true
     → ((other : ℕ) → find test own ≡ Some other → place + 1 ≤ other) → ((other : ℕ) → find test every ≡ Some other → place + 1 ≤ other)
     → lesser (find test (if group_of count current == state % count then place ∷ own else own)) (find test (if group_of count current == count then place ∷ every else every)) ≡ Some place
@@ -127,7 +128,7 @@ hit_first test (Some known) state count place own every some hit fit first secon
     let apart : (known % count == count) ≡ false = less_test (known % count) count (omega (arith, some)) in
     rw (together, apart, hit) (lesser_first place (find test every) second)
 
--- some rows stand among all rows from a place on
+-- some rows occur among all rows from an index on
 abbrev Stands : List MachineRow → ℕ → List MachineRow → Type 0
 Stands all place rows = (k : ℕ) → k < length rows → slice_get all (place + k) ≡ slice_get rows k
 

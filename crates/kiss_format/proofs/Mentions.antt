@@ -1,10 +1,11 @@
 -- The states that rows name, and their places: each is named first where its place is the number of those before it.
-use Rattle.std.proofs.Common.{◌≡◌, ℕ, zero, suc, ◌+◌, ◌<◌, ◌≤◌, ◌==◌, Bool, true, false, not, ◌&&◌, ◌||◌, Some, List, [], ◌∷◌, ◌++◌, length, bytes_eq, option_to_list, refl, sym, ◌∙◌, ap, arith, length-append, if◌then◌else◌}
+use Rattle.std.proofs.Common.{◌≡◌, ℕ, zero, suc, ◌+◌, ◌<◌, ◌≤◌, ◌==◌, Bool, true, false, not, ◌||◌, Some, List, [], ◌∷◌, ◌++◌, length, bytes_eq, option_to_list, refl, sym, ◌∙◌, ap, arith, length-append, if◌then◌else◌}
 use Rattle.std.specs.List.{AllByRecursion, list_any, filter, range_with_len, position_or_len}
 use Rattle.std.proofs.lemmas.Bool.Decides.{nat_tests}
 use Rattle.std.proofs.lemmas.List.Folds.{position_or_len_push}
 use Rattle.std.proofs.lemmas.List.Elements.{filter-append}
 use Rattle.std.proofs.lemmas.Slice.Eq.{bytes_eq-Decides}
+use Rattle.std.proofs.lemmas.Bool.{and_parts, or_parts}
 use Rattle.circuit_model.specs.Names.{has, all_different}
 use Rattle.circuit_model.specs.MachineSoundness.{is_any, first_mentions}
 use Rattle.kiss_format.specs.Lines.{with_state, with_states}
@@ -25,7 +26,7 @@ all_kept P test (x ∷ xs) h = by (test x) (all_kept P test xs h.1)
     by true rest = (h.0, rest)
     by false rest = rest
 
--- names behind others
+-- names after others
 
 pub with_keeps : (P : List ℕ → Type 0) (states names : List (List ℕ)) → AllByRecursion P states → AllByRecursion P names → AllByRecursion P (with_states states names)
 unfolding with_states with_state
@@ -55,14 +56,6 @@ bytes_turned a b e = by (bytes_eq b a) refl
     by false f = f
     by true f = absurd (let same : a ≡ b = sym ((bytes_eq-Decides b a).0 f) in let yes : bytes_eq a b ≡ true = (bytes_eq-Decides a b).1 same in let no : true ≡ false = sym yes ∙ e in cc)
 
-pub or-parts : (a b : Bool) → (a || b) ≡ false → (a ≡ false) × (b ≡ false)
-or-parts true b e = absurd (let no : true ≡ false = e in cc)
-or-parts false b e = (refl, e)
-
-pub and-parts : (a b : Bool) → (a && b) ≡ true → (a ≡ true) × (b ≡ true)
-and-parts true b e = (refl, e)
-and-parts false b e = absurd (let no : false ≡ true = e in cc)
-
 pub not-true : (b : Bool) → not b ≡ true → b ≡ false
 not-true true e = absurd (let no : false ≡ true = e in cc)
 not-true false e = refl
@@ -71,8 +64,8 @@ one_more : (states : List (List ℕ)) (word : List ℕ) → all_different states
 unfolding all_different
 one_more [] word once new = refl
 one_more (state ∷ states) word once new =
-    let parts = and-parts (not (has states state)) (all_different states) once in
-    let apart = or-parts (bytes_eq word state) (has states word) new in
+    let parts = and_parts (not (has states state)) (all_different states) once in
+    let apart = or_parts (bytes_eq word state) (has states word) new in
     let lacks : has (states ++ word ∷ []) state ≡ false =
     has_last states state word ∙ rw (not-true (has states state) parts.0, bytes_turned word state apart.0) refl in
     rw (lacks, one_more states word parts.1 apart.1) refl
@@ -149,7 +142,7 @@ mention_new count more =
 unfound : (word : List ℕ) (states : List (List ℕ)) → has states word ≡ false → position_or_len (bytes_eq word) states ≡ length states
 unfound word [] e = refl
 unfound word (state ∷ states) e =
-    let apart = or-parts (bytes_eq word state) (has states word) e in
+    let apart = or_parts (bytes_eq word state) (has states word) e in
     rw (apart.0, unfound word states apart.1) (omega arith)
 
 pub place_new : (states : List (List ℕ)) (word : List ℕ) → has states word ≡ false → place_of (states ++ word ∷ []) word ≡ Some (length states)

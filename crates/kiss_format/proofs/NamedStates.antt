@@ -1,4 +1,5 @@
--- The states of a machine in the order of first mention: what rows that are written name, one after the other.
+-- The states of a machine in the order of first mention: what rows that are written name, one after
+-- the other.
 use Rattle.std.proofs.Common.{◌≡◌, ℕ, zero, suc, ◌+◌, ◌<◌, ◌≤◌, ◌==◌, nat_lt, Bool, true, false, not, ◌||◌, Option, Some, None, List, [], ◌∷◌, ◌++◌, take, length, get_or, bytes_eq, option_to_list, refl, sym, ◌∙◌, ap, subst, arith, length-append, if◌then◌else◌}
 use Rattle.std.specs.List.{AllByRecursion, list_any, range_with_len, position_or_len}
 use Rattle.std.proofs.lemmas.Bool.Decides.{nat_tests}
@@ -6,15 +7,16 @@ use Rattle.std.proofs.Math.Seq.{get_or-append_seam}
 use Rattle.std.proofs.lemmas.List.{append_assoc, get_or_append_left}
 use Rattle.std.proofs.lemmas.List.FromFn.{length-range_with_len, get_or-range_with_len}
 use Rattle.std.proofs.lemmas.Slice.Eq.{bytes_eq-Decides}
+use Rattle.std.proofs.lemmas.Bool.{and_parts}
 use Rattle.circuit_model.specs.Names.{has, all_different}
 use Rattle.circuit_model.specs.MachineSoundness.{is_any, first_mentions}
 use Rattle.circuit_model.specs.MachineText.{state_at, state_word}
 use Rattle.kiss_format.specs.Lines.{with_state, with_states}
 use Rattle.kiss_format.specs.Reader.{state_of, place_of}
-use Rattle.kiss_format.proofs.Mentions.{and-parts, not-true, bytes_turned, both_kept, mention_old, mention_new, range_lacks}
+use Rattle.kiss_format.proofs.Mentions.{not-true, bytes_turned, both_kept, mention_old, mention_new, range_lacks}
 use Rattle.kiss_format.proofs.Places.{kept, found-at}
 
--- a fact of all states holds of the state at a place
+-- a fact of all states holds of the state of an index
 pub state_has : (P : List ℕ → Type 0) (states : List (List ℕ)) (place : ℕ) → AllByRecursion P states → place < length states → P (state_at states place)
 state_has P [] place all less = absurd (omega (arith, less))
 state_has P (state ∷ states) zero all less = all.0
@@ -56,7 +58,7 @@ unfolding all_different
 new_state [] place once inside = absurd (omega (arith, inside))
 new_state (state ∷ states) zero once inside = refl
 new_state (state ∷ states) (suc place) once inside =
-    let parts = and-parts (not (has states state)) (all_different states) once in
+    let parts = and_parts (not (has states state)) (all_different states) once in
     rw (later_differs states state place (not-true (has states state) parts.0) (omega (arith, inside)), new_state states place parts.1 (omega (arith, inside))) refl
 
 pub next_state : (states : List (List ℕ)) (place : ℕ) → place < length states → take place states ++ state_at states place ∷ [] ≡ take (place + 1) states
@@ -72,7 +74,7 @@ first_place [] count place once less inside = absurd (omega (arith, inside))
 first_place (state ∷ states) zero place once less inside = absurd (omega (arith, less))
 first_place (state ∷ states) (suc count) zero once less inside = rw (own state) refl
 first_place (state ∷ states) (suc count) (suc place) once less inside =
-    let parts = and-parts (not (has states state)) (all_different states) once in
+    let parts = and_parts (not (has states state)) (all_different states) once in
     rw (later_differs states state place (not-true (has states state) parts.0) (omega (arith, inside)), first_place states count place parts.1 (omega (arith, less)) (omega (arith, inside))) (omega arith)
 
 pub place_back : (states : List (List ℕ)) (count place : ℕ) → all_different states ≡ true → place < count → place < length states → place_of (take count states) (state_at states place) ≡ Some place
@@ -119,7 +121,7 @@ next_mention count total place more past e =
     let chain : place ≡ 0 + count = sym last ∙ (sym at ∙ (ap (λ all. get_or all count 0) same ∙ here)) in
     (omega (arith, chain), less)
 
--- how many states are known behind a word, where so many are known before it
+-- how many states are known after a word, if so many are known before it
 record Stepped (states : List (List ℕ)) (count : ℕ) (mention : Option ℕ) (more : List ℕ) (next : ℕ) : Type 0 where
   most : next ≤ length states
   words : with_states (take count states) (kept (state_word states mention ∷ [])) ≡ take next states
@@ -192,7 +194,7 @@ state_back states count (Some place) are few known =
     let inside : place < length states = omega (arith, few, less) in
     rw (state_has (λ state. is_any state ≡ false) states place are.named inside) (place_back states count place are.once less inside)
 
--- how many states are known behind a row, where so many are known before it
+-- how many states are known after a row, if so many are known before it
 pub record RowStepped (states : List (List ℕ)) (count : ℕ) (current next : Option ℕ) (more : List ℕ) (last : ℕ) : Type 0 where
   pub most : last ≤ length states
   pub words : with_states (take count states) (kept (state_word states current ∷ state_word states next ∷ [])) ≡ take last states

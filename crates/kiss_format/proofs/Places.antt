@@ -1,4 +1,4 @@
--- The place of a state stays where further states are named.
+-- The index of a state stays when further states are named.
 use Rattle.std.specs.Prelude.{◌≡◌, ℕ, ◌+◌, ◌<◌, nat_lt, length, Bool, true, false, not, ◌||◌, Some, None, List, [], ◌∷◌, ◌++◌, bytes_eq, position, if◌then◌else◌}
 use Rattle.std.specs.List.{filter, list_any, position_or_len}
 use Rattle.std.proofs.Common.{refl, sym, ◌∙◌, ap, arith}
@@ -14,7 +14,7 @@ unfolding with_states
 states_append states [] others = refl
 states_append states (name ∷ names) others = states_append (with_state states name) names others
 
--- the first item that passes a test stays the first where items stand behind
+-- the first item that passes a test stays the first when items are appended
 
 found-in-front : {A : Type 0} (test : A → Bool) (xs ys : List A) → list_any test xs ≡ true → position_or_len test (xs ++ ys) ≡ position_or_len test xs
 found-in-front test [] ys h = absurd (let no : false ≡ true = h in cc)

@@ -8,13 +8,13 @@ use Rattle.sis_base.specs.Written.{is_word, is_word_byte, is_blank}
 use Rattle.sis_text.specs.Entries.{Entry}
 use Rattle.sis_text.specs.Order.{IsProper, IsWordOf, is_plain}
 use Rattle.circuit_model.specs.Clashes.{first_clash}
-use Rattle.circuit_model.specs.MachineSoundness.{IsSound, IsShaped, all_names}
+use Rattle.circuit_model.specs.MachineSoundness.{IsSoundMachine, IsShaped, all_names}
 use Rattle.circuit_model.specs.declared.machine.Clash.{Clash}
 use Rattle.circuit_model.specs.declared.machine.Machine.{Machine}
 use Rattle.circuit_model.specs.declared.machine.MachineRow.{MachineRow}
 use Rattle.kiss_format.specs.Keywords.{before_end, kind_of, is_end_kind}
 use Rattle.kiss_format.specs.Lines.{first_item}
-use Rattle.kiss_format.specs.Reader.{machine_with, reset_place, reset_name, by_clash, by_place, placed, at_place, read_lines, Reads}
+use Rattle.kiss_format.specs.Reader.{machine_with, reset_place, reset_name, by_clash, by_place, placed, at_place, read_machine_lines, Reads}
 use Rattle.kiss_format.specs.Trips.{IsWithinLimits}
 use Rattle.kiss_format.specs.Steps.{take_entries, no_lines, finished, finish}
 use Rattle.kiss_format.specs.declared.draft.Draft.{Draft}
@@ -78,7 +78,7 @@ rows_shaped machine inputs outputs (row ∷ rows) i o shaped = (
 abbrev pub IsText : List ℕ → Type 0
 IsText word = is_word word ≡ true
 
-sound_at : (draft : Draft) (place : ℕ) → IsGood IsText draft → placed draft.reset draft.states draft.rows ≡ Ok place → IsSound (machine_with draft.inputs draft.outputs draft.states draft.rows place)
+sound_at : (draft : Draft) (place : ℕ) → IsGood IsText draft → placed draft.reset draft.states draft.rows ≡ Ok place → IsSoundMachine (machine_with draft.inputs draft.outputs draft.states draft.rows place)
 unfolding is_word
 sound_at draft place good e =
     let parts = placed_parts draft.reset draft.states draft.rows place e in
@@ -137,8 +137,8 @@ all_taken P zero xs h = tt
 all_taken P (suc count) [] h = tt
 all_taken P (suc count) (x ∷ xs) h = (h.0, all_taken P count xs h.1)
 
-pub read_holds : (W : OfWords) (P : Machine → Type 0) (lines : List Entry) (machine : Machine) → OfDrafts W P → AreOf W lines → read_lines lines ≡ Ok machine → P machine
-unfolding read_lines before_end
+pub read_holds : (W : OfWords) (P : Machine → Type 0) (lines : List Entry) (machine : Machine) → OfDrafts W P → AreOf W lines → read_machine_lines lines ≡ Ok machine → P machine
+unfolding read_machine_lines before_end
 read_holds W P lines machine holds are e =
     let front = before_end lines in
     finish_holds W P (take_entries no_lines front) machine holds
@@ -158,7 +158,7 @@ any_lines : (lines : List Entry) → AreOf IsAny lines
 any_lines [] = tt
 any_lines (line ∷ lines) = (any_words line.words, any_lines lines)
 
-pub read_limited : (lines : List Entry) (machine : Machine) → read_lines lines ≡ Ok machine → IsWithinLimits machine
+pub read_limited : (lines : List Entry) (machine : Machine) → read_machine_lines lines ≡ Ok machine → IsWithinLimits machine
 read_limited lines machine e =
     read_holds IsAny IsWithinLimits lines machine (λ draft place good at. record { rows = good.few; states = good.limited; short = good.short }) (any_lines lines) e
 
@@ -171,11 +171,11 @@ short_at draft place good e =
     let outs = made_are_short (codes "OUT_") 0 (unwrap_or draft.outputs 0) (omega arith) (omega (arith, counts.1.1)) in
     (omega arith, all_append IsShort machine.inputs (machine.outputs ++ draft.states) ins (all_append IsShort machine.outputs draft.states outs good.short))
 
-pub read_short : (lines : List Entry) (machine : Machine) → read_lines lines ≡ Ok machine → AllByRecursion IsShort (all_names machine)
+pub read_short : (lines : List Entry) (machine : Machine) → read_machine_lines lines ≡ Ok machine → AllByRecursion IsShort (all_names machine)
 read_short lines machine e = read_holds IsAny (λ (one : Machine). AllByRecursion IsShort (all_names one)) lines machine short_at (any_lines lines) e
 
-pub read_sound : (lines : List Entry) (machine : Machine) → AreOfWords lines → read_lines lines ≡ Ok machine → IsSound machine
-read_sound lines machine are e = read_holds IsText IsSound lines machine sound_at are e
+pub read_sound : (lines : List Entry) (machine : Machine) → AreOfWords lines → read_machine_lines lines ≡ Ok machine → IsSoundMachine machine
+read_sound lines machine are e = read_holds IsText IsSoundMachine lines machine sound_at are e
 
 pub all_weaker : {A : Type 0} (P Q : A → Type 0) (xs : List A) → ((x : A) → P x → Q x) → AllByRecursion P xs → AllByRecursion Q xs
 all_weaker P Q [] f h = tt
@@ -185,7 +185,7 @@ all_pass : (test : ℕ → Bool) (bytes : List ℕ) → AllByRecursion (λ byte.
 all_pass test [] h = refl
 all_pass test (byte ∷ bytes) h = rw (h.0, all_pass test bytes h.1) refl
 
-plain_byte : (byte : ℕ) → is_plain byte ≡ true → is_word_byte byte ≡ true
+pub plain_byte : (byte : ℕ) → is_plain byte ≡ true → is_word_byte byte ≡ true
 plain_byte byte h = by (is_blank byte) (byte == 10) (byte == 35) h
   where
     by : (a b c : Bool) → (not a && (not b && not c)) ≡ true → not (a || b || c) ≡ true
@@ -206,7 +206,7 @@ proper_lines lines proper =
     (λ line p. all_weaker (IsWordOf is_plain) (λ word. is_word word ≡ true) line.words plain_word (recursion_from_All (IsWordOf is_plain) line.words p.each))
     (recursion_from_All (IsProper is_plain) lines proper)
 
-pub reads_sound : (result : Result Machine ReadFault) (lines : List Entry) → All (IsProper is_plain) lines → Reads result (read_lines lines) → IfOk result (λ machine. IsSound machine)
+pub reads_sound : (result : Result Machine ReadFault) (lines : List Entry) → All (IsProper is_plain) lines → Reads result (read_machine_lines lines) → IfOk result (λ machine. IsSoundMachine machine)
 reads_sound (Ok machine) lines proper reads = read_sound lines machine (proper_lines lines proper) reads
 reads_sound (Err (Fault fault)) lines proper reads = tt
 reads_sound (Err Memory) lines proper reads = tt

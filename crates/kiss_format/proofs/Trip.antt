@@ -14,13 +14,13 @@ use Rattle.circuit_model.specs.Text.{dotted, character}
 use Rattle.circuit_model.specs.declared.circuit.Tri.{Tri}
 use Rattle.circuit_model.specs.declared.circuit.Tri.TheVariants.{Zero, One, Free}
 use Rattle.circuit_model.specs.Clashes.{first_clash}
-use Rattle.circuit_model.specs.MachineSoundness.{IsSound, IsShaped, mentioned_by, first_mentions}
-use Rattle.circuit_model.specs.MachineText.{state_at, state_word, row_line, header_lines, machine_lines, text_of}
+use Rattle.circuit_model.specs.MachineSoundness.{IsSoundMachine, IsShaped, mentioned_by, first_mentions}
+use Rattle.circuit_model.specs.MachineText.{state_at, state_word, row_line, header_lines, machine_lines, machine_text_of}
 use Rattle.circuit_model.specs.declared.machine.Machine.{Machine}
 use Rattle.circuit_model.specs.declared.machine.MachineRow.{MachineRow}
 use Rattle.kiss_format.specs.Keywords.{keyword_of, kind_of, is_end_kind, before_end}
 use Rattle.kiss_format.specs.Lines.{count_fault, reset_fault, word_fault, first_of}
-use Rattle.kiss_format.specs.Reader.{made_names, machine_with, placed, place_of, read_all, read_lines}
+use Rattle.kiss_format.specs.Reader.{made_names, machine_with, placed, place_of, read_all, read_machine_lines}
 use Rattle.kiss_format.specs.Steps.{take_entries, no_lines, finished, finish}
 use Rattle.kiss_format.specs.Trips.{IsWithinLimits, plainly_named}
 use Rattle.kiss_format.specs.declared.keyword.Keyword.{Keyword}
@@ -79,7 +79,7 @@ row_lines machine = numbered 6 (map (row_line machine.states) machine.rows)
 abbrev lines_of : Machine → List Entry
 lines_of machine = inputs_line machine ∷ outputs_line machine ∷ products_line machine ∷ states_line machine ∷ reset_line machine ∷ row_lines machine
 
-front_is : (machine : Machine) → IsSound machine → before_end (numbered 1 (machine_lines machine)) ≡ lines_of machine
+front_is : (machine : Machine) → IsSoundMachine machine → before_end (numbered 1 (machine_lines machine)) ≡ lines_of machine
 unfolding machine_lines header_lines numbered kind_of keyword_of
 front_is machine sound =
     let rows = numbered 6 (map (row_line machine.states) machine.rows ++ dotted (codes ".e") [] ∷ []) in
@@ -90,7 +90,7 @@ front_is machine sound =
     ∙ ap (λ more. states_line machine ∷ more) (passed (reset_line machine) rows Reset refl refl
     ∙ ap (λ more. reset_line machine ∷ more) (rows_before machine machine.rows 6 sound.some_inputs sound.shaped)))))
 
--- the drafts behind each of them
+-- the drafts after each of them
 
 abbrev with_inputs : Machine → Draft
 with_inputs machine = record { inputs = Some (length machine.inputs); outputs = None; reset = None; states = []; rows = [] }
@@ -98,14 +98,14 @@ with_inputs machine = record { inputs = Some (length machine.inputs); outputs = 
 abbrev with_outputs : Machine → Draft
 with_outputs machine = record { inputs = Some (length machine.inputs); outputs = Some (length machine.outputs); reset = None; states = []; rows = [] }
 
-inputs_taken : (machine : Machine) → IsSound machine → (lines : List Entry) → take_entries no_lines (inputs_line machine ∷ lines) ≡ take_entries (with_inputs machine) lines
+inputs_taken : (machine : Machine) → IsSoundMachine machine → (lines : List Entry) → take_entries no_lines (inputs_line machine ∷ lines) ≡ take_entries (with_inputs machine) lines
 unfolding kind_of keyword_of count_fault
 inputs_taken machine sound lines =
     let back = count_back (length machine.inputs) sound.some_inputs sound.few_inputs in
     taken_first no_lines (with_inputs machine) (inputs_line machine) lines
     (taken no_lines (inputs_line machine) Inputs refl (rw back refl) ∙ rw back refl)
 
-outputs_taken : (machine : Machine) → IsSound machine → (lines : List Entry) → take_entries (with_inputs machine) (outputs_line machine ∷ lines) ≡ take_entries (with_outputs machine) lines
+outputs_taken : (machine : Machine) → IsSoundMachine machine → (lines : List Entry) → take_entries (with_inputs machine) (outputs_line machine ∷ lines) ≡ take_entries (with_outputs machine) lines
 unfolding kind_of keyword_of count_fault
 outputs_taken machine sound lines =
     let back = count_back (length machine.outputs) sound.some_outputs sound.few_outputs in
@@ -118,7 +118,7 @@ words_taken machine lines =
     taken_first (with_outputs machine) (with_outputs machine) (products_line machine) (states_line machine ∷ lines) (taken (with_outputs machine) (products_line machine) Products refl refl)
     ∙ taken_first (with_outputs machine) (with_outputs machine) (states_line machine) lines (taken (with_outputs machine) (states_line machine) States refl refl)
 
-reset_taken : (machine : Machine) → IsSound machine → IsWithinLimits machine → (lines : List Entry) → take_entries (with_outputs machine) (reset_line machine ∷ lines) ≡ take_entries (draft_at machine 0 []) lines
+reset_taken : (machine : Machine) → IsSoundMachine machine → IsWithinLimits machine → (lines : List Entry) → take_entries (with_outputs machine) (reset_line machine ∷ lines) ≡ take_entries (draft_at machine 0 []) lines
 unfolding kind_of keyword_of reset_fault first_of
 reset_taken machine sound limits lines =
     let short = state_has (λ (state : List ℕ). length state ≤ MAX_NAME) machine.states machine.reset limits.short sound.reset in
@@ -126,7 +126,7 @@ reset_taken machine sound limits lines =
     taken_first (with_outputs machine) (draft_at machine 0 []) (reset_line machine) lines
     (taken (with_outputs machine) (reset_line machine) Reset refl (rw free refl))
 
-all_taken : (machine : Machine) → IsSound machine → IsWithinLimits machine → take_entries no_lines (lines_of machine) ≡ Ok (draft_at machine (length machine.states) machine.rows)
+all_taken : (machine : Machine) → IsSoundMachine machine → IsWithinLimits machine → take_entries no_lines (lines_of machine) ≡ Ok (draft_at machine (length machine.states) machine.rows)
 all_taken machine sound limits =
     let rows = row_lines machine in
     inputs_taken machine sound (outputs_line machine ∷ products_line machine ∷ states_line machine ∷ reset_line machine ∷ rows)
@@ -141,7 +141,7 @@ placed_back : (name : List ℕ) (states : List (List ℕ)) (rows : List MachineR
 placed_back name states [] place some at apart = absurd (omega (arith, some))
 placed_back name states (row ∷ rows) place some at apart = rw (at, apart) refl
 
-finished_back : (machine : Machine) → IsSound machine → finished (draft_at machine (length machine.states) machine.rows) ≡ Ok (plainly_named machine)
+finished_back : (machine : Machine) → IsSoundMachine machine → finished (draft_at machine (length machine.states) machine.rows) ≡ Ok (plainly_named machine)
 unfolding finished
 finished_back machine sound =
     let whole : take (length machine.states) machine.states ≡ machine.states = take_all (length machine.states) machine.states (omega arith) in
@@ -150,8 +150,8 @@ finished_back machine sound =
     ap (λ states. place_of states name) (sym whole) ∙ place_back machine.states (length machine.states) machine.reset sound.states_once sound.reset sound.reset in
     rw (whole, placed_back name machine.states machine.rows machine.reset sound.some_rows at sound.apart) refl
 
-lines_read : (machine : Machine) → IsSound machine → IsWithinLimits machine → read_lines (numbered 1 (machine_lines machine)) ≡ Ok (plainly_named machine)
-unfolding read_lines
+lines_read : (machine : Machine) → IsSoundMachine machine → IsWithinLimits machine → read_machine_lines (numbered 1 (machine_lines machine)) ≡ Ok (plainly_named machine)
+unfolding read_machine_lines
 lines_read machine sound limits =
     ap read_all (front_is machine sound)
     ∙ sym (all_agree (lines_of machine))
@@ -166,7 +166,7 @@ IsName name = is_word name ≡ true
 abbrev HasWords : Written → Type 0
 HasWords line = AllByRecursion IsName (line.first ∷ line.others)
 
-characters_plain : (row : List Tri) → list_all is_word_byte (map character row) ≡ true
+pub characters_plain : (row : List Tri) → list_all is_word_byte (map character row) ≡ true
 characters_plain [] = refl
 characters_plain (Zero ∷ row) = characters_plain row
 characters_plain (One ∷ row) = characters_plain row
@@ -190,7 +190,7 @@ row_words machine row shaped some any current next =
     let output : 1 ≤ length row.output = let width = shaped.output in omega (arith, width, any) in
     (cube_is_word row.input input, (current, (next, (cube_is_word row.output output, tt))))
 
-rows_words : (machine : Machine) (rows : List MachineRow) (count : ℕ) → IsSound machine → AllByRecursion IsName machine.states → AllByRecursion (IsShaped machine) rows → count ≤ length machine.states
+rows_words : (machine : Machine) (rows : List MachineRow) (count : ℕ) → IsSoundMachine machine → AllByRecursion IsName machine.states → AllByRecursion (IsShaped machine) rows → count ≤ length machine.states
     → first_mentions (range_with_len 0 count) (flat_map mentioned_by rows) ≡ range_with_len 0 (length machine.states) → AllByRecursion HasWords (map (row_line machine.states) rows)
 rows_words machine [] count sound names shaped most e = tt
 rows_words machine (row ∷ rows) count sound names shaped most e =
@@ -204,14 +204,14 @@ all_behind : {A : Type 0} (P : A → Type 0) (xs ys : List A) → AllByRecursion
 all_behind P [] ys h = h
 all_behind P (x ∷ xs) ys h = all_behind P xs ys h.1
 
-state_names : (machine : Machine) → IsSound machine → AllByRecursion IsName machine.states
+state_names : (machine : Machine) → IsSoundMachine machine → AllByRecursion IsName machine.states
 state_names machine sound =
     all_behind IsName machine.outputs machine.states (all_behind IsName machine.inputs (machine.outputs ++ machine.states) sound.words.1)
 
 number_words : (first : List ℕ) (count : ℕ) → is_word first ≡ true → count < 2 ^ 64 → HasWords (dotted first (decimal count ∷ []))
 number_words first count word few = (word, (decimal_is_word count few, tt))
 
-lines_words : (machine : Machine) → IsSound machine → IsWithinLimits machine → AllByRecursion HasWords (machine_lines machine)
+lines_words : (machine : Machine) → IsSoundMachine machine → IsWithinLimits machine → AllByRecursion HasWords (machine_lines machine)
 unfolding machine_lines header_lines is_word
 lines_words machine sound limits =
     let names = state_names machine sound in
@@ -237,15 +237,15 @@ lines_words machine sound limits =
       ),
     )
 
-lines_written : (machine : Machine) → IsSound machine → IsWithinLimits machine → All IsLineOfWords (machine_lines machine)
+lines_written : (machine : Machine) → IsSoundMachine machine → IsWithinLimits machine → All IsLineOfWords (machine_lines machine)
 lines_written machine sound limits =
     All-from_recursion IsLineOfWords (machine_lines machine)
     (all_weaker HasWords IsLineOfWords (machine_lines machine) (λ line words. All-from_recursion IsName (line.first ∷ line.others) words) (lines_words machine sound limits))
 
-pub text_read : (machine : Machine) → IsSound machine → IsWithinLimits machine → read_lines (entries_of (text_of machine)) ≡ Ok (plainly_named machine)
-unfolding text_of
+pub text_read : (machine : Machine) → IsSoundMachine machine → IsWithinLimits machine → read_machine_lines (entries_of (machine_text_of machine)) ≡ Ok (plainly_named machine)
+unfolding machine_text_of
 text_read machine sound limits =
-    ap read_lines (read_back (machine_lines machine) (lines_written machine sound limits)) ∙ lines_read machine sound limits
+    ap read_machine_lines (read_back (machine_lines machine) (lines_written machine sound limits)) ∙ lines_read machine sound limits
 
 -- what is read
 
@@ -255,10 +255,10 @@ names_kept draft place =
     let outs : length (made_names (codes "OUT_") (unwrap_or draft.outputs 0)) ≡ unwrap_or draft.outputs 0 = length-map-range_with_len (λ k. codes "OUT_" ++ decimal k) 0 (unwrap_or draft.outputs 0) in
     rw (ins, outs) refl
 
-read_plain : (lines : List Entry) (machine : Machine) → AreOfWords lines → read_lines lines ≡ Ok machine → plainly_named machine ≡ machine
+read_plain : (lines : List Entry) (machine : Machine) → AreOfWords lines → read_machine_lines lines ≡ Ok machine → plainly_named machine ≡ machine
 read_plain lines machine are e = read_holds IsText (λ one. plainly_named one ≡ one) lines machine (λ draft place good at. names_kept draft place) are e
 
-pub read_again : (source : List ℕ) (machine : Machine) → read_lines (entries_of source) ≡ Ok machine → read_lines (entries_of (text_of machine)) ≡ Ok machine
+pub read_again : (source : List ℕ) (machine : Machine) → read_machine_lines (entries_of source) ≡ Ok machine → read_machine_lines (entries_of (machine_text_of machine)) ≡ Ok machine
 read_again source machine e =
     let lines = entries_of source in
     let are = proper_lines lines (lines_proper source) in

@@ -29,7 +29,7 @@ lines_before source lines =
     ∙ sym (take-map (entry_at source) (prefix_len goes_on (map (entry_at source) lines)) lines)
 
 -- the entries from a place on
-entries_left : (source : List ℕ) (lines : List Line) (i : ℕ) (line : Line) → i < length lines → line ≡ get_or lines i line → drop i (map (entry_at source) lines) ≡ entry_at source line ∷ drop (i + 1) (map (entry_at source) lines)
+pub entries_left : (source : List ℕ) (lines : List Line) (i : ℕ) (line : Line) → i < length lines → line ≡ get_or lines i line → drop i (map (entry_at source) lines) ≡ entry_at source line ∷ drop (i + 1) (map (entry_at source) lines)
 entries_left source lines i line h is =
     drop-map (entry_at source) i lines
     ∙ ap (map (entry_at source)) (drop_more lines i line h)

@@ -41,7 +41,7 @@ characters_back (Zero ∷ row) = ap (λ rest. Zero ∷ rest) (characters_back ro
 characters_back (One ∷ row) = ap (λ rest. One ∷ rest) (characters_back row)
 characters_back (Free ∷ row) = ap (λ rest. Free ∷ rest) (characters_back row)
 
-characters_pass : (row : List Tri) → list_all is_character (map character row) ≡ true
+pub characters_pass : (row : List Tri) → list_all is_character (map character row) ≡ true
 characters_pass [] = refl
 characters_pass (Zero ∷ row) = characters_pass row
 characters_pass (One ∷ row) = characters_pass row
@@ -75,7 +75,7 @@ word_short : (states : List (List ℕ)) (mention : Option ℕ) → AllByRecursio
 word_short states None short within = omega arith
 word_short states (Some place) short within = state_has (λ (state : List ℕ). length state ≤ MAX_NAME) states place short (within place refl)
 
--- the draft behind the lines before the rows and some rows, where so many states are known
+-- the draft after the lines before the rows and some rows, if so many states are known
 abbrev pub draft_at : Machine → ℕ → List MachineRow → Draft
 draft_at machine count done = record {
   inputs = Some (length machine.inputs);

@@ -1,5 +1,5 @@
--- What a logical line of a KISS2 table is, by its first word.
--- Source: SIS report (UCB/ERL M92/41), KISS2 tables: a line that begins with `.` is a header or the end, any other one a row.
+-- What a logical line of a KISS2 table is, by its first word. Source: SIS report (UCB/ERL M92/41),
+-- KISS2 tables: a line that begins with `.` is a header or the end, any other one a row.
 use Rattle.std.specs.Prelude.{ℕ, Bool, true, false, not, List, ◌||◌, bytes_eq, codes, if◌then◌else◌}
 use Rattle.std.specs.List.{take_while}
 use Rattle.sis_text.specs.Words.{begins_with}

@@ -1,6 +1,7 @@
--- What the logical lines of a KISS2 table are read as: the first fault, or the machine that they say.
--- Source: SIS report (UCB/ERL M92/41), KISS2 tables: states are those that rows name, in the order in which they come
--- first; without `.r` the machine starts in the current state of the first row that names one.
+-- What the logical lines of a KISS2 table are read as: the first fault, or the machine that they
+-- describe. Source: SIS report (UCB/ERL M92/41), KISS2 tables: states are those that rows name, in
+-- order of first mention; without `.r` the machine starts in the current state of the first row
+-- that names one.
 use Rattle.std.specs.Prelude.{◌≡◌, ℕ, ◌+◌, Bool, Option, Some, None, Result, Ok, Err, List, [], ◌∷◌, ◌++◌, map, find, position, bytes_eq, decimal, codes, unwrap_or, if◌then◌else◌}
 use Rattle.std.specs.Option.{option_map}
 use Rattle.std.specs.List.{filter_map, range_with_len}
@@ -19,11 +20,11 @@ use Rattle.kiss_format.specs.declared.fault.KissFault.TheVariants.{RowClash, NoR
 use Rattle.kiss_format.specs.declared.fault.ReadFault.{ReadFault}
 use Rattle.kiss_format.specs.declared.fault.ReadFault.TheVariants as read_fault
 
--- the place of a name among states
+-- the index of a name among states
 abbrev pub place_of : List (List ℕ) → List ℕ → Option ℕ
 place_of states name = position (bytes_eq name) states
 
--- the state that a word of a row means; none for a word of every state
+-- the state of a word of a row; none for a word of every state
 abbrev pub state_of : List (List ℕ) → List ℕ → Option ℕ
 state_of states word = if is_any word then None else place_of states word
 
@@ -42,21 +43,22 @@ unfoldable pub rows_of : List (List ℕ) → List (List (List ℕ)) → List Mac
 rows_of states [] = []
 rows_of states (words ∷ rows) = row_of states words ++ rows_of states rows
 
--- the rows that lines say
+-- the rows that lines describe
 unfoldable pub rows_in : List Entry → List MachineRow
 rows_in lines = rows_of (states_in lines) (of_lines row_words lines)
 
--- the state that a machine starts in: the one that is named, else the current state of the first row that has one
+-- the state that a machine starts in: the one that is named, otherwise the current state of the
+-- first row that has one
 abbrev pub reset_place : Option (List ℕ) → List (List ℕ) → List MachineRow → Option ℕ
 reset_place (Some name) states rows = place_of states name
 reset_place None states rows = first_item (filter_map (λ (row : MachineRow). row.current) rows)
 
--- the name of the state that is no state of a row
+-- the name of a reset state that is not a state of a row
 abbrev pub reset_name : Option (List ℕ) → List ℕ
 reset_name None = codes "*"
 reset_name (Some name) = name
 
--- so many names: a prefix and a number from 0 on
+-- made names: a prefix and a number from 0 on
 abbrev pub made_names : List ℕ → ℕ → List (List ℕ)
 made_names prefix count = map (λ k. prefix ++ decimal k) (range_with_len 0 count)
 
@@ -71,22 +73,22 @@ machine_with inputs outputs states rows reset = record {
   rows = rows;
 }
 
--- the place of the reset state, or the clash of the rows; rows are told by numbers from 1
+-- the index of the reset state, or the clash of the rows, which are reported by numbers from 1
 abbrev pub by_clash : Option Clash → ℕ → Result ℕ KissFault
 by_clash None place = Ok place
 by_clash (Some clash) place = Err (RowClash (clash.earlier + 1) (clash.later + 1))
 
--- the place of the reset state where there is one, of these rows
+-- the index of the reset state of these rows, if there is one
 abbrev pub by_place : Option ℕ → Option (List ℕ) → List MachineRow → Result ℕ KissFault
 by_place None reset rows = Err (NoReset (reset_name reset))
 by_place (Some place) reset rows = by_clash (first_clash rows) place
 
--- the place of the reset state, or what is wrong with the whole: no row, no reset state, a clash
+-- the index of the reset state, or what is wrong with the whole: no row, no reset state, a clash
 abbrev pub placed : Option (List ℕ) → List (List ℕ) → List MachineRow → Result ℕ KissFault
 placed reset states [] = Err NoRows
 placed reset states (row ∷ rows) = by_place (reset_place reset states (row ∷ rows)) reset (row ∷ rows)
 
--- the machine that starts at a place, or what is wrong
+-- the machine that starts in the state of an index, or the fault
 abbrev pub at_place : Result ℕ KissFault → (ℕ → Machine) → Result Machine KissFault
 at_place (Ok place) machine = Ok (machine place)
 at_place (Err fault) machine = Err fault
@@ -105,23 +107,24 @@ unfoldable pub read_all : List Entry → Result Machine KissFault
 read_all lines = unless (first_line_fault [] lines)
     (whole (inputs_in lines) (outputs_in lines) (reset_in lines) (states_in lines) (rows_in lines))
 
--- what a table's logical lines are read as: the first fault of a line, then one of the whole, else the machine
-unfoldable pub read_lines : List Entry → Result Machine KissFault
-read_lines lines = read_all (before_end lines)
+-- what a table's logical lines are read as: the first fault of a line, then one of the whole,
+-- otherwise the machine
+unfoldable pub read_machine_lines : List Entry → Result Machine KissFault
+read_machine_lines lines = read_all (before_end lines)
 
 -- the number of the first line of a kind among those that are read
 abbrev pub header_line : (Keyword → Bool) → List Entry → Option ℕ
 header_line is_kind lines = option_map (λ (line : Entry). line.number) (find (λ line. is_kind (kind_of line)) (before_end lines))
 
--- the number of the line that tells the number of inputs
+-- the number of the line that gives the number of inputs
 unfoldable pub inputs_line : List Entry → Option ℕ
 inputs_line lines = header_line is_inputs_kind lines
 
--- the number of the line that tells the number of outputs
+-- the number of the line that gives the number of outputs
 unfoldable pub outputs_line : List Entry → Option ℕ
 outputs_line lines = header_line is_outputs_kind lines
 
--- what a reader answers, beside what it should; want of memory is free
+-- what a reader answers, compared with what it should; want of memory is always allowed
 abbrev pub Reads : Result Machine ReadFault → Result Machine KissFault → Type 0
 Reads (Ok machine) should = should ≡ Ok machine
 Reads (Err (read_fault.Fault fault)) should = should ≡ Err fault

@@ -1,4 +1,10 @@
 //! What is kept of the lines that are read, and what each kind of line makes of it.
+//!
+//! Source: SIS report (UCB/ERL M92/41), KISS2 tables. A `Draft` is the numbers of ports, the reset
+//! state's name, the states in order of first mention, and the rows of the lines so far. `take`
+//! adds one line or returns its fault, exactly as `take_entry` of `specs/Steps.antt`; proofs of
+//! this crate relate these steps to the definition of the whole. After an error the draft has no
+//! meaning.
 
 ghost use Rattle.std.specs.Prelude.{◌≡◌, ℕ, List, ◌++◌, IfOk, OnOk};
 ghost use Rattle.sis_text.specs.Entries.{Entry};
@@ -19,8 +25,8 @@ use sis_base::Sequence;
 use sis_base::limits::MAX_STATES;
 use std::alloc::{AllocError, Global};
 
-/// What the lines so far say: the numbers of inputs and outputs and the name of the reset state, where they are told, the
-/// states that rows name, and the rows.
+/// What the lines so far say: the numbers of inputs and outputs and the name of the reset state, if
+/// they are given, the states that rows name, and the rows.
 #[derive(Drop)]
 pub struct Draft {
     pub inputs: Option<usize>,
@@ -30,7 +36,7 @@ pub struct Draft {
     pub rows: MachineRows,
 }
 
-/// The name of the first word, if there is one; an error only for want of memory.
+/// The name of the first word, if there is one.
 fn first_name(alloc: Global, words: &[&[u8]]) -> Result<Option<Name>, AllocError>
     ensures { IfOk result (λ name. name ≡ first_item (texts words.now)) }
 {
@@ -40,7 +46,7 @@ fn first_name(alloc: Global, words: &[&[u8]]) -> Result<Option<Name>, AllocError
     }
 }
 
-/// Puts the row of a line's words behind some rows; an error only for want of memory.
+/// Appends the row of a line's words.
 fn add_row(
     alloc: Global,
     rows: &mut MachineRows,
@@ -78,10 +84,11 @@ impl Draft {
         }
     }
 
-    /// Takes an `.i` line.
+    /// Reads an `.i` line.
     #[tactic(auto, unfolding(crate::specs::Steps::take_as))]
     fn take_inputs(&mut self, number: usize, words: &[&[u8]]) -> Result<(), ReadFault>
-        ensures { (whole : List (List ℕ)) → Takes result self.new (take_as Keyword.Inputs self.old number (texts words.now) whole) }
+        ensures { (whole : List (List ℕ)) → Takes result self.new
+            (take_as Keyword.Inputs self.old number (texts words.now) whole) }
     {
         if let Some(fault) = count_fault(self.inputs, self.rows.len(), number, words) {
             return Err(ReadFault::Fault(fault));
@@ -90,10 +97,11 @@ impl Draft {
         Ok(())
     }
 
-    /// Takes an `.o` line.
+    /// Reads an `.o` line.
     #[tactic(auto, unfolding(crate::specs::Steps::take_as))]
     fn take_outputs(&mut self, number: usize, words: &[&[u8]]) -> Result<(), ReadFault>
-        ensures { (whole : List (List ℕ)) → Takes result self.new (take_as Keyword.Outputs self.old number (texts words.now) whole) }
+        ensures { (whole : List (List ℕ)) → Takes result self.new
+            (take_as Keyword.Outputs self.old number (texts words.now) whole) }
     {
         if let Some(fault) = count_fault(self.outputs, self.rows.len(), number, words) {
             return Err(ReadFault::Fault(fault));
@@ -102,10 +110,11 @@ impl Draft {
         Ok(())
     }
 
-    /// Takes a `.p` line.
+    /// Reads a `.p` line.
     #[tactic(auto, unfolding(crate::specs::Steps::take_as))]
     fn take_products(&mut self, number: usize, words: &[&[u8]]) -> Result<(), ReadFault>
-        ensures { (whole : List (List ℕ)) → Takes result self.new (take_as Keyword.Products self.old number (texts words.now) whole) }
+        ensures { (whole : List (List ℕ)) → Takes result self.new
+            (take_as Keyword.Products self.old number (texts words.now) whole) }
     {
         if let Some(fault) = word_fault(number, words) {
             return Err(ReadFault::Fault(fault));
@@ -113,10 +122,11 @@ impl Draft {
         Ok(())
     }
 
-    /// Takes an `.s` line.
+    /// Reads an `.s` line.
     #[tactic(auto, unfolding(crate::specs::Steps::take_as))]
     fn take_states(&mut self, number: usize, words: &[&[u8]]) -> Result<(), ReadFault>
-        ensures { (whole : List (List ℕ)) → Takes result self.new (take_as Keyword.States self.old number (texts words.now) whole) }
+        ensures { (whole : List (List ℕ)) → Takes result self.new
+            (take_as Keyword.States self.old number (texts words.now) whole) }
     {
         if let Some(fault) = word_fault(number, words) {
             return Err(ReadFault::Fault(fault));
@@ -124,10 +134,11 @@ impl Draft {
         Ok(())
     }
 
-    /// Takes an `.r` line.
+    /// Reads an `.r` line.
     #[tactic(auto, unfolding(crate::specs::Steps::take_as))]
     fn take_reset(&mut self, alloc: Global, number: usize, words: &[&[u8]]) -> Result<(), ReadFault>
-        ensures { (whole : List (List ℕ)) → Takes result self.new (take_as Keyword.Reset self.old number (texts words.now) whole) }
+        ensures { (whole : List (List ℕ)) → Takes result self.new
+            (take_as Keyword.Reset self.old number (texts words.now) whole) }
     {
         if let Some(fault) = reset_fault(&self.reset, number, words) {
             return Err(ReadFault::Fault(fault));
@@ -136,10 +147,11 @@ impl Draft {
         Ok(())
     }
 
-    /// Takes a row.
+    /// Reads a row.
     #[tactic(auto, unfolding(crate::specs::Steps::take_as, crate::specs::Lines::row_fault))]
     fn take_row(&mut self, alloc: Global, number: usize, whole: &[&[u8]]) -> Result<(), ReadFault>
-        ensures { (words : List (List ℕ)) → Takes result self.new (take_as Keyword.Row self.old number words (texts whole.now)) }
+        ensures { (words : List (List ℕ)) → Takes result self.new
+            (take_as Keyword.Row self.old number words (texts whole.now)) }
     {
         if let Some(fault) = form_fault(self.inputs, self.outputs, self.rows.len(), number, whole) {
             return Err(ReadFault::Fault(fault));
@@ -152,10 +164,11 @@ impl Draft {
         Ok(())
     }
 
-    /// Takes one line, by its number and its words. After an error the draft stands for nothing.
+    /// Reads one line, by its number and its words. After an error the draft has no meaning.
     #[tactic(auto, unfolding(crate::specs::Steps::take_entry, crate::specs::Keywords::kind_of))]
     pub fn take(&mut self, alloc: Global, number: usize, words: &[&[u8]]) -> Result<(), ReadFault>
-        ensures { Takes result self.new (take_entry self.old (record { number = number; words = texts words.now })) }
+        ensures { Takes result self.new (take_entry self.old
+            (record { number = number; words = texts words.now })) }
     {
         let others = other_words(words);
         match keyword_of(first_word(words)) {

@@ -1,4 +1,5 @@
-//! What is wrong with a table.
+//! What is wrong with a KISS2 table. `KissFault` has the faults of `specs/Lines.antt` and
+//! `specs/Reader.antt`; `ReadFault` adds want of memory.
 
 use circuit_model::Name;
 use std::alloc::{AllocError, AllocFailed};
@@ -14,23 +15,27 @@ pub enum LimitKind {
     States,
 }
 
-/// Why a table is not read as a machine. Lines are numbers of physical lines, from 1; rows are numbers from 1.
+/// Why a table is not read as a machine. Lines are numbers of physical lines, from 1; rows are
+/// numbers from 1.
 #[derive(Debug, Drop, PartialEq)]
 pub enum KissFault {
-    /// A dotted word that is not known; `.i` or `.o` twice, behind a row, or without one number
-    /// from 1 to `MAX_PORTS`; `.p`
-    /// or `.s` without one word; `.r` twice or without one word; the first row, where `.i` or `.o` is missing.
+    /// A dotted word that is not known; `.i` or `.o` twice, after a row, or without one number from
+    /// 1 to `MAX_PORTS`; `.p` or `.s` without exactly one word; `.r` twice or without exactly one
+    /// word; a first row while `.i` or `.o` is missing.
     BadHeader(usize),
-    /// A row that is not an input cube, two states and an output cube, each cube with as many characters as was told.
+    /// A row that is not an input cube, two states and an output cube, each cube with as many
+    /// characters as the header gave.
     BadRow(usize),
-    /// Two rows that share an input point and a state, and specify a next state or an output differently: the least
-    /// later row of such a pair, behind the least earlier one that it clashes with.
+    /// Two rows that share an input point and a state, and specify a next state or an output
+    /// differently. The second number is that of the first row that clashes with an earlier one,
+    /// the first that of the first row with which it clashes.
     RowClash(usize, usize),
-    /// The reset state is no state of a row; `*` where none is named and no row names a current state.
+    /// The reset state is not a state of a row; `*` if none is named and no row names a current
+    /// state.
     NoReset(Name),
     /// There is no row.
     NoRows,
-    /// A limit is passed; the number is what was reached.
+    /// A limit is exceeded; the number is what was reached.
     Limit(LimitKind, usize),
 }
 
@@ -39,7 +44,7 @@ pub enum KissFault {
 pub enum ReadFault {
     /// The table has a fault.
     Fault(KissFault),
-    /// Memory was wanting.
+    /// Memory ran out.
     Memory,
 }
 

@@ -1,9 +1,15 @@
-//! The first clash of some rows.
+//! The first clash of the rows of a machine.
+//!
+//! Source: De Micheli, "Synthesis and Optimization of Digital Circuits", chapter 9: a state table
+//! gives at most one next state and one value of each output for a state and an input.
+//! `first_clash` returns exactly that of `specs/Clashes.antt` of circuit_model: the first row that
+//! clashes with an earlier one, and the first that it clashes with. A row of one state is compared
+//! only with the rows of its group and with those of every state (`groups`); no clause says so.
 
 ghost use Rattle.std.specs.Prelude.{◌≡◌, ◌<◌, Some, length, take, find, IfSome, IfOk};
-ghost use Rattle.circuit_model.specs.declared.machine.Clash.{Clash as TheClash};
-ghost use Rattle.circuit_model.specs.Clashes.{may_agree as may_agree_by, agree_all as agree_by, may_be_one as may_be_by, clash as clash_by, clash_with as clash_with_by, first_clash as first_by};
-ghost use Rattle.kiss_format.specs.Groups.{clash_at as clash_at_by, lesser as lesser_by, AreGroups};
+ghost use Rattle.circuit_model.specs.declared.machine.Clash.{Clash};
+ghost use Rattle.circuit_model.specs.Clashes.{may_agree, agree_all, may_be_one, clash as clash_by, clash_with, first_clash};
+ghost use Rattle.kiss_format.specs.Groups.{clash_at, lesser, AreGroups};
 
 use crate::groups::{Places, no_groups, note_row};
 use circuit_model::{Clash, MachineRow, Tri};
@@ -11,7 +17,7 @@ use std::alloc::{AllocError, Global};
 
 /// Whether two characters may be one bit.
 fn may_agree(place: Tri, other: Tri) -> bool
-    ensures { result ≡ may_agree_by place other }
+    ensures { result ≡ may_agree place other }
 {
     match place {
         Tri::Free => true,
@@ -28,7 +34,7 @@ fn may_agree(place: Tri, other: Tri) -> bool
 
 /// Whether two rows of characters have a point in common.
 fn agree_all(row: &[Tri], other: &[Tri]) -> bool
-    ensures { result ≡ agree_by row.now other.now }
+    ensures { result ≡ agree_all row.now other.now }
 {
     for i in 0..row.len() {
         if i >= other.len() {
@@ -43,7 +49,7 @@ fn agree_all(row: &[Tri], other: &[Tri]) -> bool
 
 /// Whether two states may be one.
 fn may_be_one(state: Option<usize>, other: Option<usize>) -> bool
-    ensures { result ≡ may_be_by state other }
+    ensures { result ≡ may_be_one state other }
 {
     match state {
         None => true,
@@ -68,9 +74,9 @@ fn clash(row: &MachineRow, other: &MachineRow) -> bool
     !(may_be_one(row.next, other.next) && agree_all(row.output.as_slice(), other.output.as_slice()))
 }
 
-/// The place of the first of some rows that clashes with a row.
+/// The index of the first row that clashes with a row.
 fn clash_with(front: &[MachineRow], row: &MachineRow) -> Option<usize>
-    ensures value { result ≡ clash_with_by 0 front.now row.now }
+    ensures value { result ≡ clash_with 0 front.now row.now }
     ensures within { IfSome result (λ place. place < length front.now) }
 {
     for place in 0..front.len() {
@@ -81,9 +87,9 @@ fn clash_with(front: &[MachineRow], row: &MachineRow) -> Option<usize>
     None
 }
 
-/// Whether the row at a place clashes with a row.
+/// Whether the row of an index clashes with a row.
 fn clash_at(rows: &[MachineRow], row: &MachineRow, place: usize) -> bool
-    ensures { result ≡ clash_at_by rows.now row.now place }
+    ensures { result ≡ clash_at rows.now row.now place }
 {
     match rows.get(place) {
         None => false,
@@ -91,9 +97,9 @@ fn clash_at(rows: &[MachineRow], row: &MachineRow, place: usize) -> bool
     }
 }
 
-/// The first of some places at which a row stands that clashes with a row.
+/// The first of some indices whose row clashes with a row.
 fn clash_among(rows: &[MachineRow], places: &[usize], row: &MachineRow) -> Option<usize>
-    ensures { result ≡ find (clash_at_by rows.now row.now) places.now }
+    ensures { result ≡ find (clash_at rows.now row.now) places.now }
 {
     for place in places {
         if clash_at(rows, row, *place) {
@@ -103,9 +109,9 @@ fn clash_among(rows: &[MachineRow], places: &[usize], row: &MachineRow) -> Optio
     None
 }
 
-/// The lesser of two places.
+/// The lesser of two indices.
 fn lesser(place: Option<usize>, other: Option<usize>) -> Option<usize>
-    ensures { result ≡ lesser_by place other }
+    ensures { result ≡ lesser place other }
 {
     match place {
         None => other,
@@ -116,7 +122,7 @@ fn lesser(place: Option<usize>, other: Option<usize>) -> Option<usize>
     }
 }
 
-/// The place of the first of the rows before `later` that clashes with a row of one state.
+/// The index of the first of the rows before `later` that clashes with a row of one state.
 fn clash_of_state(
     rows: &[MachineRow],
     groups: &[Places],
@@ -127,13 +133,13 @@ fn clash_of_state(
     requires inside { later < length rows.now }
     requires grouped { AreGroups rows.now later groups.now }
     requires state { row.now.current ≡ Some state }
-    ensures { result ≡ clash_with_by 0 (take later rows.now) row.now }
+    ensures { result ≡ clash_with 0 (take later rows.now) row.now }
 {
     let own = clash_among(rows, groups[state % rows.len()].as_slice(), row);
     lesser(own, clash_among(rows, groups[rows.len()].as_slice(), row))
 }
 
-/// The place of the first of the rows before `later` that clashes with a row.
+/// The index of the first of the rows before `later` that clashes with a row.
 fn clash_before(
     rows: &[MachineRow],
     groups: &[Places],
@@ -142,7 +148,7 @@ fn clash_before(
 ) -> Option<usize>
     requires inside { later < length rows.now }
     requires grouped { AreGroups rows.now later groups.now }
-    ensures value { result ≡ clash_with_by 0 (take later rows.now) row.now }
+    ensures value { result ≡ clash_with 0 (take later rows.now) row.now }
     ensures within { IfSome result (λ place. place < length rows.now) }
 {
     match row.current {
@@ -151,12 +157,15 @@ fn clash_before(
     }
 }
 
-/// The first row that clashes with one before it, and the first that it clashes with; none where no two rows clash. A row
-/// of one state is compared with those of its group and those of every state alone. An error only for want of memory.
+/// The first row that clashes with an earlier one, and the first that it clashes with; none if no
+/// two rows clash. A row of one state is compared only with those of its group and those of every
+/// state.
 pub(crate) fn first_clash(alloc: Global, rows: &[MachineRow]) -> Result<Option<Clash>, AllocError>
-    ensures value { IfOk result (λ found. found ≡ first_by rows.now) }
-    ensures within { IfOk result (λ found. IfSome found (λ (clash : TheClash). clash.earlier < length rows.now)) }
-    ensures later_within { IfOk result (λ found. IfSome found (λ (clash : TheClash). clash.later < length rows.now)) }
+    ensures value { IfOk result (λ found. found ≡ first_clash rows.now) }
+    ensures within { IfOk result (λ found. IfSome found
+        (λ (clash : Clash). clash.earlier < length rows.now)) }
+    ensures later_within { IfOk result (λ found. IfSome found
+        (λ (clash : Clash). clash.later < length rows.now)) }
 {
     let mut groups = no_groups(alloc, rows)?;
     for later in 0..rows.len() {

@@ -1,4 +1,5 @@
-//! The lines of a table that tell how many ports there are.
+//! The header lines that give the numbers of ports: the first `.i` and the first `.o` line before
+//! the end, by their line numbers.
 
 ghost use Rattle.std.specs.Prelude.{◌≡◌, map, find, option_copied};
 ghost use Rattle.std.specs.Option.{option_map};
@@ -31,25 +32,27 @@ fn is_outputs_kind(kind: Keyword) -> bool
     }
 }
 
-/// The first of some lines of a text that tells the number of inputs.
+/// The first line that gives the number of inputs.
 fn first_inputs<'a>(source: &[u8], lines: &'a [Line]) -> Option<&'a Line>
-    ensures { option_copied result ≡ find (λ (line : Line). is_inputs_kind (kind_of (entry_at source.now line))) lines.now }
+    ensures { option_copied result ≡ find (λ (line : Line). is_inputs_kind
+        (kind_of (entry_at source.now line))) lines.now }
 {
     lines
         .iter()
         .find(|line| is_inputs_kind(kind_at(source, line)))
 }
 
-/// The first of some lines of a text that tells the number of outputs.
+/// The first line that gives the number of outputs.
 fn first_outputs<'a>(source: &[u8], lines: &'a [Line]) -> Option<&'a Line>
-    ensures { option_copied result ≡ find (λ (line : Line). is_outputs_kind (kind_of (entry_at source.now line))) lines.now }
+    ensures { option_copied result ≡ find (λ (line : Line). is_outputs_kind
+        (kind_of (entry_at source.now line))) lines.now }
 {
     lines
         .iter()
         .find(|line| is_outputs_kind(kind_at(source, line)))
 }
 
-/// The number of a line, where there is one.
+/// The number of a line, if there is one.
 fn number_of(found: Option<&Line>) -> Option<usize>
     ensures { result ≡ option_map (λ (line : Line). line.number) (option_copied found.entry) }
 {
@@ -59,14 +62,14 @@ fn number_of(found: Option<&Line>) -> Option<usize>
     }
 }
 
-/// The number of the line that tells the number of inputs, the first before the end.
+/// The number of the first line before the end that gives the number of inputs.
 pub fn inputs_line(source: &[u8], lines: &[Line]) -> Option<usize>
     ensures { result ≡ inputs_line (map (entry_at source.now) lines.now) }
 {
     number_of(first_inputs(source, before_end(source, lines)))
 }
 
-/// The number of the line that tells the number of outputs, the first before the end.
+/// The number of the first line before the end that gives the number of outputs.
 pub fn outputs_line(source: &[u8], lines: &[Line]) -> Option<usize>
     ensures { result ≡ outputs_line (map (entry_at source.now) lines.now) }
 {

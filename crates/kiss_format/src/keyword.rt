@@ -1,8 +1,8 @@
-//! What a logical line is, by its first word.
+//! The kind of a logical line of a KISS2 table, by its first word (`specs/Keywords.antt`).
 
 ghost use Rattle.std.specs.Prelude.{◌≡◌, if◌then◌else◌};
 ghost use Rattle.sis_text.specs.Words.{begins_with};
-ghost use Rattle.kiss_format.specs.Keywords.{keyword_of as kind_by};
+ghost use Rattle.kiss_format.specs.Keywords.{keyword_of};
 ghost use Rattle.kiss_format.specs.declared.keyword.Keyword.{Keyword};
 
 /// The kinds of lines: the dotted words that are known, rows, and every other dotted word.
@@ -21,7 +21,7 @@ pub enum Keyword {
 /// What a line is, by its first word.
 #[tactic(auto, unfolding(crate::specs::Keywords::keyword_of))]
 pub fn keyword_of(word: &[u8]) -> Keyword
-    ensures { result ≡ kind_by word.now }
+    ensures { result ≡ keyword_of word.now }
 {
     if word == b".i".as_slice() {
         Keyword::Inputs

@@ -1,16 +1,18 @@
 //! KISS2 tables (SIS report, UCB/ERL M92/41): read as machines, and written.
 //!
-//! `specs/Lines` says what is wrong with a line, given the lines before it; `specs/Reader` what must hold of the whole
-//! table, and the machine that the lines say. `read` answers that machine or the first fault, exactly. The code takes
-//! line by line into a draft (`specs/Steps`); that its steps come to the definition is proved once, for all lists of
-//! lines. What is read is sound. `laws` says that what is written is read again: a table has no names of ports, so they
-//! are made (`specs/Trips`).
+//! `specs/Lines.antt` says what is wrong with a line, given the lines before it;
+//! `specs/Reader.antt` says what must hold of the whole table, and which machine the lines
+//! describe. `read` returns exactly that machine or the first fault. The code takes line after line
+//! into a draft (`specs/Steps.antt`); a proof for all lists of lines says that its steps agree with
+//! the definition. What is read is sound. `laws` says that what is written is read again: a table
+//! has no names of ports, so these are made (`specs/Trips.antt`).
 //!
-//! `machine_text` puts just the definition's text (`text_of` of `circuit_model`, `specs/MachineText`) behind what is there: header lines, a line
-//! for each row, an end. An error there only for want of memory. Rows are compared for clashes (De Micheli, "Synthesis and
-//! Optimization of Digital Circuits", chapter 9) in groups by their current states (`specs/Groups`): a row of one state with
-//! those of its own group and with those of every state. Found are just the definition's rows, the least later one and the
-//! least one before it that it clashes with.
+//! `machine_text` appends exactly the definition's text (`text_of` of `circuit_model`,
+//! `specs/MachineText.antt`): header lines, a line for each row, an end. Rows are compared for
+//! clashes (De Micheli, "Synthesis and Optimization of Digital Circuits", chapter 9) in groups by
+//! their current states (`specs/Groups.antt`): a row of one state with those of its own group and
+//! with those of every state. The rows found are those of the definition, the first later one and
+//! the first one before it that it clashes with.
 #![tactic(auto)]
 
 mod draft;

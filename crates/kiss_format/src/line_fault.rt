@@ -1,8 +1,13 @@
 //! What is wrong with a line: the first of its causes.
+//!
+//! Source: SIS report (UCB/ERL M92/41), KISS2 tables; the order of the causes and the limits are
+//! the project's own (`specs/Lines.antt`). The calls get what the lines before said: the numbers of
+//! ports, the reset state's name and the number of rows. Each returns exactly the fault of the
+//! definition, for a header line or for the form of a row.
 
 ghost use Rattle.std.specs.Prelude.{◌≡◌, None, List, ℕ, length};
 ghost use Rattle.line_words.specs.LineWords.{texts};
-ghost use Rattle.kiss_format.specs.Lines.{is_one_word as is_one, is_cube as is_cube_by, is_row_of as is_row_by, long_fault as long_among, state_words as state_words_of, count_fault as count_fault_by, word_fault as word_fault_by, reset_fault as reset_fault_by, form_fault as form_fault_by};
+ghost use Rattle.kiss_format.specs.Lines.{is_one_word, is_cube, is_row_of, long_fault, state_words, count_fault, word_fault, reset_fault, form_fault};
 
 use crate::fault::{KissFault, LimitKind};
 use crate::number::count_in;
@@ -10,9 +15,9 @@ use circuit_model::Name;
 use line_words::{are_characters, long_name};
 use sis_base::limits::MAX_MACHINE_ROWS;
 
-/// Whether there is just one word.
+/// Whether there is exactly one word.
 fn is_one_word(words: &[&[u8]]) -> bool
-    ensures { result ≡ is_one (texts words.now) }
+    ensures { result ≡ is_one_word (texts words.now) }
 {
     match words {
         [_] => true,
@@ -22,7 +27,7 @@ fn is_one_word(words: &[&[u8]]) -> bool
 
 /// The fault of the first word that is longer than a name may be.
 fn long_fault(words: &[&[u8]]) -> Option<KissFault>
-    ensures { result ≡ long_among (texts words.now) }
+    ensures { result ≡ long_fault (texts words.now) }
 {
     match long_name(words) {
         None => None,
@@ -30,8 +35,8 @@ fn long_fault(words: &[&[u8]]) -> Option<KissFault>
     }
 }
 
-/// What is wrong with the words behind the first of a line of a number; `told` is what such a line told before, and
-/// `rows` are before it.
+/// What is wrong with the words after the first of a line of a number; `told` is what an earlier
+/// such line said, and `rows` rows come before it.
 #[tactic(auto, unfolding(crate::specs::Lines::count_fault))]
 pub fn count_fault(
     told: Option<usize>,
@@ -39,7 +44,7 @@ pub fn count_fault(
     number: usize,
     words: &[&[u8]],
 ) -> Option<KissFault>
-    ensures { result ≡ count_fault_by told rows number (texts words.now) }
+    ensures { result ≡ count_fault told rows number (texts words.now) }
 {
     if told.is_some() || rows != 0 || count_in(words).is_none() {
         return Some(KissFault::BadHeader(number));
@@ -47,10 +52,10 @@ pub fn count_fault(
     None
 }
 
-/// What is wrong with the words behind the first of a line of one word.
+/// What is wrong with the words after the first of a line of one word.
 #[tactic(auto, unfolding(crate::specs::Lines::word_fault))]
 pub fn word_fault(number: usize, words: &[&[u8]]) -> Option<KissFault>
-    ensures { result ≡ word_fault_by number (texts words.now) }
+    ensures { result ≡ word_fault number (texts words.now) }
 {
     if !is_one_word(words) {
         return Some(KissFault::BadHeader(number));
@@ -58,10 +63,11 @@ pub fn word_fault(number: usize, words: &[&[u8]]) -> Option<KissFault>
     None
 }
 
-/// What is wrong with the words behind the first of an `.r` line; `told` is what such a line told before.
+/// What is wrong with the words after the first of an `.r` line; `told` is what an earlier such
+/// line said.
 #[tactic(auto, unfolding(crate::specs::Lines::reset_fault, crate::specs::Lines::first_of))]
 pub fn reset_fault(told: &Option<Name>, number: usize, words: &[&[u8]]) -> Option<KissFault>
-    ensures { result ≡ reset_fault_by told.now number (texts words.now) }
+    ensures { result ≡ reset_fault told.now number (texts words.now) }
 {
     if told.is_some() || !is_one_word(words) {
         return Some(KissFault::BadHeader(number));
@@ -69,9 +75,9 @@ pub fn reset_fault(told: &Option<Name>, number: usize, words: &[&[u8]]) -> Optio
     long_fault(words)
 }
 
-/// Whether bytes are as many cube characters as were told.
+/// Whether bytes are cube characters, as many as the header gave.
 fn is_cube(told: Option<usize>, bytes: &[u8]) -> bool
-    ensures { result ≡ is_cube_by told bytes.now }
+    ensures { result ≡ is_cube told bytes.now }
 {
     match told {
         None => false,
@@ -81,7 +87,7 @@ fn is_cube(told: Option<usize>, bytes: &[u8]) -> bool
 
 /// Whether words are those of a row.
 fn is_row(inputs: Option<usize>, outputs: Option<usize>, words: &[&[u8]]) -> bool
-    ensures { result ≡ is_row_by inputs outputs (texts words.now) }
+    ensures { result ≡ is_row_of inputs outputs (texts words.now) }
 {
     match words {
         [input, _, _, output] => is_cube(inputs, input) && is_cube(outputs, output),
@@ -91,7 +97,7 @@ fn is_row(inputs: Option<usize>, outputs: Option<usize>, words: &[&[u8]]) -> boo
 
 /// The current and the next state of a row's words.
 fn state_words<'a, 'w>(words: &'w [&'a [u8]]) -> &'w [&'a [u8]]
-    ensures { texts result.now ≡ state_words_of (texts words.now) }
+    ensures { texts result.now ≡ state_words (texts words.now) }
 {
     match words {
         [_, states @ .., _] if words.len() == 4 => states,
@@ -99,7 +105,7 @@ fn state_words<'a, 'w>(words: &'w [&'a [u8]]) -> &'w [&'a [u8]]
     }
 }
 
-/// What is wrong with the words of a row, by its form; `rows` are before it.
+/// What is wrong with the form of a row's words, after `rows` rows.
 #[tactic(auto, unfolding(crate::specs::Lines::form_fault, crate::specs::Lines::first_of))]
 pub fn form_fault(
     inputs: Option<usize>,
@@ -108,7 +114,7 @@ pub fn form_fault(
     number: usize,
     words: &[&[u8]],
 ) -> Option<KissFault>
-    ensures { result ≡ form_fault_by inputs outputs rows number (texts words.now) }
+    ensures { result ≡ form_fault inputs outputs rows number (texts words.now) }
 {
     if inputs.is_none() || outputs.is_none() {
         return Some(KissFault::BadHeader(number));

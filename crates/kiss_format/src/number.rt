@@ -1,27 +1,15 @@
-//! Numbers of inputs and outputs.
+//! The numbers of inputs and outputs: decimal numerals of one to four digits without a leading
+//! zero, from 1 to `MAX_PORTS`.
 
-ghost use Rattle.std.specs.Prelude.{◌≡◌, ◌≤◌, ◌<◌, ◌^◌, true, length};
+ghost use Rattle.std.specs.Prelude.{◌≡◌, ◌≤◌, true, length};
 ghost use Rattle.std.specs.List.{list_all};
 ghost use Rattle.sis_text.specs.Words.{begins_with};
-ghost use Rattle.sis_text.specs.Decimals.{is_digit as is_digit_byte, number_of as number_by};
-ghost use Rattle.kiss_format.specs.Lines.{is_numeral as is_numeral_word, count_of as count_by, count_in as count_among};
+ghost use Rattle.sis_text.specs.Decimals.{is_digit};
+ghost use Rattle.kiss_format.specs.Lines.{is_numeral, count_of, count_in};
 ghost use Rattle.line_words.specs.LineWords.{texts};
 
 use sis_base::limits::MAX_PORTS;
-
-/// Whether a byte is a decimal digit.
-fn is_digit(byte: u8) -> bool
-    ensures { result ≡ is_digit_byte byte }
-{
-    b'0' <= byte && byte <= b'9'
-}
-
-/// Whether all bytes are decimal digits.
-fn are_digits(bytes: &[u8]) -> bool
-    ensures { result ≡ list_all is_digit_byte bytes.now }
-{
-    bytes.iter().all(|byte| is_digit(*byte))
-}
+use sis_text::{are_digits, number_of};
 
 /// Whether the first byte is `0`.
 fn begins_with_zero(word: &[u8]) -> bool
@@ -33,24 +21,10 @@ fn begins_with_zero(word: &[u8]) -> bool
     }
 }
 
-/// The number that digits write.
-#[tactic(auto, using(sis_text::proofs::DecimalSteps::small))]
-fn number_of(digits: &[u8]) -> usize
-    requires few { length digits.now ≤ 4 }
-    requires digits { list_all is_digit_byte digits.now ≡ true }
-    ensures { result ≡ number_by digits.now }
-{
-    let mut number = 0;
-    for digit in digits {
-        number = number * 10 + (*digit - b'0') as usize;
-    }
-    number
-}
-
 /// Whether a word is one of one to four digits, the first not `0`.
 fn is_numeral(word: &[u8]) -> bool
-    ensures value { result ≡ is_numeral_word word.now }
-    ensures digits { result ≡ true → list_all is_digit_byte word.now ≡ true }
+    ensures value { result ≡ is_numeral word.now }
+    ensures digits { result ≡ true → list_all is_digit word.now ≡ true }
     ensures few { result ≡ true → length word.now ≤ 4 }
 {
     if !are_digits(word) || word.is_empty() || word.len() > 4 {
@@ -59,24 +33,24 @@ fn is_numeral(word: &[u8]) -> bool
     !begins_with_zero(word)
 }
 
-/// The number from 1 to `MAX_PORTS` that a word writes, without a leading zero.
+/// The number from 1 to `MAX_PORTS` that a word denotes, without a leading zero.
 #[tactic(auto, unfolding(crate::specs::Lines::count_of))]
 fn count_of(word: &[u8]) -> Option<usize>
-    ensures { result ≡ count_by word.now }
+    ensures { result ≡ count_of word.now }
 {
     if !is_numeral(word) {
         return None;
     }
     let number = number_of(word);
-    if number > MAX_PORTS {
+    if number > MAX_PORTS as u128 {
         return None;
     }
-    Some(number)
+    Some(number as usize)
 }
 
-/// The number from 1 to `MAX_PORTS` that one word alone writes.
+/// The number from 1 to `MAX_PORTS` of a single word.
 pub fn count_in(words: &[&[u8]]) -> Option<usize>
-    ensures { result ≡ count_among (texts words.now) }
+    ensures { result ≡ count_in (texts words.now) }
 {
     match words {
         [word] => count_of(word),

@@ -1,14 +1,19 @@
 //! Reads a text as a machine.
+//!
+//! Source: SIS report (UCB/ERL M92/41), KISS2 tables. The logical lines before the first end are
+//! taken one by one into a draft, up to the first with a fault; then the whole is checked. `read`
+//! and `read_lines` return exactly the machine or the fault of `read_lines` in `specs/Reader.antt`.
+//! Callers rely on the machine being sound; for `read_lines`, if the words of the lines are proper.
 
 ghost use Rattle.std.specs.Prelude.{◌≡◌, not, map, length, IfOk};
 ghost use Rattle.std.specs.List.{All, take_while};
 ghost use Rattle.sis_text.specs.declared.places.Line.{Line};
 ghost use Rattle.sis_text.specs.Entries.{entry_at, entries_of};
 ghost use Rattle.sis_text.specs.Order.{IsProper, is_plain};
-ghost use Rattle.circuit_model.specs.MachineSoundness.{IsSound};
-ghost use Rattle.kiss_format.specs.Keywords.{kind_of, is_end_kind, before_end as before_end_of};
-ghost use Rattle.kiss_format.specs.Steps.{take_entry, take_entries, no_lines, finish as finish_by, Takes, Makes};
-ghost use Rattle.kiss_format.specs.Reader.{read_lines as read_by, Reads};
+ghost use Rattle.circuit_model.specs.MachineSoundness.{IsSoundMachine};
+ghost use Rattle.kiss_format.specs.Keywords.{kind_of, is_end_kind, before_end};
+ghost use Rattle.kiss_format.specs.Steps.{take_entry, take_entries, no_lines, finish, Takes, Makes};
+ghost use Rattle.kiss_format.specs.Reader.{read_machine_lines, Reads};
 
 use crate::draft::Draft;
 use crate::fault::ReadFault;
@@ -47,9 +52,10 @@ fn is_end(source: &[u8], line: &Line) -> bool
     is_end_kind(kind_at(source, line))
 }
 
-/// How many lines stand before the first end.
+/// The number of lines before the first end.
 fn end_place(source: &[u8], lines: &[Line]) -> usize
-    ensures { result ≡ length (take_while (λ (line : Line). not (is_end_kind (kind_of (entry_at source.now line)))) lines.now) }
+    ensures { result ≡ length (take_while (λ (line : Line). not
+        (is_end_kind (kind_of (entry_at source.now line)))) lines.now) }
 {
     lines
         .iter()
@@ -59,12 +65,13 @@ fn end_place(source: &[u8], lines: &[Line]) -> usize
 
 /// The lines before the first end.
 pub fn before_end<'a>(source: &[u8], lines: &'a [Line]) -> &'a [Line]
-    ensures { map (entry_at source.now) result.now ≡ before_end_of (map (entry_at source.now) lines.now) }
+    ensures { map (entry_at source.now) result.now ≡ before_end
+        (map (entry_at source.now) lines.now) }
 {
     &lines[..end_place(source, lines)]
 }
 
-/// Takes one logical line of a text.
+/// Reads one logical line of a text.
 fn take_line(source: &[u8], line: &Line, draft: &mut Draft, alloc: Global) -> Result<(), ReadFault>
     ensures { Takes result draft.new (take_entry draft.old (entry_at source.now line.now)) }
 {
@@ -72,7 +79,7 @@ fn take_line(source: &[u8], line: &Line, draft: &mut Draft, alloc: Global) -> Re
     draft.take(alloc, line.number, words.as_slice())
 }
 
-/// Takes the logical lines of a text, up to the first that has a fault.
+/// Reads the logical lines of a text, up to the first that has a fault.
 fn take_lines(
     source: &[u8],
     lines: &[Line],
@@ -87,8 +94,8 @@ fn take_lines(
     Ok(())
 }
 
-/// Makes a machine the one that the lines of a text before the first end say, line by line. After an error the machine
-/// stands for nothing.
+/// Sets a machine to the one that the lines of a text before the first end describe, line by line.
+/// After an error the machine has no meaning.
 fn take_all(
     source: &[u8],
     lines: &[Line],
@@ -96,7 +103,8 @@ fn take_all(
     machine: &mut Machine,
     alloc: Global,
 ) -> Result<(), ReadFault>
-    ensures { Makes result machine.new (finish_by (take_entries draft.old (before_end_of (map (entry_at source.now) lines.now)))) }
+    ensures { Makes result machine.new (finish (take_entries draft.old
+        (before_end (map (entry_at source.now) lines.now)))) }
 {
     take_lines(source, before_end(source, lines), draft, alloc)?;
     finish(alloc, draft, machine)
@@ -104,9 +112,10 @@ fn take_all(
 
 /// Reads the lines of a text before the first end, line by line.
 fn read_by_steps(alloc: Global, source: &[u8], lines: &[Line]) -> Result<Machine, ReadFault>
-    ensures { Reads result (finish_by (take_entries no_lines (before_end_of (map (entry_at source.now) lines.now)))) }
+    ensures { Reads result (finish (take_entries no_lines
+        (before_end (map (entry_at source.now) lines.now)))) }
 {
-    // Wholes, so that letting each go is one call.
+    // Each is wrapped in a `Whole`, so that dropping it is one call.
     let mut draft = Whole {
         it: Draft::new(alloc),
     };
@@ -117,20 +126,22 @@ fn read_by_steps(alloc: Global, source: &[u8], lines: &[Line]) -> Result<Machine
     Ok(machine.into_it())
 }
 
-/// Reads logical lines of a text as a machine. An error says the first fault of a line, in file order, else the first of
-/// the whole; or that memory was wanting. What is read of lines of words is sound.
+/// Reads logical lines of a text as a machine. An error is the first fault of a line, in file
+/// order, otherwise the first of the whole; or want of memory. What is read from lines of words is
+/// sound.
 pub fn read_lines(alloc: Global, bytes: &[u8], lines: &[Line]) -> Result<Machine, ReadFault>
-    ensures value { Reads result (read_by (map (entry_at bytes.now) lines.now)) }
-    ensures sound { All (IsProper is_plain) (map (entry_at bytes.now) lines.now) → IfOk result (λ machine. IsSound machine) }
+    ensures value { Reads result (read_machine_lines (map (entry_at bytes.now) lines.now)) }
+    ensures sound { All (IsProper is_plain) (map (entry_at bytes.now) lines.now) → IfOk result
+        (λ machine. IsSoundMachine machine) }
 {
     read_by_steps(alloc, bytes, lines)
 }
 
-/// Reads a text as a machine. An error says the first fault of a line, in file order, else the first of the whole; or
-/// that memory was wanting. What is read is sound.
+/// Reads a text as a machine. An error is the first fault of a line, in file order, otherwise the
+/// first of the whole; or want of memory. What is read is sound.
 pub fn read(alloc: Global, bytes: &[u8]) -> Result<Machine, ReadFault>
-    ensures value { Reads result (read_by (entries_of bytes.now)) }
-    ensures sound { IfOk result (λ machine. IsSound machine) }
+    ensures value { Reads result (read_machine_lines (entries_of bytes.now)) }
+    ensures sound { IfOk result (λ machine. IsSoundMachine machine) }
 {
     let lines = logical_lines(alloc, bytes)?;
     read_lines(alloc, bytes, lines.as_slice())

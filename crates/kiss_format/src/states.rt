@@ -1,8 +1,13 @@
-//! The states that rows name, in the order in which they come first, looked up by their names.
+//! The states that rows name, in order of first mention, looked up by their names.
+//!
+//! A `StateNames` is a set of different names; contracts see their list, and the index of a name is
+//! the number of its state. `mention_all` adds the states of a row, without `*`, `ANY` and `-`,
+//! which stand for every state or an open one (`specs/Lines.antt`). `state` returns the number of a
+//! word's state, and none for those words.
 
 ghost use Rattle.std.specs.Prelude.{◌≡◌, [], ◌∷◌, not, length, IfOk, OnOk};
 ghost use Rattle.std.specs.List.{filter};
-ghost use Rattle.circuit_model.specs.MachineSoundness.{is_any as is_any_word};
+ghost use Rattle.circuit_model.specs.MachineSoundness.{is_any};
 ghost use Rattle.kiss_format.specs.Lines.{with_state, with_states, named_states};
 ghost use Rattle.kiss_format.specs.Reader.{place_of, state_of};
 ghost use Rattle.line_words.specs.LineWords.{texts};
@@ -14,7 +19,7 @@ use sis_base::{Copied, Sequence};
 use std::alloc::{AllocError, Global};
 use std::marker::Model;
 
-/// Different names, which contracts see as the list of them in the order in which they came.
+/// Different names. Contracts see their list, in order of first mention.
 #[derive(Drop)]
 pub struct StateNames {
     names: IndexSet<Name>,
@@ -28,9 +33,9 @@ impl Model for StateNames {
     ghost view = { λ states. states.names.keys };
 }
 
-/// Whether a word stands for every state, or for an open one.
+/// Whether a word means every state, or an open one.
 pub fn is_any(word: &[u8]) -> bool
-    ensures { result ≡ is_any_word word.now }
+    ensures { result ≡ is_any word.now }
 {
     word == b"*".as_slice() || word == b"ANY".as_slice() || word == b"-".as_slice()
 }
@@ -52,7 +57,7 @@ impl StateNames {
         self.names.len()
     }
 
-    /// Puts a name behind the last where it is new; an error only for want of memory.
+    /// Adds a name if it is new.
     #[tactic(auto, unfolding(crate::specs::Lines::with_state))]
     fn add(&mut self, name: Name) -> Result<(), AllocError>
         ensures { OnOk result (self.new ≡ with_state self.old name) }
@@ -61,10 +66,11 @@ impl StateNames {
         Ok(())
     }
 
-    /// Puts the state that a word names behind the last where it is new; an error only for want of memory.
+    /// Adds the state that a word names, if it is new.
     #[tactic(auto, unfolding(crate::specs::Lines::with_states))]
     fn mention(&mut self, alloc: Global, word: &[u8]) -> Result<(), AllocError>
-        ensures { OnOk result (self.new ≡ with_states self.old (filter (λ one. not (is_any_word one)) (word.now ∷ []))) }
+        ensures { OnOk result (self.new ≡ with_states self.old
+            (filter (λ one. not (is_any one)) (word.now ∷ []))) }
     {
         if is_any(word) {
             return Ok(());
@@ -72,7 +78,7 @@ impl StateNames {
         self.add(name_of(alloc, word)?)
     }
 
-    /// Puts the states that a row's words name behind the last where they are new; an error only for want of memory.
+    /// Adds the states that a row's words name, if they are new.
     #[tactic(auto, unfolding(crate::specs::Lines::named_states, crate::specs::Lines::with_states))]
     pub fn mention_all(&mut self, alloc: Global, words: &[&[u8]]) -> Result<(), AllocError>
         ensures { OnOk result (self.new ≡ with_states self.old (named_states (texts words.now))) }
@@ -87,14 +93,14 @@ impl StateNames {
         }
     }
 
-    /// The place of a name; none where it is not there.
+    /// The index of a name; none if it is missing.
     pub fn place(&self, name: &Name) -> Option<usize>
         ensures { result ≡ place_of self.now name.now }
     {
         self.names.get_index_of(name)
     }
 
-    /// The state that a word of a row means; none for a word of every state. An error only for want of memory.
+    /// The state of a word of a row; none for a word of every state.
     pub fn state(&self, alloc: Global, word: &[u8]) -> Result<Option<usize>, AllocError>
         ensures { IfOk result (λ state. state ≡ state_of self.now word.now) }
     {
@@ -105,7 +111,7 @@ impl StateNames {
         Ok(self.place(&name))
     }
 
-    /// The names, in order; an error only for want of memory.
+    /// The names, in order.
     pub fn to_names(&self, alloc: Global) -> Result<Names, AllocError>
         ensures { IfOk result (λ names. names ≡ self.now) }
     {

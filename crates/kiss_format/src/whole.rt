@@ -1,10 +1,15 @@
-//! What is read of a draft behind the last line.
+//! What is read of a draft after the last line.
+//!
+//! Source: SIS report (UCB/ERL M92/41), KISS2 tables: without `.r` a machine starts in the current
+//! state of the first row that names one. `finish` checks the whole (no rows, no reset state, a
+//! clash of rows) and makes exactly the machine of `specs/Reader.antt`, with made names `top`,
+//! `IN_k` and `OUT_k`. After an error the machine has no meaning.
 
 ghost use Rattle.std.specs.Prelude.{◌≡◌, ◌++◌, ℕ, List, decimal, IfOk, OnOk};
 ghost use Rattle.std.specs.List.{filter_map};
-ghost use Rattle.circuit_model.specs.declared.machine.MachineRow.{MachineRow as TheRow};
+ghost use Rattle.circuit_model.specs.declared.machine.MachineRow.{MachineRow};
 ghost use Rattle.kiss_format.specs.Lines.{first_item};
-ghost use Rattle.kiss_format.specs.Reader.{reset_place as reset_place_by, reset_name as reset_name_by, made_names as made_names_by, machine_with, placed};
+ghost use Rattle.kiss_format.specs.Reader.{reset_place, reset_name, made_names, machine_with, placed};
 ghost use Rattle.kiss_format.specs.Steps.{Places, Makes, finished, no_parts};
 
 use crate::draft::Draft;
@@ -17,9 +22,9 @@ use sis_base::{Copied, Sequence};
 use std::alloc::{AllocError, Global};
 use std::mem;
 
-/// The current state of the first of some rows that has one.
+/// The current state of the first row that has one.
 fn first_current(rows: &[MachineRow]) -> Option<usize>
-    ensures { result ≡ first_item (filter_map (λ (row : TheRow). row.current) rows.now) }
+    ensures { result ≡ first_item (filter_map (λ (row : MachineRow). row.current) rows.now) }
 {
     for row in rows {
         if let Some(state) = row.current {
@@ -29,9 +34,9 @@ fn first_current(rows: &[MachineRow]) -> Option<usize>
     None
 }
 
-/// The place of the state that a machine starts in.
+/// The index of the state that a machine starts in.
 fn reset_place(reset: &Option<Name>, states: &StateNames, rows: &[MachineRow]) -> Option<usize>
-    ensures { result ≡ reset_place_by reset.now states.now rows.now }
+    ensures { result ≡ reset_place reset.now states.now rows.now }
 {
     match reset {
         None => first_current(rows),
@@ -39,9 +44,9 @@ fn reset_place(reset: &Option<Name>, states: &StateNames, rows: &[MachineRow]) -
     }
 }
 
-/// The name of a reset state; `*` where none is named. An error only for want of memory.
+/// The name of a reset state; `*` if none is named.
 fn reset_name(alloc: Global, reset: &Option<Name>) -> Result<Name, AllocError>
-    ensures { IfOk result (λ name. name ≡ reset_name_by reset.now) }
+    ensures { IfOk result (λ name. name ≡ reset_name reset.now) }
 {
     match reset {
         None => name_of(alloc, b"*".as_slice()),
@@ -49,7 +54,7 @@ fn reset_name(alloc: Global, reset: &Option<Name>) -> Result<Name, AllocError>
     }
 }
 
-/// The place of the reset state of some rows, or what is wrong with them.
+/// The index of the reset state of some rows, or what is wrong with them.
 fn place_reset(
     alloc: Global,
     reset: &Option<Name>,
@@ -70,7 +75,7 @@ fn place_reset(
     Ok(place)
 }
 
-/// A prefix with a number behind it; an error only for want of memory.
+/// A prefix followed by a number.
 fn made_name(alloc: Global, prefix: &[u8], number: usize) -> Result<Name, AllocError>
     ensures { IfOk result (λ name. name ≡ prefix.now ++ decimal number) }
 {
@@ -81,10 +86,10 @@ fn made_name(alloc: Global, prefix: &[u8], number: usize) -> Result<Name, AllocE
     Ok(Name::from_vec(text))
 }
 
-/// So many names, a prefix and a number from 0 on; an error only for want of memory.
+/// Made names: a prefix and a number from 0 on.
 #[tactic(auto, using(crate::proofs::MadeNames::made_more, std::proofs::lemmas::Grind::common_steps))]
 fn made_names(alloc: Global, prefix: &[u8], count: usize) -> Result<Names, AllocError>
-    ensures { IfOk result (λ names. names ≡ made_names_by prefix.now count) }
+    ensures { IfOk result (λ names. names ≡ made_names prefix.now count) }
 {
     let mut names = Sequence::new(alloc);
     for number in 0..count {
@@ -107,9 +112,10 @@ pub fn no_machine(alloc: Global) -> Machine
     }
 }
 
-/// Gives a machine the names that a draft says; an error only for want of memory.
+/// Gives a machine the names of a draft.
 fn put_names(alloc: Global, draft: &Draft, machine: &mut Machine) -> Result<(), AllocError>
-    ensures { OnOk result (machine.new ≡ machine_with draft.now.inputs draft.now.outputs draft.now.states machine.old.rows machine.old.reset) }
+    ensures { OnOk result (machine.new ≡ machine_with draft.now.inputs draft.now.outputs
+        draft.now.states machine.old.rows machine.old.reset) }
 {
     machine.name = name_of(alloc, b"top".as_slice())?;
     machine.inputs = made_names(alloc, b"IN_".as_slice(), draft.inputs.unwrap_or(0))?;
@@ -118,8 +124,8 @@ fn put_names(alloc: Global, draft: &Draft, machine: &mut Machine) -> Result<(), 
     Ok(())
 }
 
-/// Makes a machine the one that a draft says behind the last line, if nothing is wrong with the whole. After an error
-/// the machine stands for nothing.
+/// Sets a machine to the one that a draft describes after the last line, if nothing is wrong with
+/// the whole. After an error the machine has no meaning.
 #[tactic(auto, unfolding(crate::specs::Steps::finished))]
 pub fn finish(alloc: Global, draft: &mut Draft, machine: &mut Machine) -> Result<(), ReadFault>
     ensures { Makes result machine.new (finished draft.old) }

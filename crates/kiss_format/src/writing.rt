@@ -1,15 +1,20 @@
-//! The text of a machine, as it is written: each line as words with one blank between, put behind what is there.
+//! The text of a machine: each line as words with one blank between, appended to a text.
+//!
+//! Source: SIS report (UCB/ERL M92/41), KISS2 tables; `machine_text` appends exactly `machine_text_of` of
+//! `specs/MachineText.antt` in circuit_model. The text is built apart and appended when it is
+//! complete: if memory runs out, the text given stays as it was. The private calls may leave a
+//! part.
 
 ghost use Rattle.std.specs.Prelude.{◌≡◌, ◌++◌, ◌∷◌, [], map, decimal, OnOk, OnErr};
 ghost use Rattle.sis_base.specs.Written.{line_text, lines_text, joined_words};
 ghost use Rattle.circuit_model.specs.Text.{dotted};
-ghost use Rattle.circuit_model.specs.MachineText.{state_at, state_word, row_line, header_lines, text_of};
+ghost use Rattle.circuit_model.specs.MachineText.{state_at, state_word, row_line, header_lines, machine_text_of};
 
 use circuit_model::{Machine, MachineRow, Name};
 use line_words::{end_line, put_characters, put_word};
 use std::alloc::{AllocError, Global};
 
-/// Puts a line of one word.
+/// Appends a line of one word.
 #[tactic(auto, unfolding(sis_base::specs::Written::line_text, sis_base::specs::Written::joined_words), using(std::proofs::lemmas::Grind::common_steps))]
 fn put_bare_line(out: &mut Vec<u8>, first: &[u8]) -> Result<(), AllocError>
     ensures { OnOk result (out.new.items ≡ out.old.items ++ line_text (dotted first.now [])) }
@@ -20,10 +25,11 @@ fn put_bare_line(out: &mut Vec<u8>, first: &[u8]) -> Result<(), AllocError>
     Ok(())
 }
 
-/// Puts a line of two words.
+/// Appends a line of two words.
 #[tactic(auto, unfolding(sis_base::specs::Written::line_text, sis_base::specs::Written::joined_words), using(std::proofs::lemmas::Grind::common_steps))]
 fn put_line(out: &mut Vec<u8>, first: &[u8], word: &[u8]) -> Result<(), AllocError>
-    ensures { OnOk result (out.new.items ≡ out.old.items ++ line_text (dotted first.now (word.now ∷ []))) }
+    ensures { OnOk result (out.new.items ≡ out.old.items ++ line_text
+        (dotted first.now (word.now ∷ []))) }
 {
     let start = out.len();
     out.extend_from_slice(first)?;
@@ -32,16 +38,17 @@ fn put_line(out: &mut Vec<u8>, first: &[u8], word: &[u8]) -> Result<(), AllocErr
     Ok(())
 }
 
-/// Puts a line of a word and a number.
+/// Appends a line of a word and a number.
 fn put_count(alloc: Global, out: &mut Vec<u8>, first: &[u8], count: usize) -> Result<(), AllocError>
-    ensures { OnOk result (out.new.items ≡ out.old.items ++ line_text (dotted first.now (decimal count ∷ []))) }
+    ensures { OnOk result (out.new.items ≡ out.old.items ++ line_text
+        (dotted first.now (decimal count ∷ []))) }
 {
     let shown = format!(in alloc; "{count}")?;
     put_line(out, first, shown.as_bytes())?;
     Ok(())
 }
 
-/// The name of the state at a place; the empty word where there is none.
+/// The name of the state of an index; the empty word if there is none.
 fn state_at(states: &[Name], place: usize) -> &[u8]
     ensures { result.now ≡ state_at states.now place }
 {
@@ -61,10 +68,11 @@ fn state_word(states: &[Name], place: Option<usize>) -> &[u8]
     }
 }
 
-/// Puts a row without its line's end.
+/// Appends a row without its line end.
 #[tactic(auto, unfolding(circuit_model::specs::MachineText::row_line, sis_base::specs::Written::joined_words), using(std::proofs::lemmas::Grind::common_steps))]
 fn put_row_words(out: &mut Vec<u8>, states: &[Name], row: &MachineRow) -> Result<(), AllocError>
-    ensures { OnOk result (out.new.items ≡ out.old.items ++ joined_words (row_line states.now row.now)) }
+    ensures { OnOk result (out.new.items ≡ out.old.items ++ joined_words
+        (row_line states.now row.now)) }
 {
     put_characters(out, row.input.as_slice())?;
     put_word(out, state_word(states, row.current))?;
@@ -74,7 +82,7 @@ fn put_row_words(out: &mut Vec<u8>, states: &[Name], row: &MachineRow) -> Result
     Ok(())
 }
 
-/// Puts a row.
+/// Appends a row.
 #[tactic(auto, unfolding(sis_base::specs::Written::line_text), using(std::proofs::lemmas::Grind::common_steps))]
 fn put_row(out: &mut Vec<u8>, states: &[Name], row: &MachineRow) -> Result<(), AllocError>
     ensures { OnOk result (out.new.items ≡ out.old.items ++ line_text (row_line states.now row.now)) }
@@ -85,10 +93,11 @@ fn put_row(out: &mut Vec<u8>, states: &[Name], row: &MachineRow) -> Result<(), A
     Ok(())
 }
 
-/// Puts rows.
+/// Appends rows.
 #[tactic(auto, unfolding(sis_base::specs::Written::lines_text), using(std::proofs::lemmas::Grind::common_steps))]
 fn put_rows(out: &mut Vec<u8>, states: &[Name], rows: &[MachineRow]) -> Result<(), AllocError>
-    ensures { OnOk result (out.new.items ≡ out.old.items ++ lines_text (map (row_line states.now) rows.now)) }
+    ensures { OnOk result (out.new.items ≡ out.old.items ++ lines_text
+        (map (row_line states.now) rows.now)) }
 {
     for row in rows {
         put_row(out, states, row)?;
@@ -96,7 +105,7 @@ fn put_rows(out: &mut Vec<u8>, states: &[Name], rows: &[MachineRow]) -> Result<(
     Ok(())
 }
 
-/// Puts the lines before the rows.
+/// Appends the lines before the rows.
 #[tactic(auto, unfolding(circuit_model::specs::MachineText::header_lines, sis_base::specs::Written::lines_text), using(std::proofs::lemmas::Grind::common_steps))]
 fn put_headers(alloc: Global, out: &mut Vec<u8>, machine: &Machine) -> Result<(), AllocError>
     ensures { OnOk result (out.new.items ≡ out.old.items ++ lines_text (header_lines machine.now)) }
@@ -113,10 +122,10 @@ fn put_headers(alloc: Global, out: &mut Vec<u8>, machine: &Machine) -> Result<()
     Ok(())
 }
 
-/// Puts a machine's text.
-#[tactic(auto, unfolding(circuit_model::specs::MachineText::text_of, circuit_model::specs::MachineText::machine_lines, sis_base::specs::Written::lines_text), using(std::proofs::lemmas::Grind::common_steps))]
+/// Appends a machine's text.
+#[tactic(auto, unfolding(circuit_model::specs::MachineText::machine_text_of, circuit_model::specs::MachineText::machine_lines, sis_base::specs::Written::lines_text), using(std::proofs::lemmas::Grind::common_steps))]
 fn put_machine(alloc: Global, out: &mut Vec<u8>, machine: &Machine) -> Result<(), AllocError>
-    ensures { OnOk result (out.new.items ≡ out.old.items ++ text_of machine.now) }
+    ensures { OnOk result (out.new.items ≡ out.old.items ++ machine_text_of machine.now) }
 {
     put_headers(alloc, out, machine)?;
     put_rows(out, machine.states.as_slice(), machine.rows.as_slice())?;
@@ -124,10 +133,10 @@ fn put_machine(alloc: Global, out: &mut Vec<u8>, machine: &Machine) -> Result<()
     Ok(())
 }
 
-/// Puts the text of a machine behind what is there: the numbers of inputs, outputs, rows and states, the reset state, the
-/// rows, the end; each line unwrapped. An error only for want of memory; then nothing is put.
+/// Appends the text of a machine: the numbers of inputs, outputs, rows and states, the reset state,
+/// the rows, the end; no line is wrapped. On an error the text given stays as it was.
 pub fn machine_text(alloc: Global, machine: &Machine, out: &mut Vec<u8>) -> Result<(), AllocError>
-    ensures ok { OnOk result (out.new.items ≡ out.old.items ++ text_of machine.now) }
+    ensures ok { OnOk result (out.new.items ≡ out.old.items ++ machine_text_of machine.now) }
     ensures err { OnErr result (out.new.items ≡ out.old.items) }
 {
     let mut text = Vec::new(alloc);

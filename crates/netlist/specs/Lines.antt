@@ -1,8 +1,7 @@
--- The one BLIF text of a netlist.
--- Source: the BLIF appendix of the SIS report (UCB/ERL M92/41), `.gate`: behind the name of the
--- cell stands a word `pin=signal` for each pin and for the output. That the gates stand between the
--- latches and the tables, the pins in the order of the cell and the output last, is the project's
--- own; all else is as in the text of a circuit.
+-- The one BLIF text of a netlist. Source: the BLIF appendix of the SIS report (UCB/ERL M92/41),
+-- `.gate`: the name of the cell is followed by a word `pin=signal` for each pin and for the output.
+-- That the gates are between the latches and the tables, the pins in the order of the cell and the
+-- output last, is the project's own; all else is as in the text of a circuit.
 use Rattle.std.specs.Prelude.{ℕ, List, [], ◌∷◌, ◌++◌, map, flat_map, codes}
 use Rattle.sis_base.specs.Written.{Written, lines_text}
 use Rattle.circuit_model.specs.Text.{dotted, clock_lines, latch_line, table_lines, dont_care_lines}

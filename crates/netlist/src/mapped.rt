@@ -1,9 +1,10 @@
-//! The types of netlists.
+//! The types of netlists. They have no invariants; `specs/Netlists.antt` and `specs/Figures.antt`
+//! say when a netlist is sound and which gates belong to which tree.
 
 use circuit_model::Circuit;
 use sis_base::{Name, Sequence};
 
-/// A pin of a gate, or its output, and the signal that stands there.
+/// A pin of a gate, or its output, and its signal.
 #[derive(Debug, Drop, PartialEq)]
 pub struct Connection {
     pub pin: Name,
@@ -17,15 +18,15 @@ pub type Gates = Sequence<Placed>;
 /// The figures of trees, in order.
 pub type TreeFigures = Sequence<TreeFigure>;
 
-/// A gate of a netlist: the name of its cell, and what its pins stand at, in the order of the cell,
-/// its output last.
+/// A gate of a netlist: the name of its cell, and its pins with their signals, in the order of the
+/// cell, the output last.
 #[derive(Debug, Drop, PartialEq)]
 pub struct Placed {
     pub cell: Name,
     pub pins: Connections,
 }
 
-/// What was found for a subject tree: the name of its root, what its cover costs in millionths, and
+/// The result for a subject tree: the name of its root, the cost of its cover in millionths, and
 /// how many gates of the netlist are its own.
 #[derive(Debug, Drop, PartialEq)]
 pub struct TreeFigure {
@@ -34,8 +35,8 @@ pub struct TreeFigure {
     pub gates: usize,
 }
 
-/// A mapped netlist: gates of a library, and beside them the circuit of all that is no gate. The
-/// gates stand tree by tree.
+/// A mapped netlist: gates of a library, and the circuit of all that is not a gate. The gates are
+/// in the order of the trees.
 #[derive(Debug, Drop, PartialEq)]
 pub struct Mapped {
     pub base: Circuit,
