@@ -5,7 +5,7 @@ use Rattle.alg_div.specs.Cubes.{Has}
 use Rattle.alg_div.proofs.Lists.{Has-map}
 use Rattle.alg_kernel.specs.Kernels.{IsKernel, AreKernels, MoreKernels, rows_in}
 use Rattle.alg_kernel.specs.declared.search.KernelFault.{KernelFault}
-use Rattle.alg_kernel.specs.declared.search.KernelFault.TheVariants.{KernelLimit, Memory as KernelMemory}
+use Rattle.alg_kernel.specs.declared.search.KernelFault.TheVariants.{KernelLimit, Memory}
 use Rattle.net_candidates.specs.Candidates.{cubes_of, IsKernelOf}
 use Rattle.net_candidates.specs.Extracting.{HasManyKernels}
 use Rattle.net_candidates.specs.declared.rule.Rule.{Rule}
@@ -13,7 +13,7 @@ use Rattle.net_candidates.specs.declared.rule.Rule.TheVariants.{Gkx}
 use Rattle.cover_names.specs.Literals.{Cube, NamedCover, sorted_cube}
 use Rattle.cover_names.specs.Cubes.{cube_over, cover_over}
 use Rattle.net_core.specs.Tables.{places_of, characters_of, named, IsOverInputs}
-use Rattle.net_core.specs.declared.table.Table.{Table}
+use Rattle.net_core.specs.declared.table.CoverTable.{CoverTable}
 use Rattle.net_core.proofs.Rows.{places_back, all_places_back}
 use Rattle.alg_tables.proofs.Quotients.{image_has}
 use Rattle.net_candidates.specs.Faults.{fault_of}
@@ -27,29 +27,29 @@ cubes_back names [] = refl
 cubes_back names (row ∷ rows) =
     ap₂ (λ (cube : Cube) (cubes : List Cube). cube ∷ cubes) (ap (λ (r : List (Option Bool)). sorted_cube (cube_over names r)) (places_back row)) (cubes_back names rows)
 
-pub cubes_named : {R : Type 0} (output : List ℕ) (table : Table R) → map (λ row. sorted_cube (cube_over table.inputs row)) table.cover.rows ≡ cubes_of (named output table)
+pub cubes_named : {R : Type 0} (output : List ℕ) (table : CoverTable R) → map (λ row. sorted_cube (cube_over table.inputs row)) table.cover.rows ≡ cubes_of (named output table)
 unfolding named
 cubes_named output table = sym (cubes_back table.inputs table.cover.rows)
 
-pub cubes_told : {R : Type 0} (output : List ℕ) (table : Table R) (names : List (List ℕ)) (rows : List (List (Option Bool))) (cubes : List Cube) → names ≡ table.inputs → rows ≡ table.cover.rows
+pub cubes_told : {R : Type 0} (output : List ℕ) (table : CoverTable R) (names : List (List ℕ)) (rows : List (List (Option Bool))) (cubes : List Cube) → names ≡ table.inputs → rows ≡ table.cover.rows
     → cubes ≡ map (λ row. sorted_cube (cube_over names row)) rows → cubes ≡ cubes_of (named output table)
 cubes_told output table names rows cubes over among e =
     e ∙ (ap₂ (λ (ns : List (List ℕ)) (rs : List (List (Option Bool))). map (λ row. sorted_cube (cube_over ns row)) rs) over among ∙ cubes_named output table)
 
 -- what holds of the cover's rows over the inputs holds of the places of their characters, and back
-moved : {R : Type 0} (table : Table R) → IsOverInputs table → (P : ℕ → List (List (Option Bool)) → Type 0) → P table.cover.width table.cover.rows
+moved : {R : Type 0} (table : CoverTable R) → IsOverInputs table → (P : ℕ → List (List (Option Bool)) → Type 0) → P table.cover.width table.cover.rows
     → P (length table.inputs) (map places_of (map characters_of table.cover.rows))
 moved table over P k =
     subst (λ (width : ℕ). P width (map places_of (map characters_of table.cover.rows))) over
     (subst (λ (rows : List (List (Option Bool))). P table.cover.width rows) (sym (all_places_back table.cover.rows)) k)
 
-moved_back : {R : Type 0} (table : Table R) → IsOverInputs table → (P : ℕ → List (List (Option Bool)) → Type 0) → P (length table.inputs) (map places_of (map characters_of table.cover.rows))
+moved_back : {R : Type 0} (table : CoverTable R) → IsOverInputs table → (P : ℕ → List (List (Option Bool)) → Type 0) → P (length table.inputs) (map places_of (map characters_of table.cover.rows))
     → P table.cover.width table.cover.rows
 moved_back table over P k =
     subst (λ (width : ℕ). P width table.cover.rows) (sym over)
     (subst (λ (rows : List (List (Option Bool))). P (length table.inputs) rows) (all_places_back table.cover.rows) k)
 
-pub kernels_own : {R : Type 0} (output : List ℕ) (table : Table R) (kernels : List (List (List (Option Bool)))) → IsOverInputs table
+pub kernels_own : {R : Type 0} (output : List ℕ) (table : CoverTable R) (kernels : List (List (List (Option Bool)))) → IsOverInputs table
     → AreKernels table.cover.width table.cover.rows kernels → (cover : NamedCover) → Has cover (map (cover_over table.inputs) kernels) ↔ IsKernelOf (named output table) cover
 unfolding named
 kernels_own output table kernels over are cover = (
@@ -65,13 +65,13 @@ kernels_own output table kernels over are cover = (
       (Has-map (cover_over table.inputs) k.rows kernels (are.every k.rows (moved_back table over (λ (width : ℕ) (f : List (List (Option Bool))). IsKernel width f k.rows) k.kernel))),
 )
 
-pub many_kernels : {R : Type 0} (output : List ℕ) (table : Table R) → IsOverInputs table → MoreKernels MAX_KERNELS table.cover.width table.cover.rows ↔ HasManyKernels Gkx (named output table)
+pub many_kernels : {R : Type 0} (output : List ℕ) (table : CoverTable R) → IsOverInputs table → MoreKernels MAX_KERNELS table.cover.width table.cover.rows ↔ HasManyKernels Gkx (named output table)
 unfolding named
 many_kernels output table over = (moved table over (MoreKernels MAX_KERNELS), moved_back table over (MoreKernels MAX_KERNELS))
 
 -- ---- what is answered where kernels are asked for
 
-pub gkx_own : {R : Type 0} (rule : Rule) (output : List ℕ) (table : Table R) (names : List (List ℕ)) (covers kernels : List Shape) (made : List NamedCover) → rule ≡ Gkx → IsOverInputs table
+pub gkx_own : {R : Type 0} (rule : Rule) (output : List ℕ) (table : CoverTable R) (names : List (List ℕ)) (covers kernels : List Shape) (made : List NamedCover) → rule ≡ Gkx → IsOverInputs table
     → names ≡ table.inputs → covers ≡ kernels → made ≡ map (cover_over names) (rows_in covers) → AreKernels table.cover.width table.cover.rows (rows_in kernels)
     → (cover : NamedCover) → Has cover made ↔ IsOwn rule (named output table) cover
 gkx_own rule output table names covers kernels made asked over same those e are cover =
@@ -80,16 +80,16 @@ gkx_own rule output table names covers kernels made asked over same those e are 
     (sym (e ∙ ap₂ (λ (ns : List (List ℕ)) (ks : List Shape). map (cover_over ns) (rows_in ks)) same those))
     (kernels_own output table (rows_in kernels) over are cover))
 
-pub gkx_listable : {R : Type 0} (rule : Rule) (output : List ℕ) (table : Table R) → rule ≡ Gkx → IsOverInputs table → (MoreKernels MAX_KERNELS table.cover.width table.cover.rows → ⊥)
+pub gkx_listable : {R : Type 0} (rule : Rule) (output : List ℕ) (table : CoverTable R) → rule ≡ Gkx → IsOverInputs table → (MoreKernels MAX_KERNELS table.cover.width table.cover.rows → ⊥)
     → HasManyKernels rule (named output table) → ⊥
 gkx_listable rule output table asked over few many =
     few ((many_kernels output table over).1 (subst (λ (r : Rule). HasManyKernels r (named output table)) asked many))
 
 limit_of : (fault : KernelFault) → fault_of fault ≡ ManyKernels → fault ≡ KernelLimit
 limit_of KernelLimit e = refl
-limit_of KernelMemory e = absurd cc
+limit_of Memory e = absurd cc
 
-pub gkx_many : {R : Type 0} (rule : Rule) (output : List ℕ) (table : Table R) (fault : KernelFault) → rule ≡ Gkx → IsOverInputs table → fault_of fault ≡ ManyKernels
+pub gkx_many : {R : Type 0} (rule : Rule) (output : List ℕ) (table : CoverTable R) (fault : KernelFault) → rule ≡ Gkx → IsOverInputs table → fault_of fault ≡ ManyKernels
     → (fault ≡ KernelLimit → MoreKernels MAX_KERNELS table.cover.width table.cover.rows) → HasManyKernels rule (named output table)
 gkx_many rule output table fault asked over e many =
     subst (λ (r : Rule). HasManyKernels r (named output table)) (sym asked) ((many_kernels output table over).0 (many (limit_of fault e)))

@@ -24,7 +24,6 @@ use Rattle.net_candidates.proofs.Sums.{AreOnce}
 use Rattle.net_candidates.proofs.Products.{literals_in_all}
 use Rattle.net_candidates.proofs.Gains.{IsDivided, IsDivisible, divided_closed, divided_small}
 use Rattle.net_candidates.proofs.Divisors.{has_in, in_has, rising_once, IsProper, divisor_once, literals_in, rows_over_literals}
-use Rattle.net_candidates.proofs.RuleKeeping.{new_is_free}
 use Rattle.net_candidates.proofs.Usable.{all_member, all_pair, IsReader, tables_read, candidate_usable}
 use Rattle.cover_names.specs.Literals.{Cube, NamedCover, literal_cmp, cube_cmp, sorted, sorted_cube}
 use Rattle.cover_names.specs.Cubes.{cube_over, row_over, is_over}
@@ -33,6 +32,7 @@ use Rattle.cover_names.proofs.Back.{sorted_row_back}
 use Rattle.cover_names.proofs.Orders.{not_below_itself, literal_order, cube_order}
 use Rattle.cover_names.proofs.Sorting.{sorted_has, sorted_keeps, sorted_rises, rises_head, rises_tail, rises_cons, rises_none}
 use Rattle.net_core.specs.Fresh.{IsNewName}
+use Rattle.net_core.proofs.NewNames.{new_is_free}
 use Rattle.net_core.specs.Tables.{places_of}
 use Rattle.alg_tables.specs.Dividing.{divided, firsts}
 use Rattle.alg_tables.proofs.Divisions.{rows_of, divisor, found}

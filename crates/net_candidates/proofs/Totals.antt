@@ -12,12 +12,12 @@ use Rattle.net_candidates.specs.Candidates.{IsCandidate}
 use Rattle.net_candidates.specs.Extracting.{literals_after, IsListable, IsOpen, IsBest, IsDone}
 use Rattle.net_candidates.specs.declared.rule.Rule.{Rule}
 use Rattle.net_candidates.proofs.Divisors.{literals_in, cover_table_literals}
-use Rattle.net_candidates.proofs.Ends.{new_name_one}
 use Rattle.net_candidates.proofs.Gains.{literals_extracted}
 use Rattle.net_candidates.proofs.Proper.{candidate_small}
 use Rattle.net_candidates.proofs.Usable.{tables_read, candidate_usable}
 use Rattle.cover_names.specs.Literals.{NamedCover, cover_cmp}
 use Rattle.net_core.specs.Fresh.{IsNewName}
+use Rattle.net_core.proofs.NewNames.{new_name_one}
 use Rattle.alg_tables.specs.Dividing.{divided}
 
 -- how many literals tables lose when they are divided
@@ -83,7 +83,7 @@ pub done_from : (rule : Rule) (circuit : Circuit) (name : List ℕ) (total : Nam
     → IsExact rule circuit name total → ((cover : NamedCover) → IsOpen rule circuit name cover → total cover ≤ literals_in cover) → IsDone rule circuit
 done_from rule circuit name total listable new exact none = record {
   listable = listable;
-  none = λ other cover free may.
+  none = λ other free cover may.
       let same = new_name_one circuit other name free new in
       subst (λ (x : List ℕ). literals_of circuit ≤ literals_after circuit x cover) (sym same)
       (let is = subst (λ (x : List ℕ). IsOpen rule circuit x cover) same may in

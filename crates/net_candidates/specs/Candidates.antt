@@ -1,7 +1,9 @@
--- What may be extracted: sums of two cubes, products of two literals, kernels, and cubes that rows share.
--- Source: Rajski and Vasudevamurthy, "The testability-preserving concurrent decomposition and factorization of Boolean expressions" (IEEE
--- Transactions on CAD 11, 1992) for `fx`; Brayton and McMullen, "The Decomposition and Factorization of Boolean Expressions" (1982), and the
--- SIS report (UCB/ERL M92/41) for `gkx` and `gcx`; De Micheli, "Synthesis and Optimization of Digital Circuits", chapter 8.
+-- What may be extracted: sums of two cubes, products of two literals, kernels, and cubes that rows
+-- share. Source: Rajski and Vasudevamurthy, "The testability-preserving concurrent decomposition
+-- and factorization of Boolean expressions" (IEEE Transactions on CAD 11, 1992) for `fx`; Brayton
+-- and McMullen, "The Decomposition and Factorization of Boolean Expressions" (1982), and the SIS
+-- report (UCB/ERL M92/41) for `gkx` and `gcx`; De Micheli, "Synthesis and Optimization of Digital
+-- Circuits", chapter 8.
 use Rattle.std.specs.Prelude.{◌≡◌, ◌≢◌, ◌⊎◌, ◌≤◌, Bool, not, ◌&&◌, Option, List, [], ◌∷◌, ◌++◌, map, filter, flat_map, length, bytes_eq}
 use Rattle.std.specs.Bool.{beq}
 use Rattle.std.specs.List.{list_any}
@@ -37,7 +39,7 @@ own one other = filter (λ (literal : Literal). not (list_any (same_literal lite
 abbrev pub cubes_of : Table → List Cube
 cubes_of table = map (λ row. sorted_cube (cube_over table.inputs (places_of row))) table.rows
 
--- a sum of two cubes: what two rows of a table have beside what they share, where both have something
+-- a sum of two cubes: what two rows of a table have besides what they share, if both have something
 pub record IsDivisorOfTwoCubes (table : Table) (cover : NamedCover) : Type 0 where
   pub one : Cube
   pub other : Cube
@@ -65,7 +67,8 @@ pub record IsKernelOf (table : Table) (cover : NamedCover) : Type 0 where
 abbrev pub all_cubes : List Table → List Cube
 all_cubes tables = flat_map cubes_of tables
 
--- the literals that two rows of the tables share, where there are two or more: rows of one table, or of two
+-- the literals that two rows of the tables share, if there are two or more: rows of one table, or
+-- of two
 pub record IsSharedCube (tables : List Table) (cover : NamedCover) : Type 0 where
   pub one : Cube
   pub other : Cube

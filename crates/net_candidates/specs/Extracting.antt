@@ -1,15 +1,16 @@
--- Extraction: the candidate that saves most literals becomes a table, by which all tables that stood before are divided; step by step,
--- until none saves any.
--- Source: Brayton, Rudell, Sangiovanni-Vincentelli and Wang, "MIS: A Multiple-Level Logic Optimization System" (1987); the SIS report
--- (UCB/ERL M92/41), `fx`, `gkx` and `gcx`. The order among candidates that save as much, and the limits, are the project's own.
-use Rattle.std.specs.Prelude.{◌≡◌, ◌⊎◌, ℕ, ◌<◌, ◌≤◌, true, List, ◌∷◌, ◌++◌, map, length}
+-- Extraction: the candidate that saves most literals becomes a table, by which all tables that
+-- stood before are divided; step by step, until none saves any. Source: Brayton, Rudell,
+-- Sangiovanni-Vincentelli and Wang, "MIS: A Multiple-Level Logic Optimization System" (1987); the
+-- SIS report (UCB/ERL M92/41), `fx`, `gkx` and `gcx`. The order among candidates that save as much,
+-- and the limits, are the project's own.
+use Rattle.std.specs.Prelude.{◌≡◌, ◌⊎◌, ℕ, ◌<◌, ◌≤◌, true, List, map, length}
 use Rattle.std.specs.List.{AllByRecursion}
 use Rattle.std.specs.declared.cmp.Ordering.TheVariants.{Less}
 use Rattle.circuit_model.specs.Counts.{literals_of}
 use Rattle.circuit_model.specs.declared.circuit.Table.{Table}
 use Rattle.circuit_model.specs.declared.circuit.Circuit.{Circuit}
 use Rattle.alg_kernel.specs.Kernels.{MoreKernels}
-use Rattle.circuit_laws.specs.Following.{Follows}
+use Rattle.circuit_laws.specs.Greedy.{Reaches, HasEnd, HasStop, IsBestChoice, NoneSaves, IsFirstFailing}
 use Rattle.net_candidates.specs.Candidates.{IsCandidate}
 use Rattle.net_candidates.specs.declared.rule.Rule.{Rule}
 use Rattle.net_candidates.specs.declared.rule.Rule.TheVariants.{Gkx}
@@ -20,7 +21,8 @@ use Rattle.circuit_laws.specs.Splits.{with_split}
 use Rattle.alg_tables.specs.Dividing.{cover_table, divided}
 use Rattle.sis_base.specs.declared.limits.TheConstants.{MAX_INPUTS, MAX_KERNELS, MAX_NODES}
 
--- the circuit with the table of a cover under a name, its last, by which all tables that stood before are divided
+-- the circuit with the table of a cover as its last, under a name, and all earlier tables divided
+-- by it
 abbrev pub extracted : Circuit → List ℕ → NamedCover → Circuit
 extracted circuit name cover = with_split circuit (divided name true cover) (cover_table name cover)
 
@@ -35,17 +37,15 @@ pub record IsOpen (rule : Rule) (circuit : Circuit) (name : List ℕ) (cover : N
   pub added : length (cover_table name cover).inputs ≤ MAX_INPUTS
   pub changed : AllByRecursion (IsNarrow name cover) circuit.tables
 
--- how many literals there are once a cover is extracted
+-- the number of literals after a cover is extracted
 abbrev pub literals_after : Circuit → List ℕ → NamedCover → ℕ
 literals_after circuit name cover = literals_of (extracted circuit name cover)
 
--- the candidate that leaves fewest literals, and fewer than there are; of those that leave as many the first
-pub record IsBest (rule : Rule) (circuit : Circuit) (name : List ℕ) (cover : NamedCover) : Type 0 where
-  pub may : IsOpen rule circuit name cover
-  pub saves : literals_after circuit name cover < literals_of circuit
-  pub most : (other : NamedCover) → IsOpen rule circuit name other → literals_after circuit name cover ≤ literals_after circuit name other
-  pub first : (other : NamedCover) → IsOpen rule circuit name other → literals_after circuit name other ≡ literals_after circuit name cover
-      → cover_cmp other cover ≡ Less → ⊥
+-- the candidate that leaves fewest literals, and fewer than there are; of those that leave as many
+-- the first
+abbrev pub IsBest : Rule → Circuit → List ℕ → NamedCover → Type 0
+IsBest rule circuit name cover =
+    IsBestChoice (IsOpen rule circuit name) (λ other one. cover_cmp other one ≡ Less) (literals_after circuit name) (literals_of circuit) cover
 
 -- where kernels are the candidates: a table has more than `MAX_KERNELS` of them
 abbrev pub HasManyKernels : Rule → Table → Type 0
@@ -71,37 +71,36 @@ pub record IsStep (rule : Rule) (circuit new : Circuit) : Type 0 where
   pub made : new ≡ extracted circuit name cover
 
 -- steps lead from one circuit to another one
-pub record IsReached (rule : Rule) (circuit new : Circuit) : Type 0 where
-  pub between : List Circuit
-  pub steps : Follows (IsStep rule) between circuit new
+abbrev pub IsReached : Rule → Circuit → Circuit → Type 0
+IsReached rule circuit new = Reaches (IsStep rule) circuit new
 
--- the finished form: all candidates can be listed, and none saves a literal under the name that is free
+-- the finished form: all candidates can be listed, and none saves a literal under the name that is
+-- free
 pub record IsDone (rule : Rule) (circuit : Circuit) : Type 0 where
   pub listable : AllByRecursion (IsListable rule) circuit.tables
-  pub none : (name : List ℕ) (cover : NamedCover) → IsNewName circuit name → IsOpen rule circuit name cover → literals_of circuit ≤ literals_after circuit name cover
+  pub none : (name : List ℕ) → IsNewName circuit name → NoneSaves (IsOpen rule circuit name) (literals_after circuit name) (literals_of circuit)
 
 -- steps lead to a circuit that is done
-pub record IsExtracted (rule : Rule) (circuit new : Circuit) : Type 0 where
-  pub reached : IsReached rule circuit new
-  pub done : IsDone rule new
+abbrev pub IsExtracted : Rule → Circuit → Circuit → Type 0
+IsExtracted rule circuit new = HasEnd (IsStep rule) (IsDone rule) circuit new
 
--- steps lead to a circuit that has no room for the next table
-pub record IsFull (rule : Rule) (circuit : Circuit) : Type 0 where
-  pub full : Circuit
-  pub reached : IsReached rule circuit full
+-- there is no room for the next table
+pub record IsOver (rule : Rule) (circuit : Circuit) : Type 0 where
   pub name : List ℕ
   pub cover : NamedCover
-  pub next : IsNext rule full name cover
-  pub over : MAX_NODES ≤ node_count full
+  pub next : IsNext rule circuit name cover
+  pub over : MAX_NODES ≤ node_count circuit
+
+-- steps lead to a circuit that has no room for the next table
+abbrev pub IsFull : Rule → Circuit → Type 0
+IsFull rule circuit = HasStop (IsStep rule) (IsOver rule) circuit
+
+-- the first of some tables with too many kernels has a name
+pub record IsFirstMany (rule : Rule) (tables : List Table) (name : List ℕ) : Type 0 where
+  pub table : Table
+  pub first : IsFirstFailing (IsListable rule) (HasManyKernels rule) tables table
+  pub named : table.output ≡ name
 
 -- steps lead to a circuit whose first table with too many kernels is that of a name
-pub record IsUnlistable (rule : Rule) (circuit : Circuit) (name : List ℕ) : Type 0 where
-  pub last : Circuit
-  pub reached : IsReached rule circuit last
-  pub before : List Table
-  pub table : Table
-  pub after : List Table
-  pub tables : last.tables ≡ before ++ table ∷ after
-  pub first : AllByRecursion (IsListable rule) before
-  pub many : HasManyKernels rule table
-  pub named : table.output ≡ name
+abbrev pub IsUnlistable : Rule → Circuit → List ℕ → Type 0
+IsUnlistable rule circuit name = HasStop (IsStep rule) (λ last. IsFirstMany rule last.tables name) circuit

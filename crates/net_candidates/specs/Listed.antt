@@ -1,6 +1,8 @@
--- The candidates of one table, and those that cubes share: what extraction may choose from, parted by where it comes from.
--- Source: Rajski and Vasudevamurthy (IEEE Transactions on CAD 11, 1992); Brayton and McMullen, "The Decomposition and Factorization of
--- Boolean Expressions" (1982); De Micheli, "Synthesis and Optimization of Digital Circuits", chapter 8.
+-- The candidates of one table, and those that cubes share: what extraction may choose from, split
+-- by where it comes from.
+-- Source: Rajski and Vasudevamurthy (IEEE Transactions on CAD 11, 1992); Brayton and McMullen, "The
+-- Decomposition and Factorization of Boolean Expressions" (1982); De Micheli, "Synthesis and
+-- Optimization of Digital Circuits", chapter 8.
 use Rattle.std.specs.Prelude.{◌≡◌, ◌⊎◌, ◌≤◌, List, [], ◌∷◌, length}
 use Rattle.alg_div.specs.Cubes.{Has}
 use Rattle.circuit_model.specs.declared.circuit.Table.{Table}
@@ -15,7 +17,7 @@ IsOwn Fx table cover = IsDivisorOfTwoCubes table cover ⊎ IsCubeOfTwoLiterals t
 IsOwn Gkx table cover = IsKernelOf table cover
 IsOwn Gcx table cover = ⊥
 
--- what two of some cubes share, where it is two literals or more
+-- what two of some cubes share, if it is two literals or more
 pub record IsSharedOf (cubes : List Cube) (cover : NamedCover) : Type 0 where
   pub one : Cube
   pub other : Cube
@@ -23,7 +25,8 @@ pub record IsSharedOf (cubes : List Cube) (cover : NamedCover) : Type 0 where
   pub two : 2 ≤ length (shared one other)
   pub is : cover ≡ shared one other ∷ []
 
--- what one of some cubes shares with one of some others, or with a later one of the cubes, where it is two literals or more
+-- what one of some cubes shares with one of some others, or with a later one of the cubes, if it is
+-- two literals or more
 pub record IsSharedWith (cubes others : List Cube) (cover : NamedCover) : Type 0 where
   pub one : Cube
   pub other : Cube

@@ -1,6 +1,6 @@
--- What each two items of a list make, the earlier one first, what two cubes and two literals make, and what cubes share. No public clause
--- needs these definitions: they say by what way the candidates are listed.
--- Source: Rajski and Vasudevamurthy (IEEE Transactions on CAD 11, 1992).
+-- What each two items of a list make, the earlier one first, what two cubes and two literals make,
+-- and what cubes share. No public clause needs these definitions: they say by what way the
+-- candidates are listed. Source: Rajski and Vasudevamurthy (IEEE Transactions on CAD 11, 1992).
 use Rattle.std.specs.Prelude.{◌≡◌, ◌⊎◌, if◌then◌else◌, Bool, Option, Some, None, ℕ, List, [], ◌∷◌, ◌++◌, flat_map, length, slice_get}
 use Rattle.std.specs.List.{filter_map, list_all, list_any}
 use Rattle.std.proofs.Common.{ltb}
@@ -12,13 +12,13 @@ abbrev pub made_by_pairs : {X Y : Type 0} → (X → X → Option Y) → List X 
 made_by_pairs gives [] = []
 made_by_pairs gives (one ∷ others) = filter_map (gives one) others ++ made_by_pairs gives others
 
--- the sum of two cubes, where both have a literal
+-- the sum of two cubes, if both have a literal
 abbrev pub sum_from : Cube → Cube → Option NamedCover
 sum_from [] right = None
 sum_from (literal ∷ left) [] = None
 sum_from (literal ∷ left) (other ∷ right) = Some (sorted cube_cmp ((literal ∷ left) ∷ (other ∷ right) ∷ []))
 
--- the sum of what each of two cubes has beside the other
+-- the sum of what each of two cubes has that the other has not
 abbrev pub sum_of : Cube → Cube → Option NamedCover
 sum_of one other = sum_from (own one other) (own other one)
 
@@ -26,11 +26,11 @@ sum_of one other = sum_from (own one other) (own other one)
 abbrev pub product_of : Literal → Literal → Option NamedCover
 product_of one other = Some ((one ∷ other ∷ []) ∷ [])
 
--- what two cubes share, where it is two literals or more
+-- what two cubes share, if it is two literals or more
 abbrev pub shared_of : Cube → Cube → Option NamedCover
 shared_of one other = if ltb (length (shared one other)) 2 then None else Some (shared one other ∷ [])
 
--- what a cube shares with the earlier one at a place
+-- what a cube shares with the earlier one at an index
 abbrev pub found_with : Option Cube → Cube → Option NamedCover
 found_with None cube = None
 found_with (Some other) cube = shared_of other cube

@@ -1,4 +1,4 @@
--- Which places are told for literals, and how often. No public clause needs these definitions.
+-- Which indices are listed under literals, and how often. No public clause needs these definitions.
 -- Source: the project's own.
 use Rattle.std.specs.Prelude.{◌≤◌, ◌==◌, ℕ, Bool, Option, Some, None, List, [], length, filter}
 use Rattle.std.specs.declared.vec.Vec.{Vec}
@@ -11,15 +11,16 @@ abbrev pub places_in : {Y : Type 0} → Option (Vec ℕ Y) → List ℕ
 places_in None = []
 places_in (Some places) = places.items
 
--- the places that are told for a literal
+-- the indices listed under a literal
 abbrev pub told : {Y S : Type 0} → IndexMap Literal (Vec ℕ Y) S → Literal → List ℕ
 told spots literal = places_in (get same_literal spots literal)
 
--- how many items pass a test
+-- the number of items that pass a test
 abbrev pub many : {X : Type 0} → (X → Bool) → List X → ℕ
 many test items = length (filter test items)
 
--- a place is told for each literal as often as a cube has it, and what was told before still is
+-- an index is listed under each literal as often as a cube has it, and what was listed before still
+-- is
 pub record AreTold (cube : Cube) (place : ℕ) (old new : Literal → List ℕ) : Type 0 where
   pub here : (other : Literal) → many (λ literal. same_literal literal other) cube ≤ many (λ at. at == place) (new other)
   pub still : (other : Literal) (place : ℕ) → many (λ at. at == place) (old other) ≤ many (λ at. at == place) (new other)

@@ -1,4 +1,4 @@
-//! Why candidates are not listed.
+//! Why candidates are not listed: too many kernels, or memory ran out.
 
 use alg_kernel::KernelFault;
 use std::alloc::AllocError;

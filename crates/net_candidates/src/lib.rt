@@ -2,16 +2,16 @@
 //!
 //! Source: Rajski and Vasudevamurthy, "The testability-preserving concurrent decomposition and
 //! factorization of Boolean expressions" (IEEE Transactions on CAD 11, 1992), for `fx`; Brayton and
-//! McMullen, "The Decomposition and Factorization of Boolean Expressions" (1982), and the SIS report
-//! (UCB/ERL M92/41), for `gkx` and `gcx`; De Micheli, "Synthesis and Optimization of Digital
+//! McMullen, "The Decomposition and Factorization of Boolean Expressions" (1982), and the SIS
+//! report (UCB/ERL M92/41), for `gkx` and `gcx`; De Micheli, "Synthesis and Optimization of Digital
 //! Circuits", chapter 8. `specs/Candidates.antt` has the candidates of the three rules: sums of two
 //! cubes and products of two literals, kernels, and cubes that rows share. `specs/Extracting.antt`
 //! has the steps and the end; `laws` says what they keep.
 //!
-//! Promised of the lists (`specs/Listed.antt`): all candidates of a table and nothing else;
-//! `ManyKernels` just where a table has more kernels than are listed; just the cubes that some cubes
-//! share with one another or with others; and whether two share just a given one. `parts` has what
-//! two cubes or two literals make (`specs/Parts.antt`). Else an error is want of memory.
+//! Promised of the lists (`specs/Listed.antt`): exactly the candidates of a table; `ManyKernels`
+//! exactly if a table has more kernels than are listed; exactly the cubes that some cubes share
+//! with one another or with others; and whether two share exactly a given one. `parts` has what two
+//! cubes or two literals make (`specs/Parts.antt`). Any other error is want of memory.
 #![tactic(auto)]
 
 mod cubes;

@@ -1,11 +1,18 @@
-//! The candidates that one table gives by itself.
+//! The candidates that one table gives by itself, under each rule of extraction.
+//!
+//! Source: Rajski and Vasudevamurthy, "The testability-preserving concurrent decomposition and
+//! factorization of Boolean expressions" (IEEE Transactions on CAD 11, 1992), for `fx`; Brayton and
+//! McMullen, "The Decomposition and Factorization of Boolean Expressions" (1982), for `gkx`. Under
+//! `Fx` these are double-cube divisors and products of two literals, under `Gkx` kernels, under
+//! `Gcx` none. Callers rely on `IsOwn`: exactly these candidates, perhaps more than once, and
+//! `ManyKernels` exactly if there are more than `MAX_KERNELS` kernels.
 
 ghost use Rattle.std.specs.Prelude.{◌≡◌, ◌↔◌, ◌++◌, ℕ, List, map, flat_map, length, IfOk, IfErr, OnOk};
 ghost use Rattle.alg_div.specs.Cubes.{Has};
 ghost use Rattle.alg_kernel.specs.Kernels.{rows_in};
 ghost use Rattle.net_candidates.specs.Extracting.{HasManyKernels, IsListable};
-ghost use Rattle.cover_names.specs.Cubes.{cover_over as cover_from};
-ghost use Rattle.cover_names.specs.Literals.{NamedCover as TheCover};
+ghost use Rattle.cover_names.specs.Cubes.{cover_over};
+ghost use Rattle.cover_names.specs.Literals.{NamedCover};
 ghost use Rattle.net_core.specs.Tables.{named, IsOverInputs};
 ghost use Rattle.net_candidates.specs.Listed.{IsOwn};
 ghost use Rattle.net_candidates.specs.Pairs.{made_by_pairs, sum_of, product_of};
@@ -21,10 +28,10 @@ use alg_kernel::kernels;
 use circuit_model::Name;
 use cover_names::{Cube, Literal, NamedCover, cover_over};
 use cube_cover::{Cover, Row};
-use net_core::Table;
+use net_core::CoverTable;
 use std::alloc::{AllocError, Global};
 
-// The sum of what each of two cubes has beside the other.
+// The sum of what each of two cubes has that the other has not.
 struct Sums;
 
 impl Pairing<Cube> for Sums {
@@ -60,9 +67,10 @@ impl Pairing<Literal> for Products {
     }
 }
 
-// Puts the products of each two literals of some cubes behind what there is.
+// Appends the products of each two literals of some cubes.
 fn add_products(alloc: Global, cubes: &[Cube], made: &mut Vec<NamedCover>) -> Result<(), AllocError>
-    ensures { OnOk result (made.new.items ≡ made.old.items ++ flat_map (made_by_pairs product_of) cubes.now) }
+    ensures { OnOk result (made.new.items ≡ made.old.items ++ flat_map
+        (made_by_pairs product_of) cubes.now) }
 {
     for cube in cubes {
         add_pairs(alloc, &Products, cube.as_slice(), made)?;
@@ -72,7 +80,8 @@ fn add_products(alloc: Global, cubes: &[Cube], made: &mut Vec<NamedCover>) -> Re
 
 // The sums of each two of some cubes and the products of each two literals of one.
 fn sums_and_products(alloc: Global, cubes: &[Cube]) -> Result<Vec<NamedCover>, AllocError>
-    ensures { IfOk result (λ made. made.items ≡ made_by_pairs sum_of cubes.now ++ flat_map (made_by_pairs product_of) cubes.now) }
+    ensures { IfOk result (λ made. made.items ≡ made_by_pairs sum_of cubes.now ++ flat_map
+        (made_by_pairs product_of) cubes.now) }
 {
     let mut made = Vec::new(alloc);
     add_pairs(alloc, &Sums, cubes, &mut made)?;
@@ -86,7 +95,7 @@ fn covers_over<R: Row>(
     names: &[Name],
     kernels: &[Cover<R>],
 ) -> Result<Vec<NamedCover>, AllocError>
-    ensures { IfOk result (λ made. made.items ≡ map (cover_from names.now) (rows_in kernels.now)) }
+    ensures { IfOk result (λ made. made.items ≡ map (cover_over names.now) (rows_in kernels.now)) }
 {
     let mut made = Vec::with_capacity(alloc, kernels.len())?;
     for kernel in kernels {
@@ -96,17 +105,21 @@ fn covers_over<R: Row>(
     Ok(made)
 }
 
-/// What a table gives by a rule by itself: sums of two cubes and products of two literals, or kernels; under the third rule nothing.
-/// `ManyKernels` just where there are more than `MAX_KERNELS` kernels and they are asked for.
+/// The candidates that a table gives by itself under a rule: sums of two cubes and products of two
+/// literals, or kernels; none under the third rule. `ManyKernels` exactly if kernels are asked for
+/// and there are more than `MAX_KERNELS`.
 pub fn own_candidates<R: Row>(
     alloc: Global,
     rule: Rule,
-    table: &Table<R>,
+    table: &CoverTable<R>,
 ) -> Result<Vec<NamedCover>, ListFault>
     requires { IsOverInputs table.now }
-    ensures own { IfOk result (λ made. (output : List ℕ) (cover : TheCover) → Has cover made.items ↔ IsOwn rule (named output table.now) cover) }
-    ensures listable { IfOk result (λ made. (output : List ℕ) → IsListable rule (named output table.now)) }
-    ensures many { IfErr result (λ fault. fault ≡ ManyKernels → (output : List ℕ) → HasManyKernels rule (named output table.now)) }
+    ensures own { IfOk result (λ made. (output : List ℕ) (cover : NamedCover) → Has cover made.items
+        ↔ IsOwn rule (named output table.now) cover) }
+    ensures listable { IfOk result (λ made. (output : List ℕ) → IsListable rule
+        (named output table.now)) }
+    ensures many { IfErr result (λ fault. fault ≡ ManyKernels → (output : List ℕ)
+        → HasManyKernels rule (named output table.now)) }
 {
     match rule {
         Rule::Fx => {

@@ -1,8 +1,11 @@
-//! What each two items of a list make, the earlier one first.
+//! What each two items of a list make together, the earlier item first.
+//!
+//! A `Pairing` says what two items make, if anything; `add_pairs` appends it for all pairs, in the
+//! order of the earlier item and then of the later one.
 
 ghost use Rattle.std.specs.Prelude.{◌≡◌, ◌++◌, Option, IfOk, OnOk};
 ghost use Rattle.std.specs.List.{filter_map};
-ghost use Rattle.cover_names.specs.Literals.{NamedCover as TheCover};
+ghost use Rattle.cover_names.specs.Literals.{NamedCover};
 ghost use Rattle.net_candidates.specs.Pairs.{made_by_pairs};
 
 use cover_names::NamedCover;
@@ -10,14 +13,14 @@ use std::alloc::{AllocError, Global};
 
 /// What two items make, if anything.
 pub trait Pairing<T> {
-    ghost gives: { T → T → Option TheCover };
+    ghost gives: { T → T → Option NamedCover };
 
-    /// What the two make; an error only for want of memory.
+    /// What the two make.
     fn made_of(&self, alloc: Global, one: &T, other: &T) -> Result<Option<NamedCover>, AllocError>
         ensures { IfOk result (λ found. found ≡ gives one.now other.now) };
 }
 
-// Puts what an item makes with each of some others behind what there is.
+// Appends what an item makes with each of some others.
 fn add_with<T, P: Pairing<T>>(
     alloc: Global,
     pairing: &P,
@@ -25,7 +28,8 @@ fn add_with<T, P: Pairing<T>>(
     others: &[T],
     made: &mut Vec<NamedCover>,
 ) -> Result<(), AllocError>
-    ensures { OnOk result (made.new.items ≡ made.old.items ++ filter_map (P.gives one.now) others.now) }
+    ensures { OnOk result (made.new.items ≡ made.old.items ++ filter_map
+        (P.gives one.now) others.now) }
 {
     for other in others {
         if let Some(cover) = pairing.made_of(alloc, one, other)? {
@@ -35,7 +39,7 @@ fn add_with<T, P: Pairing<T>>(
     Ok(())
 }
 
-/// Puts what each two items make behind what there is; an error only for want of memory.
+/// Appends what each two items make.
 pub fn add_pairs<T, P: Pairing<T>>(
     alloc: Global,
     pairing: &P,

@@ -1,7 +1,10 @@
-//! The partners of a cube: the places of earlier cubes that have two literals or more in common with it.
+//! The partners of a cube: the indices of earlier cubes that have two literals or more in common
+//! with it.
 //!
-//! Source: the project's own. The places that are told for the cube's literals are met one after the other. A place that was
-//! met is marked; one that is met again is a partner. The mark is the cube's own, so that no mark is taken away.
+//! Source: the project's own. The indices listed under the cube's literals are visited one after
+//! the other. The first visit marks an index; a second visit makes it a partner. Each cube has a
+//! mark of its own, so that no mark is removed. Callers rely on the partners to have every index
+//! that is listed twice or more; that they have no other no clause says.
 
 ghost use Rattle.std.specs.Prelude.{◌≡◌, ◌≤◌, ◌==◌, ◌||◌, ◌∷◌, [], ℕ, true, length, flat_map, IfOk, OnOk};
 ghost use Rattle.std.specs.BTreeSet.{contains};
@@ -14,11 +17,12 @@ use indexmap::IndexMap;
 use std::alloc::{AllocError, Global};
 use std::collections::BTreeSet;
 
-// Marks a place, and tells whether it was marked; a place without a mark counts as marked.
+// Marks an index, and returns whether it was marked; an index without a mark counts as marked.
 fn mark_place(marks: &mut [usize], mark: usize, place: usize) -> bool
     ensures was { result ≡ is_marked marks.old mark place }
     ensures here { is_marked marks.new mark place ≡ true }
-    ensures still { (at : ℕ) → is_marked marks.old mark at ≡ true → is_marked marks.new mark at ≡ true }
+    ensures still { (at : ℕ) → is_marked marks.old mark at ≡ true → is_marked marks.new mark at
+        ≡ true }
 {
     if place >= marks.len() {
         return true;
@@ -28,22 +32,24 @@ fn mark_place(marks: &mut [usize], mark: usize, place: usize) -> bool
     was_marked
 }
 
-// Puts a place into a set.
+// Adds an index to a set.
 fn put_place(partners: &mut BTreeSet<usize>, place: usize) -> Result<(), AllocError>
-    ensures { OnOk result ((at : ℕ) → contains nat_cmp partners.new at ≡ (place == at || contains nat_cmp partners.old at)) }
+    ensures { OnOk result ((at : ℕ) → contains nat_cmp partners.new at
+        ≡ (place == at || contains nat_cmp partners.old at)) }
 {
     partners.insert(place)?;
     Ok(())
 }
 
-// Meets a place: it is marked from now on, and a partner where it was marked before.
+// Visits an index: marks it, and makes it a partner if it was marked before.
 fn meet(
     marks: &mut [usize],
     partners: &mut BTreeSet<usize>,
     mark: usize,
     place: usize,
 ) -> Result<(), AllocError>
-    ensures { OnOk result (AreMetNext (place ∷ []) (is_marked marks.old mark) (is_marked marks.new mark) (contains nat_cmp partners.old) (contains nat_cmp partners.new)) }
+    ensures { OnOk result (AreMetNext (place ∷ []) (is_marked marks.old mark)
+        (is_marked marks.new mark) (contains nat_cmp partners.old) (contains nat_cmp partners.new)) }
 {
     if !mark_place(marks, mark, place) {
         return Ok(());
@@ -51,14 +57,15 @@ fn meet(
     put_place(partners, place)
 }
 
-// Meets places one after the other.
+// Visits indices one after the other.
 fn meet_all(
     marks: &mut [usize],
     partners: &mut BTreeSet<usize>,
     mark: usize,
     places: &[usize],
 ) -> Result<(), AllocError>
-    ensures { OnOk result (AreMetNext places.now (is_marked marks.old mark) (is_marked marks.new mark) (contains nat_cmp partners.old) (contains nat_cmp partners.new)) }
+    ensures { OnOk result (AreMetNext places.now (is_marked marks.old mark)
+        (is_marked marks.new mark) (contains nat_cmp partners.old) (contains nat_cmp partners.new)) }
 {
     for place in places {
         meet(marks, partners, mark, *place)?;
@@ -66,7 +73,7 @@ fn meet_all(
     Ok(())
 }
 
-// Meets the places that are told for a literal.
+// Visits the indices listed under a literal.
 fn meet_told(
     marks: &mut [usize],
     partners: &mut BTreeSet<usize>,
@@ -74,7 +81,8 @@ fn meet_told(
     spots: &IndexMap<Literal, Vec<usize>>,
     literal: &Literal,
 ) -> Result<(), AllocError>
-    ensures { OnOk result (AreMetNext (told spots.now literal.now) (is_marked marks.old mark) (is_marked marks.new mark) (contains nat_cmp partners.old) (contains nat_cmp partners.new)) }
+    ensures { OnOk result (AreMetNext (told spots.now literal.now) (is_marked marks.old mark)
+        (is_marked marks.new mark) (contains nat_cmp partners.old) (contains nat_cmp partners.new)) }
 {
     match spots.get(literal) {
         None => Ok(()),
@@ -82,8 +90,8 @@ fn meet_told(
     }
 }
 
-/// Places among which are all that are told twice or more for the literals of a cube; an error only for want of memory. Where no
-/// place has the mark yet, the partners are just these, which no clause says.
+/// Indices among which are all that are listed twice or more under the literals of a cube. If no
+/// index has the mark yet, the partners are exactly these, which no clause says.
 pub fn partners_of(
     alloc: Global,
     spots: &IndexMap<Literal, Vec<usize>>,
@@ -91,7 +99,8 @@ pub fn partners_of(
     marks: &mut [usize],
     mark: usize,
 ) -> Result<BTreeSet<usize>, AllocError>
-    ensures { IfOk result (λ partners. (at : ℕ) → 2 ≤ many (λ place. place == at) (flat_map (told spots.now) cube.now) → contains nat_cmp partners at ≡ true) }
+    ensures { IfOk result (λ partners. (at : ℕ) → 2 ≤ many (λ place. place == at)
+        (flat_map (told spots.now) cube.now) → contains nat_cmp partners at ≡ true) }
 {
     let mut partners = BTreeSet::new(alloc);
     for literal in cube {

@@ -1,4 +1,7 @@
-//! What two cubes share and what each has for itself, and the covers of sums and products of two.
+//! The common and the remaining literals of two cubes, and covers of two cubes or of two literals.
+//!
+//! Source: Rajski and Vasudevamurthy (IEEE Transactions on CAD 11, 1992): double-cube divisors and
+//! their base. Literals keep the order of their cube.
 
 ghost use Rattle.std.specs.Prelude.{◌≡◌, [], ◌∷◌, IfOk};
 ghost use Rattle.std.specs.List.{list_any};
@@ -16,7 +19,7 @@ pub fn has_literal(cube: &[Literal], literal: &Literal) -> bool
     cube.iter().any(|other| *literal == *other)
 }
 
-/// The literals of a cube that another one has too, in the cube's order; an error only for want of memory.
+/// The literals of a cube that another one has too, in the cube's order.
 pub fn shared_literals(alloc: Global, one: &Cube, other: &Cube) -> Result<Cube, AllocError>
     ensures { IfOk result (λ cube. cube ≡ shared one.now other.now) }
 {
@@ -29,7 +32,7 @@ pub fn shared_literals(alloc: Global, one: &Cube, other: &Cube) -> Result<Cube, 
     Ok(Sequence::from_vec(literals))
 }
 
-/// The literals of a cube that another one has not, in the cube's order; an error only for want of memory.
+/// The literals of a cube that another one has not, in the cube's order.
 pub fn own_literals(alloc: Global, one: &Cube, other: &Cube) -> Result<Cube, AllocError>
     ensures { IfOk result (λ cube. cube ≡ own one.now other.now) }
 {
@@ -42,7 +45,7 @@ pub fn own_literals(alloc: Global, one: &Cube, other: &Cube) -> Result<Cube, All
     Ok(Sequence::from_vec(literals))
 }
 
-/// The sorted cover of what each of two cubes has beside the other, where both have something; an error only for want of memory.
+/// The sorted cover of what each of two cubes has that the other has not, if both have something.
 pub fn sum_of_two(alloc: Global, one: &Cube, other: &Cube) -> Result<Option<NamedCover>, AllocError>
     ensures { IfOk result (λ found. IsSumOfTwo one.now other.now found) }
 {
@@ -57,7 +60,7 @@ pub fn sum_of_two(alloc: Global, one: &Cube, other: &Cube) -> Result<Option<Name
     Ok(Some(sorted_cover(cubes)))
 }
 
-/// The cover of the one cube of two literals, in the order given; an error only for want of memory.
+/// The cover of the one cube of two literals, in the order given.
 pub fn product_of_two(
     alloc: Global,
     one: &Literal,

@@ -1,13 +1,13 @@
 //! The cubes that two of some cubes share.
 //!
-//! Promised: just the cubes of two literals or more that two of the cubes share are listed. Besides, which no clause says: each
-//! is listed once, and of cubes that have each literal once two are looked at together only where they have two literals in common,
-//! so not where they have none.
+//! Promised: the list has exactly the cubes of two literals or more that two of the cubes share.
+//! Besides, which no clause says: each is listed once, and cubes that have each literal once are
+//! compared only if they have two literals in common, so not if they have none.
 
 ghost use Rattle.std.specs.Prelude.{◌≡◌, ◌⊎◌, ◌↔◌, IfOk, OnOk};
 ghost use Rattle.std.specs.List.{filter_map};
 ghost use Rattle.alg_div.specs.Cubes.{Has};
-ghost use Rattle.cover_names.specs.Literals.{NamedCover as TheCover};
+ghost use Rattle.cover_names.specs.Literals.{NamedCover};
 ghost use Rattle.net_candidates.specs.Listed.{IsSharedOf};
 ghost use Rattle.net_candidates.specs.Pairs.{shared_at, shared_of};
 
@@ -20,7 +20,7 @@ use sis_base::Sequence;
 use std::alloc::{AllocError, Global};
 use std::collections::BTreeSet;
 
-/// What two cubes share, where it is two literals or more; an error only for want of memory.
+/// What two cubes share, if it is two literals or more.
 pub fn shared_of_two(
     alloc: Global,
     one: &Cube,
@@ -37,7 +37,7 @@ pub fn shared_of_two(
     Ok(Some(cover))
 }
 
-// What a cube shares with the earlier one at a place, where there is one.
+// What a cube shares with the earlier one at an index, if there is one.
 fn shared_with_earlier(
     alloc: Global,
     earlier: &[Cube],
@@ -52,12 +52,13 @@ fn shared_with_earlier(
     }
 }
 
-/// Puts a cover in, if there is one and it is new; an error only for want of memory.
+/// Adds a cover to a set, if there is one.
 pub fn add_found(
     made: &mut IndexSet<NamedCover>,
     found: Option<NamedCover>,
 ) -> Result<(), AllocError>
-    ensures { OnOk result ((cover : TheCover) → Has cover made.new.keys ↔ (Has cover made.old.keys ⊎ (found ≡ Some cover))) }
+    ensures { OnOk result ((cover : NamedCover) → Has cover made.new.keys
+        ↔ (Has cover made.old.keys ⊎ (found ≡ Some cover))) }
 {
     if let Some(cover) = found {
         made.insert(cover)?;
@@ -65,7 +66,7 @@ pub fn add_found(
     Ok(())
 }
 
-// Puts in what a cube shares with earlier ones at some places, each once.
+// Adds what a cube shares with earlier ones at some indices, each once.
 fn add_shared(
     alloc: Global,
     earlier: &[Cube],
@@ -73,7 +74,9 @@ fn add_shared(
     cube: &Cube,
     made: &mut IndexSet<NamedCover>,
 ) -> Result<(), AllocError>
-    ensures { OnOk result ((cover : TheCover) → Has cover made.new.keys ↔ (Has cover made.old.keys ⊎ Has cover (filter_map (shared_at earlier.now cube.now) partners.now.keys))) }
+    ensures { OnOk result ((cover : NamedCover) → Has cover made.new.keys
+        ↔ (Has cover made.old.keys ⊎ Has cover (filter_map
+        (shared_at earlier.now cube.now) partners.now.keys))) }
 {
     for place in partners.iter() {
         let found = shared_with_earlier(alloc, earlier, cube, *place)?;
@@ -82,9 +85,10 @@ fn add_shared(
     Ok(())
 }
 
-/// What two of some cubes share, where it is two literals or more, each once; an error only for want of memory.
+/// What two of some cubes share, if it is two literals or more, each once.
 pub fn shared_covers(alloc: Global, cubes: &[Cube]) -> Result<IndexSet<NamedCover>, AllocError>
-    ensures { IfOk result (λ made. (cover : TheCover) → Has cover made.keys ↔ IsSharedOf cubes.now cover) }
+    ensures { IfOk result (λ made. (cover : NamedCover) → Has cover made.keys
+        ↔ IsSharedOf cubes.now cover) }
 {
     let mut made = IndexSet::new(alloc);
     let mut spots = IndexMap::new(alloc);
@@ -98,7 +102,7 @@ pub fn shared_covers(alloc: Global, cubes: &[Cube]) -> Result<IndexSet<NamedCove
     Ok(made)
 }
 
-/// The covers of a set, in its order; an error only for want of memory.
+/// The covers of a set, in its order.
 pub fn list_covers(
     alloc: Global,
     covers: IndexSet<NamedCover>,

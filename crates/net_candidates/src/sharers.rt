@@ -1,8 +1,9 @@
-//! Whether two of some cubes share just a given one.
+//! Whether two of some cubes share exactly a given one.
 //!
-//! Source: the project's own. Promised: the answer is true just where two of the cubes share the one cube of the cover, and that has two
-//! literals or more. Besides, which no clause says: two cubes are compared only where both have all its literals, and none after the
-//! first two that share it.
+//! Source: the project's own. Promised: the answer is true exactly if two of the cubes share the
+//! one cube of the cover, and that has two literals or more. Besides, which no clause says: two
+//! cubes are compared only if both have all its literals, and none after the first two that share
+//! it.
 
 ghost use Rattle.std.specs.Prelude.{◌≡◌, ◌↔◌, ◌∷◌, [], map, filter, IfOk, IsTrue};
 ghost use Rattle.net_candidates.specs.Candidates.{shared};
@@ -28,7 +29,8 @@ fn holders_of<'a>(
     cubes: &'a [Cube],
     cube: &Cube,
 ) -> Result<Vec<&'a Cube>, AllocError>
-    ensures { IfOk result (λ made. map (λ one. one.now) made.items ≡ filter (has_all cube.now) cubes.now) }
+    ensures { IfOk result (λ made. map (λ one. one.now) made.items ≡ filter
+        (has_all cube.now) cubes.now) }
 {
     let mut made = Vec::new(alloc);
     for one in cubes {
@@ -39,7 +41,7 @@ fn holders_of<'a>(
     Ok(made)
 }
 
-// Whether what two cubes share is just a cube.
+// Whether what two cubes share is exactly a cube.
 fn share_just(one: &Cube, other: &Cube, cube: &Cube) -> bool
     ensures { IsTrue result ↔ (shared one.now other.now ≡ cube.now) }
 {
@@ -56,9 +58,10 @@ fn share_just(one: &Cube, other: &Cube, cube: &Cube) -> bool
     count == wanted.len()
 }
 
-// Whether what a cube shares with one of some others is just a cube.
+// Whether what a cube shares with one of some others is exactly a cube.
 fn shares_with_some(one: &Cube, others: &[&Cube], cube: &Cube) -> bool
-    ensures { IsTrue result ↔ IsSharedWithSome (map (λ other. other.now) others.now) one.now cube.now }
+    ensures { IsTrue result ↔ IsSharedWithSome (map (λ other. other.now) others.now) one.now
+        cube.now }
 {
     for other in others {
         if share_just(one, *other, cube) {
@@ -68,7 +71,7 @@ fn shares_with_some(one: &Cube, others: &[&Cube], cube: &Cube) -> bool
     false
 }
 
-// Whether what two of some cubes share is just a cube.
+// Whether what two of some cubes share is exactly a cube.
 fn two_share(cubes: &[&Cube], cube: &Cube) -> bool
     ensures { IsTrue result ↔ IsSharedByTwo (map (λ one. one.now) cubes.now) cube.now }
 {
@@ -80,7 +83,7 @@ fn two_share(cubes: &[&Cube], cube: &Cube) -> bool
     false
 }
 
-// Whether two of some cubes share just a cube, and it has two literals or more.
+// Whether two of some cubes share exactly a cube, and it has two literals or more.
 fn is_shared_cube(alloc: Global, cubes: &[Cube], cube: &Cube) -> Result<bool, AllocError>
     ensures { IfOk result (λ found. IsTrue found ↔ IsSharedOf cubes.now (cube.now ∷ [])) }
 {
@@ -91,7 +94,7 @@ fn is_shared_cube(alloc: Global, cubes: &[Cube], cube: &Cube) -> Result<bool, Al
     Ok(two_share(holders.as_slice(), cube))
 }
 
-/// Whether a cover is what two of some cubes share, where it is two literals or more; an error only for want of memory.
+/// Whether a cover is what two of some cubes share, if it is two literals or more.
 pub fn is_shared(alloc: Global, cubes: &[Cube], cover: &NamedCover) -> Result<bool, AllocError>
     ensures { IfOk result (λ found. IsTrue found ↔ IsSharedOf cubes.now cover.now) }
 {

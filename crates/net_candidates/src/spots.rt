@@ -1,11 +1,11 @@
-//! For each literal the places of the cubes that have it, as far as cubes are told.
+//! For each literal the indices of the cubes that have it, of the cubes listed so far.
 //!
-//! Source: the project's own. A place is told for a literal as often as the cube there has it.
+//! Source: the project's own. An index is listed under a literal as often as the cube there has it.
 
 ghost use Rattle.std.specs.Prelude.{◌≡◌, ◌++◌, ◌∷◌, [], None, Some, if◌then◌else◌, OnOk};
 ghost use Rattle.indexmap.specs.IndexMap.{get};
 ghost use Rattle.net_candidates.specs.Candidates.{same_literal};
-ghost use Rattle.cover_names.specs.declared.literal.Literal.{Literal as TheLiteral};
+ghost use Rattle.cover_names.specs.declared.literal.Literal.{Literal};
 ghost use Rattle.net_candidates.specs.Spots.{places_in, told, AreTold};
 
 use cover_names::Literal;
@@ -13,14 +13,15 @@ use indexmap::IndexMap;
 use sis_base::Copied;
 use std::alloc::{AllocError, Global};
 
-// Takes the places of a literal out; one without places has none.
+// Removes and returns the indices of a literal; none if it has none.
 fn take_places(
     alloc: Global,
     spots: &mut IndexMap<Literal, Vec<usize>>,
     literal: &Literal,
 ) -> Vec<usize>
     ensures places { result.items ≡ places_in (get same_literal spots.old literal.now) }
-    ensures rest { (other : TheLiteral) → get same_literal spots.new other ≡ (if same_literal literal.now other then None else get same_literal spots.old other) }
+    ensures rest { (other : Literal) → get same_literal spots.new other
+        ≡ (if same_literal literal.now other then None else get same_literal spots.old other) }
 {
     match spots.swap_remove(literal) {
         Some(places) => places,
@@ -28,26 +29,29 @@ fn take_places(
     }
 }
 
-// Puts the places of a literal in.
+// Sets the indices of a literal.
 fn put_places(
     spots: &mut IndexMap<Literal, Vec<usize>>,
     literal: Literal,
     places: Vec<usize>,
 ) -> Result<(), AllocError>
-    ensures { OnOk result ((other : TheLiteral) → get same_literal spots.new other ≡ (if same_literal literal other then Some places else get same_literal spots.old other)) }
+    ensures { OnOk result ((other : Literal) → get same_literal spots.new other
+        ≡ (if same_literal literal other then Some places else get same_literal spots.old other)) }
 {
     let _places = spots.insert(literal, places)?;
     Ok(())
 }
 
-// Tells a place for a literal.
+// Lists an index under a literal.
 fn tell(
     alloc: Global,
     spots: &mut IndexMap<Literal, Vec<usize>>,
     literal: &Literal,
     place: usize,
 ) -> Result<(), AllocError>
-    ensures { OnOk result ((other : TheLiteral) → told spots.new other ≡ (if same_literal literal.now other then told spots.old other ++ place ∷ [] else told spots.old other)) }
+    ensures { OnOk result ((other : Literal) → told spots.new other
+        ≡ (if same_literal literal.now other then told spots.old other ++ place ∷ [] else told
+        spots.old other)) }
 {
     let key = literal.copy(alloc)?;
     let mut places = take_places(alloc, spots, literal);
@@ -55,7 +59,7 @@ fn tell(
     put_places(spots, key, places)
 }
 
-/// Tells a place for each of the literals of a cube; an error only for want of memory.
+/// Lists an index under each of the literals of a cube.
 pub fn tell_all(
     alloc: Global,
     spots: &mut IndexMap<Literal, Vec<usize>>,

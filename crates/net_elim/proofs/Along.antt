@@ -8,8 +8,8 @@ use Rattle.circuit_model.specs.declared.circuit.Table.{Table}
 use Rattle.circuit_model.specs.declared.circuit.Circuit.{Circuit}
 use Rattle.circuit_laws.specs.Edits.{with_tables}
 use Rattle.net_work.specs.Placed.{Placed, standing, circuit_of, table_at, name_at}
-use Rattle.alg_tables.specs.Taking.{taken_in}
-use Rattle.alg_tables.specs.declared.taking.TakeFault.{TakeFault}
+use Rattle.alg_tables.specs.Taking.{composed_into}
+use Rattle.alg_tables.specs.declared.taking.ComposeFault.{ComposeFault}
 use Rattle.alg_tables.proofs.Taken.{taken_output}
 use Rattle.net_elim.specs.Eliminating.{with_taken}
 use Rattle.net_elim.specs.Collapsing.{with_put, refusal_among, put_refusal, refusal_along}
@@ -50,7 +50,7 @@ put_circuit : (now new : Placed) (place : ℕ) (inner : Table) (name : List ℕ)
 unfolding with_put
 put_circuit now new place inner name sound at is put =
     ap (λ (o : Option Table). option_map_or (with_taken (circuit_of now)) o (circuit_of now)) (driven now place inner name sound at is)
-    ∙ (ap (λ (ts : List Table). with_tables now.frame ts) (sym (standing_mapped (taken_in inner) now.slots new.slots put.tables))
+    ∙ (ap (λ (ts : List Table). with_tables now.frame ts) (sym (standing_mapped (composed_into inner) now.slots new.slots put.tables))
     ∙ ap (λ (f : Circuit). with_tables f (standing new.slots)) (sym put.frame))
 
 refusal_there : (now : Placed) (place : ℕ) (inner : Table) (name : List ℕ) → IsSound (circuit_of now) → table_at now.slots place ≡ Some inner → inner.output ≡ name
@@ -58,7 +58,7 @@ refusal_there : (now : Placed) (place : ℕ) (inner : Table) (name : List ℕ) �
 refusal_there now place inner name sound at is =
     ap (λ (o : Option Table). option_map_or (λ (t : Table). refusal_among t (standing now.slots)) o None) (driven now place inner name sound at is)
 
-stays_named : (inner : Table) (found : Option Table) → option_map (λ (t : Table). t.output) (option_map (taken_in inner) found) ≡ option_map (λ (t : Table). t.output) found
+stays_named : (inner : Table) (found : Option Table) → option_map (λ (t : Table). t.output) (option_map (composed_into inner) found) ≡ option_map (λ (t : Table). t.output) found
 stays_named inner None = refl
 stays_named inner (Some table) = ap (λ (n : List ℕ). Some n) (taken_output inner table)
 
@@ -71,7 +71,7 @@ along_more names left rest before now new place name inner along next at is put 
   end_same = along.end_same ∙ (ap (fold with_put (circuit_of now)) next ∙ ap (λ (c : Circuit). fold with_put c rest) step);
   refusal_same = along.refusal_same
       ∙ (ap (refusal_along (circuit_of now)) next
-      ∙ (ap (λ (o : Option (List ℕ × TakeFault)). option_or o (refusal_along (with_put (circuit_of now) name) rest)) (refusal_there now place inner name along.sound at is ∙ none) ∙ ap (λ (c : Circuit). refusal_along c rest) step));
+      ∙ (ap (λ (o : Option (List ℕ × ComposeFault)). option_or o (refusal_along (with_put (circuit_of now) name) rest)) (refusal_there now place inner name along.sound at is ∙ none) ∙ ap (λ (c : Circuit). refusal_along c rest) step));
   sound = subst IsSound step (put_reduced (circuit_of now) name along.sound).change.sound;
 }
   where
@@ -83,10 +83,10 @@ pub along_refused : (names left rest : List (List ℕ)) (before now : Placed) (p
     → table_at now.slots place ≡ Some inner → inner.output ≡ name → (fault : CollapseFault) → IsCause (refusal_among inner (standing now.slots)) fault → IsCause (refusal_along (circuit_of before) names) fault
 unfolding refusal_along
 along_refused names left rest before now place name inner along next at is fault cause =
-    subst (λ (o : Option (List ℕ × TakeFault)). IsCause o fault)
+    subst (λ (o : Option (List ℕ × ComposeFault)). IsCause o fault)
     (sym (along.refusal_same ∙ ap (refusal_along (circuit_of now)) next))
     (cause_or (put_refusal (circuit_of now) name) (refusal_along (with_put (circuit_of now) name) rest) fault
-    (subst (λ (o : Option (List ℕ × TakeFault)). IsCause o fault) (sym (refusal_there now place inner name along.sound at is)) cause))
+    (subst (λ (o : Option (List ℕ × ComposeFault)). IsCause o fault) (sym (refusal_there now place inner name along.sound at is)) cause))
 
 -- the turn of a place
 next_place : (names : List (List ℕ)) (places : List ℕ) (i : ℕ) (before now : Placed) → map (name_at before.slots) places ≡ map Some names → i < length places → IsAlong names (drop i names) before now

@@ -10,8 +10,8 @@ use Rattle.circuit_model.specs.declared.circuit.Table.{Table}
 use Rattle.circuit_model.specs.declared.circuit.Circuit.{Circuit}
 use Rattle.net_core.specs.Reads.{IsBounded, HasBounds}
 use Rattle.circuit_order.specs.Order.{order_of}
-use Rattle.alg_tables.specs.Taking.{taken_in, take_refusal}
-use Rattle.alg_tables.specs.declared.taking.TakeFault.{TakeFault}
+use Rattle.alg_tables.specs.Taking.{composed_into, take_refusal}
+use Rattle.alg_tables.specs.declared.taking.ComposeFault.{ComposeFault}
 use Rattle.net_elim.specs.Eliminating.{with_taken}
 use Rattle.net_elim.specs.Collapsing.{with_put, is_outer, refusal_among, put_refusal, refusal_along, collapse_refusal, collapsed}
 use Rattle.net_elim.proofs.Small.{taken_bounded, kept_bounded}
@@ -19,7 +19,7 @@ use Rattle.net_elim.proofs.Gathered.{collapse_reduced}
 use Rattle.net_elim.proofs.Leaving.{kept_tables}
 use Rattle.sis_base.specs.declared.limits.TheConstants.{MAX_ROWS}
 
-abbrev named_fault : List ℕ → TakeFault → List ℕ × TakeFault
+abbrev named_fault : List ℕ → ComposeFault → List ℕ × ComposeFault
 named_fault name fault = (name, fault)
 
 -- nothing was refused, so neither this nor the rest
@@ -31,12 +31,12 @@ map_none : {A B : Type 0} (f : A → B) (found : Option A) → option_map f foun
 map_none f None h = refl
 map_none f (Some x) h = absurd (none-some (f x) (sym h))
 
-all_taken : (inner : Table) (tables : List Table) → refusal_among inner tables ≡ None → AllByRecursion IsBounded tables → AllByRecursion IsBounded (map (taken_in inner) tables)
+all_taken : (inner : Table) (tables : List Table) → refusal_among inner tables ≡ None → AllByRecursion IsBounded tables → AllByRecursion IsBounded (map (composed_into inner) tables)
 unfolding refusal_among
 all_taken inner [] none all = tt
 all_taken inner (outer ∷ tables) none all =
-    let (first, rest) = or_none (option_map (λ (fault : TakeFault). named_fault outer.output fault) (take_refusal MAX_ROWS MAX_ROWS inner outer)) (refusal_among inner tables) none in
-    (taken_bounded MAX_ROWS inner outer (omega arith) (map_none (λ (fault : TakeFault). named_fault outer.output fault) (take_refusal MAX_ROWS MAX_ROWS inner outer) first) all.0, all_taken inner tables rest all.1)
+    let (first, rest) = or_none (option_map (λ (fault : ComposeFault). named_fault outer.output fault) (take_refusal MAX_ROWS MAX_ROWS inner outer)) (refusal_among inner tables) none in
+    (taken_bounded MAX_ROWS inner outer (omega arith) (map_none (λ (fault : ComposeFault). named_fault outer.output fault) (take_refusal MAX_ROWS MAX_ROWS inner outer) first) all.0, all_taken inner tables rest all.1)
 
 all_put : (circuit : Circuit) (name : List ℕ) → put_refusal circuit name ≡ None → AllByRecursion IsBounded circuit.tables
     → AllByRecursion IsBounded (with_put circuit name).tables × (length (with_put circuit name).tables ≡ length circuit.tables)
@@ -46,7 +46,7 @@ all_put circuit name none all = cases (driver circuit.tables name) none
     cases : (o : Option Table) → option_map_or (λ (inner : Table). refusal_among inner circuit.tables) o None ≡ None
         → AllByRecursion IsBounded (option_map_or (with_taken circuit) o circuit).tables × (length (option_map_or (with_taken circuit) o circuit).tables ≡ length circuit.tables)
     cases None h = (all, refl)
-    cases (Some inner) h = (all_taken inner circuit.tables h all, length-map circuit.tables (taken_in inner))
+    cases (Some inner) h = (all_taken inner circuit.tables h all, length-map circuit.tables (composed_into inner))
 
 all_along : (names : List (List ℕ)) (circuit : Circuit) → refusal_along circuit names ≡ None → AllByRecursion IsBounded circuit.tables
     → AllByRecursion IsBounded (fold with_put circuit names).tables × (length (fold with_put circuit names).tables ≡ length circuit.tables)

@@ -22,7 +22,7 @@ use Rattle.circuit_laws.proofs.Mapped.{live_reads, outputs-mapped}
 use Rattle.net_core.proofs.Removals.{no_latch, tables_differ}
 use Rattle.circuit_order.specs.Order.{order_of, IsOrdered}
 use Rattle.circuit_order.proofs.Orders.{ordered}
-use Rattle.alg_tables.specs.Taking.{taken_in}
+use Rattle.alg_tables.specs.Taking.{composed_into}
 use Rattle.alg_tables.proofs.Taken.{taken_output, taken_reads, taken_unread}
 use Rattle.net_elim.specs.Eliminating.{with_taken}
 use Rattle.net_elim.specs.Collapsing.{with_put, is_outer, collapsed, IsCollapsed}
@@ -47,13 +47,13 @@ begun circuit sound = record {
 }
 
 -- the table that drives a signal after one was taken into all
-turned : (circuit : Circuit) (inner : Table) (signal : List ℕ) (table : Table) → driver (map (taken_in inner) circuit.tables) signal ≡ Some table
-    → (old : Table) × (driver circuit.tables signal ≡ Some old) × (table ≡ taken_in inner old)
-turned circuit inner signal table at = cases (driver circuit.tables signal) refl (sym (driver_mapped (taken_in inner) (taken_output inner) circuit.tables signal) ∙ at)
+turned : (circuit : Circuit) (inner : Table) (signal : List ℕ) (table : Table) → driver (map (composed_into inner) circuit.tables) signal ≡ Some table
+    → (old : Table) × (driver circuit.tables signal ≡ Some old) × (table ≡ composed_into inner old)
+turned circuit inner signal table at = cases (driver circuit.tables signal) refl (sym (driver_mapped (composed_into inner) (taken_output inner) circuit.tables signal) ∙ at)
   where
-    cases : (found : Option Table) → driver circuit.tables signal ≡ found → option_map (taken_in inner) found ≡ Some table → (old : Table) × (driver circuit.tables signal ≡ Some old) × (table ≡ taken_in inner old)
+    cases : (found : Option Table) → driver circuit.tables signal ≡ found → option_map (composed_into inner) found ≡ Some table → (old : Table) × (driver circuit.tables signal ≡ Some old) × (table ≡ composed_into inner old)
     cases None here e = absurd (none-some table e)
-    cases (Some old) here e = (old, here, sym (same_Some (taken_in inner old) table e))
+    cases (Some old) here e = (old, here, sym (same_Some (composed_into inner old) table e))
 
 -- a table that is next in the order reads no table any more
 leaves_only : (first : Circuit) (done : List (List ℕ)) (circuit : Circuit) → IsUnderway first done circuit → (inner : Table) → driver circuit.tables inner.output ≡ Some inner
@@ -69,7 +69,7 @@ underway_more : (first : Circuit) (done : List (List ℕ)) (circuit : Circuit) (
     → IsUnderway first (done ++ inner.output ∷ []) (with_taken circuit inner)
 underway_more first done circuit inner way at behind = record {
   reduced = reduced_through first circuit (with_taken circuit inner) way.reduced (taking_reduced circuit inner sound at);
-  outputs = outputs-mapped (taken_in inner) (taken_output inner) circuit.tables ∙ way.outputs;
+  outputs = outputs-mapped (composed_into inner) (taken_output inner) circuit.tables ∙ way.outputs;
   reads = λ signal table input here read drives.
       let (old, there, is) = turned circuit inner signal table here in
       elim (taken_reads inner old input (subst (λ (t : Table). has t.inputs input ≡ true) is read)) as (λ _. (o : Table) × (driver first.tables signal ≡ Some o) × (has o.inputs input ≡ true)) [
@@ -78,7 +78,7 @@ underway_more first done circuit inner way at behind = record {
       ];
   unread = λ signal table input here read.
       let (old, there, is) = turned circuit inner signal table here in
-      let reads : has (taken_in inner old).inputs input ≡ true = subst (λ (t : Table). has t.inputs input ≡ true) is read in
+      let reads : has (composed_into inner old).inputs input ≡ true = subst (λ (t : Table). has t.inputs input ≡ true) is read in
       has_none done (inner.output ∷ []) input
       (elim (taken_reads inner old input reads) as (λ _. has done input ≡ false) [
         | inl same ↦ way.unread signal old input there same
@@ -87,7 +87,7 @@ underway_more first done circuit inner way at behind = record {
       (has_not (inner.output ∷ []) input (λ among.
       elim (or_cases (bytes_eq input inner.output) false among) as (λ _. ⊥) [
         | inl own ↦ false≢true (sym (taken_unread inner old (driver_all (λ (t : Table). all_different t.inputs ≡ true) circuit.tables sound.table_inputs_once signal old there) (own_unread circuit inner sound at))
-            ∙ subst (λ (name : List ℕ). has (taken_in inner old).inputs name ≡ true) (same_name input inner.output own) reads)
+            ∙ subst (λ (name : List ℕ). has (composed_into inner old).inputs name ≡ true) (same_name input inner.output own) reads)
         | inr none ↦ false≢true none
       ]));
 }

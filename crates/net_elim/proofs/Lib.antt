@@ -1,5 +1,5 @@
 pub mod Places
-pub mod Readers
+pub mod Fanouts
 pub mod Leasts
 pub mod Steps
 pub mod Uses

@@ -20,8 +20,8 @@ use Rattle.circuit_tables.proofs.Merging.{fewer_rows}
 use Rattle.circuit_tables.specs.Tidy.{tidied, narrowed, with_phase_one, some_row_or_phase_one, used_places, chosen, rows_once}
 use Rattle.circuit_tables.proofs.Tidied.{chosen_small, once_small}
 use Rattle.net_core.specs.Reads.{IsBounded, HasBounds, value_of}
-use Rattle.alg_tables.specs.Taking.{taken_in, take_refusal, refusal_at, is_list_long, composed_at, read_place}
-use Rattle.alg_tables.specs.declared.taking.TakeFault.TheVariants.{CubeLimit, TooWide}
+use Rattle.alg_tables.specs.Taking.{composed_into, take_refusal, refusal_at, is_list_long, composed_at, read_place}
+use Rattle.alg_tables.specs.declared.taking.ComposeFault.TheVariants.{CubeLimit, TooWide}
 use Rattle.net_elim.specs.Eliminating.{all_take, is_candidate, least, with_eliminated, eliminate_step}
 use Rattle.net_elim.proofs.Stepping.{filter_all, all_weaker, least_all, step_reduced}
 use Rattle.sis_base.specs.declared.limits.TheConstants.{MAX_ROWS}
@@ -117,8 +117,8 @@ few_enough false most rows inputs h = cases (ltb most rows) refl (ltb 1000 input
 
 pub taken_bounded : (most : ℕ) (inner outer : Table) → suc most < 2 ^ 29
     → take_refusal MAX_ROWS most inner outer ≡ None → IsBounded outer
-    → IsBounded (taken_in inner outer)
-unfolding taken_in take_refusal
+    → IsBounded (composed_into inner outer)
+unfolding composed_into take_refusal
 taken_bounded most inner outer small none bounded = cases (read_place inner outer) none
   where
     cases : (o : Option ℕ) → option_map_or (λ place. refusal_at MAX_ROWS most place inner outer) o None
@@ -148,7 +148,7 @@ first_of_both false y h = cc
 
 all_taken : (most : ℕ) (inner : Table) (tables : List Table) → suc most < 2 ^ 29
     → list_all (λ (outer : Table). is_none (take_refusal MAX_ROWS most inner outer)) tables ≡ true
-    → AllByRecursion IsBounded tables → AllByRecursion IsBounded (map (taken_in inner) tables)
+    → AllByRecursion IsBounded tables → AllByRecursion IsBounded (map (composed_into inner) tables)
 all_taken most inner [] small take all = tt
 all_taken most inner (outer ∷ tables) small take all = (
   taken_bounded most inner outer small
@@ -189,7 +189,7 @@ kept_bounded circuit made test tables is latches all long bounds =
 eliminated_tables : (circuit : Circuit) (inner : Table)
     → (with_eliminated circuit inner).tables
     ≡ filter (λ (table : Table). is_other inner.output table.output)
-    (map (taken_in inner) circuit.tables)
+    (map (composed_into inner) circuit.tables)
 unfolding with_kept tables_kept
 eliminated_tables circuit inner = refl
 
@@ -207,13 +207,13 @@ eliminated_bounded : (threshold : ℤ) (rows : ℕ) (circuit new : Circuit) (inn
 unfolding all_take
 eliminated_bounded threshold rows circuit new inner small sound step is candidate bounds =
     kept_bounded circuit new (λ (table : Table). is_other inner.output table.output)
-    (map (taken_in inner) circuit.tables)
+    (map (composed_into inner) circuit.tables)
     (ap (λ (c : Circuit). c.tables) is ∙ eliminated_tables circuit inner)
     (ap (λ (c : Circuit). length c.latches)
     (step_reduced threshold rows circuit new sound step).change.rest)
     (all_taken rows inner circuit.tables small
     (candidate_taken threshold rows circuit inner candidate) bounds.tables)
-    (length-map circuit.tables (taken_in inner)) bounds
+    (length-map circuit.tables (composed_into inner)) bounds
 
 all_true : (tables : List Table) → AllByRecursion (λ (table : Table). Unit {0}) tables
 all_true [] = tt
@@ -256,8 +256,8 @@ pub chain_bounded : (threshold : ℤ) (rows : ℕ) (circuit new : Circuit) → r
     → IsSound circuit → Chain (eliminate_step threshold rows) circuit new → HasBounds circuit
     → HasBounds new
 chain_bounded threshold rows circuit new small sound chain bounds =
-    leads_bounded threshold rows chain.between circuit new
-    (omega (arith, small)) sound chain.leads bounds
+    leads_bounded threshold rows chain.reached.between circuit new
+    (omega (arith, small)) sound chain.reached.steps bounds
 
 -- the chain that the working network went, as one of the network
 pub chain_told : (threshold kept : ℤ) (rows : ℕ) (network begun end made : Circuit)

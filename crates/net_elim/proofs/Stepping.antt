@@ -142,4 +142,4 @@ pub chain_refines : (threshold : ℤ) (rows : ℕ) (circuit new : Circuit) → I
 chain_refines threshold rows circuit new sound chain = changed_refines circuit new sound (chain_keeps threshold rows circuit new sound chain).change
 
 pub chain_finished : (threshold : ℤ) (rows : ℕ) (circuit new : Circuit) → Chain (eliminate_step threshold rows) circuit new → IsEliminated threshold rows new
-chain_finished threshold rows circuit new chain = step_finished threshold rows new chain.finished
+chain_finished threshold rows circuit new chain = step_finished threshold rows new chain.done

@@ -1,16 +1,18 @@
 -- Steps of elimination on a network at work: which table is next, what comes when it goes, and that the tables grow fewer.
-use Rattle.std.proofs.Common.{◌≡◌, ℕ, ◌+◌, ◌<◌, ◌==◌, zero, suc, ℤ, Bool, true, false, not, ◌&&◌, ◌||◌, Result, Ok, IfOk, cond, if◌then◌else◌, Option, Some, None, is_some, List, [], ◌∷◌, ◌++◌, length, map, filter, bytes_eq, int_lt, slice_get, set, refl, sym, ap, ap₂, ◌∙◌, subst, arith, length-append}
+use Rattle.std.proofs.Common.{◌≡◌, ℕ, ◌+◌, ◌<◌, ◌≤◌, ◌==◌, zero, suc, ℤ, Bool, true, false, not, ◌&&◌, ◌||◌, Result, Ok, IfOk, cond, if◌then◌else◌, Option, Some, None, is_some, List, [], ◌∷◌, ◌++◌, length, map, filter, bytes_eq, int_lt, set, refl, sym, ap, ap₂, ◌∙◌, subst, arith}
 use Rattle.std.specs.List.{AllByRecursion}
 use Rattle.std.specs.Option.{option_map, option_map_or}
 use Rattle.std.proofs.lemmas.Bool.{false≢true, eqb-true, eqb-false}
-use Rattle.std.proofs.lemmas.List.{length-map, length-set}
+use Rattle.std.proofs.lemmas.List.{length-map}
 use Rattle.std.proofs.lemmas.Option.{same_Some}
 use Rattle.circuit_model.specs.Names.{has, all_different}
 use Rattle.circuit_model.specs.Values.{driver}
 use Rattle.circuit_model.specs.Soundness.{outputs_of, IsSound}
 use Rattle.circuit_model.specs.declared.circuit.Table.{Table}
 use Rattle.circuit_model.specs.declared.circuit.Circuit.{Circuit}
-use Rattle.circuit_laws.specs.Chains.{Leads, Chain}
+use Rattle.circuit_laws.specs.Chains.{Chain}
+use Rattle.circuit_laws.specs.Greedy.{Reaches}
+use Rattle.circuit_laws.proofs.Greedy.{reached_itself, reached_more}
 use Rattle.circuit_laws.specs.Edits.{tables_kept, with_tables, without, is_root}
 use Rattle.circuit_laws.proofs.Names.{name_itself, name_not, different_head, different_tail, has_head, has_tail}
 use Rattle.net_elim.specs.Eliminating.{all_take, is_candidate, lesser, least, with_taken, with_eliminated, eliminate_step}
@@ -21,17 +23,16 @@ use Rattle.net_core.specs.Places.{written_of}
 use Rattle.net_core.specs.Reads.{value_of}
 use Rattle.net_core.specs.Tables.{named}
 use Rattle.net_core.specs.declared.places.Entry.{Entry}
-use Rattle.net_core.proofs.Lookups.{get_push_left, get_push_at}
 use Rattle.net_core.proofs.Removals.{removed_table, tables_differ}
 use Rattle.net_work.specs.Placed.{Placed, standing, circuit_of, joined, table_at, with_slot}
 use Rattle.circuit_laws.proofs.Mapped.{outputs-mapped}
-use Rattle.alg_tables.specs.Taking.{taken_in}
+use Rattle.alg_tables.specs.Taking.{composed_into}
 use Rattle.alg_tables.proofs.Taken.{taken_output}
 use Rattle.net_elim.specs.Putting.{slots_taken, with_put}
-use Rattle.net_elim.specs.Waiting.{when, worth_within, worth_at, flat, waits_at, AreWaiting, IsLeast, IsLeastTo}
-use Rattle.net_elim.proofs.Leasts.{value_within, waits_same, waits_other}
+use Rattle.net_elim.specs.Waiting.{when, worth_within, worth_at, waits_at, IsPutAt, IsNext, AreWaiting}
+use Rattle.net_elim.proofs.Leasts.{IsLeast, first_none, waits_same, waits_other}
 use Rattle.net_elim.proofs.Places.{drives_at, standing_map}
-use Rattle.net_elim.proofs.Readers.{taken_there}
+use Rattle.net_elim.proofs.Fanouts.{taken_there}
 
 -- a table that goes
 without_none : (tables : List Table) (name : List ℕ) → has (outputs_of tables) name ≡ false → without tables name ≡ tables
@@ -75,21 +76,21 @@ standing_fewer (None ∷ slots) (suc place) t e = standing_fewer slots place t e
 standing_fewer (Some s ∷ slots) zero t e = refl
 standing_fewer (Some s ∷ slots) (suc place) t e = ap suc (standing_fewer slots place t e)
 
-pub taken_at_place : (slots : List (Option Table)) (place : ℕ) (inner : Table) → table_at slots place ≡ Some inner → table_at (slots_taken inner slots) place ≡ Some (taken_in inner inner)
+pub taken_at_place : (slots : List (Option Table)) (place : ℕ) (inner : Table) → table_at slots place ≡ Some inner → table_at (slots_taken inner slots) place ≡ Some (composed_into inner inner)
 taken_at_place slots place inner e = ap joined (taken_there inner slots place inner e)
 
 pub eliminated_circuit : (placed next : Placed) (place : ℕ) (inner : Table) → IsSound (circuit_of placed) → table_at placed.slots place ≡ Some inner → next ≡ with_slot (with_put inner placed) place None
     → circuit_of next ≡ with_eliminated (circuit_of placed) inner
 eliminated_circuit placed next place inner sound e is =
-    let put : standing (slots_taken inner placed.slots) ≡ map (taken_in inner) (standing placed.slots) = standing_map (taken_in inner) placed.slots in
-    let outputs : outputs_of (map (taken_in inner) (standing placed.slots)) ≡ outputs_of (standing placed.slots) = outputs-mapped (taken_in inner) (taken_output inner) (standing placed.slots) in
+    let put : standing (slots_taken inner placed.slots) ≡ map (composed_into inner) (standing placed.slots) = standing_map (composed_into inner) placed.slots in
+    let outputs : outputs_of (map (composed_into inner) (standing placed.slots)) ≡ outputs_of (standing placed.slots) = outputs-mapped (composed_into inner) (taken_output inner) (standing placed.slots) in
     let different : all_different (outputs_of (standing (slots_taken inner placed.slots))) ≡ true =
     ap (λ (ts : List Table). all_different (outputs_of ts)) put ∙ (ap all_different outputs ∙ tables_differ (circuit_of placed) sound) in
-    let gone : standing (set (slots_taken inner placed.slots) place None) ≡ without (map (taken_in inner) (standing placed.slots)) inner.output =
-    standing_gone (slots_taken inner placed.slots) place (taken_in inner inner) different (taken_at_place placed.slots place inner e)
-    ∙ (ap (λ (ts : List Table). without ts (taken_in inner inner).output) put ∙ ap (without (map (taken_in inner) (standing placed.slots))) (taken_output inner inner)) in
+    let gone : standing (set (slots_taken inner placed.slots) place None) ≡ without (map (composed_into inner) (standing placed.slots)) inner.output =
+    standing_gone (slots_taken inner placed.slots) place (composed_into inner inner) different (taken_at_place placed.slots place inner e)
+    ∙ (ap (λ (ts : List Table). without ts (composed_into inner inner).output) put ∙ ap (without (map (composed_into inner) (standing placed.slots))) (taken_output inner inner)) in
     let at : driver (standing placed.slots) inner.output ≡ Some inner = drives_at placed.slots (tables_differ (circuit_of placed) sound) place inner e in
-    let drives : has (outputs_of (map (taken_in inner) (standing placed.slots))) inner.output ≡ true = ap (λ (names : List (List ℕ)). has names inner.output) outputs ∙ there_named placed.slots place inner e in
+    let drives : has (outputs_of (map (composed_into inner) (standing placed.slots))) inner.output ≡ true = ap (λ (names : List (List ℕ)). has names inner.output) outputs ∙ there_named placed.slots place inner e in
     ap circuit_of is ∙ (ap (λ (ts : List Table). with_tables placed.frame ts) gone
     ∙ sym (removed_table (with_taken (circuit_of placed) inner) inner.output (taking_reduced (circuit_of placed) inner sound at).change.sound drives))
 
@@ -97,9 +98,9 @@ pub eliminated_fewer : (placed next : Placed) (place : ℕ) (inner : Table) → 
     → length (standing next.slots) < length (standing placed.slots)
 eliminated_fewer placed next place inner e is =
     let same : length (standing (slots_taken inner placed.slots)) ≡ length (standing placed.slots) =
-    ap length (standing_map (taken_in inner) placed.slots) ∙ length-map (standing placed.slots) (taken_in inner) in
+    ap length (standing_map (composed_into inner) placed.slots) ∙ length-map (standing placed.slots) (composed_into inner) in
     let fewer : suc (length (standing (set (slots_taken inner placed.slots) place None))) ≡ length (standing (slots_taken inner placed.slots)) =
-    standing_fewer (slots_taken inner placed.slots) place (taken_in inner inner) (taken_at_place placed.slots place inner e) in
+    standing_fewer (slots_taken inner placed.slots) place (composed_into inner inner) (taken_at_place placed.slots place inner e) in
     let now : length (standing next.slots) ≡ length (standing (set (slots_taken inner placed.slots) place None)) = ap (λ (p : Placed). length (standing p.slots)) is in
     omega (arith, same, fewer, now)
 
@@ -209,34 +210,45 @@ worth_answered threshold placed place entry inner found made there root value h 
     (subst (λ r. IfOk r (λ v. (t : Table) → table_at placed.slots place ≡ Some t → v ≡ value_of (standing placed.slots) t.output)) h.1 value) h.2
 
 -- one value more
-pub pushed_long : (values next : List (Option ℤ)) (v : Option ℤ) (place : ℕ) → length values ≡ place → next ≡ values ++ v ∷ [] → length next ≡ place + 1
-pushed_long values next v place long grown =
-    let more : length (values ++ v ∷ []) ≡ length values + 1 = length-append values (v ∷ []) in
-    let same : length next ≡ length (values ++ v ∷ []) = ap length grown in
-    omega (arith, long, more, same)
+pub record AreBegun (threshold : ℤ) (placed : Placed) (count : ℕ) (values : List (ℕ × ℤ)) : Type 0 where
+  pub worth : (place : ℕ) (value : ℤ) → waits_at values place ≡ Some value → worth_at threshold placed place ≡ Some value
+  pub each : (place : ℕ) → place < count → waits_at values place ≡ worth_at threshold placed place
 
-pub worths_more : (threshold : ℤ) (placed : Placed) (values next : List (Option ℤ)) (place : ℕ) (v : Option ℤ) → length values ≡ place
-    → ((other : ℕ) → other < place → slice_get values other ≡ Some (worth_at threshold placed other)) → v ≡ worth_at threshold placed place → next ≡ values ++ v ∷ []
-    → (other : ℕ) → other < place + 1 → slice_get next other ≡ Some (worth_at threshold placed other)
-worths_more threshold placed values next place v long each is grown other lt = ap (λ (xs : List (Option ℤ)). slice_get xs other) grown ∙ cases (other == place) refl
+pub begun_none : (threshold : ℤ) (placed : Placed) (values : List (ℕ × ℤ)) → values ≡ [] → AreBegun threshold placed 0 values
+begun_none threshold placed values empty = record {
+  worth = λ place v h. absurd (let z : None ≡ Some v = ap (λ (vs : List (ℕ × ℤ)). waits_at vs place) (sym empty) ∙ h in cc);
+  each = λ place lt. absurd (omega (arith, lt));
+}
+
+pub begun_more : (threshold : ℤ) (placed : Placed) (count : ℕ) (before after : List (ℕ × ℤ)) → AreBegun threshold placed count before → IsPutAt count (worth_at threshold placed count) before after
+    → AreBegun threshold placed (count + 1) after
+begun_more threshold placed count before after are put = record {
+  worth = λ place v h. worth place v h (count == place) refl;
+  each = λ place lt. each place lt (count == place) refl;
+}
   where
-    cases : (b : Bool) → (other == place) ≡ b → slice_get (values ++ v ∷ []) other ≡ Some (worth_at threshold placed other)
-    cases true e =
-        let at : other ≡ length values = eqb-true other place e ∙ sym long in
-        ap (slice_get (values ++ v ∷ [])) at ∙ (get_push_at values v ∙ ap (λ (x : Option ℤ). Some x) (is ∙ ap (worth_at threshold placed) (sym (eqb-true other place e))))
-    cases false e =
-        let apart : other ≡ place → ⊥ = eqb-false other place e in get_push_left values v (worth_at threshold placed other) other (each other (omega (arith, lt, apart)))
+    worth : (place : ℕ) (v : ℤ) → waits_at after place ≡ Some v → (b : Bool) → (count == place) ≡ b → worth_at threshold placed place ≡ Some v
+    worth place v h true e =
+        let same : count ≡ place = eqb-true count place e in
+        ap (worth_at threshold placed) (sym same) ∙ (sym (waits_same count (worth_at threshold placed count) before after put place same) ∙ h)
+    worth place v h false e = are.worth place v (sym (waits_other count (worth_at threshold placed count) before after put place (eqb-false count place e)) ∙ h)
 
-pub begun_waiting : (threshold : ℤ) (rows : ℕ) (placed : Placed) (values : List (Option ℤ)) → length values ≡ length placed.slots
-    → ((place : ℕ) → place < length placed.slots → slice_get values place ≡ Some (worth_at threshold placed place)) → AreWaiting threshold rows placed values
-begun_waiting threshold rows placed values long each = record {
-  long = long;
-  worth = λ place v h. ap flat (sym (each place (omega (arith, long, value_within values place v h)))) ∙ h;
-  all = λ place t e h. ap flat (each place (place_within placed.slots place t e));
+    each : (place : ℕ) → place < count + 1 → (b : Bool) → (count == place) ≡ b → waits_at after place ≡ worth_at threshold placed place
+    each place lt true e =
+        let same : count ≡ place = eqb-true count place e in
+        waits_same count (worth_at threshold placed count) before after put place same ∙ ap (worth_at threshold placed) same
+    each place lt false e =
+        let apart : count ≡ place → ⊥ = eqb-false count place e in
+        waits_other count (worth_at threshold placed count) before after put place apart ∙ are.each place (omega (arith, lt, λ (same : place ≡ count). apart (sym same)))
+
+pub begun_waiting : (threshold : ℤ) (rows : ℕ) (placed : Placed) (count : ℕ) (values : List (ℕ × ℤ)) → length placed.slots ≤ count → AreBegun threshold placed count values → AreWaiting threshold rows placed values
+begun_waiting threshold rows placed count values long are = record {
+  worth = are.worth;
+  all = λ place t e h. (let within = place_within placed.slots place t e in are.each place (omega (arith, long, within)));
 }
 
 -- a value that waits is that of a table
-pub waits_there : (threshold : ℤ) (rows : ℕ) (placed : Placed) (values : List (Option ℤ)) (place : ℕ) (v : ℤ) → AreWaiting threshold rows placed values → waits_at values place ≡ Some v
+pub waits_there : (threshold : ℤ) (rows : ℕ) (placed : Placed) (values : List (ℕ × ℤ)) (place : ℕ) (v : ℤ) → AreWaiting threshold rows placed values → waits_at values place ≡ Some v
     → (t : Table) × (table_at placed.slots place ≡ Some t)
 waits_there threshold rows placed values place v are here = cases (table_at placed.slots place) refl (are.worth place v here)
   where
@@ -244,11 +256,11 @@ waits_there threshold rows placed values place v are here = cases (table_at plac
     cases None e k = absurd (let z : None ≡ Some v = k in cc)
     cases (Some t) e k = (t, e)
 
-pub there_is : (threshold : ℤ) (rows : ℕ) (placed : Placed) (values : List (Option ℤ)) (place : ℕ) (v : ℤ) → AreWaiting threshold rows placed values → waits_at values place ≡ Some v → is_some (table_at placed.slots place) ≡ true
+pub there_is : (threshold : ℤ) (rows : ℕ) (placed : Placed) (values : List (ℕ × ℤ)) (place : ℕ) (v : ℤ) → AreWaiting threshold rows placed values → waits_at values place ≡ Some v → is_some (table_at placed.slots place) ≡ true
 there_is threshold rows placed values place v are here = let (t, e) = waits_there threshold rows placed values place v are here in ap is_some e
 
 -- the next one
-pub step_found : (threshold : ℤ) (rows : ℕ) (placed : Placed) (values : List (Option ℤ)) (place : ℕ) → AreWaiting threshold rows placed values → IsLeast values (length values) place
+pub step_found : (threshold : ℤ) (rows : ℕ) (placed : Placed) (values : List (ℕ × ℤ)) (place : ℕ) → AreWaiting threshold rows placed values → IsLeast values place
     → (inner : Table) → table_at placed.slots place ≡ Some inner → all_take rows (circuit_of placed) inner ≡ true → eliminate_step threshold rows (circuit_of placed) ≡ Some (with_eliminated (circuit_of placed) inner)
 unfolding eliminate_step
 step_found threshold rows placed values place are first inner e takes =
@@ -260,32 +272,33 @@ step_found threshold rows placed values place are first inner e takes =
     (worth_candidate threshold rows placed inner first.value own takes)
     (λ other u at fits.
     subst (λ (v : ℤ). int_lt (value_of (standing placed.slots) u.output) v ≡ false) (sym value)
-    (first.no_lesser other (value_of (standing placed.slots) u.output) (omega (arith, are.long, place_within placed.slots other u at)) (waiting other u at fits)))
+    (first.no_lesser other (value_of (standing placed.slots) u.output) (waiting other u at fits)))
     (λ other u lt at fits.
     subst (λ (v : ℤ). int_lt v (value_of (standing placed.slots) u.output) ≡ true) (sym value) (first.greater other (value_of (standing placed.slots) u.output) lt (waiting other u at fits))))
   where
     waiting : (other : ℕ) (u : Table) → table_at placed.slots other ≡ Some u → is_candidate threshold rows (circuit_of placed) u ≡ true → waits_at values other ≡ Some (value_of (standing placed.slots) u.output)
     waiting other u at fits = are.all other u at fits ∙ (worth_of_table threshold placed other u at ∙ (candidate_worth threshold rows placed u fits).0)
 
-pub step_none : (threshold : ℤ) (rows : ℕ) (placed : Placed) (values : List (Option ℤ)) → AreWaiting threshold rows placed values → IsLeastTo values (length values) None
+pub step_none : (threshold : ℤ) (rows : ℕ) (placed : Placed) (values : List (ℕ × ℤ)) → AreWaiting threshold rows placed values → IsNext values None
     → eliminate_step threshold rows (circuit_of placed) ≡ None
 unfolding eliminate_step least
 step_none threshold rows placed values are none =
     ap (λ (ts : List Table). option_map (with_eliminated (circuit_of placed)) (least (λ (t : Table). value_of (standing placed.slots) t.output) ts))
     (filtered_none (is_candidate threshold rows (circuit_of placed)) placed.slots
     (λ place t at fits.
-    none place (value_of (standing placed.slots) t.output) (omega (arith, are.long, place_within placed.slots place t at))
-    (are.all place t at fits ∙ (worth_of_table threshold placed place t at ∙ (candidate_worth threshold rows placed t fits).0))))
+    let waits : waits_at values place ≡ Some (value_of (standing placed.slots) t.output) =
+    are.all place t at fits ∙ (worth_of_table threshold placed place t at ∙ (candidate_worth threshold rows placed t fits).0) in
+    absurd (let z : None ≡ Some (value_of (standing placed.slots) t.output) = sym (first_none values none place) ∙ waits in cc)))
 
 -- the answers of a try
-pub step_done : (threshold : ℤ) (rows : ℕ) (placed next : Placed) (values : List (Option ℤ)) (place : ℕ) (done : Bool) → AreWaiting threshold rows placed values → IsLeast values (length values) place → done ≡ true
+pub step_done : (threshold : ℤ) (rows : ℕ) (placed next : Placed) (values : List (ℕ × ℤ)) (place : ℕ) (done : Bool) → AreWaiting threshold rows placed values → IsLeast values place → done ≡ true
     → ((inner : Table) → table_at placed.slots place ≡ Some inner → done ≡ all_take rows (circuit_of placed) inner)
     → (done ≡ true → (inner : Table) → table_at placed.slots place ≡ Some inner → circuit_of next ≡ with_eliminated (circuit_of placed) inner) → eliminate_step threshold rows (circuit_of placed) ≡ Some (circuit_of next)
 step_done threshold rows placed next values place done are first yes_ answer circuit =
     let (inner, e) = waits_there threshold rows placed values place first.value are first.here in
     step_found threshold rows placed values place are first inner e (sym (answer inner e) ∙ yes_) ∙ ap (λ (c : Circuit). Some c) (sym (circuit yes_ inner e))
 
-pub done_fewer : (threshold : ℤ) (rows : ℕ) (placed next : Placed) (values : List (Option ℤ)) (place : ℕ) (done : Bool) → AreWaiting threshold rows placed values → IsLeast values (length values) place → done ≡ true
+pub done_fewer : (threshold : ℤ) (rows : ℕ) (placed next : Placed) (values : List (ℕ × ℤ)) (place : ℕ) (done : Bool) → AreWaiting threshold rows placed values → IsLeast values place → done ≡ true
     → (done ≡ true → (inner : Table) → table_at placed.slots place ≡ Some inner → next ≡ with_slot (with_put inner placed) place None) → length (standing next.slots) < length (standing placed.slots)
 done_fewer threshold rows placed next values place done are first yes_ gone =
     let (inner, e) = waits_there threshold rows placed values place first.value are first.here in
@@ -294,51 +307,49 @@ done_fewer threshold rows placed next values place done are first yes_ gone =
 pub chosen : (bit : Bool) (o : Option Circuit) (next : Circuit) → o ≡ (if bit then Some next else None) → bit ≡ true → o ≡ Some next
 chosen bit o next is h = is ∙ ap (λ (b : Bool). if b then Some next else None) h
 
+pub refused : (bit : Bool) (o : Option Circuit) (next : Circuit) → o ≡ (if bit then Some next else None) → bit ≡ false → o ≡ None
+refused bit o next is h = is ∙ ap (λ (b : Bool). if b then Some next else None) h
+
 -- one that is refused waits no more
-waiting_less : (threshold : ℤ) (rows : ℕ) (placed : Placed) (values : List (Option ℤ)) (place : ℕ) (done : Bool) → AreWaiting threshold rows placed values → place < length values → done ≡ false
-    → ((inner : Table) → table_at placed.slots place ≡ Some inner → done ≡ all_take rows (circuit_of placed) inner) → AreWaiting threshold rows placed (set values place None)
-waiting_less threshold rows placed values place done are within none answer = record {
-  long = length-set values place None ∙ are.long;
+waiting_less : (threshold : ℤ) (rows : ℕ) (placed : Placed) (before after : List (ℕ × ℤ)) (place : ℕ) (done : Bool) → AreWaiting threshold rows placed before → IsPutAt place None before after → done ≡ false
+    → ((inner : Table) → table_at placed.slots place ≡ Some inner → done ≡ all_take rows (circuit_of placed) inner) → AreWaiting threshold rows placed after
+waiting_less threshold rows placed before after place done are put none answer = record {
   worth = λ other w h. worth other w h (place == other) refl;
   all = λ other t e h. all other t e h (place == other) refl;
 }
   where
-    worth : (other : ℕ) (w : ℤ) → waits_at (set values place None) other ≡ Some w → (b : Bool) → (place == other) ≡ b → worth_at threshold placed other ≡ Some w
-    worth other w h true same =
-        absurd (let z : None ≡ Some w = sym (waits_same values place None within) ∙ (ap (waits_at (set values place None)) (eqb-true place other same) ∙ h) in cc)
-    worth other w h false apart = are.worth other w (sym (waits_other values place other None (λ same. eqb-false place other apart (sym same))) ∙ h)
+    worth : (other : ℕ) (w : ℤ) → waits_at after other ≡ Some w → (b : Bool) → (place == other) ≡ b → worth_at threshold placed other ≡ Some w
+    worth other w h true same = absurd (let z : None ≡ Some w = sym (waits_same place None before after put other (eqb-true place other same)) ∙ h in cc)
+    worth other w h false apart = are.worth other w (sym (waits_other place None before after put other (eqb-false place other apart)) ∙ h)
 
     all : (other : ℕ) (t : Table) → table_at placed.slots other ≡ Some t → is_candidate threshold rows (circuit_of placed) t ≡ true → (b : Bool) → (place == other) ≡ b
-        → waits_at (set values place None) other ≡ worth_at threshold placed other
+        → waits_at after other ≡ worth_at threshold placed other
     all other t e h true same =
         absurd (false≢true (sym none ∙ (answer t (ap (table_at placed.slots) (eqb-true place other same) ∙ e) ∙ (candidate_worth threshold rows placed t h).1)))
-    all other t e h false apart = waits_other values place other None (λ same. eqb-false place other apart (sym same)) ∙ are.all other t e h
+    all other t e h false apart = waits_other place None before after put other (eqb-false place other apart) ∙ are.all other t e h
 
-pub waiting_refused : (threshold : ℤ) (rows : ℕ) (placed next : Placed) (before mid after : List (Option ℤ)) (place : ℕ) (done : Bool) → AreWaiting threshold rows placed before → IsLeast before (length before) place → done ≡ false
-    → (done ≡ false → (next ≡ placed) × (mid ≡ before)) → ((inner : Table) → table_at placed.slots place ≡ Some inner → done ≡ all_take rows (circuit_of placed) inner) → after ≡ set mid place None
+pub waiting_refused : (threshold : ℤ) (rows : ℕ) (placed next : Placed) (before mid after : List (ℕ × ℤ)) (place : ℕ) (done : Bool) → AreWaiting threshold rows placed before → done ≡ false
+    → (done ≡ false → (next ≡ placed) × (mid ≡ before)) → ((inner : Table) → table_at placed.slots place ≡ Some inner → done ≡ all_take rows (circuit_of placed) inner) → IsPutAt place None mid after
     → AreWaiting threshold rows next after
-waiting_refused threshold rows placed next before mid after place done are first none same answer is =
+waiting_refused threshold rows placed next before mid after place done are none same answer put =
     subst (λ (p : Placed). AreWaiting threshold rows p after) (sym (same none).0)
-    (subst (AreWaiting threshold rows placed) (sym (is ∙ ap (λ (values : List (Option ℤ)). set values place None) (same none).1))
-    (waiting_less threshold rows placed before place done are first.within none answer))
+    (waiting_less threshold rows placed before after place done are (subst (λ (values : List (ℕ × ℤ)). IsPutAt place None values after) (same none).1 put) none answer)
 
 -- chains of steps
-pub record IsLed (step : Circuit → Option Circuit) (from to : Circuit) : Type 0 where
-  pub between : List Circuit
-  pub leads : Leads step between from to
-
-leads_more : (step : Circuit → Option Circuit) (between : List Circuit) (from to next : Circuit) → Leads step between from to → step to ≡ Some next → Leads step (between ++ next ∷ []) from next
-leads_more step [] from to next same e = (ap step same ∙ e, refl)
-leads_more step (first ∷ between) from to next h e = (h.0, leads_more step between first to next h.1 e)
+abbrev pub IsLed : (Circuit → Option Circuit) → Circuit → Circuit → Type 0
+IsLed step from to = Reaches (λ x y. step x ≡ Some y) from to
 
 pub led_itself : (step : Circuit → Option Circuit) (from : Circuit) → IsLed step from from
-led_itself step from = record { between = []; leads = refl }
+led_itself step = reached_itself (λ x y. step x ≡ Some y)
 
 pub led_more : (step : Circuit → Option Circuit) (from to next : Circuit) → IsLed step from to → step to ≡ Some next → IsLed step from next
-led_more step from to next led e = record { between = led.between ++ next ∷ []; leads = leads_more step led.between from to next led.leads e }
+led_more step = reached_more (λ x y. step x ≡ Some y)
 
 pub led_chain : (step : Circuit → Option Circuit) (from to : Circuit) → IsLed step from to → step to ≡ None → Chain step from to
-led_chain step from to led e = record { between = led.between; leads = led.leads; finished = e }
+led_chain step from to led e = record { reached = led; done = e }
+
+pub led_done : (step : Circuit → Option Circuit) (from to last : Circuit) → IsLed step from to → step to ≡ None → last ≡ to → Chain step from last
+led_done step from to last led e same = subst (λ (circuit : Circuit). Chain step from circuit) (sym same) (led_chain step from to led e)
 
 pub next_sound : (threshold : ℤ) (rows : ℕ) (circuit next : Circuit) → IsSound circuit → eliminate_step threshold rows circuit ≡ Some next → IsSound next
 next_sound threshold rows circuit next sound e = (step_reduced threshold rows circuit next sound e).change.sound

@@ -20,7 +20,7 @@ use Rattle.circuit_laws.specs.Changes.{IsReduced}
 use Rattle.circuit_laws.proofs.Changes.{each_reduced, removed_reduced, reduced_through}
 use Rattle.circuit_laws.proofs.Mapped.{IsTurn, live_reads, outputs-mapped, sound_mapped}
 use Rattle.net_core.proofs.Removals.{no_latch}
-use Rattle.alg_tables.specs.Taking.{taken_in}
+use Rattle.alg_tables.specs.Taking.{composed_into}
 use Rattle.alg_tables.proofs.Taken.{taken_output, taken_once, taken_shaped, taken_reads, taken_unread, taken_value}
 use Rattle.net_elim.specs.Eliminating.{with_taken, with_eliminated}
 
@@ -29,7 +29,7 @@ pub own_unread : (circuit : Circuit) (inner : Table) → IsSound circuit → dri
 own_unread circuit inner sound at =
     has_not inner.inputs inner.output (λ h. no_return circuit.tables sound.acyclic inner.output 0 (leads_one circuit.tables inner.output inner.output inner at h))
 
-taking_turn : (circuit : Circuit) (inner : Table) → IsSound circuit → driver circuit.tables inner.output ≡ Some inner → IsTurn circuit (taken_in inner)
+taking_turn : (circuit : Circuit) (inner : Table) → IsSound circuit → driver circuit.tables inner.output ≡ Some inner → IsTurn circuit (composed_into inner)
 taking_turn circuit inner sound at = record {
   keeps = taken_output inner;
   once = taken_once inner;
@@ -42,7 +42,7 @@ taking_turn circuit inner sound at = record {
 }
 
 taking_leads : (circuit : Circuit) (inner : Table) → driver circuit.tables inner.output ≡ Some inner → (signal : List ℕ) (table : Table) (input : List ℕ) → driver circuit.tables signal ≡ Some table
-    → has (taken_in inner table).inputs input ≡ true → (steps : ℕ) × Leads circuit.tables (suc steps) signal input
+    → has (composed_into inner table).inputs input ≡ true → (steps : ℕ) × Leads circuit.tables (suc steps) signal input
 taking_leads circuit inner at signal table input here reads =
     elim (taken_reads inner table input reads) as (λ _. (steps : ℕ) × Leads circuit.tables (suc steps) signal input) [
       | inl old ↦ (0, leads_one circuit.tables signal input table here old)
@@ -54,29 +54,29 @@ taking_leads circuit inner at signal table input here reads =
       )
     ]
 
-taking_acyclic : (circuit : Circuit) (inner : Table) → IsSound circuit → driver circuit.tables inner.output ≡ Some inner → IsAcyclic (map (taken_in inner) circuit.tables)
-taking_acyclic circuit inner sound at = mapped_acyclic (taken_in inner) (taken_output inner) circuit.tables (taking_leads circuit inner at) sound.acyclic
+taking_acyclic : (circuit : Circuit) (inner : Table) → IsSound circuit → driver circuit.tables inner.output ≡ Some inner → IsAcyclic (map (composed_into inner) circuit.tables)
+taking_acyclic circuit inner sound at = mapped_acyclic (composed_into inner) (taken_output inner) circuit.tables (taking_leads circuit inner at) sound.acyclic
 
 taking_sound : (circuit : Circuit) (inner : Table) → IsSound circuit → driver circuit.tables inner.output ≡ Some inner → IsSound (with_taken circuit inner)
-taking_sound circuit inner sound at = sound_mapped circuit (taken_in inner) sound (taking_turn circuit inner sound at) (taking_acyclic circuit inner sound at)
+taking_sound circuit inner sound at = sound_mapped circuit (composed_into inner) sound (taking_turn circuit inner sound at) (taking_acyclic circuit inner sound at)
 
 taking_each : (circuit : Circuit) (inner : Table) → IsSound circuit → driver circuit.tables inner.output ≡ Some inner → KeepsEach circuit (with_taken circuit inner)
 taking_each circuit inner sound at =
-    obeying_mapped circuit (taken_in inner) (sound_settled circuit sound) (taken_output inner) (taking_acyclic circuit inner sound at)
+    obeying_mapped circuit (composed_into inner) (sound_settled circuit sound) (taken_output inner) (taking_acyclic circuit inner sound at)
     (λ value obeys signal table here.
     taken_value inner table value (driver_all IsShaped circuit.tables sound.shaped inner.output inner at) (driver_all IsShaped circuit.tables sound.shaped signal table here)
     (driver_all (λ (t : Table). all_different t.inputs ≡ true) circuit.tables sound.table_inputs_once inner.output inner at) (own_unread circuit inner sound at) (obeys inner.output inner at))
 
 pub taking_reduced : (circuit : Circuit) (inner : Table) → IsSound circuit → driver circuit.tables inner.output ≡ Some inner → IsReduced circuit (with_taken circuit inner)
 taking_reduced circuit inner sound at =
-    each_reduced circuit (map (taken_in inner) circuit.tables) (taking_sound circuit inner sound at) (outputs-mapped (taken_in inner) (taken_output inner) circuit.tables) (taking_each circuit inner sound at)
+    each_reduced circuit (map (composed_into inner) circuit.tables) (taking_sound circuit inner sound at) (outputs-mapped (composed_into inner) (taken_output inner) circuit.tables) (taking_each circuit inner sound at)
 
 -- no table reads the signal after that
 none_read : (inner : Table) → has inner.inputs inner.output ≡ false → (tables : List Table) → AllByRecursion (λ (t : Table). all_different t.inputs ≡ true) tables
-    → has (table_inputs (map (taken_in inner) tables)) inner.output ≡ false
+    → has (table_inputs (map (composed_into inner) tables)) inner.output ≡ false
 none_read inner apart [] once = refl
 none_read inner apart (table ∷ tables) once =
-    has_none (taken_in inner table).inputs (table_inputs (map (taken_in inner) tables)) inner.output (taken_unread inner table once.0 apart) (none_read inner apart tables once.1)
+    has_none (composed_into inner table).inputs (table_inputs (map (composed_into inner) tables)) inner.output (taken_unread inner table once.0 apart) (none_read inner apart tables once.1)
 
 -- what a table drives is no leaf
 pub leaf_apart : (circuit : Circuit) (name : List ℕ) → IsSound circuit → has (outputs_of circuit.tables) name ≡ true → has (leaf_names circuit) name ≡ false
@@ -118,7 +118,7 @@ eliminated_reduced circuit inner sound at inside =
     let put : IsReduced circuit (with_taken circuit inner) = taking_reduced circuit inner sound at in
     reduced_through circuit (with_taken circuit inner) (with_eliminated circuit inner) put
     (removed_reduced (with_taken circuit inner) inner.output put.change.sound
-    (or_from (has (table_inputs (map (taken_in inner) circuit.tables)) inner.output) (not (has (outputs_of circuit.dont_care) inner.output) && has (table_inputs circuit.dont_care) inner.output)
+    (or_from (has (table_inputs (map (composed_into inner) circuit.tables)) inner.output) (not (has (outputs_of circuit.dont_care) inner.output) && has (table_inputs circuit.dont_care) inner.output)
     (none_read inner (own_unread circuit inner sound at) circuit.tables sound.table_inputs_once) (part_apart circuit inner.output sound drives))
-    (rootless circuit (map (taken_in inner) circuit.tables) inner.output ∙ inside)
+    (rootless circuit (map (composed_into inner) circuit.tables) inner.output ∙ inside)
     (no_latch circuit inner.output sound drives))

@@ -1,16 +1,15 @@
 -- Places that an elimination touches, gathered one after the other, and values that are made anew there.
-use Rattle.std.proofs.Common.{◌≡◌, ℕ, ◌+◌, ◌<◌, ◌==◌, ℤ, Bool, true, false, Option, Some, None, List, [], ◌∷◌, ◌++◌, length, is_none, bytes_eq, take, get_or, set, refl, sym, ap, ◌∙◌, subst, inl, inr, ◌⊎◌}
+use Rattle.std.proofs.Common.{◌≡◌, ℕ, ◌+◌, ◌<◌, ◌==◌, ℤ, Bool, true, false, Option, Some, None, List, [], ◌∷◌, ◌++◌, length, is_none, bytes_eq, take, get_or, refl, sym, ap, ◌∙◌, subst, inl, inr, ◌⊎◌}
 use Rattle.std.specs.Option.{option_map}
 use Rattle.std.proofs.lemmas.Bool.{false≢true, eqb-true, eqb-false, eq-eqb, or_left, or_right, or_cases}
-use Rattle.std.proofs.lemmas.List.{length-map, length-set, take_more}
-use Rattle.std.proofs.lemmas.List.Folds.{list_any_at}
+use Rattle.std.proofs.lemmas.List.{take_more}
 use Rattle.std.proofs.lemmas.Option.{same_Some}
 use Rattle.circuit_model.specs.Names.{has}
 use Rattle.circuit_model.specs.Soundness.{outputs_of, IsSound}
 use Rattle.circuit_model.specs.declared.circuit.Table.{Table}
 use Rattle.circuit_laws.proofs.Names.{has_not, has_either, same_name}
 use Rattle.net_elim.specs.Eliminating.{all_take, is_candidate}
-use Rattle.net_readers.specs.Readers.{is_in}
+use Rattle.net_readers.specs.Fanouts.{is_in}
 use Rattle.net_core.specs.Places.{written_of}
 use Rattle.net_core.specs.Reads.{value_of}
 use Rattle.net_core.specs.Tables.{named}
@@ -18,15 +17,15 @@ use Rattle.net_core.specs.declared.places.Entry.{Entry}
 use Rattle.net_core.proofs.Removals.{tables_differ}
 use Rattle.net_work.specs.Placed.{Placed, standing, circuit_of, table_at, with_slot}
 use Rattle.net_work.specs.Slots.{inputs_in, inputs_at}
-use Rattle.alg_tables.specs.Taking.{taken_in, take_refusal}
+use Rattle.alg_tables.specs.Taking.{composed_into, take_refusal}
 use Rattle.alg_tables.proofs.Taken.{taken_apart}
-use Rattle.net_elim.specs.Putting.{slots_taken, with_put}
-use Rattle.net_elim.specs.Waiting.{worth_within, worth_at, waits_at, AreWaiting}
-use Rattle.net_elim.specs.Touching.{AreWithin, IsGrown, IsCovered, IsJoined, AreTouched, AreRenewed}
+use Rattle.net_elim.specs.Putting.{with_put}
+use Rattle.net_elim.specs.Waiting.{worth_within, worth_at, waits_at, IsPutAt, AreWaiting}
+use Rattle.net_elim.specs.Touching.{IsGrown, IsCovered, IsJoined, AreTouched, AreRenewed}
 use Rattle.net_elim.proofs.Leasts.{waits_same, waits_other}
 use Rattle.net_elim.proofs.Places.{tests_all, tests_each}
-use Rattle.net_elim.proofs.Readers.{unread_takes}
-use Rattle.net_elim.proofs.Steps.{there_named, place_within, worth_of_table, candidate_worth, worth_candidate}
+use Rattle.net_elim.proofs.Fanouts.{unread_takes}
+use Rattle.net_elim.proofs.Steps.{there_named, worth_of_table, candidate_worth, worth_candidate}
 use Rattle.net_elim.proofs.Uses.{IsUntouched, same_place, slot_left, worth_left}
 use Rattle.sis_base.specs.declared.limits.TheConstants.{MAX_ROWS}
 
@@ -55,10 +54,6 @@ more_last : (places : List ℕ) (place : ℕ) → is_in (places ++ place ∷ [])
 more_last [] place = or_left (place == place) false (eq-eqb place place refl)
 more_last (first ∷ places) place = or_right (first == place) (is_in (places ++ place ∷ []) place) (more_last places place)
 
-within_more : (slots : List (Option Table)) (places : List ℕ) (place : ℕ) → place < length slots → AreWithin slots places → AreWithin slots (places ++ place ∷ [])
-within_more slots places place lt h at k =
-    elim (in_more places place at k) as (λ _. at < length slots) [ inl old ↦ h at old | inr new ↦ subst (λ (i : ℕ). i < length slots) new lt ]
-
 -- the table that drives a name
 one_name : (first name : List ℕ) → has (first ∷ []) name ≡ true → name ≡ first
 one_name first name h = elim (or_cases (bytes_eq name first) false h) as (λ _. name ≡ first) [ inl e ↦ same_name name first e | inr e ↦ absurd (false≢true e) ]
@@ -67,7 +62,6 @@ pub driver_pushed : (placed : Placed) (name : List ℕ) (places next : List ℕ)
     → IsGrown placed.slots (name ∷ []) places next
 driver_pushed placed name places next place sound h is = subst (IsGrown placed.slots (name ∷ []) places) (sym is) (record {
   more = more_front places place;
-  within = within_more placed.slots places place (place_within placed.slots place h.0 h.1);
   drivers = λ at table e k.
       subst (λ (i : ℕ). is_in (places ++ place ∷ []) i ≡ true) (same_place placed.slots (tables_differ (circuit_of placed) sound) place at h.0 table h.1 e (h.2 ∙ sym (one_name name table.output k))) (more_last places place);
 })
@@ -75,7 +69,6 @@ driver_pushed placed name places next place sound h is = subst (IsGrown placed.s
 pub driver_missing : (placed : Placed) (name : List ℕ) (places : List ℕ) → has (outputs_of (standing placed.slots)) name ≡ false → IsGrown placed.slots (name ∷ []) places places
 driver_missing placed name places missing = record {
   more = λ at h. h;
-  within = λ h. h;
   drivers = λ at table e k.
       absurd (false≢true (sym missing ∙ subst (λ (n : List ℕ). has (outputs_of (standing placed.slots)) n ≡ true) (one_name name table.output k) (there_named placed.slots at table e)));
 }
@@ -83,7 +76,6 @@ driver_missing placed name places missing = record {
 pub grown_begun : (slots : List (Option Table)) (places : List ℕ) → IsGrown slots [] places places
 grown_begun slots places = record {
   more = λ at h. h;
-  within = λ h. h;
   drivers = λ at table e k. absurd (false≢true k);
 }
 
@@ -92,7 +84,6 @@ pub grown_more : (slots : List (Option Table)) (names : List (List ℕ)) (i : �
 grown_more slots names i name before now next lt is old new =
     subst (λ (xs : List (List ℕ)). IsGrown slots xs before next) (sym (take_more names i name lt ∙ ap (λ (n : List ℕ). take i names ++ n ∷ []) (sym is))) (record {
       more = λ at h. new.more at (old.more at h);
-      within = λ h. new.within (old.within h);
       drivers = λ at table e k.
           elim (has_either (take i names) (name ∷ []) table.output k) as (λ _. is_in next at ≡ true) [
             | inl front ↦ new.more at (old.drivers at table e front)
@@ -106,7 +97,6 @@ pub joined_pushed : {R : Type 0} (slots : List (Option Table)) (place : ℕ) (en
 unfolding named
 joined_pushed slots place entry names before mid after there same is grown = record {
   more = λ at h. grown.more at (subst (λ (ps : List ℕ). is_in ps at ≡ true) (sym is) (more_front before place at h));
-  within = λ h. grown.within (subst (AreWithin slots) (sym is) (within_more slots before place (place_within slots place (written_of entry) (sym there)) h));
   covered = record {
     own = grown.more place (subst (λ (ps : List ℕ). is_in ps place ≡ true) (sym is) (more_last before place));
     drivers = λ at table e k.
@@ -122,13 +112,11 @@ covered_more slots before after place more h = record {
 
 -- the table at a place and the first of its readers
 pub record ArePartly (slots : List (Option Table)) (place : ℕ) (done places : List ℕ) : Type 0 where
-  pub within : AreWithin slots places
   pub own : IsCovered slots places place
   pub readers : (at : ℕ) → is_in done at ≡ true → IsCovered slots places at
 
 pub partly_first : (slots : List (Option Table)) (place : ℕ) (none places : List ℕ) → none ≡ [] → IsJoined slots place none places → ArePartly slots place [] places
 partly_first slots place none places empty h = record {
-  within = h.within (λ at k. absurd (false≢true (ap (λ (ps : List ℕ). is_in ps at) (sym empty) ∙ k)));
   own = h.covered;
   readers = λ at k. absurd (false≢true k);
 }
@@ -136,7 +124,6 @@ partly_first slots place none places empty h = record {
 pub partly_next : (slots : List (Option Table)) (place : ℕ) (readers : List ℕ) (i d : ℕ) (places next : List ℕ) → i < length readers → ArePartly slots place (take i readers) places → IsJoined slots (get_or readers i d) places next
     → ArePartly slots place (take (i + 1) readers) next
 partly_next slots place readers i d places next lt h one = subst (λ (rs : List ℕ). ArePartly slots place rs next) (sym (take_more readers i d lt)) (record {
-  within = one.within h.within;
   own = covered_more slots places next place one.more h.own;
   readers = λ at k.
       elim (in_more (take i readers) (get_or readers i d) at k) as (λ _. IsCovered slots next at) [
@@ -150,7 +137,6 @@ pub touched_all : {R : Type 0} (slots : List (Option Table)) (place : ℕ) (entr
 unfolding named
 touched_all slots place entry readers places there are h inner e =
     subst (λ (t : Table). AreTouched slots t.output place places) (same_Some (written_of entry) inner (there ∙ e)) (record {
-      within = h.within;
       own = h.own;
       readers = λ at k. h.readers at (are at ∙ k);
     })
@@ -181,7 +167,7 @@ takes_before rows placed next place inner t e is untouched h =
         tests_each (λ (u : Table). is_none (take_refusal MAX_ROWS rows t u)) next.slots h other u
         (ap (λ (p : Placed). table_at p.slots other) is
         ∙ (slot_left placed.slots place other inner apart
-        ∙ (ap (option_map (taken_in inner)) there
+        ∙ (ap (option_map (composed_into inner)) there
         ∙ ap (λ (v : Table). Some v) (taken_apart inner u (has_not u.inputs inner.output (λ reads. false≢true (sym (untouched.readers other u there reads) ∙ k)))))))
       where
         apart : other ≡ place → ⊥
@@ -190,18 +176,14 @@ takes_before rows placed next place inner t e is untouched h =
             false≢true (sym untouched.own ∙ (ap (λ (v : Table). has v.inputs t.output) own ∙ k))
 
 -- values made anew where an elimination touched them
-pub waiting_stepped : (threshold : ℤ) (rows : ℕ) (placed next : Placed) (place : ℕ) (inner : Table) (places : List ℕ) (before after : List (Option ℤ)) → IsSound (circuit_of placed) → table_at placed.slots place ≡ Some inner
+pub waiting_stepped : (threshold : ℤ) (rows : ℕ) (placed next : Placed) (place : ℕ) (inner : Table) (places : List ℕ) (before after : List (ℕ × ℤ)) → IsSound (circuit_of placed) → table_at placed.slots place ≡ Some inner
     → next ≡ with_slot (with_put inner placed) place None → AreTouched placed.slots inner.output place places → AreWaiting threshold rows placed before → AreRenewed threshold next places before after
     → AreWaiting threshold rows next after
 waiting_stepped threshold rows placed next place inner places before after sound e is h are renewed = record {
-  long = renewed.long ∙ (are.long ∙ sym long);
   worth = λ at v k. worth at v k (is_in places at) refl;
   all = λ at t there fits. all at t there fits (is_in places at) refl;
 }
   where
-    long : length next.slots ≡ length placed.slots
-    long = ap (λ (p : Placed). length p.slots) is ∙ (length-set (slots_taken inner placed.slots) place None ∙ length-map placed.slots (option_map (taken_in inner)))
-
     apart : (at : ℕ) → is_in places at ≡ false → at ≡ place → ⊥
     apart at out same = false≢true (sym out ∙ (ap (is_in places) same ∙ h.own.own))
 
@@ -216,16 +198,16 @@ waiting_stepped threshold rows placed next place inner places before after sound
     all at t there fits true within = renewed.there at within
     all at t there fits false out = by (table_at placed.slots at) refl
       where
-        now : option_map (taken_in inner) (table_at placed.slots at) ≡ Some t
+        now : option_map (composed_into inner) (table_at placed.slots at) ≡ Some t
         now = sym (ap (λ (p : Placed). table_at p.slots at) is ∙ slot_left placed.slots place at inner (apart at out)) ∙ there
 
         same : (u : Table) → table_at placed.slots at ≡ Some u → u ≡ t
         same u was =
             sym (taken_apart inner u (untouched placed.slots place at inner u places e h out was).0)
-            ∙ same_Some (taken_in inner u) t (sym (ap (option_map (taken_in inner)) was) ∙ now)
+            ∙ same_Some (composed_into inner u) t (sym (ap (option_map (composed_into inner)) was) ∙ now)
 
         by : (o : Option Table) → table_at placed.slots at ≡ o → waits_at after at ≡ worth_at threshold next at
-        by None was = absurd (let z : None ≡ Some t = sym (ap (option_map (taken_in inner)) was) ∙ now in cc)
+        by None was = absurd (let z : None ≡ Some t = sym (ap (option_map (composed_into inner)) was) ∙ now in cc)
         by (Some u) was =
             let stood : table_at placed.slots at ≡ Some t = was ∙ ap (λ (v : Table). Some v) (same u was) in
             let worths : worth_within threshold placed t ≡ Some (value_of (standing next.slots) t.output) =
@@ -236,40 +218,32 @@ waiting_stepped threshold rows placed next place inner places before after sound
             ∙ (are.all at t stood (worth_candidate threshold rows placed t (value_of (standing next.slots) t.output) worths takes) ∙ sym (stays at out))
 
 -- one value after the other anew
-pub renewed_begun : (threshold : ℤ) (placed : Placed) (values : List (Option ℤ)) → AreRenewed threshold placed [] values values
+pub renewed_begun : (threshold : ℤ) (placed : Placed) (values : List (ℕ × ℤ)) → AreRenewed threshold placed [] values values
 renewed_begun threshold placed values = record {
-  long = refl;
   there = λ at h. absurd (false≢true h);
   others = λ at h. refl;
 }
 
-pub renewed_more : (threshold : ℤ) (placed : Placed) (places : List ℕ) (i d : ℕ) (before now next : List (Option ℤ)) → i < length places → get_or places i d < length now → AreRenewed threshold placed (take i places) before now
-    → next ≡ set now (get_or places i d) (worth_at threshold placed (get_or places i d)) → AreRenewed threshold placed (take (i + 1) places) before next
-renewed_more threshold placed places i d before now next lt within h is =
-    subst (λ (ps : List ℕ). AreRenewed threshold placed ps before next) (sym (take_more places i d lt)) (one (take i places) (get_or places i d) h within is)
+pub renewed_more : (threshold : ℤ) (placed : Placed) (places : List ℕ) (i d : ℕ) (before now next : List (ℕ × ℤ)) → i < length places → AreRenewed threshold placed (take i places) before now
+    → IsPutAt (get_or places i d) (worth_at threshold placed (get_or places i d)) now next → AreRenewed threshold placed (take (i + 1) places) before next
+renewed_more threshold placed places i d before now next lt h put = subst (λ (ps : List ℕ). AreRenewed threshold placed ps before next) (sym (take_more places i d lt)) (one (take i places) (get_or places i d) h put)
   where
-    one : (done : List ℕ) (first : ℕ) → AreRenewed threshold placed done before now → first < length now → next ≡ set now first (worth_at threshold placed first) → AreRenewed threshold placed (done ++ first ∷ []) before next
-    one done first h within is = record {
-      long = ap length is ∙ (length-set now first (worth_at threshold placed first) ∙ h.long);
+    one : (done : List ℕ) (first : ℕ) → AreRenewed threshold placed done before now → IsPutAt first (worth_at threshold placed first) now next → AreRenewed threshold placed (done ++ first ∷ []) before next
+    one done first h put = record {
       there = λ at k. there at k (first == at) refl;
       others = λ at k.
-          ap (λ (values : List (Option ℤ)). waits_at values at) is
-          ∙ (waits_other now first at (worth_at threshold placed first) (λ same. false≢true (sym k ∙ subst (λ (j : ℕ). is_in (done ++ first ∷ []) j ≡ true) (sym same) (more_last done first)))
-          ∙ h.others at (out at k (is_in done at) refl));
+          waits_other first (worth_at threshold placed first) now next put at (λ same. false≢true (sym k ∙ subst (λ (j : ℕ). is_in (done ++ first ∷ []) j ≡ true) same (more_last done first)))
+          ∙ h.others at (out at k (is_in done at) refl);
     }
       where
         there : (at : ℕ) → is_in (done ++ first ∷ []) at ≡ true → (b : Bool) → (first == at) ≡ b → waits_at next at ≡ worth_at threshold placed at
-        there at k true e =
-            subst (λ (j : ℕ). waits_at next j ≡ worth_at threshold placed j) (eqb-true first at e) (ap (λ (values : List (Option ℤ)). waits_at values first) is ∙ waits_same now first (worth_at threshold placed first) within)
+        there at k true e = waits_same first (worth_at threshold placed first) now next put at (eqb-true first at e) ∙ ap (worth_at threshold placed) (eqb-true first at e)
         there at k false e =
             elim (in_more done first at k) as (λ _. waits_at next at ≡ worth_at threshold placed at) [
-              | inl old ↦ ap (λ (values : List (Option ℤ)). waits_at values at) is ∙ (waits_other now first at (worth_at threshold placed first) (λ same. eqb-false first at e (sym same)) ∙ h.there at old)
+              | inl old ↦ waits_other first (worth_at threshold placed first) now next put at (eqb-false first at e) ∙ h.there at old
               | inr new ↦ absurd (eqb-false first at e new)
             ]
 
         out : (at : ℕ) → is_in (done ++ first ∷ []) at ≡ false → (b : Bool) → is_in done at ≡ b → b ≡ false
         out at k true e = absurd (false≢true (sym k ∙ more_front done first at e))
         out at k false e = refl
-
-pub listed : (places : List ℕ) (i d : ℕ) → i < length places → is_in places (get_or places i d) ≡ true
-listed places i d lt = list_any_at (λ (other : ℕ). other == get_or places i d) places i d lt (eq-eqb (get_or places i d) (get_or places i d) refl)

@@ -9,12 +9,12 @@ use Rattle.circuit_model.specs.Names.{has, all_different}
 use Rattle.circuit_model.specs.Values.{driver}
 use Rattle.circuit_model.specs.Soundness.{IsSound}
 use Rattle.circuit_model.specs.declared.circuit.Table.{Table}
-use Rattle.net_readers.specs.Readers.{is_in}
+use Rattle.net_readers.specs.Fanouts.{is_in}
 use Rattle.net_core.proofs.Removals.{tables_differ}
 use Rattle.net_work.specs.Placed.{Placed, standing, circuit_of, table_at, with_slot}
 use Rattle.net_work.specs.Slots.{inputs_in, inputs_at}
-use Rattle.alg_tables.specs.Taking.{taken_in, take_refusal, refusal_at}
-use Rattle.alg_tables.specs.declared.taking.TakeFault.{TakeFault}
+use Rattle.alg_tables.specs.Taking.{composed_into, take_refusal, refusal_at}
+use Rattle.alg_tables.specs.declared.taking.ComposeFault.{ComposeFault}
 use Rattle.alg_tables.proofs.Taken.{taken_unread, taken_apart}
 use Rattle.net_elim.specs.Collapsing.{refusal_among}
 use Rattle.net_elim.proofs.TakenIn.{own_unread}
@@ -53,18 +53,18 @@ unread_takes list_limit row_limit inner outer apart =
     ap (λ (o : Option ℕ). option_map_or (λ place. refusal_at list_limit row_limit place inner outer) o None) (none_position outer.inputs inner.output apart)
 
 -- a cause that comes first, and none
-pub cause_or : (first rest : Option (List ℕ × TakeFault)) (fault : CollapseFault) → IsCause first fault → IsCause (option_or first rest) fault
-cause_or first rest (CubeLimit name) h = ap (λ (o : Option (List ℕ × TakeFault)). option_or o rest) h
-cause_or first rest (TooWide name count) h = ap (λ (o : Option (List ℕ × TakeFault)). option_or o rest) h
+pub cause_or : (first rest : Option (List ℕ × ComposeFault)) (fault : CollapseFault) → IsCause first fault → IsCause (option_or first rest) fault
+cause_or first rest (CubeLimit name) h = ap (λ (o : Option (List ℕ × ComposeFault)). option_or o rest) h
+cause_or first rest (TooWide name count) h = ap (λ (o : Option (List ℕ × ComposeFault)). option_or o rest) h
 cause_or first rest Memory h = tt
 
-pub cause_none : (other : Option (List ℕ × TakeFault)) (fault : CollapseFault) → IsCause None fault → IsCause other fault
+pub cause_none : (other : Option (List ℕ × ComposeFault)) (fault : CollapseFault) → IsCause None fault → IsCause other fault
 cause_none other (CubeLimit name) h = absurd (none-some _ h)
 cause_none other (TooWide name count) h = absurd (none-some _ h)
 cause_none other Memory h = tt
 
-abbrev named_fault : Table → Option TakeFault → Option (List ℕ × TakeFault)
-named_fault outer found = option_map (λ (fault : TakeFault). (outer.output, fault)) found
+abbrev named_fault : Table → Option ComposeFault → Option (List ℕ × ComposeFault)
+named_fault outer found = option_map (λ (fault : ComposeFault). (outer.output, fault)) found
 
 pub none_refuses : (inner : Table) (slots : List (Option Table)) → ((at : ℕ) (outer : Table) → table_at slots at ≡ Some outer → take_refusal MAX_ROWS MAX_ROWS inner outer ≡ None)
     → refusal_among inner (standing slots) ≡ None
@@ -72,11 +72,11 @@ unfolding refusal_among standing
 none_refuses inner [] h = refl
 none_refuses inner (None ∷ slots) h = none_refuses inner slots (λ at. h (suc at))
 none_refuses inner (Some table ∷ slots) h =
-    ap (λ (o : Option TakeFault). option_or (named_fault table o) (refusal_among inner (standing slots))) (h 0 table refl) ∙ none_refuses inner slots (λ at. h (suc at))
+    ap (λ (o : Option ComposeFault). option_or (named_fault table o) (refusal_among inner (standing slots))) (h 0 table refl) ∙ none_refuses inner slots (λ at. h (suc at))
 
 first_found : (inner : Table) (slots : List (Option Table)) (place : ℕ) (outer : Table) → table_at slots place ≡ Some outer
     → ((at : ℕ) (other : Table) → at < place → table_at slots at ≡ Some other → take_refusal MAX_ROWS MAX_ROWS inner other ≡ None)
-    → (rest : Option (List ℕ × TakeFault)) × (refusal_among inner (standing slots) ≡ option_or (named_fault outer (take_refusal MAX_ROWS MAX_ROWS inner outer)) rest)
+    → (rest : Option (List ℕ × ComposeFault)) × (refusal_among inner (standing slots) ≡ option_or (named_fault outer (take_refusal MAX_ROWS MAX_ROWS inner outer)) rest)
 unfolding refusal_among standing
 first_found inner [] place outer at before = absurd (none-some outer at)
 first_found inner (None ∷ slots) zero outer at before = absurd (none-some outer at)
@@ -85,7 +85,7 @@ first_found inner (Some table ∷ slots) zero outer at before =
 first_found inner (None ∷ slots) (suc place) outer at before = first_found inner slots place outer at (λ i other lt. before (suc i) other (omega (arith, lt)))
 first_found inner (Some table ∷ slots) (suc place) outer at before =
     let (rest, is) = first_found inner slots place outer at (λ i other lt. before (suc i) other (omega (arith, lt))) in
-    (rest, ap (λ (o : Option TakeFault). option_or (named_fault table o) (refusal_among inner (standing slots))) (before 0 table (omega arith) refl) ∙ is)
+    (rest, ap (λ (o : Option ComposeFault). option_or (named_fault table o) (refusal_among inner (standing slots))) (before 0 table (omega arith) refl) ∙ is)
 
 -- nothing is done yet
 pub put_begun : (inner : Table) (placed : Placed) → IsPut inner [] placed placed
@@ -93,20 +93,20 @@ put_begun inner placed = record { frame = refl; tables = λ at. refl; within = �
 
 -- a reader stands as it was taken in, or as it was before its turn
 now_there : (inner : Table) (done : List ℕ) (before now : Placed) (reader : ℕ) (outer : Table) → IsPut inner done before now → table_at before.slots reader ≡ Some outer
-    → (table_at now.slots reader ≡ Some (taken_in inner outer)) ⊎ ((is_in done reader ≡ false) × (table_at now.slots reader ≡ Some outer))
+    → (table_at now.slots reader ≡ Some (composed_into inner outer)) ⊎ ((is_in done reader ≡ false) × (table_at now.slots reader ≡ Some outer))
 now_there inner done before now reader outer put at = cases (is_in done reader) refl
   where
-    here : (b : Bool) → is_in done reader ≡ b → table_at now.slots reader ≡ (if b then option_map (taken_in inner) (table_at before.slots reader) else table_at before.slots reader)
-    here b e = put.tables reader ∙ ap (λ (x : Bool). if x then option_map (taken_in inner) (table_at before.slots reader) else table_at before.slots reader) e
+    here : (b : Bool) → is_in done reader ≡ b → table_at now.slots reader ≡ (if b then option_map (composed_into inner) (table_at before.slots reader) else table_at before.slots reader)
+    here b e = put.tables reader ∙ ap (λ (x : Bool). if x then option_map (composed_into inner) (table_at before.slots reader) else table_at before.slots reader) e
 
-    cases : (b : Bool) → is_in done reader ≡ b → (table_at now.slots reader ≡ Some (taken_in inner outer)) ⊎ ((is_in done reader ≡ false) × (table_at now.slots reader ≡ Some outer))
-    cases true e = inl (here true e ∙ ap (option_map (taken_in inner)) at)
+    cases : (b : Bool) → is_in done reader ≡ b → (table_at now.slots reader ≡ Some (composed_into inner outer)) ⊎ ((is_in done reader ≡ false) × (table_at now.slots reader ≡ Some outer))
+    cases true e = inl (here true e ∙ ap (option_map (composed_into inner)) at)
     cases false e = inr (e, here false e ∙ at)
 
 -- a place that had no turn keeps its table
 pub still_there : (inner : Table) (done : List ℕ) (before now : Placed) (place : ℕ) → IsPut inner done before now → is_in done place ≡ false → table_at now.slots place ≡ table_at before.slots place
 still_there inner done before now place put apart =
-    put.tables place ∙ ap (λ (x : Bool). if x then option_map (taken_in inner) (table_at before.slots place) else table_at before.slots place) apart
+    put.tables place ∙ ap (λ (x : Bool). if x then option_map (composed_into inner) (table_at before.slots place) else table_at before.slots place) apart
 
 pub some_now : (inner : Table) (done : List ℕ) (before now : Placed) (reader : ℕ) (outer : Table) → IsPut inner done before now → table_at before.slots reader ≡ Some outer → is_some (table_at now.slots reader) ≡ true
 some_now inner done before now reader outer put at =
@@ -118,27 +118,27 @@ some_now inner done before now reader outer put at =
 -- one more reader
 pub put_more : (inner : Table) (done : List ℕ) (before now new : Placed) (reader : ℕ) (outer : Table) → IsPut inner done before now → has inner.inputs inner.output ≡ false
     → table_at before.slots reader ≡ Some outer → all_different outer.inputs ≡ true
-    → ((table : Table) → table_at now.slots reader ≡ Some table → new ≡ with_slot now reader (Some (taken_in inner table)))
+    → ((table : Table) → table_at now.slots reader ≡ Some table → new ≡ with_slot now reader (Some (composed_into inner table)))
     → ((table : Table) → table_at now.slots reader ≡ Some table → take_refusal MAX_ROWS MAX_ROWS inner table ≡ None) → IsPut inner (done ++ reader ∷ []) before new
 put_more inner done before now new reader outer put apart at once set_there takes = record { frame = frame; tables = tables; within = within }
   where
-    twice : taken_in inner (taken_in inner outer) ≡ taken_in inner outer
-    twice = taken_apart inner (taken_in inner outer) (taken_unread inner outer once apart)
+    twice : composed_into inner (composed_into inner outer) ≡ composed_into inner outer
+    twice = taken_apart inner (composed_into inner outer) (taken_unread inner outer once apart)
 
-    there : (t : Table) × (table_at now.slots reader ≡ Some t) × (taken_in inner t ≡ taken_in inner outer)
-    there = elim (now_there inner done before now reader outer put at) as (λ _. (t : Table) × (table_at now.slots reader ≡ Some t) × (taken_in inner t ≡ taken_in inner outer)) [
-      | inl e ↦ (taken_in inner outer, e, twice)
+    there : (t : Table) × (table_at now.slots reader ≡ Some t) × (composed_into inner t ≡ composed_into inner outer)
+    there = elim (now_there inner done before now reader outer put at) as (λ _. (t : Table) × (table_at now.slots reader ≡ Some t) × (composed_into inner t ≡ composed_into inner outer)) [
+      | inl e ↦ (composed_into inner outer, e, twice)
       | inr e ↦ (outer, e.1, refl)
     ]
 
-    is_new : new ≡ with_slot now reader (Some (taken_in inner outer))
+    is_new : new ≡ with_slot now reader (Some (composed_into inner outer))
     is_new = let (t, e, same) = there in set_there t e ∙ ap (λ (x : Table). with_slot now reader (Some x)) same
 
     frame : new.frame ≡ before.frame
     frame = ap (λ (p : Placed). p.frame) is_new ∙ put.frame
 
-    tables : (i : ℕ) → table_at new.slots i ≡ (if is_in (done ++ reader ∷ []) i then option_map (taken_in inner) (table_at before.slots i) else table_at before.slots i)
-    tables i = ap (λ (p : Placed). table_at p.slots i) is_new ∙ (cases (reader == i) refl ∙ ap (λ (x : Bool). if x then option_map (taken_in inner) (table_at before.slots i) else table_at before.slots i) (sym (in_more done reader i)))
+    tables : (i : ℕ) → table_at new.slots i ≡ (if is_in (done ++ reader ∷ []) i then option_map (composed_into inner) (table_at before.slots i) else table_at before.slots i)
+    tables i = ap (λ (p : Placed). table_at p.slots i) is_new ∙ (cases (reader == i) refl ∙ ap (λ (x : Bool). if x then option_map (composed_into inner) (table_at before.slots i) else table_at before.slots i) (sym (in_more done reader i)))
       where
         or_true : (b : Bool) → (b || true) ≡ true
         or_true true = refl
@@ -148,20 +148,20 @@ put_more inner done before now new reader outer put apart at once set_there take
         or_false true = refl
         or_false false = refl
 
-        cases : (b : Bool) → (reader == i) ≡ b → table_at (set now.slots reader (Some (taken_in inner outer))) i
-            ≡ (if is_in done i || (reader == i) then option_map (taken_in inner) (table_at before.slots i) else table_at before.slots i)
+        cases : (b : Bool) → (reader == i) ≡ b → table_at (set now.slots reader (Some (composed_into inner outer))) i
+            ≡ (if is_in done i || (reader == i) then option_map (composed_into inner) (table_at before.slots i) else table_at before.slots i)
         cases true e =
             let same : reader ≡ i = eqb-true reader i e in
             let (t, now_at, _) = there in
-            ap (table_at (set now.slots reader (Some (taken_in inner outer)))) (sym same)
-            ∙ (written_there now.slots reader t (Some (taken_in inner outer)) now_at
-            ∙ (sym (ap (option_map (taken_in inner)) at)
-            ∙ (ap (λ (n : ℕ). option_map (taken_in inner) (table_at before.slots n)) same
-            ∙ ap (λ (x : Bool). if x then option_map (taken_in inner) (table_at before.slots i) else table_at before.slots i) (sym (ap (λ (x : Bool). is_in done i || x) e ∙ or_true (is_in done i))))))
+            ap (table_at (set now.slots reader (Some (composed_into inner outer)))) (sym same)
+            ∙ (written_there now.slots reader t (Some (composed_into inner outer)) now_at
+            ∙ (sym (ap (option_map (composed_into inner)) at)
+            ∙ (ap (λ (n : ℕ). option_map (composed_into inner) (table_at before.slots n)) same
+            ∙ ap (λ (x : Bool). if x then option_map (composed_into inner) (table_at before.slots i) else table_at before.slots i) (sym (ap (λ (x : Bool). is_in done i || x) e ∙ or_true (is_in done i))))))
         cases false e =
-            written_elsewhere now.slots reader i (Some (taken_in inner outer)) (λ same. eqb-false reader i e (sym same))
+            written_elsewhere now.slots reader i (Some (composed_into inner outer)) (λ same. eqb-false reader i e (sym same))
             ∙ (put.tables i
-            ∙ ap (λ (x : Bool). if x then option_map (taken_in inner) (table_at before.slots i) else table_at before.slots i) (sym (ap (λ (x : Bool). is_in done i || x) e ∙ or_false (is_in done i))))
+            ∙ ap (λ (x : Bool). if x then option_map (composed_into inner) (table_at before.slots i) else table_at before.slots i) (sym (ap (λ (x : Bool). is_in done i || x) e ∙ or_false (is_in done i))))
 
     within : (i : ℕ) (other : Table) → is_in (done ++ reader ∷ []) i ≡ true → table_at before.slots i ≡ Some other → take_refusal MAX_ROWS MAX_ROWS inner other ≡ None
     within i other among other_at = cases (is_in done i) refl (sym (in_more done reader i) ∙ among)
@@ -179,13 +179,13 @@ read_at slots at outer name there = ap (λ (o : Option Table). has (inputs_in o)
 pub put_complete : (inner : Table) (readers : List ℕ) (before now : Placed) → IsPut inner readers before now → ((at : ℕ) → is_in readers at ≡ has (inputs_at before.slots at) inner.output) → IsPutInAll inner before now
 put_complete inner readers before now put exact = record { frame = put.frame; tables = λ at. cases at (is_in readers at) refl (table_at before.slots at) refl }
   where
-    cases : (at : ℕ) (b : Bool) → is_in readers at ≡ b → (found : Option Table) → table_at before.slots at ≡ found → table_at now.slots at ≡ option_map (taken_in inner) (table_at before.slots at)
-    cases at true e found there = put.tables at ∙ ap (λ (x : Bool). if x then option_map (taken_in inner) (table_at before.slots at) else table_at before.slots at) e
-    cases at false e None there = still_there inner readers before now at put e ∙ (there ∙ sym (ap (option_map (taken_in inner)) there))
+    cases : (at : ℕ) (b : Bool) → is_in readers at ≡ b → (found : Option Table) → table_at before.slots at ≡ found → table_at now.slots at ≡ option_map (composed_into inner) (table_at before.slots at)
+    cases at true e found there = put.tables at ∙ ap (λ (x : Bool). if x then option_map (composed_into inner) (table_at before.slots at) else table_at before.slots at) e
+    cases at false e None there = still_there inner readers before now at put e ∙ (there ∙ sym (ap (option_map (composed_into inner)) there))
     cases at false e (Some outer) there =
         still_there inner readers before now at put e
         ∙ (there
-        ∙ (ap (λ (t : Table). Some t) (sym (taken_apart inner outer (sym (read_at before.slots at outer inner.output there) ∙ (sym (exact at) ∙ e)))) ∙ sym (ap (option_map (taken_in inner)) there)))
+        ∙ (ap (λ (t : Table). Some t) (sym (taken_apart inner outer (sym (read_at before.slots at outer inner.output there) ∙ (sym (exact at) ∙ e)))) ∙ sym (ap (option_map (composed_into inner)) there)))
 
 takes_there : (inner : Table) (before : Placed) (among : Bool) (at : ℕ) (outer : Table) → table_at before.slots at ≡ Some outer → among ≡ has (inputs_at before.slots at) inner.output
     → (among ≡ true → take_refusal MAX_ROWS MAX_ROWS inner outer ≡ None) → take_refusal MAX_ROWS MAX_ROWS inner outer ≡ None
@@ -205,11 +205,11 @@ pub refused_first : (inner : Table) (readers : List ℕ) (before now : Placed) (
 refused_first inner readers before now i reader outer put exact rises apart at once fault cause =
     elim (now_there inner (take i readers) before now reader outer put at) as (λ _. IsCause (refusal_among inner (standing before.slots)) fault) [
       | inl e ↦ cause_none (refusal_among inner (standing before.slots)) fault
-          (subst (λ (o : Option TakeFault). IsCause (named_fault (taken_in inner outer) o) fault) (unread_takes MAX_ROWS MAX_ROWS inner (taken_in inner outer) (taken_unread inner outer once apart)) (cause (taken_in inner outer) e))
+          (subst (λ (o : Option ComposeFault). IsCause (named_fault (composed_into inner outer) o) fault) (unread_takes MAX_ROWS MAX_ROWS inner (composed_into inner outer) (taken_unread inner outer once apart)) (cause (composed_into inner outer) e))
       | inr e ↦
           let (rest, is) = first_found inner before.slots reader outer at (λ p other lt there.
           takes_there inner before (is_in readers p) p other there (exact p) (λ among. put.within p other (rises p among lt) there)) in
-          subst (λ (o : Option (List ℕ × TakeFault)). IsCause o fault) (sym is) (cause_or (named_fault outer (take_refusal MAX_ROWS MAX_ROWS inner outer)) rest fault (cause outer e.1))
+          subst (λ (o : Option (List ℕ × ComposeFault)). IsCause o fault) (sym is) (cause_or (named_fault outer (take_refusal MAX_ROWS MAX_ROWS inner outer)) rest fault (cause outer e.1))
     ]
 
 -- what is known before a reader's turn
@@ -259,7 +259,7 @@ step_apart before now place readers i reader step inner at =
     own_apart before place inner step.sound (sym (inner_stays before now place readers i reader step old there) ∙ at)
 
 pub step_more : (before now new : Placed) (place : ℕ) (readers : List ℕ) (i reader : ℕ) → IsStep before now place readers i reader
-    → ((inner outer : Table) → table_at now.slots place ≡ Some inner → table_at now.slots reader ≡ Some outer → new ≡ with_slot now reader (Some (taken_in inner outer)))
+    → ((inner outer : Table) → table_at now.slots place ≡ Some inner → table_at now.slots reader ≡ Some outer → new ≡ with_slot now reader (Some (composed_into inner outer)))
     → ((inner outer : Table) → table_at now.slots place ≡ Some inner → table_at now.slots reader ≡ Some outer → take_refusal MAX_ROWS MAX_ROWS inner outer ≡ None)
     → (inner : Table) → table_at before.slots place ≡ Some inner → IsPut inner (take (i + 1) readers) before new
 step_more before now new place readers i reader step puts takes inner at =
@@ -271,7 +271,7 @@ step_more before now new place readers i reader step puts takes inner at =
     (λ table now_at. puts inner table stays now_at) (λ table now_at. takes inner table stays now_at))
 
 pub step_refused : (before now : Placed) (place : ℕ) (readers : List ℕ) (i reader : ℕ) → IsStep before now place readers i reader → (fault : CollapseFault)
-    → ((inner outer : Table) → table_at now.slots place ≡ Some inner → table_at now.slots reader ≡ Some outer → IsCause (option_map (λ (found : TakeFault). (outer.output, found)) (take_refusal MAX_ROWS MAX_ROWS inner outer)) fault)
+    → ((inner outer : Table) → table_at now.slots place ≡ Some inner → table_at now.slots reader ≡ Some outer → IsCause (option_map (λ (found : ComposeFault). (outer.output, found)) (take_refusal MAX_ROWS MAX_ROWS inner outer)) fault)
     → (inner : Table) → table_at before.slots place ≡ Some inner → IsCause (refusal_among inner (standing before.slots)) fault
 step_refused before now place readers i reader step fault cause inner at =
     let (outer, there) = reader_there before now place readers i reader step inner at in

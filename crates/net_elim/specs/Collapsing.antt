@@ -1,8 +1,8 @@
--- Collapse: each table is taken into all that read it, one after the other in the order in which each stands behind what it reads;
--- then the inner tables go, and what is left reads inputs and latches alone.
--- Source: the SIS report (UCB/ERL M92/41), `collapse`; Brayton, Rudell, Sangiovanni-Vincentelli and Wang, "MIS: A Multiple-Level
--- Logic Optimization System" (1987); De Micheli, "Synthesis and Optimization of Digital Circuits", chapter 8. The limits are the
--- project's own.
+-- Collapse: each table is composed into all its fanouts, one after the other in topological order;
+-- then the inner tables are removed, and what is left reads inputs and latches alone.
+-- Source: the SIS report (UCB/ERL M92/41), `collapse`; Brayton, Rudell, Sangiovanni-Vincentelli and
+-- Wang, "MIS: A Multiple-Level Logic Optimization System" (1987); De Micheli, "Synthesis and
+-- Optimization of Digital Circuits", chapter 8. The limits are the project's own.
 use Rattle.std.specs.Prelude.{◌≡◌, ℕ, Bool, true, not, ◌||◌, Option, None, List, [], ◌∷◌, fold}
 use Rattle.std.specs.List.{AllByRecursion}
 use Rattle.std.specs.Option.{option_map, option_map_or, option_or}
@@ -14,19 +14,19 @@ use Rattle.circuit_model.specs.declared.circuit.Circuit.{Circuit}
 use Rattle.circuit_laws.specs.Edits.{with_kept, is_root}
 use Rattle.circuit_order.specs.Order.{order_of}
 use Rattle.alg_tables.specs.Taking.{take_refusal}
-use Rattle.alg_tables.specs.declared.taking.TakeFault.{TakeFault}
+use Rattle.alg_tables.specs.declared.taking.ComposeFault.{ComposeFault}
 use Rattle.net_elim.specs.Eliminating.{with_taken}
 use Rattle.sis_base.specs.declared.limits.TheConstants.{MAX_ROWS}
 
--- the table of a signal is taken into all that read it
+-- the table of a signal is composed into all its fanouts
 unfoldable pub with_put : Circuit → List ℕ → Circuit
 with_put circuit name = option_map_or (with_taken circuit) (driver circuit.tables name) circuit
 
--- whether a signal stays: an output, a latch's input, or what no table drives
+-- whether a signal stays: an output, a latch input, or one that no table drives
 abbrev pub is_outer : Circuit → List ℕ → Bool
 is_outer circuit name = is_root circuit name || not (has (outputs_of circuit.tables) name)
 
--- all tables are taken into their readers, in order; then the inner ones go
+-- all tables are composed into their fanouts, in topological order; then the inner ones are removed
 unfoldable pub collapsed : Circuit → Circuit
 collapsed circuit = with_kept (fold with_put circuit (order_of circuit.tables)) (is_outer circuit)
 
@@ -35,24 +35,23 @@ pub record IsCollapsed (circuit : Circuit) : Type 0 where
   pub roots : AllByRecursion (λ (table : Table). is_root circuit table.output ≡ true) circuit.tables
   pub leaves : AllByRecursion (λ (table : Table). AllByRecursion (λ input. has (leaf_names circuit) input ≡ true) table.inputs) circuit.tables
 
--- the first table that cannot take another one in, by its name, and why
-unfoldable pub refusal_among : Table → List Table → Option (List ℕ × TakeFault)
+-- the first table into which another one cannot be composed, by its name, and why
+unfoldable pub refusal_among : Table → List Table → Option (List ℕ × ComposeFault)
 refusal_among inner [] = None
 refusal_among inner (outer ∷ tables) =
-    option_or (option_map (λ (fault : TakeFault). (outer.output, fault)) (take_refusal MAX_ROWS MAX_ROWS inner outer)) (refusal_among inner tables)
+    option_or (option_map (λ (fault : ComposeFault). (outer.output, fault)) (take_refusal MAX_ROWS MAX_ROWS inner outer)) (refusal_among inner tables)
 
--- the first reader that cannot take the table of a signal in, and why
-abbrev pub put_refusal : Circuit → List ℕ → Option (List ℕ × TakeFault)
+-- the first fanout into which the table of a signal cannot be composed, and why
+abbrev pub put_refusal : Circuit → List ℕ → Option (List ℕ × ComposeFault)
 put_refusal circuit name = option_map_or (λ (inner : Table). refusal_among inner circuit.tables) (driver circuit.tables name) None
 
--- the first refusal as one table after the other is taken into its readers
-unfoldable pub refusal_along : Circuit → List (List ℕ) → Option (List ℕ × TakeFault)
+-- the first refusal while one table after the other is composed into its fanouts
+unfoldable pub refusal_along : Circuit → List (List ℕ) → Option (List ℕ × ComposeFault)
 refusal_along circuit [] = None
 refusal_along circuit (name ∷ names) = option_or (put_refusal circuit name) (refusal_along (with_put circuit name) names)
 
--- why a circuit is not collapsed: the reader and its fault, where a list or a composition has more
--- than `MAX_ROWS` rows or else a
--- composition more than `MAX_INPUTS` inputs; the first such composition, tables in order and their
--- readers in table order
-abbrev pub collapse_refusal : Circuit → Option (List ℕ × TakeFault)
+-- why a circuit is not collapsed: the fanout and its fault, if a list or a composition has more
+-- than `MAX_ROWS` rows or else a composition more than `MAX_INPUTS` inputs; the first such
+-- composition, tables in topological order and the fanouts of each in table order
+abbrev pub collapse_refusal : Circuit → Option (List ℕ × ComposeFault)
 collapse_refusal circuit = refusal_along circuit (order_of circuit.tables)

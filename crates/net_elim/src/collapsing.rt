@@ -1,4 +1,10 @@
-//! Collapse of a network.
+//! Collapse of a network to tables over inputs and latches alone.
+//!
+//! Source: the SIS report (UCB/ERL M92/41), `collapse`; De Micheli, "Synthesis and Optimization of
+//! Digital Circuits", chapter 8. Each table in topological order is composed into its fanouts, and
+//! then the tables that drive no output and no latch are removed. Invariant (`IsAlong`): what is
+//! left of the order leads where the whole order leads, and refuses what it refuses. Callers rely
+//! on exactly the collapsed network, or exactly the refusal.
 
 ghost use Rattle.std.specs.Prelude.{◌≡◌, Some, None, [], map, IfOk, IfErr, OnOk};
 ghost use Rattle.circuit_model.specs.Soundness.{IsSound};
@@ -14,13 +20,14 @@ use crate::cutting::cut_inner;
 use crate::fault::CollapseFault;
 use cube_cover::Row;
 use net_core::Network;
-use net_work::Work;
+use net_work::WorkingNetwork;
 use std::alloc::Global;
 
-// The tables at places, which are in order, are taken into their readers one after the other.
+// Composes the tables at indices, which are in topological order, into their fanouts one after the
+// other.
 fn put_along<R: Row>(
     alloc: Global,
-    work: &mut Work<R>,
+    work: &mut WorkingNetwork<R>,
     places: &[usize],
 ) -> Result<(), CollapseFault>
     requires sound { IsSound (circuit_of work.old) }
@@ -36,8 +43,8 @@ fn put_along<R: Row>(
     Ok(())
 }
 
-// All tables are taken into their readers, in order.
-fn put_all<R: Row>(alloc: Global, work: &mut Work<R>) -> Result<(), CollapseFault>
+// Composes all tables into their fanouts, in topological order.
+fn put_all<R: Row>(alloc: Global, work: &mut WorkingNetwork<R>) -> Result<(), CollapseFault>
     requires { IsSound (circuit_of work.old) }
     ensures along { OnOk result (IsAlong
         (order_of (standing work.old.slots)) [] work.old work.new) }
@@ -47,9 +54,9 @@ fn put_all<R: Row>(alloc: Global, work: &mut Work<R>) -> Result<(), CollapseFaul
     put_along(alloc, work, places.as_slice())
 }
 
-// All tables are taken into their readers, in order; then the inner ones go. Behind an error any
-// network may stand.
-fn collapse_tables<R: Row>(alloc: Global, work: &mut Work<R>) -> Result<(), CollapseFault>
+// Composes all tables into their fanouts, in topological order, and then removes the inner ones.
+// After an error the network may be any.
+fn collapse_tables<R: Row>(alloc: Global, work: &mut WorkingNetwork<R>) -> Result<(), CollapseFault>
     requires { IsSound (circuit_of work.old) }
     ensures collapsed { OnOk result (circuit_of work.new ≡ collapsed (circuit_of work.old)) }
     ensures none { OnOk result (collapse_refusal (circuit_of work.old) ≡ None) }
@@ -60,18 +67,17 @@ fn collapse_tables<R: Row>(alloc: Global, work: &mut Work<R>) -> Result<(), Coll
     Ok(())
 }
 
-/// A network after collapse, beside the one that stays. Each table is taken into all that read it,
-/// in the order in which each stands behind what it reads; then the inner tables go, and what is
-/// left reads inputs and latches alone. `CubeLimit` with the name of the first reader for which a
-/// list of rows, or what it becomes, has more than `MAX_ROWS` rows; else `TooWide` with its name
-/// and
-/// the count of its inputs where these are more than 1,000: the first such reader, tables in order
-/// and their readers in table order.
+/// A new network, collapsed; the given one stays. Each table in topological order is composed into
+/// all its fanouts; then the inner tables are removed, and what is left reads inputs and latches
+/// alone. `CubeLimit` has the name of the first fanout for which a list of rows, or the result, has
+/// more than `MAX_ROWS` rows; else `TooWide` has its name and the number of its inputs if these are
+/// more than 1,000. It is the first such fanout, tables in topological order and the fanouts of
+/// each in table order.
 pub fn collapse<R: Row>(alloc: Global, network: &Network<R>) -> Result<Network<R>, CollapseFault>
     ensures collapsed { HasCollapsed network.now result }
     ensures bounds { HasBounds network.now → IfOk result HasBounds }
 {
-    let mut work = Work::of(alloc, network)?;
+    let mut work = WorkingNetwork::of(alloc, network)?;
     match collapse_tables(alloc, &mut work) {
         Ok(()) => Ok(work.into_network()),
         Err(fault) => Err(fault),

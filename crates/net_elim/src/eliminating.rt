@@ -1,42 +1,48 @@
-//! Elimination, step by step.
+//! Elimination, step by step, until no inner table is left that may be eliminated.
+//!
+//! Source: Brayton, Rudell, Sangiovanni-Vincentelli and Wang, "MIS: A Multiple-Level Logic
+//! Optimization System" (1987), and the SIS report (UCB/ERL M92/41), `eliminate`. A step composes
+//! the first inner table of least value into all its fanouts and removes it; one that a fanout
+//! refuses is passed over until a step touches it. Callers rely on `Chain`: the end of exactly
+//! these steps.
 
 ghost use Rattle.std.specs.Prelude.{◌≡◌, ℕ, ℤ, ◌+◌, ◌^◌, ◌<◌, Ok, Bool, true, false, not, ◌&&◌, if◌then◌else◌, Some, None, length, is_some, slice_set, int_lt, IfOk, OnOk};
 ghost use Rattle.circuit_model.specs.Soundness.{IsSound};
-ghost use Rattle.circuit_model.specs.declared.circuit.Table.{Table as TheWritten};
+ghost use Rattle.circuit_model.specs.declared.circuit.Table.{Table};
 ghost use Rattle.circuit_laws.specs.Chains.{Chain};
 ghost use Rattle.net_elim.specs.Eliminating.{all_take, with_eliminated, eliminate_step};
 ghost use Rattle.net_core.specs.Reads.{HasBounds};
-ghost use Rattle.net_readers.specs.Readers.{is_in};
+ghost use Rattle.net_readers.specs.Fanouts.{is_in};
 ghost use Rattle.net_work.specs.Placed.{standing, circuit_of, table_at, with_slot};
 ghost use Rattle.net_elim.specs.Putting.{with_put};
 ghost use Rattle.net_elim.specs.Touching.{AreRenewed};
-ghost use Rattle.net_elim.specs.Waiting.{when, worth_at, AreWaiting};
+ghost use Rattle.net_elim.specs.Waiting.{when, worth_at, IsPutAt, AreWaiting};
 
 use crate::putting::{PutFault, put_at};
 use crate::touching::touched_by;
-use crate::waiting::Waiting;
+use crate::waiting::{Waiting, next, put};
 use cube_cover::Row;
 use net_core::Network;
-use net_work::Work;
+use net_work::WorkingNetwork;
 use std::alloc::{AllocError, Global};
 
 /// The table at a place is taken into all that read it, and goes; or a reader cannot take it in,
 /// and nothing changed. An error only for want of memory, and then any network may stand.
 pub(crate) fn eliminate_at<R: Row>(
     alloc: Global,
-    work: &mut Work<R>,
+    work: &mut WorkingNetwork<R>,
     place: usize,
     rows: usize,
 ) -> Result<bool, AllocError>
     requires sound { IsSound (circuit_of work.old) }
     requires there { is_some (table_at work.old.slots place) ≡ true }
-    ensures answer { IfOk result (λ done. (inner : TheWritten)
+    ensures answer { IfOk result (λ done. (inner : Table)
         → table_at work.old.slots place ≡ Some inner
         → done ≡ all_take rows (circuit_of work.old) inner) }
-    ensures done { IfOk result (λ done. done ≡ true → (inner : TheWritten)
+    ensures done { IfOk result (λ done. done ≡ true → (inner : Table)
         → table_at work.old.slots place ≡ Some inner
         → work.new ≡ with_slot (with_put inner work.old) place None) }
-    ensures circuit { IfOk result (λ done. done ≡ true → (inner : TheWritten)
+    ensures circuit { IfOk result (λ done. done ≡ true → (inner : Table)
         → table_at work.old.slots place ≡ Some inner
         → circuit_of work.new ≡ with_eliminated (circuit_of work.old) inner) }
     ensures same { IfOk result (λ done. done ≡ false → work.new ≡ work.old) }
@@ -74,7 +80,7 @@ fn counted(
 
 // What the table at a place is worth, where it is no root's and not worth more than a threshold.
 fn worth_of<R: Row>(
-    work: &Work<R>,
+    work: &WorkingNetwork<R>,
     place: usize,
     threshold: i32,
 ) -> Result<Option<i128>, AllocError>
@@ -86,43 +92,47 @@ fn worth_of<R: Row>(
     }
 }
 
-// What the tables at all places are worth.
-fn all_worths<R: Row>(alloc: Global, work: &Work<R>, threshold: i32) -> Result<Waiting, AllocError>
-    ensures { IfOk result (λ waiting. (rows : ℕ) → AreWaiting threshold rows work.now waiting) }
-{
-    let mut waiting = Waiting::new(alloc);
-    for place in 0..work.len() {
-        waiting.push(worth_of(work, place, threshold)?)?;
-    }
-    Ok(waiting)
-}
-
 // Makes what the table at a place is worth anew.
 fn renew<R: Row>(
-    work: &Work<R>,
+    alloc: Global,
+    work: &WorkingNetwork<R>,
     place: usize,
     threshold: i32,
     waiting: &mut Waiting,
 ) -> Result<(), AllocError>
-    requires { place < length waiting.old }
-    ensures { OnOk result (waiting.new
-        ≡ slice_set waiting.old place (worth_at threshold work.now place)) }
+    ensures { OnOk result (IsPutAt place (worth_at threshold work.now place)
+        waiting.old waiting.new) }
 {
-    waiting.set(place, worth_of(work, place, threshold)?)
+    put(alloc, waiting, place, worth_of(work, place, threshold)?)
+}
+
+// What the tables at all places are worth.
+fn all_worths<R: Row>(
+    alloc: Global,
+    work: &WorkingNetwork<R>,
+    threshold: i32,
+) -> Result<Waiting, AllocError>
+    ensures { IfOk result (λ waiting. (rows : ℕ) → AreWaiting threshold rows work.now waiting) }
+{
+    let mut waiting = Waiting::new(alloc);
+    for place in 0..work.len() {
+        renew(alloc, work, place, threshold, &mut waiting)?;
+    }
+    Ok(waiting)
 }
 
 // Makes what the tables at some places are worth anew.
 fn renew_all<R: Row>(
-    work: &Work<R>,
+    alloc: Global,
+    work: &WorkingNetwork<R>,
     places: &[usize],
     threshold: i32,
     waiting: &mut Waiting,
 ) -> Result<(), AllocError>
-    requires { (at : ℕ) → is_in places.now at ≡ true → at < length waiting.old }
     ensures { OnOk result (AreRenewed threshold work.now places.now waiting.old waiting.new) }
 {
     for place in places {
-        renew(work, *place, threshold, waiting)?;
+        renew(alloc, work, *place, threshold, waiting)?;
     }
     Ok(())
 }
@@ -131,7 +141,7 @@ fn renew_all<R: Row>(
 // told anew.
 fn try_at<R: Row>(
     alloc: Global,
-    work: &mut Work<R>,
+    work: &mut WorkingNetwork<R>,
     waiting: &mut Waiting,
     place: usize,
     threshold: i32,
@@ -140,13 +150,13 @@ fn try_at<R: Row>(
     requires sound { IsSound (circuit_of work.old) }
     requires there { is_some (table_at work.old.slots place) ≡ true }
     requires waiting { AreWaiting threshold rows work.old waiting.old }
-    ensures answer { IfOk result (λ done. (inner : TheWritten)
+    ensures answer { IfOk result (λ done. (inner : Table)
         → table_at work.old.slots place ≡ Some inner
         → done ≡ all_take rows (circuit_of work.old) inner) }
-    ensures done { IfOk result (λ done. done ≡ true → (inner : TheWritten)
+    ensures done { IfOk result (λ done. done ≡ true → (inner : Table)
         → table_at work.old.slots place ≡ Some inner
         → work.new ≡ with_slot (with_put inner work.old) place None) }
-    ensures circuit { IfOk result (λ done. done ≡ true → (inner : TheWritten)
+    ensures circuit { IfOk result (λ done. done ≡ true → (inner : Table)
         → table_at work.old.slots place ≡ Some inner
         → circuit_of work.new ≡ with_eliminated (circuit_of work.old) inner) }
     ensures same { IfOk result (λ done. done ≡ false
@@ -155,7 +165,7 @@ fn try_at<R: Row>(
 {
     let touched = touched_by(alloc, work, place)?;
     if eliminate_at(alloc, work, place, rows)? {
-        renew_all(work, touched.as_slice(), threshold, waiting)?;
+        renew_all(alloc, work, touched.as_slice(), threshold, waiting)?;
         Ok(true)
     } else {
         Ok(false)
@@ -166,7 +176,7 @@ fn try_at<R: Row>(
 // readers can take in goes. One that they refuse waits no more, until a step touches it.
 fn take_step<R: Row>(
     alloc: Global,
-    work: &mut Work<R>,
+    work: &mut WorkingNetwork<R>,
     waiting: &mut Waiting,
     threshold: i32,
     rows: usize,
@@ -180,11 +190,11 @@ fn take_step<R: Row>(
         → length (standing work.new.slots) < length (standing work.old.slots)) }
     ensures waiting { OnOk result (AreWaiting threshold rows work.new waiting.new) }
 {
-    while let Some(place) = waiting.first() {
+    while let Some(place) = next(waiting) {
         if try_at(alloc, work, waiting, place, threshold, rows)? {
             return Ok(true);
         }
-        waiting.clear(place);
+        waiting.remove(&place);
     }
     Ok(false)
 }
@@ -192,7 +202,7 @@ fn take_step<R: Row>(
 // Takes steps until none applies.
 fn take_steps<R: Row>(
     alloc: Global,
-    work: &mut Work<R>,
+    work: &mut WorkingNetwork<R>,
     threshold: i32,
     rows: usize,
 ) -> Result<(), AllocError>
@@ -209,8 +219,7 @@ fn take_steps<R: Row>(
 /// A network after elimination, beside the one that stays. Table after table is eliminated: always
 /// the first inner table of least value, not above the threshold, that all its readers can take in
 /// with no list of more than `MAX_ROWS` rows and no result of more than `rows` rows or `MAX_INPUTS`
-/// inputs;
-/// until there is none. An error only for want of memory.
+/// inputs; until there is none.
 pub fn eliminate<R: Row>(
     alloc: Global,
     network: &Network<R>,
@@ -220,7 +229,7 @@ pub fn eliminate<R: Row>(
     ensures chain { IfOk result (λ new. Chain (eliminate_step threshold rows) network.now new) }
     ensures bounds { rows + 1 < 2 ^ 29 → HasBounds network.now → IfOk result HasBounds }
 {
-    let mut work = Work::of(alloc, network)?;
+    let mut work = WorkingNetwork::of(alloc, network)?;
     take_steps(alloc, &mut work, threshold, rows)?;
     Ok(work.into_network())
 }

@@ -1,20 +1,24 @@
-//! Where an elimination changes what tables are worth: at its own place, at those of its readers, and at those of the tables that
-//! drive what these read.
+//! Where an elimination may change values: at its own index, at its fanouts, and at the tables that
+//! drive inputs of these.
+//!
+//! Source: Brayton, Rudell, Sangiovanni-Vincentelli and Wang, "MIS: A Multiple-Level Logic
+//! Optimization System" (1987). Callers rely on `AreTouched`: all these indices are listed, some
+//! perhaps more than once.
 
 ghost use Rattle.std.specs.Prelude.{◌≡◌, ℕ, true, Some, [], ◌∷◌, is_some, IfOk, OnOk};
 ghost use Rattle.circuit_model.specs.Soundness.{IsSound};
-ghost use Rattle.circuit_model.specs.declared.circuit.Table.{Table as TheWritten};
+ghost use Rattle.circuit_model.specs.declared.circuit.Table.{Table};
 ghost use Rattle.net_work.specs.Placed.{circuit_of, table_at};
 ghost use Rattle.net_elim.specs.Touching.{IsGrown, IsJoined, AreTouched};
 
 use circuit_model::Name;
 use cube_cover::Row;
-use net_work::Work;
+use net_work::WorkingNetwork;
 use std::alloc::{AllocError, Global};
 
 // Puts the place of the table that drives a signal, if one does, behind others.
 fn push_driver<R: Row>(
-    work: &Work<R>,
+    work: &WorkingNetwork<R>,
     name: &Name,
     places: &mut Vec<usize>,
 ) -> Result<(), AllocError>
@@ -32,7 +36,7 @@ fn push_driver<R: Row>(
 
 // Puts the places of the tables that drive some signals behind others.
 fn push_drivers<R: Row>(
-    work: &Work<R>,
+    work: &WorkingNetwork<R>,
     names: &[Name],
     places: &mut Vec<usize>,
 ) -> Result<(), AllocError>
@@ -47,7 +51,7 @@ fn push_drivers<R: Row>(
 
 // Puts the place of a table, and those of the tables that drive its inputs, behind others.
 fn push_reader<R: Row>(
-    work: &Work<R>,
+    work: &WorkingNetwork<R>,
     place: usize,
     places: &mut Vec<usize>,
 ) -> Result<(), AllocError>
@@ -64,15 +68,17 @@ fn push_reader<R: Row>(
     }
 }
 
-/// The places where an elimination of the table at a place may change what tables are worth; some may stand there more than once.
+/// The places where an elimination of the table at a place may change what tables are worth; some
+/// may stand there more than once.
 pub(crate) fn touched_by<R: Row>(
     alloc: Global,
-    work: &Work<R>,
+    work: &WorkingNetwork<R>,
     place: usize,
 ) -> Result<Vec<usize>, AllocError>
     requires sound { IsSound (circuit_of work.now) }
     requires there { is_some (table_at work.now.slots place) ≡ true }
-    ensures { IfOk result (λ places. (inner : TheWritten) → table_at work.now.slots place ≡ Some inner → AreTouched work.now.slots inner.output place places.items) }
+    ensures { IfOk result (λ places. (inner : Table) → table_at work.now.slots place
+        ≡ Some inner → AreTouched work.now.slots inner.output place places.items) }
 {
     match work.entry(place) {
         None => unreachable!(),

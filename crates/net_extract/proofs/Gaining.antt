@@ -15,14 +15,14 @@ use Rattle.net_candidates.specs.Candidates.{IsCandidate, cubes_of}
 use Rattle.net_candidates.specs.Extracting.{literals_after, IsListable, IsOpen, IsNext, IsDone}
 use Rattle.net_candidates.specs.declared.rule.Rule.TheVariants.{Fx}
 use Rattle.net_candidates.proofs.Totals.{lost, IsExact, lost_exact, best_from, done_from}
-use Rattle.net_gains.specs.Kept.{Kept, with_last as with_last_cubes, with_cubes, is_countable, total, Saves, IsFirst}
+use Rattle.net_gains.specs.Kept.{Kept, with_last, with_cubes, is_countable, total, Saves, IsFirst}
 use Rattle.cover_names.specs.Literals.{Cube, NamedCover}
 use Rattle.net_core.specs.Fresh.{IsNewName}
 use Rattle.net_core.specs.Places.{written_of}
 use Rattle.net_core.specs.Tables.{named}
 use Rattle.net_core.specs.declared.adding.AddFault.{AddFault}
 use Rattle.net_core.specs.declared.places.Entry.{Entry}
-use Rattle.net_core.specs.declared.table.Table.{Table as Covered}
+use Rattle.net_core.specs.declared.table.CoverTable.{CoverTable}
 use Rattle.net_work.specs.Placed.{Placed, standing, circuit_of, table_at, with_slot, AddsLast}
 use Rattle.net_work.proofs.Standing.{standing_push}
 use Rattle.net_gains.specs.Gains.{gains, over_pairs}
@@ -42,7 +42,7 @@ pub counted_none : (kept : Kept) → kept.tables ≡ [] → IsCounted [] kept
 unfolding standing
 counted_none kept is = record { tables = is; differ = tt }
 
-pub counted_push : (slots : List (Option Table)) (kept new : Kept) (table : Table) → is_countable kept.names table ≡ true → new ≡ with_last_cubes kept (cubes_of table) → IsCounted slots kept
+pub counted_push : (slots : List (Option Table)) (kept new : Kept) (table : Table) → is_countable kept.names table ≡ true → new ≡ with_last kept (cubes_of table) → IsCounted slots kept
     → IsCounted (slots ++ Some table ∷ []) new
 counted_push slots kept new table may is counted = record {
   tables = ap (λ (k : Kept). k.tables) is ∙ ap (λ (tables : List (List Cube)). tables ++ cubes_of table ∷ []) counted.tables ∙ sym (map_push cubes_in slots (Some table));
@@ -57,8 +57,8 @@ counted_set slots kept new place table may is counted = record {
   differ = all_set Differs slots place table (and_parts (list_all (has kept.names) table.inputs) (rows_differ table.rows) may).1 counted.differ;
 }
 
-module _ {R : Type 0} (table : Covered R) (kept new : Kept) (counted : Bool) (yes : counted ≡ true) (may : (output : List ℕ) → counted ≡ is_countable kept.names (named output table)) where
-  pub known_pushed : (found : Option Kept) → (counted ≡ true → (output : List ℕ) → new ≡ with_last_cubes kept (cubes_of (named output table))) → found ≡ Some kept
+module _ {R : Type 0} (table : CoverTable R) (kept new : Kept) (counted : Bool) (yes : counted ≡ true) (may : (output : List ℕ) → counted ≡ is_countable kept.names (named output table)) where
+  pub known_pushed : (found : Option Kept) → (counted ≡ true → (output : List ℕ) → new ≡ with_last kept (cubes_of (named output table))) → found ≡ Some kept
       → (slots : List (Option Table)) (output : List ℕ) → AreCounted slots found → IsCounted (slots ++ Some (named output table) ∷ []) new
   known_pushed found taken is slots output h = counted_push slots kept new (named output table) (sym (may output) ∙ yes) (taken yes output) (subst (AreCounted slots) is h)
 
@@ -69,7 +69,7 @@ module _ {R : Type 0} (table : Covered R) (kept new : Kept) (counted : Bool) (ye
 -- a place whose table is counted
 pub counted_slot : {R E : Type 0} (result : Result Bool E) (entry : Entry R) (slot : Option Table) (kept new : Kept) → Some (written_of entry) ≡ slot
     → IfOk result (λ counted. (output : List ℕ) → counted ≡ is_countable kept.names (named output entry.table))
-    → IfOk result (λ counted. counted ≡ true → (output : List ℕ) → new ≡ with_last_cubes kept (cubes_of (named output entry.table)))
+    → IfOk result (λ counted. counted ≡ true → (output : List ℕ) → new ≡ with_last kept (cubes_of (named output entry.table)))
     → IfOk result (λ counted. counted ≡ true → (slots : List (Option Table)) → IsCounted slots kept → IsCounted (slots ++ slot ∷ []) new)
 counted_slot (Ok counted) entry slot kept new there may taken = λ yes slots h.
     subst (λ (s : Option Table). IsCounted (slots ++ s ∷ []) new) there (counted_push slots kept new (written_of entry) (sym (may entry.output) ∙ yes) (taken yes entry.output) h)
@@ -96,7 +96,7 @@ counted_within slots (Some kept) place some counted =
     let long : length kept.tables ≡ length (map cubes_in slots) = ap length counted.tables in
     omega (arith, long, length-map slots cubes_in, stands_within slots place some)
 
-pub counted_after_set : {R : Type 0} (now new : Placed) (place : ℕ) (table : Covered R) (known after : Option Kept) → is_some (table_at now.slots place) ≡ true → AreCounted now.slots known
+pub counted_after_set : {R : Type 0} (now new : Placed) (place : ℕ) (table : CoverTable R) (known after : Option Kept) → is_some (table_at now.slots place) ≡ true → AreCounted now.slots known
     → ((slots : List (Option Table)) (output : List ℕ) → AreCounted slots known → AreCounted (set slots place (Some (named output table))) after)
     → ((old : Table) → table_at now.slots place ≡ Some old → new ≡ with_slot now place (Some (named old.output table))) → AreCounted new.slots after
 counted_after_set {R} now new place table known after some counted kept is = cases (table_at now.slots place) refl some
@@ -105,7 +105,7 @@ counted_after_set {R} now new place table known after some counted kept is = cas
     cases None e h = absurd (let no : false ≡ true = h in cc)
     cases (Some old) e h = subst (λ (p : Placed). AreCounted p.slots after) (sym (is old e)) (kept now.slots old.output counted)
 
-pub counted_after_add : {R : Type 0} (now new : Placed) (table : Covered R) (known after : Option Kept) (result : Result (List ℕ) AddFault) → AreCounted now.slots known
+pub counted_after_add : {R : Type 0} (now new : Placed) (table : CoverTable R) (known after : Option Kept) (result : Result (List ℕ) AddFault) → AreCounted now.slots known
     → ((slots : List (Option Table)) (output : List ℕ) → AreCounted slots known → AreCounted (slots ++ Some (named output table) ∷ []) after)
     → AddsLast now table new result → IfOk result (λ _. AreCounted new.slots after)
 counted_after_add now new table known after (Ok name) counted kept adds = subst (λ (p : Placed). AreCounted p.slots after) (sym adds.2) (kept now.slots name counted)

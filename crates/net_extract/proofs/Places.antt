@@ -5,7 +5,7 @@ use Rattle.std.proofs.lemmas.List.{length-set, length-map, length-append, drop_m
 use Rattle.circuit_model.specs.declared.circuit.Table.{Table}
 use Rattle.alg_div.specs.Cubes.{Has}
 use Rattle.net_candidates.proofs.Sums.{AreOnce}
-use Rattle.net_readers.specs.Readers.{is_in}
+use Rattle.net_readers.specs.Fanouts.{is_in}
 use Rattle.cover_names.specs.Literals.{NamedCover}
 use Rattle.net_core.proofs.Lookups.{get_set_other}
 use Rattle.net_work.specs.Placed.{Placed, joined, table_at, with_slot}

@@ -1,5 +1,5 @@
 -- A cover is extracted: what the network is then; and chains of such steps.
-use Rattle.std.proofs.Common.{◌≡◌, ℕ, ◌+◌, ◌<◌, ◌^◌, true, Err, Option, Some, List, [], ◌∷◌, ◌++◌, map, length, refl, sym, ap, ◌∙◌, subst, arith}
+use Rattle.std.proofs.Common.{◌≡◌, ℕ, ◌+◌, ◌<◌, ◌^◌, true, Err, Option, Some, List, [], ◌∷◌, ◌++◌, map, length, sym, ap, ◌∙◌, subst, arith}
 use Rattle.std.specs.List.{AllByRecursion}
 use Rattle.std.specs.List.Sorted.{IsStrictlyIncreasing}
 use Rattle.std.proofs.lemmas.List.{length-map, length-append}
@@ -9,15 +9,15 @@ use Rattle.circuit_model.specs.declared.circuit.Table.{Table}
 use Rattle.circuit_model.specs.declared.circuit.Circuit.{Circuit}
 use Rattle.circuit_laws.specs.Edits.{with_tables}
 use Rattle.circuit_laws.proofs.Sound.{all_append}
-use Rattle.circuit_laws.specs.Following.{Follows}
+use Rattle.circuit_laws.proofs.Greedy.{reached_itself, reached_more}
 use Rattle.net_candidates.specs.Extracting.{extracted, literals_after, IsNext, IsStep, IsDone, IsExtracted}
 use Rattle.net_candidates.specs.declared.rule.Rule.{Rule}
-use Rattle.net_candidates.proofs.Ends.{new_name_one}
 use Rattle.net_candidates.proofs.RuleKeeping.{step_extended}
 use Rattle.cover_names.specs.Literals.{NamedCover}
 use Rattle.cover_names.specs.Cubes.{is_over}
-use Rattle.net_readers.specs.Readers.{is_in}
+use Rattle.net_readers.specs.Fanouts.{is_in}
 use Rattle.net_core.specs.Fresh.{node_count}
+use Rattle.net_core.proofs.NewNames.{new_name_one}
 use Rattle.net_core.specs.Reads.{IsBounded}
 use Rattle.net_work.specs.Placed.{Placed, standing, circuit_of, table_at, with_last}
 use Rattle.net_work.proofs.Standing.{standing_push}
@@ -94,13 +94,8 @@ unlisted_stopped rule circuit savings fault e unlisted = subst (IsStopped rule c
 
 -- ---- steps
 
--- chains one behind the other
-follows_both : {N : Type 0} (Next : N → N → Type 0) (one other : List N) (from between to : N) → Follows Next one from between → Follows Next other between to → Follows Next (one ++ other) from to
-follows_both Next [] other from between to same rest = subst (λ x. Follows Next other x to) (sym same) rest
-follows_both Next (next ∷ one) other from between to steps rest = (steps.0, follows_both Next one other next between to steps.1 rest)
-
 pub along_begin : (rule : Rule) (now : Placed) → IsSound (circuit_of now) → IsAlong rule now now
-along_begin rule now sound = record { reached = record { between = []; steps = refl }; sound = sound; bounds = λ bounds. bounds }
+along_begin rule now sound = record { reached = reached_itself (IsStep rule) (circuit_of now); sound = sound; bounds = λ bounds. bounds }
 
 -- a step leaves few tables and latches
 few_nodes : (circuit new : Circuit) (name : List ℕ) (cover : NamedCover) → new ≡ extracted circuit name cover → node_count circuit < MAX_NODES → length new.tables + length new.latches < 2 ^ 29
@@ -111,10 +106,7 @@ few_nodes circuit new name cover is room =
 
 pub along_more : (rule : Rule) (before now new : Placed) → IsAlong rule before now → IsTaken rule now new → IsAlong rule before new
 along_more rule before now new along taken = record {
-  reached = record {
-    between = along.reached.between ++ circuit_of new ∷ [];
-    steps = follows_both (IsStep rule) along.reached.between (circuit_of new ∷ []) (circuit_of before) (circuit_of now) (circuit_of new) along.reached.steps (taken.step, refl);
-  };
+  reached = reached_more (IsStep rule) (circuit_of before) (circuit_of now) (circuit_of new) along.reached taken.step;
   sound = (step_extended rule (circuit_of now) (circuit_of new) along.sound taken.step).change.sound;
   bounds = λ bounds. record {
     nodes = few_nodes (circuit_of now) (circuit_of new) taken.step.name taken.step.cover taken.step.made taken.step.room;
@@ -126,25 +118,8 @@ pub along_done : (rule : Rule) (before now : Placed) → IsAlong rule before now
 along_done rule before now along done = record { reached = along.reached; done = done }
 
 pub along_stopped : (rule : Rule) (before now : Placed) (fault : ExtractFault) → IsAlong rule before now → IsStopped rule (circuit_of now) fault → IsEnd rule (circuit_of before) fault
-along_stopped rule before now (KernelLimit name) along stopped = record {
-  last = circuit_of now;
-  reached = along.reached;
-  before = stopped.before;
-  table = stopped.table;
-  after = stopped.after;
-  tables = stopped.tables_are;
-  first = stopped.first;
-  many = stopped.many;
-  named = stopped.named;
-}
-along_stopped rule before now NodeLimit along stopped = record {
-  full = circuit_of now;
-  reached = along.reached;
-  name = stopped.name;
-  cover = stopped.cover;
-  next = stopped.next;
-  over = stopped.over;
-}
+along_stopped rule before now (KernelLimit name) along stopped = record { last = circuit_of now; reached = along.reached; stops = stopped }
+along_stopped rule before now NodeLimit along stopped = record { last = circuit_of now; reached = along.reached; stops = stopped }
 along_stopped rule before now Memory along stopped = tt
 
 pub end_told : (rule : Rule) (old now : Circuit) (fault : ExtractFault) → now ≡ old → IsEnd rule now fault → HasExtracted rule old (Err fault)

@@ -1,14 +1,14 @@
--- Steps of extraction on a working network, and where they stop. No public clause needs these definitions but `fault_of`.
--- Source: Brayton, Rudell, Sangiovanni-Vincentelli and Wang, "MIS: A Multiple-Level Logic Optimization System" (1987): a command applies
--- an operation to one node after the other.
+-- Steps of extraction on a working network, and where they stop. No public clause needs these
+-- definitions but `fault_of`. Source: Brayton, Rudell, Sangiovanni-Vincentelli and Wang, "MIS: A
+-- Multiple-Level Logic Optimization System" (1987): a command applies an operation to one node
+-- after the other.
 use Rattle.std.specs.Prelude.{◌≡◌, ℕ, ◌≤◌, ◌<◌, Err, List}
 use Rattle.std.specs.List.{AllByRecursion}
 use Rattle.circuit_model.specs.Counts.{literals_of}
 use Rattle.circuit_model.specs.Soundness.{IsSound}
 use Rattle.circuit_model.specs.declared.circuit.Circuit.{Circuit}
-use Rattle.net_candidates.specs.Extracting.{extracted, IsNext, IsStep, IsReached}
+use Rattle.net_candidates.specs.Extracting.{extracted, IsStep, IsReached, IsOver, IsFirstMany}
 use Rattle.net_candidates.specs.declared.rule.Rule.{Rule}
-use Rattle.net_savings.specs.Listing.{IsFirstMany}
 use Rattle.net_savings.specs.declared.fault.SavingsFault.{SavingsFault}
 use Rattle.net_savings.specs.declared.fault.SavingsFault.TheVariants.{ManyKernels, Memory as SavingsMemory}
 use Rattle.cover_names.specs.Literals.{NamedCover}
@@ -19,13 +19,6 @@ use Rattle.net_extract.specs.Extract.{HasExtracted}
 use Rattle.net_extract.specs.declared.fault.ExtractFault.{ExtractFault}
 use Rattle.net_extract.specs.declared.fault.ExtractFault.TheVariants.{KernelLimit, NodeLimit, Memory}
 use Rattle.sis_base.specs.declared.limits.TheConstants.{MAX_NODES}
-
--- what is next has no room
-pub record IsOver (rule : Rule) (circuit : Circuit) : Type 0 where
-  pub name : List ℕ
-  pub cover : NamedCover
-  pub next : IsNext rule circuit name cover
-  pub over : MAX_NODES ≤ node_count circuit
 
 -- why there is no step; want of memory is free
 abbrev pub IsStopped : Rule → Circuit → ExtractFault → Type 0
@@ -38,7 +31,7 @@ abbrev pub fault_of : SavingsFault → ExtractFault
 fault_of (ManyKernels name) = KernelLimit name
 fault_of SavingsMemory = Memory
 
--- why a table is not added; want of memory is free
+-- why a table is not added; want of memory needs no cause
 abbrev pub IsNotAdded : Circuit → ExtractFault → Type 0
 IsNotAdded circuit (KernelLimit name) = ⊥
 IsNotAdded circuit NodeLimit = MAX_NODES ≤ node_count circuit

@@ -1,22 +1,26 @@
 //! The gains of all tables of a network, counted from nothing.
+//!
+//! Names of all tables and inputs get numbers, and names in brackets ahead of time, since new
+//! tables take the first free ones. There are no gains where a table has a row twice, an index is
+//! empty, or a name has no number; no clause says when.
 
 ghost use Rattle.std.specs.Prelude.{◌≡◌, true, Option, List, [], ◌∷◌, ◌++◌, IfOk};
-ghost use Rattle.circuit_model.specs.declared.circuit.Table.{Table as TheTable};
+ghost use Rattle.circuit_model.specs.declared.circuit.Table.{Table};
 ghost use Rattle.net_work.specs.Placed.{table_at};
 ghost use Rattle.net_extract.specs.Known.{IsCounted, AreCounted};
 
 use circuit_model::Name;
 use cube_cover::Row;
 use net_core::{Entry, bracketed_name};
-use net_gains::KeptGains;
-use net_work::Work;
+use net_gains::DivisorGains;
+use net_work::WorkingNetwork;
 use sis_base::Copied;
 use std::alloc::{AllocError, Global};
 
-// How many names in brackets are known ahead, however few tables there are.
+// How many names in brackets get numbers ahead of time, however few tables there are.
 const NAMES_AHEAD: u64 = 1_000;
 
-// Puts the names of a table and its inputs behind others.
+// Appends the names of a table and its inputs.
 fn push_entry<R: Row>(
     alloc: Global,
     names: &mut Vec<Name>,
@@ -29,11 +33,11 @@ fn push_entry<R: Row>(
     Ok(())
 }
 
-// Puts the names of the table at a place and its inputs behind others.
+// Appends the names of the table at an index and its inputs.
 fn push_place<R: Row>(
     alloc: Global,
     names: &mut Vec<Name>,
-    work: &Work<R>,
+    work: &WorkingNetwork<R>,
     place: usize,
 ) -> Result<(), AllocError> {
     match work.entry(place) {
@@ -42,7 +46,7 @@ fn push_place<R: Row>(
     }
 }
 
-// Puts the first names in brackets behind others.
+// Appends the first names in brackets.
 fn push_bracketed(alloc: Global, names: &mut Vec<Name>, count: u64) -> Result<(), AllocError> {
     for number in 0..count {
         names.push(bracketed_name(alloc, number)?)?;
@@ -50,8 +54,9 @@ fn push_bracketed(alloc: Global, names: &mut Vec<Name>, count: u64) -> Result<()
     Ok(())
 }
 
-// The names of all tables and inputs, and names in brackets, of which new tables take the first that are free.
-fn names_of<R: Row>(alloc: Global, work: &Work<R>) -> Result<Vec<Name>, AllocError> {
+// The names of all tables and inputs, and names in brackets, of which new tables take the first
+// that are free.
+fn names_of<R: Row>(alloc: Global, work: &WorkingNetwork<R>) -> Result<Vec<Name>, AllocError> {
     let mut names = Vec::new(alloc);
     for place in 0..work.len() {
         push_place(alloc, &mut names, work, place)?;
@@ -63,14 +68,17 @@ fn names_of<R: Row>(alloc: Global, work: &Work<R>) -> Result<Vec<Name>, AllocErr
     Ok(names)
 }
 
-// The table at a place comes behind those before it; false where there is none, it has a row twice, or an input has no number.
+// Appends the table at an index to the gains; false if there is none, it has a row twice, or an
+// input has no number.
 fn count_at<R: Row>(
     alloc: Global,
-    work: &Work<R>,
-    gains: &mut KeptGains,
+    work: &WorkingNetwork<R>,
+    gains: &mut DivisorGains,
     place: usize,
 ) -> Result<bool, AllocError>
-    ensures { IfOk result (λ counted. counted ≡ true → (slots : List (Option TheTable)) → IsCounted slots gains.old → IsCounted (slots ++ table_at work.now.slots place ∷ []) gains.new) }
+    ensures { IfOk result (λ counted. counted ≡ true → (slots : List (Option Table))
+        → IsCounted slots gains.old → IsCounted (slots ++ table_at work.now.slots place ∷ [])
+        gains.new) }
 {
     match work.entry(place) {
         None => Ok(false),
@@ -78,13 +86,16 @@ fn count_at<R: Row>(
     }
 }
 
-/// The gains of all tables, counted; none where a place is empty, a table has a row twice, or an input has no number, which no clause says. An
-/// error only for want of memory, or of numbers for the totals.
-pub(crate) fn count<R: Row>(alloc: Global, work: &Work<R>) -> Result<Option<KeptGains>, AllocError>
+/// The gains of all tables; none if an index is empty, a table has a row twice, or an input has no
+/// number, which no clause says. An error also for want of numbers for the totals.
+pub(crate) fn count<R: Row>(
+    alloc: Global,
+    work: &WorkingNetwork<R>,
+) -> Result<Option<DivisorGains>, AllocError>
     ensures { IfOk result (λ found. AreCounted work.now.slots found) }
 {
     let names = names_of(alloc, work)?;
-    let mut gains = KeptGains::new(alloc, names)?;
+    let mut gains = DivisorGains::new(alloc, names)?;
     for place in 0..work.len() {
         if !count_at(alloc, work, &mut gains, place)? {
             return Ok(None);

@@ -1,4 +1,7 @@
-//! The chain of steps.
+//! Extraction: the best candidate becomes a table, step by step, until none saves a literal.
+//!
+//! Source: the SIS report (UCB/ERL M92/41), `fx`, `gkx` and `gcx`. Callers rely on `HasExtracted`:
+//! the end of the chain of steps, or the refusal that stops it; and on bounds to stay.
 
 ghost use Rattle.std.specs.Prelude.{IfOk, OnOk, IfErr};
 ghost use Rattle.circuit_model.specs.Soundness.{IsSound};
@@ -14,11 +17,15 @@ use crate::stepping::step;
 use cube_cover::Row;
 use net_candidates::Rule;
 use net_core::Network;
-use net_work::Work;
+use net_work::WorkingNetwork;
 use std::alloc::Global;
 
 // Takes steps until none applies.
-fn take_steps<R: Row>(alloc: Global, work: &mut Work<R>, rule: Rule) -> Result<(), ExtractFault>
+fn take_steps<R: Row>(
+    alloc: Global,
+    work: &mut WorkingNetwork<R>,
+    rule: Rule,
+) -> Result<(), ExtractFault>
     requires { IsSound (circuit_of work.old) }
     ensures sound { OnOk result (IsSound (circuit_of work.new)) }
     ensures extracted { OnOk result (IsExtracted rule (circuit_of work.old) (circuit_of work.new)) }
@@ -31,12 +38,12 @@ fn take_steps<R: Row>(alloc: Global, work: &mut Work<R>, rule: Rule) -> Result<(
     Ok(())
 }
 
-/// A network after extraction, beside the one that stays. Candidates of a rule are extracted as
-/// long as one saves literals: always the one that saves most, of those that save as much the
-/// first. New tables stand last, under the least free names. `KernelLimit` where a table has more
-/// than `MAX_KERNELS` kernels and they are asked for, with the first such table's name; `NodeLimit`
-/// exactly where a candidate saves literals and with its table there would be more than `MAX_NODES`
-/// tables and latches, those of the don't-care part counted.
+/// A new network, after extraction; the given one stays. Candidates of a rule are extracted as long
+/// as one saves literals: always the one that saves most, of those that save as much the first. New
+/// tables are last, under the least free names. `KernelLimit` has the name of the first table with
+/// more than `MAX_KERNELS` kernels, if kernels are asked for. `NodeLimit` exactly if a candidate
+/// saves literals and with its table there would be more than `MAX_NODES` tables and latches, those
+/// of the don't-care part included.
 pub fn extract<R: Row>(
     alloc: Global,
     network: &Network<R>,
@@ -45,7 +52,7 @@ pub fn extract<R: Row>(
     ensures extracted { HasExtracted rule network.now result }
     ensures bounds { HasBounds network.now → IfOk result HasBounds }
 {
-    let mut work = Work::of(alloc, network)?;
+    let mut work = WorkingNetwork::of(alloc, network)?;
     take_steps(alloc, &mut work, rule)?;
     Ok(work.into_network())
 }

@@ -1,4 +1,4 @@
-//! Why nothing is extracted.
+//! Why nothing is extracted: too many kernels, no room for a table, or memory ran out.
 
 use circuit_model::Name;
 use net_savings::SavingsFault;
@@ -9,7 +9,7 @@ use std::alloc::AllocError;
 pub enum ExtractFault {
     /// The table of this name has more than `MAX_KERNELS` kernels.
     KernelLimit(Name),
-    /// There would be more tables and latches than may stand.
+    /// There would be more tables and latches than are allowed.
     NodeLimit,
     /// There is not enough memory.
     Memory,

@@ -1,4 +1,8 @@
-//! The best candidate of a network.
+//! The best candidate of a network: by gains for `fx` where they are counted, else by savings.
+//!
+//! Savings are computed from the first search that needs them on. Callers rely on the best
+//! candidate exactly, whichever way it is found, and on gains and savings that are true of the
+//! network afterwards.
 
 ghost use Rattle.std.specs.Prelude.{◌≡◌, IfOk, IfErr, OnOk, MatchOption};
 ghost use Rattle.circuit_model.specs.Soundness.{IsSound};
@@ -16,30 +20,30 @@ use circuit_model::Name;
 use cover_names::NamedCover;
 use cube_cover::Row;
 use net_candidates::Rule;
-use net_savings::{KeptSavings, best_saved};
-use net_work::Work;
+use net_savings::{CandidateQueue, best_saved};
+use net_work::WorkingNetwork;
 use std::alloc::{AllocError, Global};
 
-// What candidates save; where nothing is known of it, it is begun.
+// The savings of candidates; new ones if none are kept.
 fn savings_of<R: Row>(
     alloc: Global,
-    work: &Work<R>,
+    work: &WorkingNetwork<R>,
     rule: Rule,
-    kept: Option<KeptSavings>,
-) -> Result<KeptSavings, AllocError>
+    kept: Option<CandidateQueue>,
+) -> Result<CandidateQueue, AllocError>
     requires { AreSaved rule work.now kept }
     ensures { IfOk result (AreSavings rule work.now) }
 {
     match kept {
-        None => KeptSavings::begin(alloc, work),
+        None => CandidateQueue::begin(alloc, work),
         Some(kept) => Ok(kept),
     }
 }
 
-// The best candidate of a network under a new name by what candidates save.
+// The best candidate of a network under a new name, by savings.
 fn best_by_savings<R: Row>(
     alloc: Global,
-    work: &Work<R>,
+    work: &WorkingNetwork<R>,
     rule: Rule,
     name: &Name,
     known: &mut Known,
@@ -49,7 +53,8 @@ fn best_by_savings<R: Row>(
     requires saved { AreSaved rule work.now known.old.savings }
     ensures known { known.new.gains ≡ known.old.gains }
     ensures saved { OnOk result (AreSaved rule work.now known.new.savings) }
-    ensures found { IfOk result (λ found. MatchOption found (IsDone rule (circuit_of work.now)) (IsNext rule (circuit_of work.now) name.now)) }
+    ensures found { IfOk result (λ found. MatchOption found (IsDone rule (circuit_of work.now))
+        (IsNext rule (circuit_of work.now) name.now)) }
     ensures stopped { IfErr result (IsStopped rule (circuit_of work.now)) }
 {
     let mut kept = savings_of(alloc, work, rule, known.savings.take())?;
@@ -58,11 +63,12 @@ fn best_by_savings<R: Row>(
     Ok(found)
 }
 
-/// The best candidate of a network under a new name: of `fx` by the gains where they are known, else by what candidates save. None where none
-/// saves a literal. `KernelLimit` with the name of the first table that has too many kernels; else an error is want of memory.
+/// The best candidate of a network under a new name: of `fx` by the gains if they are known, else
+/// by savings. None if none saves a literal. `KernelLimit` with the name of the first table that
+/// has too many kernels.
 pub(crate) fn best_known<R: Row>(
     alloc: Global,
-    work: &Work<R>,
+    work: &WorkingNetwork<R>,
     rule: Rule,
     name: &Name,
     known: &mut Known,
@@ -73,7 +79,8 @@ pub(crate) fn best_known<R: Row>(
     requires saved { AreSaved rule work.now known.old.savings }
     ensures known { OnOk result (AreCounted work.now.slots known.new.gains) }
     ensures saved { OnOk result (AreSaved rule work.now known.new.savings) }
-    ensures found { IfOk result (λ found. MatchOption found (IsDone rule (circuit_of work.now)) (IsNext rule (circuit_of work.now) name.now)) }
+    ensures found { IfOk result (λ found. MatchOption found (IsDone rule (circuit_of work.now))
+        (IsNext rule (circuit_of work.now) name.now)) }
     ensures stopped { IfErr result (IsStopped rule (circuit_of work.now)) }
 {
     match (rule, &known.gains) {

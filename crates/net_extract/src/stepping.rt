@@ -1,13 +1,21 @@
-//! One step: the table of a cover is added, and all tables that stood before are divided by the cover.
+//! One step of extraction: the best candidate becomes a table, and all earlier tables are divided
+//! by it.
+//!
+//! Source: Brayton, Rudell, Sangiovanni-Vincentelli and Wang, "MIS: A Multiple-Level Logic
+//! Optimization System" (1987); the SIS report (UCB/ERL M92/41), `fx`, `gkx` and `gcx`. Only tables
+//! that may read all names of the candidate are divided; no other table would change. Invariant:
+//! what is known of gains and savings is that of the current network. Callers rely on `IsTaken`,
+//! which leaves fewer literals, on false exactly if no candidate saves a literal, and on
+//! `NodeLimit` only if there is no room.
 
-ghost use Rattle.std.specs.Prelude.{◌≡◌, ℕ, ◌≤◌, ◌<◌, true, false, Some, None, length, List, IfOk, IfErr, OnOk, MatchOption};
+ghost use Rattle.std.specs.Prelude.{◌≡◌, ◌≤◌, ◌<◌, true, false, Some, None, length, IfOk, IfErr, OnOk, MatchOption};
 ghost use Rattle.std.specs.List.{AllByRecursion};
 ghost use Rattle.circuit_model.specs.Names.{all_different};
 ghost use Rattle.circuit_model.specs.Soundness.{IsSound};
 ghost use Rattle.net_candidates.specs.Extracting.{IsDone};
 ghost use Rattle.net_core.specs.Places.{written_of};
 ghost use Rattle.net_core.specs.Reads.{IsBounded};
-ghost use Rattle.net_core.specs.Tables.{named, IsOverInputs};
+ghost use Rattle.net_core.specs.Tables.{IsOverInputs};
 ghost use Rattle.alg_tables.specs.Dividing.{divided};
 ghost use Rattle.net_work.specs.Placed.{standing, circuit_of, table_at, with_slot};
 ghost use Rattle.net_savings.specs.Saving.{literals_in};
@@ -23,39 +31,23 @@ use circuit_model::Name;
 use cover_names::Cube;
 use cube_cover::Row;
 use net_candidates::Rule;
-use net_core::{AddFault, Entry, Table};
+use net_core::{AddFault, CoverTable, Entry, bounded};
 use net_savings::places_for;
-use net_work::Work;
+use net_work::WorkingNetwork;
 use std::alloc::{AllocError, Global};
-
-/// A table of so many inputs is not made: that is answered as want of memory.
-const INPUT_BOUND: usize = 1 << 30;
-
-/// Nor is a table of so many rows.
-const ROW_BOUND: usize = 1 << 29;
-
-// A table, unless it is as large as none is made.
-fn bounded<R: Row>(table: Table<R>) -> Result<Table<R>, AllocError>
-    ensures { IfOk result (λ made. (made ≡ table) × ((name : List ℕ) → IsBounded (named name table))) }
-{
-    if table.inputs.len() < INPUT_BOUND && table.cover.rows().len() < ROW_BOUND {
-        Ok(table)
-    } else {
-        Err(AllocError)
-    }
-}
 
 // The table of a cover is added.
 fn add_table<R: Row>(
     alloc: Global,
-    work: &mut Work<R>,
+    work: &mut WorkingNetwork<R>,
     known: &mut Known,
     cover: &[Cube],
 ) -> Result<Name, ExtractFault>
     requires known { AreCounted work.old.slots known.old.gains }
     ensures added { IfOk result (λ name. IsAdded cover.now name work.old work.new) }
     ensures known { IfOk result (λ _. AreCounted work.new.slots known.new.gains) }
-    ensures saved { IfOk result (λ _. StaySaved work.old known.old.savings work.new known.new.savings) }
+    ensures saved { IfOk result (λ _. StaySaved work.old known.old.savings work.new
+        known.new.savings) }
     ensures fault { IfErr result (IsNotAdded (circuit_of work.old)) }
 {
     let made = cover_table(alloc, cover)?;
@@ -67,16 +59,18 @@ fn add_table<R: Row>(
     }
 }
 
-// What a table becomes where it is divided, or none where it stays as it is.
+// What a table becomes if it is divided; none if it stays as it is.
 fn divided_of<R: Row>(
     alloc: Global,
     entry: &Entry<R>,
     name: &Name,
     cover: &[Cube],
-) -> Result<Option<Table<R>>, AllocError>
+) -> Result<Option<CoverTable<R>>, AllocError>
     requires over { IsOverInputs entry.now.table }
     requires once { all_different entry.now.table.inputs ≡ true }
-    ensures { IfOk result (λ found. MatchOption found (divided name.now true cover.now (written_of entry.now) ≡ written_of entry.now) (IsMade name.now cover.now (written_of entry.now))) }
+    ensures { IfOk result (λ found. MatchOption found
+        (divided name.now true cover.now (written_of entry.now) ≡ written_of entry.now)
+        (IsMade name.now cover.now (written_of entry.now))) }
 {
     match divided_table(alloc, &entry.table, name, true, cover)? {
         None => Ok(None),
@@ -87,15 +81,18 @@ fn divided_of<R: Row>(
     }
 }
 
-// What the table at a place becomes where it is divided, or none where it stays as it is, or none stands there.
+// What the table at an index becomes if it is divided; none if it stays as it is, or if there is
+// none.
 fn divided_at<R: Row>(
     alloc: Global,
-    work: &Work<R>,
+    work: &WorkingNetwork<R>,
     name: &Name,
     cover: &[Cube],
     place: usize,
-) -> Result<Option<Table<R>>, AllocError>
-    ensures { IfOk result (λ found. MatchOption found (divided_slot name.now cover.now (table_at work.now.slots place) ≡ table_at work.now.slots place) (IsMadeAt name.now cover.now work.now.slots place)) }
+) -> Result<Option<CoverTable<R>>, AllocError>
+    ensures { IfOk result (λ found. MatchOption found
+        (divided_slot name.now cover.now (table_at work.now.slots place)
+        ≡ table_at work.now.slots place) (IsMadeAt name.now cover.now work.now.slots place)) }
 {
     match work.entry(place) {
         None => Ok(None),
@@ -103,10 +100,10 @@ fn divided_at<R: Row>(
     }
 }
 
-// The table at a place is divided, if one stands there.
+// Divides the table at an index, if there is one.
 fn divide_at<R: Row>(
     alloc: Global,
-    work: &mut Work<R>,
+    work: &mut WorkingNetwork<R>,
     known: &mut Known,
     name: &Name,
     cover: &[Cube],
@@ -115,8 +112,10 @@ fn divide_at<R: Row>(
     requires known { AreCounted work.old.slots known.old.gains }
     ensures known { OnOk result (AreCounted work.new.slots known.new.gains) }
     ensures saved { OnOk result (StaySaved work.old known.old.savings work.new known.new.savings) }
-    ensures divided { OnOk result (work.new ≡ with_slot work.old place (divided_slot name.now cover.now (table_at work.old.slots place))) }
-    ensures bounded { OnOk result (AllByRecursion IsBounded (standing work.old.slots) → AllByRecursion IsBounded (standing work.new.slots)) }
+    ensures divided { OnOk result (work.new ≡ with_slot work.old place
+        (divided_slot name.now cover.now (table_at work.old.slots place))) }
+    ensures bounded { OnOk result (AllByRecursion IsBounded (standing work.old.slots)
+        → AllByRecursion IsBounded (standing work.new.slots)) }
 {
     match divided_at(alloc, work, name, cover, place)? {
         None => Ok(()),
@@ -124,10 +123,10 @@ fn divide_at<R: Row>(
     }
 }
 
-// The tables at some places are divided.
+// Divides the tables at some indices.
 fn divide_places<R: Row>(
     alloc: Global,
-    work: &mut Work<R>,
+    work: &mut WorkingNetwork<R>,
     known: &mut Known,
     name: &Name,
     cover: &[Cube],
@@ -137,7 +136,8 @@ fn divide_places<R: Row>(
     ensures known { OnOk result (AreCounted work.new.slots known.new.gains) }
     ensures saved { OnOk result (StaySaved work.old known.old.savings work.new known.new.savings) }
     ensures divided { OnOk result (work.new ≡ with_divided name.now cover.now places.now work.old) }
-    ensures bounded { OnOk result (AllByRecursion IsBounded (standing work.old.slots) → AllByRecursion IsBounded (standing work.new.slots)) }
+    ensures bounded { OnOk result (AllByRecursion IsBounded (standing work.old.slots)
+        → AllByRecursion IsBounded (standing work.new.slots)) }
 {
     for place in places {
         divide_at(alloc, work, known, name, cover, *place)?;
@@ -145,11 +145,11 @@ fn divide_places<R: Row>(
     Ok(())
 }
 
-// A cover is extracted: where tables may read all that it reads they are divided, and the others stay as they are; `NodeLimit` where there
-// is no room for its table. Behind an error any network may stand.
+// Extracts a cover: tables that may read all that it reads are divided, and the others stay as they
+// are. `NodeLimit` if there is no room for its table. After an error the network may be any.
 fn put<R: Row>(
     alloc: Global,
-    work: &mut Work<R>,
+    work: &mut WorkingNetwork<R>,
     known: &mut Known,
     cover: &[Cube],
 ) -> Result<(), ExtractFault>
@@ -166,10 +166,11 @@ fn put<R: Row>(
     Ok(())
 }
 
-/// The best candidate is extracted; false where none saves a literal. Behind an error any network may stand.
+/// Extracts the best candidate; false if none saves a literal. After an error the network may be
+/// any.
 pub(crate) fn step<R: Row>(
     alloc: Global,
-    work: &mut Work<R>,
+    work: &mut WorkingNetwork<R>,
     known: &mut Known,
     rule: Rule,
 ) -> Result<bool, ExtractFault>
@@ -178,7 +179,8 @@ pub(crate) fn step<R: Row>(
     requires saved { AreSaved rule work.old known.old.savings }
     ensures known { OnOk result (AreCounted work.new.slots known.new.gains) }
     ensures saved { OnOk result (AreSaved rule work.new known.new.savings) }
-    ensures done { IfOk result (λ taken. taken ≡ false → (work.new ≡ work.old) × IsDone rule (circuit_of work.old)) }
+    ensures done { IfOk result (λ taken. taken ≡ false → (work.new ≡ work.old) × IsDone rule
+        (circuit_of work.old)) }
     ensures taken { IfOk result (λ taken. taken ≡ true → IsTaken rule work.old work.new) }
     ensures stopped { IfErr result (IsStopped rule (circuit_of work.old)) }
 {

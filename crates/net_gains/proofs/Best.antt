@@ -1,34 +1,32 @@
 -- The first cover of a ranking by numbers that passes is the first by names.
-use Rattle.std.proofs.Common.{◌≡◌, ◌⊎◌, ℕ, ◌+◌, ◌-◌, ◌<◌, ◌≤◌, zero, suc, true, List, [], ◌∷◌, ◌++◌, map, nat_cmp, Ordering, Less, Equal, Greater, refl, sym, ap, ap₂, ◌∙◌, subst, inl, inr, arith, Bor}
+use Rattle.std.proofs.Common.{◌≡◌, ℕ, ◌+◌, ◌-◌, ◌<◌, ◌≤◌, zero, suc, true, Option, Some, List, [], ◌∷◌, map, nat_cmp, Ordering, Less, Equal, Greater, refl, sym, ap, ap₂, ◌∙◌, subst, inl, inr, arith}
 use Rattle.std.specs.List.{AllByRecursion, sum_by}
-use Rattle.std.specs.List.Sorted.{IsStrictlySortedBy}
-use Rattle.std.specs.Map.Iter.{deref}
-use Rattle.std.specs.Ordering.{ordering_then, ordering_reverse}
-use Rattle.std.proofs.lemmas.Cmp.{ranked, tied_itself}
-use Rattle.std.proofs.lemmas.List.{map-append}
+use Rattle.std.specs.declared.cmp.Reverse.{Reverse}
+use Rattle.std.proofs.lemmas.Cmp.{ranked}
 use Rattle.std.proofs.lemmas.List.Sums.{sum_by-cons}
-use Rattle.net_gains.specs.CodedGains.{lists_cmp, gains as gains_of, literals_in as numbers_in}
-use Rattle.net_gains.specs.Divisors.{cover_of}
-use Rattle.net_gains.specs.Totals.{total_of, better_cmp, AreBest}
-use Rattle.net_gains.specs.declared.totals.Ranked.{Ranked}
+use Rattle.net_queue.specs.Queue.{value_in, rank_in, IsBest}
+use Rattle.net_gains.specs.CodedGains.{lists_cmp, gains as gains_of}
+use Rattle.net_gains.specs.Divisors.{cover_of, divisor_cmp}
+use Rattle.net_gains.specs.Orders.{divisor_eq, saving_cmp}
+use Rattle.net_gains.specs.Totals.{total_of, total_at, rank_of}
+use Rattle.net_gains.specs.declared.divisor.Divisor.{Divisor}
 use Rattle.net_candidates.proofs.Usable.{all_pair}
 use Rattle.cover_names.specs.Literals.{Cube, NamedCover, cover_cmp}
-use Rattle.cover_names.proofs.Members.{Has, contains_has, has_contains}
-use Rattle.cover_names.proofs.Orders.{cover_order}
-use Rattle.net_gains.specs.Gains.{over_pairs, sum_gain, product_gain, gains}
+use Rattle.net_gains.specs.Gains.{over_pairs, literals_in, sum_gain, product_gain, gains}
 use Rattle.net_gains.proofs.Found.{some_item, some_pair, partners_gain, product_is, gaining_literal}
-use Rattle.alg_div.specs.Cubes.{Has as IsIn}
+use Rattle.alg_div.specs.Cubes.{Has}
 use Rattle.net_gains.specs.Codes.{AreRising, coded, are_coded}
-use Rattle.net_gains.proofs.Carried.{all_has, same_items}
-use Rattle.net_gains.proofs.Coded.{Known, KnownCube, KnownCover, cover_known, known_cover, sum_known, codes_gains, codes_literals, covers_keep, gaining_coded, number_lists_order}
-use Rattle.net_gains.specs.Kept.{Kept, total, literals_in, Saves, IsFirst}
-use Rattle.net_gains.specs.Numbers.{tables_in, cubes_at, IsKept, Fails, DoesPass}
+use Rattle.net_gains.proofs.Coded.{Known, KnownCube, KnownCover, cover_known, known_cover, sum_known, codes_gains, codes_literals, covers_keep, gaining_coded}
+use Rattle.net_gains.proofs.Noting.{cover_is, divisor_of}
+use Rattle.net_gains.proofs.Ranks.{covers_cmp, rank_here, rank_told}
+use Rattle.net_gains.specs.Kept.{Kept, total, Saves, IsFirst}
+use Rattle.net_gains.specs.Numbers.{tables_in, cubes_at, IsKept, DoesPass}
 use Rattle.net_gains.specs.declared.counted.Counted.{Counted}
 use Rattle.net_gains.proofs.Decoded.{cubes_known}
 
 -- ---- what gains among known cubes is known
 
-all_in : {X : Type 0} (P : X → Type 0) (xs : List X) → AllByRecursion P xs → (x : X) → IsIn x xs → P x
+all_in : {X : Type 0} (P : X → Type 0) (xs : List X) → AllByRecursion P xs → (x : X) → Has x xs → P x
 all_in P [] all x m = absurd m
 all_in P (first ∷ xs) all x m = elim m as (λ _. P x) [ inl e ↦ subst P (sym e) all.0 | inr n ↦ all_in P xs all.1 x n ]
 
@@ -76,11 +74,11 @@ module _ (names : List (List ℕ)) (rising : AreRising names) where
       cases (suc n) e rest = gaining_known cover (cubes_at names cubes) (cover_known names (cubes_at names cubes) (cubes_known names rising cubes all.0).0) (omega (arith, e))
 
   -- numbers that save have one number at least
-  some_numbers : (numbers : List (List ℕ)) (tables : List (List (List ℕ))) → AreKnown tables → 0 < sum_by (gains_of numbers) tables → 1 ≤ numbers_in numbers
+  some_numbers : (numbers : List (List ℕ)) (tables : List (List (List ℕ))) → AreKnown tables → 0 < sum_by (gains_of numbers) tables → 1 ≤ literals_in numbers
   some_numbers numbers [] all h = absurd (omega (arith, h))
   some_numbers numbers (cubes ∷ tables) all h = cases (gains_of numbers cubes) refl (some_numbers numbers tables all.1)
     where
-      cases : (n : ℕ) → gains_of numbers cubes ≡ n → (0 < sum_by (gains_of numbers) tables → 1 ≤ numbers_in numbers) → 1 ≤ numbers_in numbers
+      cases : (n : ℕ) → gains_of numbers cubes ≡ n → (0 < sum_by (gains_of numbers) tables → 1 ≤ literals_in numbers) → 1 ≤ literals_in numbers
       cases zero e rest = rest (omega (arith, h, e, sum_by-cons (gains_of numbers) cubes tables))
       cases (suc n) e rest =
           let back = cubes_known names rising cubes all.0 in
@@ -91,43 +89,8 @@ module _ (names : List (List ℕ)) (rising : AreRising names) where
           let cover : NamedCover = cubes_at names numbers in
           let same : gains_of numbers cubes ≡ gains cover (cubes_at names cubes) =
           ap (λ (xs : List (List ℕ)). gains_of xs cubes) (sym own.1) ∙ table_coded cover cubes (cover_known names cover own.0) all.0 in
-          let literals : numbers_in numbers ≡ literals_in cover = ap numbers_in (sym own.1) ∙ codes_literals names cover in
+          let literals : literals_in numbers ≡ literals_in cover = ap literals_in (sym own.1) ∙ codes_literals names cover in
           omega (arith, literals, gaining_literal cover (cubes_at names cubes) (omega (arith, e, same)))
-
--- ---- better covers
-
-better_told : (total : List (List ℕ) → ℕ) (one other : List (List ℕ)) → better_cmp total one other ≡ Less
-    → (total other - numbers_in other ≤ total one - numbers_in one) × (total other - numbers_in other ≡ total one - numbers_in one → lists_cmp one other ≡ Less)
-better_told total one other h = cases (nat_cmp (total other - numbers_in other) (total one - numbers_in one)) refl h
-  where
-    cases : (o : Ordering) → nat_cmp (total other - numbers_in other) (total one - numbers_in one) ≡ o → ordering_then o (lists_cmp one other) ≡ Less
-        → (total other - numbers_in other ≤ total one - numbers_in one) × (total other - numbers_in other ≡ total one - numbers_in one → lists_cmp one other ≡ Less)
-    cases Less e k =
-        let lt : total other - numbers_in other < total one - numbers_in one = ranked (total other - numbers_in other) (total one - numbers_in one) Less (sym e) in
-        (omega (arith, lt), λ same. absurd (omega (arith, lt, same)))
-    cases Equal e k =
-        let same : total other - numbers_in other ≡ total one - numbers_in one = ranked (total other - numbers_in other) (total one - numbers_in one) Equal (sym e) in
-        (omega (arith, same), λ _. k)
-    cases Greater e k = absurd cc
-
--- ---- lists, part by part
-
-has_parted : {X : Type 0} (x : X) (front back : List X) → Has x (front ++ back) → Has x front ⊎ Has x back
-has_parted x [] back m = inr m
-has_parted x (first ∷ front) back m =
-    elim m as (λ _. Has x (first ∷ front) ⊎ Has x back) [
-      | inl e ↦ inl (inl e)
-      | inr n ↦ elim (has_parted x front back n) as (λ _. Has x (first ∷ front) ⊎ Has x back) [ inl k ↦ inl (inr k) | inr k ↦ inr k ]
-    ]
-
-parted_has : {X : Type 0} (x : X) (front back : List X) → Has x back → Has x (front ++ back)
-parted_has x [] back m = m
-parted_has x (first ∷ front) back m = inr (parted_has x front back m)
-
-rises_behind : {X : Type 0} (cmp : X → X → Ordering) (front : List X) (x : X) (back : List X) → IsStrictlySortedBy cmp (front ++ x ∷ back) → (y : X) → Has y back → cmp x y ≡ Less
-unfolding IsStrictlySortedBy
-rises_behind cmp [] x back h y m = all_has (λ z. cmp x z ≡ Less) back h.0 y m
-rises_behind cmp (first ∷ front) x back h y m = rises_behind cmp front x back h.1 y m
 
 -- ---- the first that passes
 
@@ -135,110 +98,92 @@ module _ (names : List (List ℕ)) (rising : AreRising names) (counted : Counted
   abbrev pub kept : Kept
   kept = record { names = names; tables = map (cubes_at names) (tables_in counted.tables.items) }
 
+  -- the ranks of divisors
+  abbrev pub ranks : Divisor → Option (Reverse ℕ)
+  ranks = rank_in divisor_eq rank_of counted.totals
+
+  -- a cover that passes is that of a divisor
+  abbrev pub PassesAt : Divisor → Type 0
+  PassesAt divisor = (cover : NamedCover) × DoesPass Passes names (cover_of divisor) cover
+
   known_of : (cover : NamedCover) → Saves kept cover → KnownCover names cover
   known_of cover saves = saving_known names rising cover (tables_in counted.tables.items) is.known (omega (arith, saves))
 
   total_is : (cover : NamedCover) → KnownCover names cover → total_of counted.totals (coded names cover) ≡ total kept cover
   total_is cover known = is.sums.totals (coded names cover) ∙ tables_coded names rising cover (tables_in counted.tables.items) known is.known
 
-  -- what saves by numbers has a number
-  pub saving_long : (covers : List (List (List ℕ))) → AreBest (total_of counted.totals) covers → (numbers : List (List ℕ)) → Has numbers covers → 1 ≤ numbers_in numbers
-  saving_long covers best numbers m =
-      let saves : numbers_in numbers < total_of counted.totals numbers = (best.save numbers).0 (contains_has numbers covers m) in
-      some_numbers names rising numbers (tables_in counted.tables.items) is.known (omega (arith, saves, is.sums.totals numbers))
+  -- what a divisor saves that has a rank
+  rank_saves : (divisor : Divisor) (rank : Reverse ℕ) → ranks divisor ≡ Some rank
+      → (literals_in (cover_of divisor) < total_of counted.totals (cover_of divisor)) × (total_of counted.totals (cover_of divisor) - literals_in (cover_of divisor) ≡ rank.0)
+  rank_saves divisor rank has =
+      subst (λ (n : ℕ). (literals_in (cover_of divisor) < n) × (n - literals_in (cover_of divisor) ≡ rank.0)) (sym (cover_is divisor counted.totals))
+      (rank_told divisor (value_in divisor_eq counted.totals divisor) rank has)
 
-  saving_among : (covers : List (List (List ℕ))) → AreBest (total_of counted.totals) covers → (cover : NamedCover) → Saves kept cover → Has (coded names cover) covers
-  saving_among covers best cover saves =
-      has_contains (coded names cover) covers
-      ((best.save (coded names cover)).1 (omega (arith, saves, codes_literals names cover, total_is cover (known_of cover saves))))
+  -- a divisor that has a rank has a number
+  pub ranked_long : (divisor : Divisor) (rank : Reverse ℕ) → ranks divisor ≡ Some rank → 1 ≤ literals_in (cover_of divisor)
+  ranked_long divisor rank has =
+      some_numbers names rising (cover_of divisor) (tables_in counted.tables.items) is.known (let saves = (rank_saves divisor rank has).0 in omega (arith, saves, is.sums.totals (cover_of divisor)))
 
-  fails_all : (covers : List (List (List ℕ))) → AllByRecursion (Fails Passes names) covers → (cover : NamedCover) → KnownCover names cover → Has (coded names cover) covers → Passes cover → ⊥
-  fails_all covers fails cover known m = all_has (Fails Passes names) covers fails (coded names cover) m cover (known_cover names cover known) refl
+  -- a cover that saves is that of a divisor that has a rank
+  record IsSaving (cover : NamedCover) : Type 0 where
+    divisor : Divisor
+    are : coded names cover ≡ cover_of divisor
+    has : ranks divisor ≡ Some (record { 0 = total kept cover - literals_in cover })
 
-  pub none_passes : (covers : List (List (List ℕ))) → AreBest (total_of counted.totals) covers → AllByRecursion (Fails Passes names) covers → (cover : NamedCover) → Saves kept cover → Passes cover → ⊥
-  none_passes covers best fails cover saves = fails_all covers fails cover (known_of cover saves) (saving_among covers best cover saves)
+  saving : (cover : NamedCover) → Saves kept cover → IsSaving cover
+  saving cover saves =
+      let all : total_of counted.totals (coded names cover) ≡ total kept cover = total_is cover (known_of cover saves) in
+      let own : literals_in (coded names cover) ≡ literals_in cover = codes_literals names cover in
+      let (divisor, are) = divisor_of counted.totals (coded names cover) (omega (arith, saves, all, own)) in
+      let total_here : total_at counted.totals divisor ≡ total kept cover = sym (cover_is divisor counted.totals) ∙ (ap (total_of counted.totals) (sym are) ∙ all) in
+      let own_here : literals_in (cover_of divisor) ≡ literals_in cover = ap literals_in (sym are) ∙ own in
+      record {
+        divisor = divisor;
+        are = are;
+        has = rank_here divisor (value_in divisor_eq counted.totals divisor) (omega (arith, saves, total_here, own_here))
+            ∙ ap₂ (λ (m n : ℕ). let rank : Reverse ℕ = record { 0 = m - n } in Some rank) total_here own_here;
+      }
 
-  module _ (front : List (List (List ℕ))) (numbers : List (List ℕ)) (back : List (List (List ℕ))) (best : AreBest (total_of counted.totals) (front ++ numbers ∷ back))
-      (fails : AllByRecursion (Fails Passes names) front) (cover : NamedCover) (does : DoesPass Passes names numbers cover) where
+  passes_at : (cover : NamedCover) (saves : Saves kept cover) → Passes cover → PassesAt (saving cover saves).divisor
+  passes_at cover saves passes = (cover, record { known = known_cover names cover (known_of cover saves); are = (saving cover saves).are; passes = passes })
+
+  pub none_passes : ((divisor : Divisor) (rank : Reverse ℕ) → PassesAt divisor → ranks divisor ≡ Some rank → ⊥) → (cover : NamedCover) → Saves kept cover → Passes cover → ⊥
+  none_passes none cover saves passes = none (saving cover saves).divisor (record { 0 = total kept cover - literals_in cover }) (passes_at cover saves passes) (saving cover saves).has
+
+  module _ (divisor : Divisor) (best : IsBest saving_cmp divisor_cmp ranks PassesAt divisor) (cover : NamedCover) (does : DoesPass Passes names (cover_of divisor) cover) where
     known_here : KnownCover names cover
     known_here = cover_known names cover does.known
 
-    total_here : total_of counted.totals numbers ≡ total kept cover
+    total_here : total_of counted.totals (cover_of divisor) ≡ total kept cover
     total_here = ap (total_of counted.totals) (sym does.are) ∙ total_is cover known_here
 
-    literals_here : numbers_in numbers ≡ literals_in cover
-    literals_here = ap numbers_in (sym does.are) ∙ codes_literals names cover
+    literals_here : literals_in (cover_of divisor) ≡ literals_in cover
+    literals_here = ap literals_in (sym does.are) ∙ codes_literals names cover
 
     saves_here : Saves kept cover
-    saves_here =
-        let saves : numbers_in numbers < total_of counted.totals numbers =
-        (best.save numbers).0 (contains_has numbers (front ++ numbers ∷ back) (parted_has numbers front (numbers ∷ back) (inl refl))) in
-        omega (arith, saves, total_here, literals_here)
+    saves_here = let saves = (rank_saves divisor best.rank best.here).0 in omega (arith, saves, total_here, literals_here)
 
-    -- another one that saves and passes is this one, or a lesser one
-    other_is : (other : NamedCover) → Saves kept other → Passes other → (cover ≡ other) ⊎ (better_cmp (total_of counted.totals) numbers (coded names other) ≡ Less)
-    other_is other saves passes =
-        elim (has_parted (coded names other) front (numbers ∷ back) (saving_among (front ++ numbers ∷ back) best other saves)) as (λ _. (cover ≡ other) ⊎ (better_cmp (total_of counted.totals) numbers (coded names other) ≡ Less)) [
-          | inl m ↦ absurd (fails_all front fails other (known_of other saves) m passes)
-          | inr m ↦ elim m as (λ _. (cover ≡ other) ⊎ (better_cmp (total_of counted.totals) numbers (coded names other) ≡ Less)) [
-            | inl e ↦ inl (same_items (covers_keep names rising) cover_order number_lists_order.total cover other known_here (known_of other saves) (does.are ∙ sym e))
-            | inr n ↦ inr (rises_behind (better_cmp (total_of counted.totals)) front numbers back best.fall (coded names other) n)
-          ]
-        ]
+    rank_is : total kept cover - literals_in cover ≡ best.rank.0
+    rank_is = let told = (rank_saves divisor best.rank best.here).1 in omega (arith, told, total_here, literals_here)
 
     most_here : (other : NamedCover) → Saves kept other → Passes other → total kept other + literals_in cover ≤ total kept cover + literals_in other
-    most_here other saves passes =
-        elim (other_is other saves passes) as (λ _. total kept other + literals_in cover ≤ total kept cover + literals_in other) [
-          | inl e ↦ subst (λ (x : NamedCover). total kept x + literals_in cover ≤ total kept cover + literals_in x) e (omega arith)
-          | inr h ↦ (let told = (better_told (total_of counted.totals) numbers (coded names other) h).0 in
-              omega (arith, told, saves, saves_here, total_here, literals_here, total_is other (known_of other saves), codes_literals names other))
-        ]
-
-    not_less : (x y : NamedCover) → cover_cmp x y ≡ Less → cover_cmp y x ≡ Less → ⊥
-    not_less x y h k = let e : Greater ≡ Less = ap ordering_reverse (sym h) ∙ sym (cover_order.total.antisymm y x) ∙ k in absurd cc
+    most_here other saves passes = cases (nat_cmp (total kept cover - literals_in cover) (total kept other - literals_in other)) refl
+      where
+        cases : (o : Ordering) → o ≡ nat_cmp (total kept cover - literals_in cover) (total kept other - literals_in other) → total kept other + literals_in cover ≤ total kept cover + literals_in other
+        cases Less e =
+            absurd
+            (best.no_lesser (saving other saves).divisor (record { 0 = total kept other - literals_in other }) (passes_at other saves passes) (saving other saves).has
+            (ap (λ (n : ℕ). nat_cmp n (total kept other - literals_in other)) (sym rank_is) ∙ sym e))
+        cases Equal e = let same = ranked (total kept cover - literals_in cover) (total kept other - literals_in other) Equal e in omega (arith, same, saves, saves_here)
+        cases Greater e = let more = ranked (total kept cover - literals_in cover) (total kept other - literals_in other) Greater e in omega (arith, more, saves, saves_here)
 
     first_here : (other : NamedCover) → Saves kept other → Passes other → total kept other + literals_in cover ≡ total kept cover + literals_in other → cover_cmp other cover ≡ Less → ⊥
     first_here other saves passes equal less =
-        elim (other_is other saves passes) as (λ _. ⊥) [
-          | inl e ↦ (let k : Equal ≡ Less = sym (tied_itself cover_order.total other) ∙ subst (λ (x : NamedCover). cover_cmp other x ≡ Less) e less in absurd cc)
-          | inr h ↦
-              let told = (better_told (total_of counted.totals) numbers (coded names other) h).1
-              (omega (arith, equal, saves, saves_here, total_here, literals_here, total_is other (known_of other saves), codes_literals names other)) in
-              not_less other cover less
-              (sym ((covers_keep names rising).at cover other known_here (known_of other saves)) ∙ ap (λ (x : List (List ℕ)). lists_cmp x (coded names other)) does.are ∙ told)
-        ]
+        let level : total kept other - literals_in other ≡ best.rank.0 = omega (arith, equal, saves, saves_here, rank_is) in
+        best.no_earlier (saving other saves).divisor (passes_at other saves passes)
+        ((saving other saves).has ∙ ap (λ (n : ℕ). let rank : Reverse ℕ = record { 0 = n } in Some rank) level)
+        (sym (covers_cmp (saving other saves).divisor.first (saving other saves).divisor.second divisor.first divisor.second)
+        ∙ (ap₂ lists_cmp (sym (saving other saves).are) (sym does.are) ∙ ((covers_keep names rising).at other cover (known_of other saves) known_here ∙ less)))
 
     pub first_is : IsFirst Passes kept cover
     first_is = record { saves = saves_here; passes = does.passes; most = most_here; first = first_here }
-
--- ---- a loop over a ranking
-
-abbrev pub covers_of : List Ranked → List (List (List ℕ))
-covers_of keys = map (λ (ranked : Ranked). cover_of ranked.divisor) keys
-
-module _ (names : List (List ℕ)) (rising : AreRising names) (counted : Counted) (is : IsKept names counted) (Passes : NamedCover → Type 0) (keys : List Ranked)
-    (best : AreBest (total_of counted.totals) (covers_of keys)) (yielded : List (Bor Ranked)) where
-  -- none of those that came passes
-  abbrev pub FailAll : Type 0
-  FailAll = AllByRecursion (λ (ranked : Bor Ranked). Fails Passes names (cover_of ranked.now.divisor)) yielded
-
-  came_fail : (came : List (Bor Ranked)) → AllByRecursion (λ (ranked : Bor Ranked). Fails Passes names (cover_of ranked.now.divisor)) came → AllByRecursion (Fails Passes names) (covers_of (map deref came))
-  came_fail [] all = tt
-  came_fail (ranked ∷ came) all = (all.0, came_fail came all.1)
-
-  covers_split : (ranked : Ranked) (rest : List Ranked) → keys ≡ map deref yielded ++ ranked ∷ rest → covers_of keys ≡ covers_of (map deref yielded) ++ cover_of ranked.divisor ∷ covers_of rest
-  covers_split ranked rest e = ap covers_of e ∙ map-append (λ (r : Ranked). cover_of r.divisor) (map deref yielded) (ranked ∷ rest)
-
-  pub turn_long : (ranked : Ranked) (rest : List Ranked) → keys ≡ map deref yielded ++ ranked ∷ rest → 1 ≤ numbers_in (cover_of ranked.divisor)
-  turn_long ranked rest e =
-      saving_long names rising counted is Passes (covers_of keys) best (cover_of ranked.divisor)
-      (subst (Has (cover_of ranked.divisor)) (sym (covers_split ranked rest e)) (parted_has (cover_of ranked.divisor) (covers_of (map deref yielded)) (cover_of ranked.divisor ∷ covers_of rest) (inl refl)))
-
-  pub turn_first : (ranked : Ranked) (rest : List Ranked) → keys ≡ map deref yielded ++ ranked ∷ rest → FailAll → (cover : NamedCover) → DoesPass Passes names (cover_of ranked.divisor) cover
-      → IsFirst Passes (kept names rising counted is Passes) cover
-  turn_first ranked rest e fails cover does =
-      first_is names rising counted is Passes (covers_of (map deref yielded)) (cover_of ranked.divisor) (covers_of rest) (subst (AreBest (total_of counted.totals)) (covers_split ranked rest e) best)
-      (came_fail yielded fails) cover does
-
-  pub end_none : map deref yielded ≡ keys → FailAll → (cover : NamedCover) → Saves (kept names rising counted is Passes) cover → Passes cover → ⊥
-  end_none e fails = none_passes names rising counted is Passes (covers_of keys) best (subst (λ (came : List Ranked). AllByRecursion (Fails Passes names) (covers_of came)) e (came_fail yielded fails))

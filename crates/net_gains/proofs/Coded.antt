@@ -7,7 +7,7 @@ use Rattle.std.proofs.lemmas.Cmp.{nat_cmp_total, ranked}
 use Rattle.std.proofs.lemmas.List.{length-map}
 use Rattle.std.proofs.lemmas.List.Sums.{sum_by-cons}
 use Rattle.circuit_model.specs.Names.{has}
-use Rattle.net_gains.specs.CodedGains.{numbers_cmp, lists_cmp, literals_in, same_lists, shared as shared_numbers, own as own_numbers, over_pairs as over_number_pairs, is_one as is_empty, sum_of_two as sum_of_lists, sum_gain as sum_gain_of, product_gain as product_gain_of, gains as gains_of}
+use Rattle.net_gains.specs.CodedGains.{numbers_cmp, lists_cmp, same_lists, shared as shared_numbers, own as own_numbers, is_one as is_empty, sum_of_two as sum_of_lists, sum_gain as sum_gain_of, product_gain as product_gain_of, gains as gains_of}
 use Rattle.net_candidates.specs.Candidates.{same_literal, shared, own}
 use Rattle.cover_names.specs.Literals.{Cube, NamedCover, literal_cmp, cube_cmp, cover_cmp, sorted}
 use Rattle.cover_names.specs.Cubes.{is_over}
@@ -15,7 +15,7 @@ use Rattle.cover_names.specs.Orders.{literal_ties}
 use Rattle.cover_names.specs.declared.literal.Literal.{Literal}
 use Rattle.cover_names.proofs.Members.{Has}
 use Rattle.cover_names.proofs.Orders.{IsOrder, lists_order}
-use Rattle.net_gains.specs.Gains.{over_pairs, same_cover, is_one, sum_of_two, sum_gain, product_gain, gains}
+use Rattle.net_gains.specs.Gains.{over_pairs, same_cover, is_one, sum_of_two, sum_gain, product_gain, gains, literals_in}
 use Rattle.net_gains.specs.Codes.{AreRising, code_of, codes_of, coded, is_known, is_code, are_codes, are_coded}
 use Rattle.net_gains.proofs.Places.{codes_keep_order, code_below}
 use Rattle.net_gains.proofs.Carried.{Keeps, all_from_test, test_from_all, all_has, all_filter, all_sorted, lists_keep, map_sorted, map_filter, map_any, map_sum, has_mapped, some_counts}
@@ -71,19 +71,19 @@ coded_known names (cube ∷ cubes) known =
 
 -- pairs of what known items are mapped to
 pub map_pairs : {X Y : Type 0} (known : X → Type 0) (f : X → Y) (gain : X → X → ℕ) (other : Y → Y → ℕ) → ((x y : X) → known x → known y → other (f x) (f y) ≡ gain x y)
-    → (xs : List X) → AllByRecursion known xs → over_number_pairs other (map f xs) ≡ over_pairs gain xs
-unfolding over_pairs over_number_pairs
+    → (xs : List X) → AllByRecursion known xs → over_pairs other (map f xs) ≡ over_pairs gain xs
+unfolding over_pairs
 map_pairs known f gain other agree [] all = refl
 map_pairs known f gain other agree (x ∷ xs) all =
     ap₂ (λ (m n : ℕ). m + n) (map_sum known f (gain x) (other (f x)) (λ y h. agree x y all.0 h) xs all.1) (map_pairs known f gain other agree xs all.1)
 
 -- a pair that counts
-pub some_pair : {X : Type 0} (gain : X → X → ℕ) (xs : List X) → 0 < over_number_pairs gain xs → (x : X) × (y : X) × Has x xs × Has y xs × (0 < gain x y)
-unfolding over_number_pairs
+pub some_pair : {X : Type 0} (gain : X → X → ℕ) (xs : List X) → 0 < over_pairs gain xs → (x : X) × (y : X) × Has x xs × Has y xs × (0 < gain x y)
+unfolding over_pairs
 some_pair gain [] h = absurd (omega arith)
 some_pair {X} gain (x ∷ xs) h = cases (sum_by (gain x) xs) refl (λ k. some_pair gain xs k)
   where
-    cases : (n : ℕ) → sum_by (gain x) xs ≡ n → (0 < over_number_pairs gain xs → (y : X) × (z : X) × Has y xs × Has z xs × (0 < gain y z))
+    cases : (n : ℕ) → sum_by (gain x) xs ≡ n → (0 < over_pairs gain xs → (y : X) × (z : X) × Has y xs × Has z xs × (0 < gain y z))
         → (y : X) × (z : X) × Has y (x ∷ xs) × Has z (x ∷ xs) × (0 < gain y z)
     cases zero e rest = let p = rest (omega (arith, e, h)) in (p.0, p.1, inr p.2, inr p.3, p.4)
     cases (suc n) e rest = let p = some_counts (gain x) xs (omega (arith, e)) in (x, p.0, inl refl, inr p.1, p.2)
@@ -191,11 +191,11 @@ module _ (names : List (List ℕ)) (rising : AreRising names) where
   codes_gains cover cubes known all =
       ap₂ (λ (m n : ℕ). m + n)
       (map_pairs (KnownCube names) (codes_of names) (sum_gain cover) (sum_gain_of (coded names cover)) (codes_sum_gain cover known) cubes all)
-      (map_sum (KnownCube names) (codes_of names) (over_pairs (product_gain cover)) (over_number_pairs (product_gain_of (coded names cover)))
+      (map_sum (KnownCube names) (codes_of names) (over_pairs (product_gain cover)) (over_pairs (product_gain_of (coded names cover)))
       (λ cube h. map_pairs (Known names) (code_of names) (product_gain cover) (product_gain_of (coded names cover)) (codes_product_gain cover known) cube h) cubes all)
 
   -- a sum of two known cubes, and a product of two literals of one
-  coded_sum : (numbers : List (List ℕ)) (cubes : List Cube) → KnownCover names cubes → 0 < over_number_pairs (sum_gain_of numbers) (coded names cubes) → are_coded names numbers ≡ true
+  coded_sum : (numbers : List (List ℕ)) (cubes : List Cube) → KnownCover names cubes → 0 < over_pairs (sum_gain_of numbers) (coded names cubes) → are_coded names numbers ≡ true
   coded_sum numbers cubes all h =
       let p = some_pair (sum_gain_of numbers) (coded names cubes) h in
       let one = has_mapped (codes_of names) cubes p.0 p.2 in
@@ -205,9 +205,9 @@ module _ (names : List (List ℕ)) (rising : AreRising names) where
       let is : numbers ≡ coded names (sum_of_two one.0 other.0) = sum_told numbers p.0 p.1 p.4 ∙ ap₂ sum_of_lists one.2 other.2 ∙ sym (codes_sum one.0 other.0 first second) in
       ap (are_coded names) is ∙ coded_known names (sum_of_two one.0 other.0) (known_cover names (sum_of_two one.0 other.0) (sum_known one.0 other.0 first second))
 
-  coded_product : (numbers : List (List ℕ)) (cubes : List Cube) → KnownCover names cubes → 0 < sum_by (over_number_pairs (product_gain_of numbers)) (coded names cubes) → are_coded names numbers ≡ true
+  coded_product : (numbers : List (List ℕ)) (cubes : List Cube) → KnownCover names cubes → 0 < sum_by (over_pairs (product_gain_of numbers)) (coded names cubes) → are_coded names numbers ≡ true
   coded_product numbers cubes all h =
-      let p = some_counts (over_number_pairs (product_gain_of numbers)) (coded names cubes) h in
+      let p = some_counts (over_pairs (product_gain_of numbers)) (coded names cubes) h in
       let cube = has_mapped (codes_of names) cubes p.0 p.1 in
       let known : KnownCube names cube.0 = all_has (KnownCube names) cubes all cube.0 cube.1 in
       let q = some_pair (product_gain_of numbers) p.0 p.2 in
@@ -221,9 +221,9 @@ module _ (names : List (List ℕ)) (rising : AreRising names) where
   -- what gains among known cubes has numbers of literals
   pub gaining_coded : (numbers : List (List ℕ)) (cubes : List Cube) → KnownCover names cubes → 0 < gains_of numbers (coded names cubes) → are_coded names numbers ≡ true
   unfolding gains_of
-  gaining_coded numbers cubes all h = cases (over_number_pairs (sum_gain_of numbers) (coded names cubes)) refl
+  gaining_coded numbers cubes all h = cases (over_pairs (sum_gain_of numbers) (coded names cubes)) refl
     where
-      cases : (n : ℕ) → over_number_pairs (sum_gain_of numbers) (coded names cubes) ≡ n → are_coded names numbers ≡ true
+      cases : (n : ℕ) → over_pairs (sum_gain_of numbers) (coded names cubes) ≡ n → are_coded names numbers ≡ true
       cases zero e = coded_product numbers cubes all (omega (arith, e, h))
       cases (suc n) e = coded_sum numbers cubes all (omega (arith, e))
 

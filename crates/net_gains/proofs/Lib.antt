@@ -15,7 +15,6 @@ pub mod Ranks
 pub mod Noting
 pub mod Turned
 pub mod Pairing
-pub mod BestTotals
 pub mod OverPairs
 pub mod Parted
 pub mod InSets

@@ -1,34 +1,25 @@
 -- The totals of covers by those of divisors.
-use Rattle.std.proofs.Common.{Less, Equal, Greater, ◌≡◌, ◌⊎◌, inl, inr, ℕ, Bool, true, false, ◌&&◌, cond, Option, Some, None, List, [], ◌∷◌, refl, sym, ap, ◌∙◌, subst, arith}
+use Rattle.std.proofs.Common.{Less, Equal, Greater, ◌≡◌, ◌<◌, ◌⊎◌, inl, inr, ℕ, Bool, true, false, nat_cmp, ◌&&◌, cond, Option, Some, None, List, [], ◌∷◌, refl, sym, ap, ◌∙◌, subst, arith}
 use Rattle.std.specs.Cmp.{both_tied}
 use Rattle.std.specs.Cmp.Lexicographic.{pointwise, texts_ties}
 use Rattle.std.specs.Map.{lookup}
 use Rattle.std.proofs.lemmas.Bool.{false≢true}
 use Rattle.std.proofs.lemmas.Cmp.{lists_total, nat_list_cmp_total, tied_itself}
 use Rattle.std.specs.Ordering.{is_eq, ordering_then}
-use Rattle.std.specs.Prelude.{nat_eq}
+use Rattle.std.specs.Prelude.{nat_eq, unwrap_or}
 use Rattle.std.specs.declared.cmp.Ordering.{Ordering}
+use Rattle.std.proofs.lemmas.Map.Lookups.{exact_unsigned}
+use Rattle.cover_names.proofs.Orders.{same_lists as exact_lists}
+use Rattle.net_gains.specs.Gains.{literals_in}
 use Rattle.net_gains.specs.Divisors.{cover_with, cover_of}
-use Rattle.net_gains.specs.CodedGains.{numbers_cmp, same_lists}
-use Rattle.net_gains.specs.Orders.{divisor_eq}
-use Rattle.net_gains.specs.Totals.{noted, total_of, total_at, Changes}
+use Rattle.net_gains.specs.CodedGains.{numbers_cmp, lists_cmp, same_lists}
+use Rattle.net_gains.specs.Orders.{divisor_eq, divisor_ties, divisor_total}
+use Rattle.net_gains.specs.Totals.{total_of, total_at, Changes, Allows}
+use Rattle.net_gains.specs.Turning.{saved_by, AreAllowed}
 use Rattle.net_gains.specs.declared.divisor.Divisor.{Divisor}
 use Rattle.net_gains.specs.declared.totals.Change.{Change}
 use Rattle.net_gains.specs.declared.totals.Change.TheVariants.{Comes, Goes}
-use Rattle.net_gains.proofs.Ranks.{divisor_same, divisor_swapped}
-
--- a number that is noted at a key, or what stood before
-pub noted_if : (b : Bool) (total : ℕ) (before : Option ℕ) → noted (cond b (Some total) before) ≡ cond b total (noted before)
-noted_if true total before = refl
-noted_if false total before = refl
-
--- an entry that is taken out where it notes nothing
-pub noted_without : (entry : Divisor → Option ℕ) (divisor other : Divisor) → noted (entry divisor) ≡ 0 → noted (cond (divisor_eq divisor other) None (entry other)) ≡ noted (entry other)
-noted_without entry divisor other none = cases (divisor_eq divisor other) refl
-  where
-    cases : (b : Bool) → divisor_eq divisor other ≡ b → noted (cond b None (entry other)) ≡ noted (entry other)
-    cases true e = sym (ap (λ (d : Divisor). noted (entry d)) (sym (divisor_same divisor other e)) ∙ none)
-    cases false e = refl
+use Rattle.net_gains.proofs.Ranks.{is_equal, divisor_same, divisor_swapped}
 
 never_less : (o : Ordering) → is_eq (ordering_then o Less) ≡ false
 never_less Less = refl
@@ -88,12 +79,12 @@ divisor_told (a ∷ b ∷ c ∷ cover) = inr (λ other. none other.first other.s
 
 -- the total of a cover is that of its divisor, or nothing
 pub total_told : (entries : List (Divisor × ℕ)) (cover : List (List ℕ)) (divisor : Divisor) → Is cover divisor → total_of entries cover ≡ total_at entries divisor
-total_told entries cover divisor is = ap (λ (test : Divisor → Bool). noted (lookup test entries)) (λ i other. is other i)
+total_told entries cover divisor is = ap (λ (test : Divisor → Bool). unwrap_or (lookup test entries) 0) (λ i other. is other i)
 
 pub total_none : (entries : List (Divisor × ℕ)) (cover : List (List ℕ)) → IsNone cover → total_of entries cover ≡ 0
 total_none [] cover none = refl
 total_none (entry ∷ entries) cover none =
-    ap (λ (b : Bool). noted (cond b (Some entry.1) (lookup (λ divisor. same_lists cover (cover_of divisor)) entries))) (none entry.0) ∙ total_none entries cover none
+    ap (λ (b : Bool). unwrap_or (cond b (Some entry.1) (lookup (λ divisor. same_lists cover (cover_of divisor)) entries)) 0) (none entry.0) ∙ total_none entries cover none
 
 -- nothing comes or goes
 pub changes_none : (change : Change) (total : ℕ) → Changes change total 0 total
@@ -104,7 +95,7 @@ changes_none Goes total = omega arith
 pub same_itself : (cover : List (List ℕ)) → same_lists cover cover ≡ true
 same_itself cover = ap is_eq (tied_itself (lists_total nat_list_cmp_total) cover)
 
-pub cover_is : (divisor : Divisor) → (entries : List (Divisor × ℕ)) → total_of entries (cover_of divisor) ≡ total_at entries divisor
+pub cover_is : (divisor : Divisor) (entries : List (Divisor × ℕ)) → total_of entries (cover_of divisor) ≡ total_at entries divisor
 cover_is divisor entries = cases (divisor_told (cover_of divisor))
   where
     cases : ((other : Divisor) × Is (cover_of divisor) other) ⊎ IsNone (cover_of divisor) → total_of entries (cover_of divisor) ≡ total_at entries divisor
@@ -112,6 +103,25 @@ cover_is divisor entries = cases (divisor_told (cover_of divisor))
         total_told entries (cover_of divisor) other is
         ∙ ap (total_at entries) (divisor_same other divisor (sym (is divisor) ∙ same_itself (cover_of divisor)))
     cases (inr none) = absurd (false≢true (sym (none divisor) ∙ same_itself (cover_of divisor)))
+
+-- a cover that saves more than its literals is that of a divisor
+pub divisor_of : (entries : List (Divisor × ℕ)) (cover : List (List ℕ)) → literals_in cover < total_of entries cover → (divisor : Divisor) × (cover ≡ cover_of divisor)
+divisor_of entries cover less = elim (divisor_told cover) as (λ _. (divisor : Divisor) × (cover ≡ cover_of divisor)) [
+  | inl w ↦ (
+    w.0,
+    exact_lists numbers_cmp (exact_lists nat_cmp exact_unsigned) cover (cover_of w.0) (is_equal (lists_cmp cover (cover_of w.0)) (w.1 w.0 ∙ (divisor_ties w.0 w.0 ∙ ap is_eq (tied_itself divisor_total w.0)))),
+  )
+  | inr none ↦ (let zero : total_of entries cover ≡ 0 = total_none entries cover none in absurd (omega (arith, less, zero)))
+]
+
+-- a total that is set, where 0 stands for none
+pub total_set : (b : Bool) (total : ℕ) (before : Option ℕ) → unwrap_or (cond b (Some total) before) 0 ≡ cond b total (unwrap_or before 0)
+total_set true total before = refl
+total_set false total before = refl
+
+pub total_gone : (b : Bool) (before : Option ℕ) → unwrap_or (cond b None before) 0 ≡ cond b 0 (unwrap_or before 0)
+total_gone true before = refl
+total_gone false before = refl
 
 -- the totals of all covers when that of a divisor changes
 pub changed_totals : (change : Change) (old new : List (Divisor × ℕ)) (divisor : Divisor) (before after saving : ℕ) → before ≡ total_at old divisor → Changes change before saving after
@@ -142,3 +152,9 @@ changed_totals change old new divisor before after saving was turned told cover 
     cases (inr none) =
         stays (total_of old cover) (total_of new cover) (cond (same_lists cover (cover_of divisor)) saving 0)
         (total_none old cover none ∙ sym (total_none new cover none)) (ap (λ (b : Bool). cond {A = ℕ} b saving 0) (none divisor))
+
+-- what a divisor may lose
+pub allowed_at : (change : Change) (entries : List (Divisor × ℕ)) (divisor : Divisor) (saving : ℕ) → AreAllowed change (total_of entries) (saved_by divisor saving) → Allows change (total_at entries divisor) saving
+allowed_at change entries divisor saving allowed =
+    subst (Allows change (total_at entries divisor)) (ap (λ (b : Bool). cond {A = ℕ} b saving 0) (same_itself (cover_of divisor)))
+    (subst (λ (n : ℕ). Allows change n (saved_by divisor saving (cover_of divisor))) (cover_is divisor entries) (allowed (cover_of divisor)))

@@ -14,7 +14,7 @@ use Rattle.cover_names.proofs.Orders.{cube_order}
 use Rattle.cover_names.proofs.Over.{map_twice}
 use Rattle.cover_names.proofs.Sorting.{sorted_rises}
 use Rattle.net_core.specs.Tables.{named, IsOverInputs, characters_of, places_of}
-use Rattle.net_core.specs.declared.table.Table.{Table}
+use Rattle.net_core.specs.declared.table.CoverTable.{CoverTable}
 use Rattle.net_core.proofs.Rows.{characters_back, places_back}
 use Rattle.net_gains.specs.Codes.{AreRising, code_of, codes_of, signal_of, is_known}
 use Rattle.net_gains.specs.declared.codes.Signal.{Signal}
@@ -148,11 +148,11 @@ numbers_rise signals (row ∷ rows) = (sorted_rises number_order (numbers_from s
 
 -- ---- the table with its inputs and rows
 
-pub unknown_input : {R : Type 0} (names : List (List ℕ)) (output : List ℕ) (table : Table R) → list_all (has names) table.inputs ≡ false → is_countable names (named output table) ≡ false
+pub unknown_input : {R : Type 0} (names : List (List ℕ)) (output : List ℕ) (table : CoverTable R) → list_all (has names) table.inputs ≡ false → is_countable names (named output table) ≡ false
 unfolding named
 unknown_input names output table h = ap (λ (b : Bool). b && rows_differ (map characters_of table.cover.rows)) h
 
-module _ {R : Type 0} (names : List (List ℕ)) (rising : AreRising names) (output : List ℕ) (table : Table R) (over : IsOverInputs table) (once : all_different table.inputs ≡ true)
+module _ {R : Type 0} (names : List (List ℕ)) (rising : AreRising names) (output : List ℕ) (table : CoverTable R) (over : IsOverInputs table) (once : all_different table.inputs ≡ true)
     (wide : HasWidth table.cover.width table.cover.rows) (known : list_all (has names) table.inputs ≡ true) (cubes : List (List ℕ))
     (are : cubes ≡ map (rising_from (map (signal_of names) table.inputs)) table.cover.rows) where
   differ : all_different cubes ≡ rows_differ (map characters_of table.cover.rows)

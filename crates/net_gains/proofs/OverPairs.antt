@@ -4,7 +4,7 @@ use Rattle.std.specs.List.{sum_by}
 use Rattle.std.proofs.lemmas.Bool.{false≢true}
 use Rattle.std.proofs.lemmas.List.Sums.{sum_by-cons, sum_by-append}
 use Rattle.cover_names.proofs.Members.{Has}
-use Rattle.net_gains.specs.CodedGains.{over_pairs}
+use Rattle.net_gains.specs.Gains.{over_pairs}
 
 -- ---- members
 

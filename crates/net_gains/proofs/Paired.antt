@@ -8,7 +8,8 @@ use Rattle.std.proofs.lemmas.Cmp.{ranked}
 use Rattle.std.proofs.lemmas.List.{get_or-drop, drop-drop, length-map, get_or-map}
 use Rattle.std.proofs.lemmas.List.Sums.{sum_by-cons}
 use Rattle.cover_names.proofs.Members.{Has}
-use Rattle.net_gains.specs.CodedGains.{own, shared, over_pairs, sum_gain, product_gain, gains}
+use Rattle.net_gains.specs.Gains.{over_pairs}
+use Rattle.net_gains.specs.CodedGains.{own, shared, sum_gain, product_gain, gains}
 use Rattle.net_gains.specs.Totals.{AreCubes}
 use Rattle.net_gains.specs.Turning.{beside, gains_beside, either_gain, own_products, paired_products, paired_gains}
 use Rattle.net_gains.proofs.Merged.{rises_tail, rises_head}

@@ -1,12 +1,13 @@
 -- What pairs save, pair by pair.
 use Rattle.std.proofs.Common.{Equal, ◌≡◌, ℕ, ◌+◌, ◌-◌, ◌<◌, ◌≤◌, ◌⊎◌, inl, inr, ◌==◌, zero, suc, Bool, true, false, ◌&&◌, ◌||◌, not, cond, List, [], ◌∷◌, length, drop, get_or, map, filter, refl, sym, ap, ap₂, ◌∙◌, subst, arith, drop-cons, take}
-use Rattle.std.proofs.lemmas.List.{take_all, length-drop, length-map, get_or-map}
-use Rattle.std.specs.List.{list_any, sum_by, AllByRecursion, drop-map}
+use Rattle.std.proofs.lemmas.List.{take_all, length-drop}
+use Rattle.std.specs.List.{list_any, sum_by, AllByRecursion}
 use Rattle.std.proofs.lemmas.Bool.{false≢true, eq-eqb, ne_eqb}
 use Rattle.std.proofs.lemmas.List.Sums.{sum_by-cons}
 use Rattle.std.proofs.lemmas.Map.Lookups.{exact_bytes}
+use Rattle.net_gains.specs.Gains.{over_pairs}
 use Rattle.net_gains.specs.Divisors.{cover_of, Sums}
-use Rattle.net_gains.specs.CodedGains.{own, shared, numbers_cmp, same_lists, sum_of_two, sum_gain, product_gain, over_pairs, is_one}
+use Rattle.net_gains.specs.CodedGains.{own, shared, numbers_cmp, same_lists, sum_of_two, sum_gain, product_gain, is_one}
 use Rattle.net_gains.specs.Turning.{saved_by}
 use Rattle.net_gains.specs.declared.divisor.Divisor.{Divisor}
 
@@ -110,33 +111,41 @@ module _ {X : Type 0} where
   pub rest_is : (xs : List X) (i : ℕ) → take (length xs - i) (drop i xs) ≡ drop i xs
   rest_is xs i = take_all (length xs - i) (drop i xs) (let long : length (drop i xs) ≡ length xs - i = length-drop i xs in omega (arith, long))
 
-  -- each cube of a list rises
-  pub cube_at : (P : List ℕ → Type 0) (f : X → List ℕ) (xs : List X) (i : ℕ) (d x : X) → AllByRecursion P (map f xs) → i < length xs → x ≡ get_or xs i d → P (f x)
-  cube_at P f [] i d x all lt is = absurd (omega (arith, lt))
-  cube_at P f (y ∷ xs) zero d x all lt is = subst (λ (z : X). P (f z)) (sym is) all.0
-  cube_at P f (y ∷ xs) (suc i) d x all lt is = cube_at P f xs i d x all.1 (omega (arith, lt)) is
+  -- all items behind a place
+  items_past : (P : X → Type 0) (xs : List X) (i : ℕ) → AllByRecursion P xs → AllByRecursion P (drop i xs)
+  items_past P xs zero all = all
+  items_past P [] (suc i) all = all
+  items_past P (x ∷ xs) (suc i) all = items_past P xs i all.1
 
-  pub cubes_past : (P : List ℕ → Type 0) (f : X → List ℕ) (xs : List X) (i : ℕ) → AllByRecursion P (map f xs) → AllByRecursion P (map f (drop i xs))
-  cubes_past P f xs zero all = all
-  cubes_past P f [] (suc i) all = all
-  cubes_past P f (x ∷ xs) (suc i) all = cubes_past P f xs i all.1
+  pub items_rest : (P : X → Type 0) (xs : List X) (i : ℕ) → AllByRecursion P xs → AllByRecursion P (take (length xs - i) (drop i xs))
+  items_rest P xs i all = subst (AllByRecursion P) (sym (rest_is xs i)) (items_past P xs i all)
 
-  pub cubes_rest : (P : List ℕ → Type 0) (f : X → List ℕ) (xs : List X) (i : ℕ) → AllByRecursion P (map f xs) → AllByRecursion P (map f (take (length xs - i) (drop i xs)))
-  cubes_rest P f xs i all = subst (λ (ys : List X). AllByRecursion P (map f ys)) (sym (rest_is xs i)) (cubes_past P f xs i all)
+  pub pairs_rest : (f : X → X → ℕ) (xs : List X) (i : ℕ) (d x : X) → i < length xs → x ≡ get_or xs i d
+      → over_pairs f (drop i xs) ≡ sum_by (f x) (take (length xs - (i + 1)) (drop (i + 1) xs)) + over_pairs f (drop (i + 1) xs)
+  pairs_rest f xs i d x lt is = pairs_next f xs i d x lt is ∙ ap (λ (ys : List X). sum_by (f x) ys + over_pairs f (drop (i + 1) xs)) (sym (rest_is xs (i + 1)))
 
-  -- the first of mapped items with the others
-  pub sum_map_next : (f : List ℕ → ℕ) (g : X → List ℕ) (xs : List X) (i : ℕ) (d x : X) → i < length xs → x ≡ get_or xs i d → sum_by f (drop i (map g xs)) ≡ f (g x) + sum_by f (drop (i + 1) (map g xs))
-  sum_map_next f g xs i d x lt is = sum_next f (map g xs) i (g d) (g x) (let long : length (map g xs) ≡ length xs = length-map xs g in omega (arith, lt, long)) (ap g is ∙ sym (get_or-map g xs i d (g d) lt))
+pub all_units : (xs : List ℕ) → AllByRecursion (λ (x : ℕ). Unit {0}) xs
+all_units [] = tt
+all_units (x ∷ xs) = (tt, all_units xs)
 
-  pub sums_next : (cover : List (List ℕ)) (g : X → List ℕ) (xs : List X) (i : ℕ) (d x : X) → i < length xs → x ≡ get_or xs i d
-      → over_pairs (sum_gain cover) (drop i (map g xs)) ≡ sum_by (sum_gain cover (g x)) (map g (take (length xs - (i + 1)) (drop (i + 1) xs))) + over_pairs (sum_gain cover) (drop (i + 1) (map g xs))
-  sums_next cover g xs i d x lt is =
-      let within : i < length (map g xs) = (let long : length (map g xs) ≡ length xs = length-map xs g in omega (arith, lt, long)) in
-      let at : g x ≡ get_or (map g xs) i (g d) = ap g is ∙ sym (get_or-map g xs i d (g d) lt) in
-      let pairs = pairs_next (sum_gain cover) (map g xs) i (g d) (g x) within at in
-      let others : sum_by (sum_gain cover (g x)) (map g (take (length xs - (i + 1)) (drop (i + 1) xs))) ≡ sum_by (sum_gain cover (g x)) (drop (i + 1) (map g xs)) =
-      ap (sum_by (sum_gain cover (g x))) (ap (map g) (rest_is xs (i + 1)) ∙ sym (drop-map g (i + 1) xs)) in
-      omega (arith, pairs, others)
+-- what mapped items save is what the items save
+module _ {X Y : Type 0} (g : X → Y) where
+  pub all_mapped : (P : Y → Type 0) (xs : List X) → AllByRecursion P (map g xs) → AllByRecursion (λ x. P (g x)) xs
+  all_mapped P [] all = tt
+  all_mapped P (x ∷ xs) all = (all.0, all_mapped P xs all.1)
+
+  pub sum_mapped : (f : Y → ℕ) (xs : List X) → sum_by f (map g xs) ≡ sum_by (λ x. f (g x)) xs
+  sum_mapped f [] = refl
+  sum_mapped f (x ∷ xs) = sum_by-cons f (g x) (map g xs) ∙ (ap (λ (n : ℕ). f (g x) + n) (sum_mapped f xs) ∙ sym (sum_by-cons (λ y. f (g y)) x xs))
+
+  pub pairs_mapped : (f : Y → Y → ℕ) (xs : List X) → over_pairs f (map g xs) ≡ over_pairs (λ x y. f (g x) (g y)) xs
+  unfolding over_pairs
+  pairs_mapped f [] = refl
+  pairs_mapped f (x ∷ xs) = ap₂ (λ (m n : ℕ). m + n) (sum_mapped (f (g x)) xs) (pairs_mapped f xs)
+
+  pub across_mapped : (f : Y → Y → ℕ) (xs ys : List X) → sum_by (λ y. sum_by (f y) (map g ys)) (map g xs) ≡ sum_by (λ x. sum_by (λ y. f (g x) (g y)) ys) xs
+  across_mapped f xs ys =
+      sum_mapped (λ y. sum_by (f y) (map g ys)) xs ∙ ap (λ (h : X → ℕ). sum_by h xs) (λ i x. sum_mapped (f (g x)) ys i)
 
 -- whether a list is without numbers
 pub long_or_one : (xs : List ℕ) → is_one xs ≡ (length xs == 0)
@@ -145,7 +154,3 @@ long_or_one (x ∷ xs) = sym (ne_eqb (suc (length xs)) 0 (λ e. omega (arith, e)
 
 pub sums_as : (first second one other : List ℕ) (divisor : Divisor) → first ≡ one → second ≡ other → Sums first second divisor → Sums one other divisor
 sums_as first second one other divisor e f sums = subst (λ (zs : List ℕ). Sums one zs divisor) f (subst (λ (zs : List ℕ). Sums zs second divisor) e sums)
-
-pub pairs_rest : (f : ℕ → ℕ → ℕ) (xs : List ℕ) (i d : ℕ) → i < length xs
-    → over_pairs f (drop i xs) ≡ sum_by (f (get_or xs i d)) (take (length xs - (i + 1)) (drop (i + 1) xs)) + over_pairs f (drop (i + 1) xs)
-pairs_rest f xs i d lt = pairs_next f xs i d (get_or xs i d) lt refl ∙ ap (λ (ys : List ℕ). sum_by (f (get_or xs i d)) ys + over_pairs f (drop (i + 1) xs)) (sym (rest_is xs (i + 1)))

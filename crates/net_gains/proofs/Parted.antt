@@ -5,15 +5,16 @@ use Rattle.std.specs.List.Sorted.{IsStrictlySortedBy}
 use Rattle.std.proofs.lemmas.Bool.{false≢true, or_cases, or_left, or_right, and_parts, not-true, not_from_false}
 use Rattle.std.proofs.lemmas.Cmp.{nat_cmp_total}
 use Rattle.std.proofs.lemmas.List.Sums.{sum_by-cons, sum_by-append}
+use Rattle.std.proofs.lemmas.Map.Lookups.{exact_unsigned}
 use Rattle.std.proofs.lemmas.Slice.Eq.{bytes_eq-Decides}
 use Rattle.circuit_model.specs.Names.{has, all_different}
 use Rattle.cover_names.proofs.Members.{Has, contains_has, has_contains}
 use Rattle.cover_names.proofs.Orders.{IsOrder, lists_order, not_below_itself}
 use Rattle.cover_names.proofs.Sorts.{sorted_told}
-use Rattle.net_gains.specs.CodedGains.{numbers_cmp, shared, own, over_pairs, same_lists, is_one, sum_of_two, sum_gain, product_gain, gains}
+use Rattle.net_gains.specs.Gains.{over_pairs}
+use Rattle.net_gains.specs.CodedGains.{numbers_cmp, shared, own, same_lists, is_one, sum_of_two, sum_gain, product_gain, gains}
 use Rattle.net_gains.specs.Totals.{AreCubes}
 use Rattle.net_gains.specs.Turning.{among, apart, gains_beside}
-use Rattle.net_gains.proofs.BestTotals.{same_number}
 use Rattle.net_gains.proofs.OverPairs.{has_left, has_right, has_append, kept_has, has_kept, AreOnce, once_kept, once_append, AreSame, sum_same, pairs_same, pairs_append}
 
 -- ---- sums of two, in either order
@@ -26,7 +27,7 @@ swapped x y z m =
     ])
 
 numbers_order : IsOrder numbers_cmp
-numbers_order = lists_order {cmp = nat_cmp} (record { total = nat_cmp_total; same = same_number })
+numbers_order = lists_order {cmp = nat_cmp} (record { total = nat_cmp_total; same = exact_unsigned })
 
 sum_turned : (one other : List ℕ) → sum_of_two one other ≡ sum_of_two other one
 sum_turned one other =

@@ -1,13 +1,15 @@
--- What rows of a table save when a sum of two cubes or a product of two literals is extracted, where literals are numbers: cubes are rising
--- lists of numbers, covers lists of cubes.
--- Source: Rajski and Vasudevamurthy, "The testability-preserving concurrent decomposition and factorization of Boolean expressions" (IEEE
--- Transactions on CAD 11, 1992): the weights of double-cube divisors and of single cubes.
+-- What rows of a table save when a sum of two cubes or a product of two literals is extracted,
+-- where literals are numbers: cubes are rising lists of numbers, covers lists of cubes. Source:
+-- Rajski and Vasudevamurthy, "The testability-preserving concurrent decomposition and factorization
+-- of Boolean expressions" (IEEE Transactions on CAD 11, 1992): the weights of double-cube divisors
+-- and of single cubes.
 use Rattle.std.specs.Prelude.{ℕ, ◌+◌, ◌-◌, Bool, true, false, ◌&&◌, not, nat_eq, if◌then◌else◌, List, [], ◌∷◌, filter, length}
 use Rattle.std.specs.List.{list_any, sum_by}
 use Rattle.std.specs.Cmp.Lexicographic.{slice_cmp}
 use Rattle.std.specs.Ordering.{nat_cmp, is_eq}
 use Rattle.std.specs.declared.cmp.Ordering.{Ordering}
 use Rattle.cover_names.specs.Literals.{sorted}
+use Rattle.net_gains.specs.Gains.{over_pairs}
 
 -- cubes number by number, one that ends first before one that goes on; covers cube by cube
 abbrev pub numbers_cmp : List ℕ → List ℕ → Ordering
@@ -22,11 +24,6 @@ shared one other = filter (λ number. list_any (nat_eq number) other) one
 
 abbrev pub own : List ℕ → List ℕ → List ℕ
 own one other = filter (λ number. not (list_any (nat_eq number) other)) one
-
--- the sum over all pairs of items, the earlier one first
-unfoldable pub over_pairs : {X : Type 0} → (X → X → ℕ) → List X → ℕ
-over_pairs gain [] = 0
-over_pairs gain (item ∷ items) = sum_by (gain item) items + over_pairs gain items
 
 -- the same cover
 abbrev pub same_lists : List (List ℕ) → List (List ℕ) → Bool
@@ -54,7 +51,3 @@ product_gain cover one other = if same_lists cover ((one ∷ other ∷ []) ∷ [
 -- what rows save together; they are meant as rising cubes that all differ
 unfoldable pub gains : List (List ℕ) → List (List ℕ) → ℕ
 gains cover cubes = over_pairs (sum_gain cover) cubes + sum_by (over_pairs (product_gain cover)) cubes
-
--- how many literals a cover has
-abbrev pub literals_in : List (List ℕ) → ℕ
-literals_in cover = sum_by length cover

@@ -1,5 +1,5 @@
--- Numbers for literals of signals, in the order of literals: twice the place of the name among rising names, and one more where the
--- literal is positive.
+-- Numbers for literals of signals, in the order of literals: twice the index of the name among
+-- rising names, and one more if the literal is positive.
 -- Source: the project's own.
 use Rattle.std.specs.Prelude.{ℕ, ◌+◌, ◌*◌, Bool, true, false, List, map, length, nat_lt, bytes_eq}
 use Rattle.std.specs.Cmp.Lexicographic.{slice_cmp}
@@ -24,7 +24,7 @@ AreRising names = IsStrictlySortedBy name_cmp names
 abbrev pub in_order : List (List ℕ) → List (List ℕ)
 in_order names = sorted name_cmp names
 
--- the place of a name, where it is one of them
+-- the index of a name, if it is one of them
 abbrev pub place_of : List (List ℕ) → List ℕ → ℕ
 place_of names name = position_or_len (bytes_eq name) names
 
@@ -48,11 +48,12 @@ codes_of names cube = map (code_of names) cube
 abbrev pub coded : List (List ℕ) → NamedCover → List (List ℕ)
 coded names cover = map (codes_of names) cover
 
--- whether all names of a cube stand in a list. `is_over` says so of a cover
+-- whether all names of a cube are in a list. `is_over` says so of a cover
 abbrev pub is_known : List (List ℕ) → Cube → Bool
 is_known names cube = list_all (λ (literal : Literal). has names literal.name) cube
 
--- whether a number is that of a literal of the names, and whether all numbers of a cube and of a cover are
+-- whether a number is that of a literal of the names, and whether all numbers of a cube and of a
+-- cover are
 abbrev pub is_code : List (List ℕ) → ℕ → Bool
 is_code names number = nat_lt number (2 * length names)
 

@@ -1,6 +1,7 @@
--- Divisors as keys: what cover each one is, and their order.
--- Source: Rajski and Vasudevamurthy, "The testability-preserving concurrent decomposition and factorization of Boolean expressions" (IEEE
--- Transactions on CAD 11, 1992): double-cube divisors and single cubes. The order is the project's own.
+-- Divisors as keys: what cover each one is, and their order. Source: Rajski and Vasudevamurthy,
+-- "The testability-preserving concurrent decomposition and factorization of Boolean expressions"
+-- (IEEE Transactions on CAD 11, 1992): double-cube divisors and single cubes. The order is the
+-- project's own.
 use Rattle.std.specs.Prelude.{◌≡◌, ℕ, false, List, [], ◌∷◌, if◌then◌else◌}
 use Rattle.std.specs.Ordering.{ordering_then}
 use Rattle.std.specs.declared.cmp.Ordering.{Ordering}

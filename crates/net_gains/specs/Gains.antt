@@ -1,7 +1,8 @@
--- What the rows of a table save when a divisor is extracted: a sum of two cubes (a double-cube divisor) by pairs of rows, a product of two
--- literals (a single-cube divisor) by pairs of a row's literals.
--- Source: Rajski and Vasudevamurthy, "The testability-preserving concurrent decomposition and factorization of Boolean expressions" (IEEE
--- Transactions on CAD 11, 1992): the weights of double-cube divisors and of single cubes.
+-- What the rows of a table save when a divisor is extracted: a sum of two cubes (a double-cube
+-- divisor) by pairs of rows, a product of two literals (a single-cube divisor) by pairs of a row's
+-- literals. Source: Rajski and Vasudevamurthy, "The testability-preserving concurrent decomposition
+-- and factorization of Boolean expressions" (IEEE Transactions on CAD 11, 1992): the weights of
+-- double-cube divisors and of single cubes.
 use Rattle.std.specs.Prelude.{ℕ, ◌+◌, ◌-◌, Bool, true, false, ◌&&◌, not, if◌then◌else◌, List, [], ◌∷◌, length}
 use Rattle.std.specs.List.{sum_by}
 use Rattle.std.specs.Ordering.{is_eq}
@@ -14,6 +15,10 @@ unfoldable pub over_pairs : {X : Type 0} → (X → X → ℕ) → List X → �
 over_pairs gain [] = 0
 over_pairs gain (item ∷ items) = sum_by (gain item) items + over_pairs gain items
 
+-- how many literals a cover has
+abbrev pub literals_in : {X : Type 0} → List (List X) → ℕ
+literals_in cover = sum_by length cover
+
 -- the same cover
 abbrev pub same_cover : NamedCover → NamedCover → Bool
 same_cover one other = is_eq (cover_cmp one other)
@@ -23,12 +28,12 @@ abbrev pub is_one : Cube → Bool
 is_one [] = true
 is_one (literal ∷ literals) = false
 
--- what two cubes have beside what they share, as a sum
+-- what two cubes have besides what they share, as a sum
 abbrev pub sum_of_two : Cube → Cube → NamedCover
 sum_of_two one other = sorted cube_cmp (own one other ∷ own other one ∷ [])
 
--- what two rows save where that sum is extracted: they become one row, which has what they share and the sum's literal. The literals of
--- the sum's own table are not taken off
+-- what two rows save where that sum is extracted: they become one row, which has what they share
+-- and the sum's literal. The literals of the sum's own table are not taken off
 unfoldable pub sum_gain : NamedCover → Cube → Cube → ℕ
 sum_gain cover one other =
     if not (is_one (own one other)) && not (is_one (own other one)) && same_cover cover (sum_of_two one other)

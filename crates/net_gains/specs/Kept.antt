@@ -1,14 +1,15 @@
--- Rows of tables that are kept, what a divisor saves in all of them together, and which of the divisors that save and pass a trial is first.
--- Source: Rajski and Vasudevamurthy, "The testability-preserving concurrent decomposition and factorization of Boolean expressions" (IEEE
--- Transactions on CAD 11, 1992): the weight of a divisor is a sum over pairs of cubes, and a divisor itself costs its literals. The order
--- among covers that save as much is the project's own.
-use Rattle.std.specs.Prelude.{◌≡◌, ℕ, ◌+◌, ◌<◌, ◌≤◌, Bool, ◌&&◌, List, [], ◌∷◌, ◌++◌, length, slice_set}
+-- Rows of tables that are kept, what a divisor saves in all of them together, and which of the
+-- divisors that save and pass a trial is first. Source: Rajski and Vasudevamurthy, "The
+-- testability-preserving concurrent decomposition and factorization of Boolean expressions" (IEEE
+-- Transactions on CAD 11, 1992): the weight of a divisor is a sum over pairs of cubes, and a
+-- divisor itself costs its literals. The order among covers that save as much is the project's own.
+use Rattle.std.specs.Prelude.{◌≡◌, ℕ, ◌+◌, ◌<◌, ◌≤◌, Bool, ◌&&◌, List, [], ◌∷◌, ◌++◌, slice_set}
 use Rattle.std.specs.List.{sum_by, list_all}
 use Rattle.std.specs.declared.cmp.Ordering.TheVariants.{Less}
 use Rattle.circuit_model.specs.Names.{has}
 use Rattle.circuit_model.specs.declared.circuit.Table.{Table}
 use Rattle.cover_names.specs.Literals.{Cube, NamedCover, cover_cmp}
-use Rattle.net_gains.specs.Gains.{gains}
+use Rattle.net_gains.specs.Gains.{literals_in, gains}
 use Rattle.circuit_tables.specs.Tidy.{rows_differ}
 
 -- names, and the cubes of each table's rows
@@ -30,10 +31,6 @@ is_countable names table = list_all (has names) table.inputs && rows_differ tabl
 -- what a cover saves in all tables together, the literals of its own table not taken off
 abbrev pub total : Kept → NamedCover → ℕ
 total kept cover = sum_by (gains cover) kept.tables
-
--- how many literals a cover has
-abbrev pub literals_in : NamedCover → ℕ
-literals_in cover = sum_by (λ (cube : Cube). length cube) cover
 
 -- a cover saves more than its own literals
 abbrev pub Saves : Kept → NamedCover → Type 0

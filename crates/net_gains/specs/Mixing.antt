@@ -1,4 +1,5 @@
--- The numbers of a divisor mixed into two, by which it is hashed. No public clause needs these definitions.
+-- The numbers of a divisor mixed into two, by which it is hashed. No public clause needs these
+-- definitions.
 use Rattle.std.specs.Prelude.{◌≡◌, ◌+◌, ◌*◌, ◌%◌, ◌^◌, ◌++◌, ℕ, true, List, [], ◌∷◌, nat_eq}
 use Rattle.std.specs.Hash as fed
 use Rattle.std.specs.Hash.{HashWrites, Alike, same_Alike, on_Alike, and-Alike}

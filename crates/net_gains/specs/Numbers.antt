@@ -1,5 +1,5 @@
--- The cubes of tables' rows as rising numbers, the cubes that numbers stand for, and what is kept of tables beside their numbers. No public
--- clause needs it.
+-- The cubes of tables' rows as rising numbers, the cubes of numbers, and what is kept of tables
+-- with their numbers. No public clause needs it.
 use Rattle.std.specs.Prelude.{◌≡◌, ℕ, ◌/◌, ◌%◌, Bool, true, false, nat_eq, Option, Some, None, List, [], ◌∷◌, map, slice_index_or}
 use Rattle.std.specs.List.{AllByRecursion, sum_by}
 use Rattle.std.specs.Ordering.{nat_cmp}
@@ -24,7 +24,8 @@ lists_in {Y} cubes = map (λ (cube : Vec ℕ Y). cube.items) cubes
 abbrev pub tables_in : {Y Z : Type 0} → List (Vec (Vec ℕ Y) Z) → List (List (List ℕ))
 tables_in {Y} {Z} tables = map (λ (table : Vec (Vec ℕ Y) Z). lists_in table.items) tables
 
--- the number of a signal's literal, those of a row's literals in the order of the signals, and in rising order
+-- the number of a signal's literal, those of a row's literals in the order of the signals, and in
+-- rising order
 abbrev pub number_in : Signal → Bool → ℕ
 number_in signal true = signal.positive
 number_in signal false = signal.negative

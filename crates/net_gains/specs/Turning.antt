@@ -1,13 +1,15 @@
--- What a change makes of the totals that are noted, the parts of two lists of cubes, and products that are left alone. No public clause needs it.
-use Rattle.std.specs.Prelude.{◌≡◌, ℕ, ◌+◌, ◌<◌, ◌^◌, min, max, not, List, [], ◌∷◌, drop, slice_index_or, filter, if◌then◌else◌}
+-- What a change makes of the totals that are noted, the parts of two lists of cubes, and products
+-- that are left alone. No public clause needs it.
+use Rattle.std.specs.Prelude.{◌≡◌, ℕ, ◌+◌, min, max, not, List, [], ◌∷◌, drop, slice_index_or, filter, if◌then◌else◌}
 use Rattle.std.specs.List.{sum_by}
 use Rattle.circuit_model.specs.Names.{has}
+use Rattle.net_gains.specs.Gains.{over_pairs}
 use Rattle.net_gains.specs.Divisors.{cover_of}
-use Rattle.net_gains.specs.CodedGains.{same_lists, own, shared, over_pairs, sum_gain, product_gain, gains}
-use Rattle.net_gains.specs.Totals.{total_of, total_at, Changes, Allows, IsRanked}
+use Rattle.net_gains.specs.CodedGains.{same_lists, own, shared, sum_gain, product_gain, gains}
+use Rattle.net_gains.specs.Totals.{Changes, Allows}
 use Rattle.net_gains.specs.declared.divisor.Divisor.{Divisor}
 use Rattle.net_gains.specs.declared.totals.Change.{Change}
-use Rattle.net_gains.specs.declared.totals.Noted.{Noted}
+use Rattle.net_gains.specs.declared.totals.Change.TheVariants.{Comes, Goes}
 
 -- the cubes that are among others, and those that are not
 abbrev pub among : List (List ℕ) → List (List ℕ) → List (List ℕ)
@@ -16,7 +18,8 @@ among others cubes = filter (has others) cubes
 abbrev pub apart : List (List ℕ) → List (List ℕ) → List (List ℕ)
 apart others cubes = filter (λ cube. not (has others cube)) cubes
 
--- what the sums of cubes with each of some others save, and what the cubes save with them and among themselves
+-- what the sums of cubes with each of some others save, and what the cubes save with them and among
+-- themselves
 abbrev pub beside : List (List ℕ) → List (List ℕ) → List (List ℕ) → ℕ
 beside cover cubes others = sum_by (λ cube. sum_by (sum_gain cover cube) others) cubes
 
@@ -27,7 +30,8 @@ gains_beside cover cubes others = gains cover cubes + beside cover cubes others
 abbrev pub either_gain : List (List ℕ) → ℕ → ℕ → ℕ
 either_gain cover one other = product_gain cover (min one other) (max one other)
 
--- what products save of which a literal is a cube's own beside its partner; a product of two that they share goes and comes again
+-- what products save of which a literal is a cube's own beside its partner; a product of two that
+-- they share goes and comes again
 abbrev pub own_products : List (List ℕ) → List ℕ → List ℕ → ℕ
 own_products cover cube partner =
     over_pairs (either_gain cover) (own cube partner) + sum_by (λ number. sum_by (either_gain cover number) (shared cube partner)) (own cube partner)
@@ -37,7 +41,8 @@ unfoldable pub paired_products : List (List ℕ) → List (List ℕ) → List (L
 paired_products cover [] partners = 0
 paired_products cover (cube ∷ cubes) partners = own_products cover cube (slice_index_or partners 0 []) + paired_products cover cubes (drop 1 partners)
 
--- what is noted of cubes: their sums with one another and with each of some others, and their products beside partners
+-- what is noted of cubes: their sums with one another and with each of some others, and their
+-- products beside partners
 abbrev pub paired_gains : List (List ℕ) → List (List ℕ) → List (List ℕ) → List (List ℕ) → ℕ
 paired_gains cover cubes others partners = over_pairs (sum_gain cover) cubes + (beside cover cubes others + paired_products cover cubes partners)
 
@@ -49,22 +54,15 @@ Saving = List (List ℕ) → ℕ
 abbrev pub saved_by : Divisor → ℕ → Saving
 saved_by divisor saving cover = if same_lists cover (cover_of divisor) then saving else 0
 
--- the ranking fits the totals, each of which a machine word holds
-pub record IsKept (noted : Noted) : Type 0 where
-  pub ranked : IsRanked noted.totals.entries noted.ranking
-  pub held : (divisor : Divisor) → total_at noted.totals.entries divisor < 2 ^ 64
-
 -- what goes was part of the totals
-abbrev pub AreAllowed : Change → Noted → Saving → Type 0
-AreAllowed change noted saving = (cover : List (List ℕ)) → Allows change (total_of noted.totals.entries cover) (saving cover)
+abbrev pub AreAllowed : Change → Saving → Saving → Type 0
+AreAllowed change totals saving = (cover : List (List ℕ)) → Allows change (totals cover) (saving cover)
 
 -- a saving came to the totals of all covers, or went from them
-pub record IsTurned (change : Change) (old new : Noted) (saving : Saving) : Type 0 where
-  pub kept : IsKept new
-  pub totals : (cover : List (List ℕ)) → Changes change (total_of old.totals.entries cover) (saving cover) (total_of new.totals.entries cover)
+abbrev pub IsTurned : Change → Saving → Saving → Saving → Type 0
+IsTurned change old new saving = (cover : List (List ℕ)) → Changes change (old cover) (saving cover) (new cover)
 
 -- of a whole saving some came or went, and the rest is left to do
-pub record IsPartly (change : Change) (old now : Noted) (whole rest : Saving) : Type 0 where
-  pub done : Saving
-  pub adds : (cover : List (List ℕ)) → done cover + rest cover ≡ whole cover
-  pub turned : IsTurned change old now done
+abbrev pub IsPartly : Change → Saving → Saving → Saving → Saving → Type 0
+IsPartly Comes old now whole rest = (cover : List (List ℕ)) → now cover + rest cover ≡ old cover + whole cover
+IsPartly Goes old now whole rest = (cover : List (List ℕ)) → now cover + whole cover ≡ old cover + rest cover

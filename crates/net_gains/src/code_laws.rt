@@ -1,64 +1,87 @@
-//! What holds of literals, cubes and covers holds of their numbers.
+//! Laws of numbers for literals, each the contract of a call that does nothing.
+//!
+//! What is true of literals, cubes and covers is true of their numbers: order, sorting, common and
+//! remaining literals, and gains. Names must rise and be known.
 
 ghost use Rattle.std.specs.Prelude.{◌≡◌, ◌<◌, ℕ, true, List, length};
 ghost use Rattle.std.specs.List.{sum_by};
 ghost use Rattle.std.specs.List.Sorted.{IsStrictlySortedBy};
 ghost use Rattle.std.specs.Ordering.{nat_cmp};
 ghost use Rattle.circuit_model.specs.Names.{has};
-ghost use Rattle.net_gains.specs.CodedGains.{numbers_cmp, lists_cmp, literals_in, shared as shared_numbers, own as own_numbers, sum_of_two as sum_of_lists, gains as gains_of};
+ghost use Rattle.net_gains.specs.CodedGains.{numbers_cmp, lists_cmp, shared as shared_numbers, own as own_numbers, sum_of_two as sum_of_lists, gains as gains_of};
 ghost use Rattle.net_candidates.specs.Candidates.{shared, own};
 ghost use Rattle.cover_names.specs.Cubes.{is_over};
 ghost use Rattle.cover_names.specs.Literals.{Cube, NamedCover, literal_cmp, cube_cmp, cover_cmp, sorted};
 ghost use Rattle.cover_names.specs.declared.literal.Literal.{Literal};
-ghost use Rattle.net_gains.specs.Gains.{sum_of_two, gains};
+ghost use Rattle.net_gains.specs.Gains.{sum_of_two, gains, literals_in};
 ghost use Rattle.net_gains.specs.Codes.{AreRising, code_of, codes_of, coded, is_known, is_code, are_coded};
 
-/// Numbers stand in the order of their literals, and lists of them in the order of cubes and covers.
+/// Numbers stand in the order of their literals, and lists of them in the order of cubes and
+/// covers.
 pub fn numbers_keep_orders()
-    ensures literals { (names : List (List ℕ)) (one other : Literal) → AreRising names → has names one.name ≡ true → has names other.name ≡ true
+    ensures literals { (names : List (List ℕ)) (one other : Literal) → AreRising names
+        → has names one.name ≡ true → has names other.name ≡ true
         → nat_cmp (code_of names one) (code_of names other) ≡ literal_cmp one other }
-    ensures cubes { (names : List (List ℕ)) (one other : Cube) → AreRising names → is_known names one ≡ true → is_known names other ≡ true
+    ensures cubes { (names : List (List ℕ)) (one other : Cube) → AreRising names
+        → is_known names one ≡ true → is_known names other ≡ true
         → numbers_cmp (codes_of names one) (codes_of names other) ≡ cube_cmp one other }
-    ensures covers { (names : List (List ℕ)) (one other : NamedCover) → AreRising names → is_over names one ≡ true → is_over names other ≡ true
+    ensures covers { (names : List (List ℕ)) (one other : NamedCover) → AreRising names
+        → is_over names one ≡ true → is_over names other ≡ true
         → lists_cmp (coded names one) (coded names other) ≡ cover_cmp one other }
 {}
 
-/// The numbers of a rising cube rise, and so do those of a rising cover; the number of a known literal is below twice the count
-/// of the names.
+/// The numbers of a rising cube rise, and so do those of a rising cover; the number of a known
+/// literal is below twice the count of the names.
 pub fn numbers_rise()
-    ensures within { (names : List (List ℕ)) (literal : Literal) → has names literal.name ≡ true → is_code names (code_of names literal) ≡ true }
-    ensures cube { (names : List (List ℕ)) (cube : Cube) → AreRising names → is_known names cube ≡ true → IsStrictlySortedBy literal_cmp cube
+    ensures within { (names : List (List ℕ)) (literal : Literal) → has names literal.name ≡ true
+        → is_code names (code_of names literal) ≡ true }
+    ensures cube { (names : List (List ℕ)) (cube : Cube) → AreRising names → is_known names cube
+        ≡ true → IsStrictlySortedBy literal_cmp cube
         → IsStrictlySortedBy nat_cmp (codes_of names cube) }
-    ensures cover { (names : List (List ℕ)) (cover : NamedCover) → AreRising names → is_over names cover ≡ true → IsStrictlySortedBy cube_cmp cover
+    ensures cover { (names : List (List ℕ)) (cover : NamedCover) → AreRising names
+        → is_over names cover ≡ true → IsStrictlySortedBy cube_cmp cover
         → IsStrictlySortedBy numbers_cmp (coded names cover) }
 {}
 
 /// Known cubes of the same numbers are the same, and so are known covers.
 pub fn numbers_tell_apart()
-    ensures cubes { (names : List (List ℕ)) (one other : Cube) → AreRising names → is_known names one ≡ true → is_known names other ≡ true
+    ensures cubes { (names : List (List ℕ)) (one other : Cube) → AreRising names
+        → is_known names one ≡ true → is_known names other ≡ true
         → codes_of names one ≡ codes_of names other → one ≡ other }
-    ensures covers { (names : List (List ℕ)) (one other : NamedCover) → AreRising names → is_over names one ≡ true → is_over names other ≡ true
+    ensures covers { (names : List (List ℕ)) (one other : NamedCover) → AreRising names
+        → is_over names one ≡ true → is_over names other ≡ true
         → coded names one ≡ coded names other → one ≡ other }
 {}
 
-/// Sorting, what two cubes share, what one has beside that, and the sum of the two can be taken before the numbers or after.
+/// Sorting, what two cubes share, what one has beside that, and the sum of the two can be taken
+/// before the numbers or after.
 pub fn numbers_keep_parts()
-    ensures sorted_cubes { (names : List (List ℕ)) (cube : Cube) → AreRising names → is_known names cube ≡ true → codes_of names (sorted literal_cmp cube) ≡ sorted nat_cmp (codes_of names cube) }
-    ensures sorted_covers { (names : List (List ℕ)) (cover : NamedCover) → AreRising names → is_over names cover ≡ true → coded names (sorted cube_cmp cover) ≡ sorted numbers_cmp (coded names cover) }
-    ensures shared { (names : List (List ℕ)) (one other : Cube) → AreRising names → is_known names one ≡ true → is_known names other ≡ true
+    ensures sorted_cubes { (names : List (List ℕ)) (cube : Cube) → AreRising names
+        → is_known names cube ≡ true → codes_of names (sorted literal_cmp cube) ≡ sorted nat_cmp
+        (codes_of names cube) }
+    ensures sorted_covers { (names : List (List ℕ)) (cover : NamedCover) → AreRising names
+        → is_over names cover ≡ true → coded names (sorted cube_cmp cover) ≡ sorted numbers_cmp
+        (coded names cover) }
+    ensures shared { (names : List (List ℕ)) (one other : Cube) → AreRising names
+        → is_known names one ≡ true → is_known names other ≡ true
         → codes_of names (shared one other) ≡ shared_numbers (codes_of names one) (codes_of names other) }
-    ensures own { (names : List (List ℕ)) (one other : Cube) → AreRising names → is_known names one ≡ true → is_known names other ≡ true
+    ensures own { (names : List (List ℕ)) (one other : Cube) → AreRising names → is_known names one
+        ≡ true → is_known names other ≡ true
         → codes_of names (own one other) ≡ own_numbers (codes_of names one) (codes_of names other) }
-    ensures sum { (names : List (List ℕ)) (one other : Cube) → AreRising names → is_known names one ≡ true → is_known names other ≡ true
+    ensures sum { (names : List (List ℕ)) (one other : Cube) → AreRising names → is_known names one
+        ≡ true → is_known names other ≡ true
         → coded names (sum_of_two one other) ≡ sum_of_lists (codes_of names one) (codes_of names other) }
 {}
 
-/// Known rows save as much by numbers as by names, a cover has as many numbers as literals, and what saves among the numbers of known rows
-/// has numbers of literals of the names alone.
+/// Known rows save as much by numbers as by names, a cover has as many numbers as literals, and
+/// what saves among the numbers of known rows has numbers of literals of the names alone.
 pub fn numbers_keep_gains()
-    ensures gains { (names : List (List ℕ)) (cover : NamedCover) (cubes : List Cube) → AreRising names → is_over names cover ≡ true → is_over names cubes ≡ true
+    ensures gains { (names : List (List ℕ)) (cover : NamedCover) (cubes : List Cube)
+        → AreRising names → is_over names cover ≡ true → is_over names cubes ≡ true
         → gains_of (coded names cover) (coded names cubes) ≡ gains cover cubes }
-    ensures literals { (names : List (List ℕ)) (cover : NamedCover) → literals_in (coded names cover) ≡ sum_by length cover }
-    ensures covers { (names : List (List ℕ)) (numbers : List (List ℕ)) (cubes : List Cube) → AreRising names → is_over names cubes ≡ true
+    ensures literals { (names : List (List ℕ)) (cover : NamedCover) → literals_in
+        (coded names cover) ≡ sum_by length cover }
+    ensures covers { (names : List (List ℕ)) (numbers : List (List ℕ)) (cubes : List Cube)
+        → AreRising names → is_over names cubes ≡ true
         → 0 < gains_of numbers (coded names cubes) → are_coded names numbers ≡ true }
 {}

@@ -1,4 +1,9 @@
-//! Names in order, and the numbers of the literals of them.
+//! Numbers for the literals of a fixed set of names.
+//!
+//! Source: the project's own. The number of a literal is twice the position of its name among the
+//! sorted names, and one more if the literal is positive. Invariant: the names rise strictly, and
+//! there are fewer than 2^31, so each number fits in 32 bits. Callers rely on exact conversion in
+//! both directions, and on numbers that compare as their literals do (`code_laws`).
 
 ghost use Rattle.std.specs.Prelude.{◌≡◌, ◌<◌, ◌≤◌, true, false, map, length, IfOk, OnErr, MatchOption};
 ghost use Rattle.std.specs.List.{list_all};
@@ -23,7 +28,8 @@ pub struct Signal {
     pub positive: u32,
 }
 
-/// Different names in order; contracts see their list. The two literals of each name have a number each.
+/// Different names in order; contracts see their list. The two literals of each name have a number
+/// each.
 #[derive(Drop)]
 pub struct Codes {
     names: Vec<Name>,
@@ -48,7 +54,8 @@ fn compare_names(one: &Name, other: &Name) -> Ordering
 }
 
 impl Codes {
-    /// The codes of names, which may stand in any order and more than once; an error only where there are more than can have numbers.
+    /// The codes of names, which may stand in any order and more than once; an error only where
+    /// there are more than can have numbers.
     pub fn of(names: Vec<Name>) -> Result<Codes, AllocError>
         ensures codes { IfOk result (λ codes. codes ≡ in_order names.items) }
         ensures over { OnErr result (2147483648 ≤ length (in_order names.items)) }
@@ -73,7 +80,9 @@ impl Codes {
 
     // The place of a name among the names, if it is one of them.
     fn place(&self, name: &Name) -> Option<usize>
-        ensures { MatchOption result (has self.now name.now ≡ false) (λ place. (has self.now name.now ≡ true) × (place ≡ place_of self.now name.now) × (place < 2147483648)) }
+        ensures { MatchOption result (has self.now name.now ≡ false)
+            (λ place. (has self.now name.now ≡ true) × (place ≡ place_of self.now name.now)
+            × (place < 2147483648)) }
     {
         match self
             .names
@@ -86,7 +95,8 @@ impl Codes {
 
     // The number of a literal, if its name is one of the names.
     fn code(&self, literal: &Literal) -> Option<u32>
-        ensures { MatchOption result (has self.now literal.now.name ≡ false) (λ code. (has self.now literal.now.name ≡ true) × (code ≡ code_of self.now literal.now)) }
+        ensures { MatchOption result (has self.now literal.now.name ≡ false)
+            (λ code. (has self.now literal.now.name ≡ true) × (code ≡ code_of self.now literal.now)) }
     {
         match self.place(&literal.name) {
             None => None,
@@ -96,7 +106,8 @@ impl Codes {
 
     // The numbers of a name's literals, if it is one of the names.
     fn signal(&self, name: &Name) -> Option<Signal>
-        ensures { MatchOption result (has self.now name.now ≡ false) (λ signal. (has self.now name.now ≡ true) × (signal ≡ signal_of self.now name.now)) }
+        ensures { MatchOption result (has self.now name.now ≡ false)
+            (λ signal. (has self.now name.now ≡ true) × (signal ≡ signal_of self.now name.now)) }
     {
         match self.place(name) {
             None => None,
@@ -110,9 +121,12 @@ impl Codes {
         }
     }
 
-    /// The numbers of names' literals, name by name, if all names are known; an error only for want of memory.
+    /// The numbers of names' literals, name by name, if all names are known.
     pub fn signals(&self, alloc: Global, names: &[Name]) -> Result<Option<Vec<Signal>>, AllocError>
-        ensures { IfOk result (λ found. MatchOption found (list_all (has self.now) names.now ≡ false) (λ signals. (list_all (has self.now) names.now ≡ true) × (signals.items ≡ map (signal_of self.now) names.now))) }
+        ensures { IfOk result (λ found. MatchOption found
+            (list_all (has self.now) names.now ≡ false)
+            (λ signals. (list_all (has self.now) names.now ≡ true)
+            × (signals.items ≡ map (signal_of self.now) names.now))) }
     {
         let mut signals = Vec::with_capacity(alloc, names.len())?;
         for name in names {
@@ -124,9 +138,11 @@ impl Codes {
         Ok(Some(signals))
     }
 
-    /// The numbers of a cube's literals, in their order, if all its names are known; an error only for want of memory.
+    /// The numbers of a cube's literals, in their order, if all its names are known.
     pub fn cube(&self, alloc: Global, cube: &[Literal]) -> Result<Option<Vec<u32>>, AllocError>
-        ensures { IfOk result (λ found. MatchOption found (is_known self.now cube.now ≡ false) (λ codes. (is_known self.now cube.now ≡ true) × (codes.items ≡ codes_of self.now cube.now))) }
+        ensures { IfOk result (λ found. MatchOption found (is_known self.now cube.now ≡ false)
+            (λ codes. (is_known self.now cube.now ≡ true)
+            × (codes.items ≡ codes_of self.now cube.now))) }
     {
         let mut codes = Vec::with_capacity(alloc, cube.len())?;
         for literal in cube {
@@ -138,9 +154,11 @@ impl Codes {
         Ok(Some(codes))
     }
 
-    /// The numbers of cubes' literals, cube by cube, if all their names are known; an error only for want of memory.
+    /// The numbers of cubes' literals, cube by cube, if all their names are known.
     pub fn cubes(&self, alloc: Global, cubes: &[Cube]) -> Result<Option<Vec<Vec<u32>>>, AllocError>
-        ensures { IfOk result (λ found. MatchOption found (is_over self.now cubes.now ≡ false) (λ codes. (is_over self.now cubes.now ≡ true) × (map (λ cube. cube.items) codes.items ≡ coded self.now cubes.now))) }
+        ensures { IfOk result (λ found. MatchOption found (is_over self.now cubes.now ≡ false)
+            (λ codes. (is_over self.now cubes.now ≡ true)
+            × (map (λ cube. cube.items) codes.items ≡ coded self.now cubes.now))) }
     {
         let mut codes = Vec::with_capacity(alloc, cubes.len())?;
         for cube in cubes {
@@ -152,9 +170,11 @@ impl Codes {
         Ok(Some(codes))
     }
 
-    // The literal of a number, if there is one; an error only for want of memory.
+    // The literal of a number, if there is one.
     fn literal(&self, alloc: Global, number: u32) -> Result<Option<Literal>, AllocError>
-        ensures { IfOk result (λ found. MatchOption found (is_code self.now number ≡ false) (λ literal. (is_code self.now number ≡ true) × (has self.now literal.name ≡ true) × (code_of self.now literal ≡ number))) }
+        ensures { IfOk result (λ found. MatchOption found (is_code self.now number ≡ false)
+            (λ literal. (is_code self.now number ≡ true) × (has self.now literal.name ≡ true)
+            × (code_of self.now literal ≡ number))) }
     {
         match self.names.get(number as usize / 2) {
             Some(name) => Ok(Some(Literal {
@@ -165,9 +185,11 @@ impl Codes {
         }
     }
 
-    // The cube of numbers, if each is that of a literal; an error only for want of memory.
+    // The cube of numbers, if each is that of a literal.
     fn cube_of(&self, alloc: Global, numbers: &[u32]) -> Result<Option<Cube>, AllocError>
-        ensures { IfOk result (λ found. MatchOption found (are_codes self.now numbers.now ≡ false) (λ cube. (are_codes self.now numbers.now ≡ true) × (is_known self.now cube ≡ true) × (codes_of self.now cube ≡ numbers.now))) }
+        ensures { IfOk result (λ found. MatchOption found (are_codes self.now numbers.now ≡ false)
+            (λ cube. (are_codes self.now numbers.now ≡ true) × (is_known self.now cube ≡ true)
+            × (codes_of self.now cube ≡ numbers.now))) }
     {
         let mut literals = Vec::with_capacity(alloc, numbers.len())?;
         for number in numbers {
@@ -179,13 +201,15 @@ impl Codes {
         Ok(Some(Sequence::from_vec(literals)))
     }
 
-    /// The cover whose literals have the numbers, cube by cube, if each number is that of a literal; an error only for want of memory.
+    /// The cover whose literals have the numbers, cube by cube, if each number is that of a
+    /// literal.
     pub fn cover(
         &self,
         alloc: Global,
         numbers: &[Vec<u32>],
     ) -> Result<Option<NamedCover>, AllocError>
-        ensures { IfOk result (λ found. MatchOption found (are_coded self.now (map (λ cube. cube.items) numbers.now) ≡ false) (λ cover.
+        ensures { IfOk result (λ found. MatchOption found
+            (are_coded self.now (map (λ cube. cube.items) numbers.now) ≡ false) (λ cover.
             (are_coded self.now (map (λ cube. cube.items) numbers.now) ≡ true) × (is_over self.now cover ≡ true) × (coded self.now cover ≡ map (λ cube. cube.items) numbers.now))) }
     {
         let mut cubes = Vec::with_capacity(alloc, numbers.len())?;

@@ -1,12 +1,12 @@
-//! The order of two cubes, found number by number.
+//! The lexicographic order of two cubes given by numbers.
 
 ghost use Rattle.std.specs.Prelude.{◌≡◌};
 ghost use Rattle.net_gains.specs.CodedGains.{numbers_cmp};
 
 use std::cmp::Ordering;
 
-/// The order of two lists of numbers. Cubes of a dense table mostly differ in their first few numbers, so that one pair at a time is
-/// compared, and not a run of them as slices are.
+/// The order of two lists of numbers. Cubes of a dense table mostly differ in their first few
+/// numbers, so that one pair at a time is compared, and not a run of them as slices are.
 pub(crate) fn compared(one: &[u32], other: &[u32]) -> Ordering
     ensures { result ≡ numbers_cmp one.now other.now }
 {

@@ -1,9 +1,14 @@
-//! Tables of numbers, with the totals of what they save together.
+//! The cubes of tables by numbers, with the gains of all divisors in them.
+//!
+//! Invariant (`IsCounted`): in each table the cubes rise and differ, and the total of each divisor
+//! is what it gains in all tables. Both calls take the value and return it, so after an error there
+//! is none.
 
 ghost use Rattle.std.specs.Prelude.{◌≡◌, ◌<◌, ◌++◌, ◌∷◌, [], length, slice_set, IfOk};
 ghost use Rattle.net_gains.specs.Numbers.{lists_in, tables_in, AreApart, IsCounted};
 
-use crate::Totals;
+use crate::exchanging::{add, exchange};
+use crate::totals::Totals;
 use std::alloc::{AllocError, Global};
 
 /// The cubes of tables, each cube by its rising numbers, and the totals of divisors.
@@ -25,7 +30,7 @@ impl Counted {
         }
     }
 
-    /// The same with one more table; an error only for want of memory.
+    /// The same with one more table.
     pub(crate) fn with_table(
         self,
         alloc: Global,
@@ -34,18 +39,19 @@ impl Counted {
         requires counted { IsCounted self }
         requires apart { AreApart (lists_in cubes.items) }
         ensures counted { IfOk result IsCounted }
-        ensures tables { IfOk result (λ made. tables_in made.tables.items ≡ tables_in self.tables.items ++ lists_in cubes.items ∷ []) }
+        ensures tables { IfOk result (λ made. tables_in made.tables.items
+            ≡ tables_in self.tables.items ++ lists_in cubes.items ∷ []) }
     {
         let Counted {
             mut tables,
             mut totals,
         } = self;
-        totals.add(alloc, cubes.as_slice())?;
+        add(&mut totals, alloc, cubes.as_slice())?;
         tables.push(cubes)?;
         Ok(Counted { tables, totals })
     }
 
-    /// The same with the cubes at a place replaced; an error only for want of memory.
+    /// The same with the cubes at a place replaced.
     pub(crate) fn with_cubes(
         self,
         alloc: Global,
@@ -56,13 +62,19 @@ impl Counted {
         requires counted { IsCounted self }
         requires apart { AreApart (lists_in cubes.items) }
         ensures counted { IfOk result IsCounted }
-        ensures tables { IfOk result (λ made. tables_in made.tables.items ≡ slice_set (tables_in self.tables.items) place (lists_in cubes.items)) }
+        ensures tables { IfOk result (λ made. tables_in made.tables.items ≡ slice_set
+            (tables_in self.tables.items) place (lists_in cubes.items)) }
     {
         let Counted {
             mut tables,
             mut totals,
         } = self;
-        totals.exchange(alloc, tables[place].as_slice(), cubes.as_slice())?;
+        exchange(
+            &mut totals,
+            alloc,
+            tables[place].as_slice(),
+            cubes.as_slice(),
+        )?;
         tables[place] = cubes;
         Ok(Counted { tables, totals })
     }

@@ -1,7 +1,13 @@
-//! Divisors as keys: a sum of two cubes or one cube, whose literals are numbers.
+//! Divisors as keys of maps: a sum of two cubes, or one cube, by the numbers of their literals.
+//!
+//! Source: Rajski and Vasudevamurthy, "The testability-preserving concurrent decomposition and
+//! factorization of Boolean expressions" (IEEE Transactions on CAD 11, 1992): double-cube divisors
+//! and single cubes. The lesser cube is first; a single cube has an empty second. Equality, order
+//! and hash are those of the numbers, and cubes of up to `KEPT_INLINE` numbers need no memory of
+//! their own.
 
 ghost use Rattle.std.specs.Prelude.{◌≡◌, ◌+◌, ◌∷◌, [], map, length, IfOk};
-ghost use Rattle.net_gains.specs.CodedGains.{literals_in};
+ghost use Rattle.net_gains.specs.Gains.{literals_in};
 ghost use Rattle.net_gains.specs.Divisors.{cover_of, Sums};
 
 use crate::comparing::compared;
@@ -89,7 +95,7 @@ impl Divisor {
         }
     }
 
-    /// The product of two literals; an error only for want of memory.
+    /// The product of two literals.
     pub fn of_product(alloc: Global, one: u32, other: u32) -> Result<Divisor, AllocError>
         ensures { IfOk result (λ product. cover_of product ≡ (one ∷ other ∷ []) ∷ []) }
     {

@@ -1,9 +1,15 @@
-//! The rows of tables by numbers, and the totals of divisors.
+//! The rows of tables by numbers, and the gains of divisors in all of them together.
+//!
+//! Source: Rajski and Vasudevamurthy (IEEE Transactions on CAD 11, 1992). Invariant (`IsKept`): all
+//! numbers are those of literals, and the totals are what the tables gain together. Contracts see
+//! the names and the cubes of each table alone. Callers rely on `push` and `set` to take a table
+//! exactly if it can be counted, and on `first` for the cover that saves most of those that pass a
+//! trial, of equal ones the first. After an error anything may be kept.
 
 ghost use Rattle.std.specs.Prelude.{◌≡◌, ◌<◌, ℕ, true, false, List, [], length, IfOk, MatchOption};
 ghost use Rattle.circuit_model.specs.Names.{has, all_different};
 ghost use Rattle.net_candidates.specs.Candidates.{cubes_of};
-ghost use Rattle.cover_names.specs.Literals.{NamedCover as TheCover};
+ghost use Rattle.cover_names.specs.Literals.{NamedCover};
 ghost use Rattle.net_core.specs.Tables.{named, IsOverInputs};
 ghost use Rattle.net_gains.specs.Kept.{with_last, with_cubes, is_countable, Saves, IsFirst};
 
@@ -15,28 +21,28 @@ use crate::trial::Trial;
 use circuit_model::Name;
 use cover_names::NamedCover;
 use cube_cover::Row;
-use net_core::Table;
+use net_core::CoverTable;
 use std::alloc::{AllocError, Global};
 use std::marker::Model;
 use std::mem;
 
 /// The cubes of tables, and what covers save in them. Contracts see it as the names and the cubes.
-pub struct KeptGains {
+pub struct DivisorGains {
     codes: Codes,
     counted: Counted,
 }
 
 // By hand, so that letting it go is one call in the functions that own it.
-impl Drop for KeptGains {
+impl Drop for DivisorGains {
     fn drop(self) {
-        let KeptGains {
+        let DivisorGains {
             codes: _codes,
             counted: _counted,
         } = self;
     }
 }
 
-impl Model for KeptGains {
+impl Model for DivisorGains {
     ghost use Rattle.std.specs.Prelude.{map};
     ghost use Rattle.net_gains.specs.Kept.{Kept};
     ghost use Rattle.net_gains.specs.Numbers.{tables_in, cubes_at, IsKept};
@@ -48,26 +54,30 @@ impl Model for KeptGains {
     ghost invariant = { λ k. IsKept k.codes k.counted };
 }
 
-impl KeptGains {
-    /// No tables yet, over names, which may stand in any order and more than once; an error only for want of memory, or of numbers
-    /// for so many names.
-    pub fn new(alloc: Global, names: Vec<Name>) -> Result<KeptGains, AllocError>
-        ensures names { IfOk result (λ kept. (name : List ℕ) → has kept.names name ≡ has names.items name) }
+impl DivisorGains {
+    /// No tables yet, over names, which may stand in any order and more than once; an error only
+    /// for want of memory, or of numbers for so many names.
+    pub fn new(alloc: Global, names: Vec<Name>) -> Result<DivisorGains, AllocError>
+        ensures names { IfOk result (λ kept. (name : List ℕ) → has kept.names name
+            ≡ has names.items name) }
         ensures tables { IfOk result (λ kept. kept.tables ≡ []) }
     {
-        Ok(KeptGains {
+        Ok(DivisorGains {
             codes: Codes::of(names)?,
             counted: Counted::new(alloc),
         })
     }
 
-    /// A table comes behind the others; false, and nothing changes, where an input is not one of the names or a row stands twice. An
-    /// error only for want of memory, or where a total is too large for a machine word; behind it anything may be kept.
-    pub fn push<R: Row>(&mut self, alloc: Global, table: &Table<R>) -> Result<bool, AllocError>
+    /// A table comes behind the others; false, and nothing changes, where an input is not one of
+    /// the names or a row stands twice. An error only for want of memory, or where a total is too
+    /// large for a machine word; behind it anything may be kept.
+    pub fn push<R: Row>(&mut self, alloc: Global, table: &CoverTable<R>) -> Result<bool, AllocError>
         requires over { IsOverInputs table.now }
         requires once { all_different table.now.inputs ≡ true }
-        ensures counted { IfOk result (λ counted. (output : List ℕ) → counted ≡ is_countable self.old.names (named output table.now)) }
-        ensures taken { IfOk result (λ counted. counted ≡ true → (output : List ℕ) → self.new ≡ with_last self.old (cubes_of (named output table.now))) }
+        ensures counted { IfOk result (λ counted. (output : List ℕ) → counted
+            ≡ is_countable self.old.names (named output table.now)) }
+        ensures taken { IfOk result (λ counted. counted ≡ true → (output : List ℕ) → self.new
+            ≡ with_last self.old (cubes_of (named output table.now))) }
         ensures left { IfOk result (λ counted. counted ≡ false → self.new ≡ self.old) }
     {
         match numbers_of(alloc, &self.codes, table)? {
@@ -80,19 +90,22 @@ impl KeptGains {
         }
     }
 
-    /// The table at a place changes; false, and nothing changes, where an input is not one of the names or a row stands twice. An
-    /// error only for want of memory, or where a total is too large for a machine word; behind it anything may be kept.
+    /// The table at a place changes; false, and nothing changes, where an input is not one of the
+    /// names or a row stands twice. An error only for want of memory, or where a total is too large
+    /// for a machine word; behind it anything may be kept.
     pub fn set<R: Row>(
         &mut self,
         alloc: Global,
         place: usize,
-        table: &Table<R>,
+        table: &CoverTable<R>,
     ) -> Result<bool, AllocError>
         requires place { place < length self.old.tables }
         requires over { IsOverInputs table.now }
         requires once { all_different table.now.inputs ≡ true }
-        ensures counted { IfOk result (λ counted. (output : List ℕ) → counted ≡ is_countable self.old.names (named output table.now)) }
-        ensures taken { IfOk result (λ counted. counted ≡ true → (output : List ℕ) → self.new ≡ with_cubes self.old place (cubes_of (named output table.now))) }
+        ensures counted { IfOk result (λ counted. (output : List ℕ) → counted
+            ≡ is_countable self.old.names (named output table.now)) }
+        ensures taken { IfOk result (λ counted. counted ≡ true → (output : List ℕ) → self.new
+            ≡ with_cubes self.old place (cubes_of (named output table.now))) }
         ensures left { IfOk result (λ counted. counted ≡ false → self.new ≡ self.old) }
     {
         match numbers_of(alloc, &self.codes, table)? {
@@ -105,19 +118,21 @@ impl KeptGains {
         }
     }
 
-    /// Of the covers that save more than their own literals and pass a trial the one that saves most, of equal ones the first; none
-    /// where none saves and passes. An error only for want of memory.
+    /// Of the covers that save more than their own literals and pass a trial the one that saves
+    /// most, of equal ones the first; none where none saves and passes.
     pub fn first<T: Trial>(
         &self,
         alloc: Global,
         trial: &T,
     ) -> Result<Option<NamedCover>, AllocError>
         requires { T.IsReady trial.now }
-        ensures { IfOk result (λ found. MatchOption found ((cover : TheCover) → Saves self.now cover → T.Passes trial.now cover → ⊥) (IsFirst (T.Passes trial.now) self.now)) }
+        ensures { IfOk result (λ found. MatchOption found
+            ((cover : NamedCover) → Saves self.now cover → T.Passes trial.now cover → ⊥)
+            (IsFirst (T.Passes trial.now) self.now)) }
     {
         self.codes.sound();
-        for ranked in self.counted.totals.ranking() {
-            if let Some(cover) = passing_cover(alloc, &self.codes, trial, &ranked.divisor)? {
+        for ranked in self.counted.totals.order() {
+            if let Some(cover) = passing_cover(alloc, &self.codes, trial, &ranked.1)? {
                 return Ok(Some(cover));
             }
         }

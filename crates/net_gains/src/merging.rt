@@ -1,4 +1,6 @@
-//! What two rising cubes have beside each other, by one merge.
+//! The numbers of each of two rising cubes that the other has not, found by one merge.
+//!
+//! Both lists are made in one allocation each; one that fills little of its memory is copied.
 
 ghost use Rattle.std.specs.Prelude.{◌≡◌, IfOk};
 ghost use Rattle.std.specs.List.Sorted.{IsStrictlySortedBy};
@@ -9,8 +11,9 @@ use crate::divisor::{KEPT_INLINE, Numbers};
 use std::alloc::{AllocError, Global};
 use std::cmp::Ordering;
 
-// The numbers of a vector: where they lie, without a copy, if they are many and fill half of its memory at least. Else a copy that
-// takes no more than it needs, since a long cube may have few numbers of its own, and its divisors are kept.
+// The numbers of a vector: where they lie, without a copy, if they are many and fill half of its
+// memory at least. Else a copy that takes no more than it needs, since a long cube may have few
+// numbers of its own, and its divisors are kept.
 fn settled(alloc: Global, list: Vec<u32>) -> Result<Numbers, AllocError>
     ensures { IfOk result (λ made. made ≡ list.items) }
 {
@@ -20,7 +23,7 @@ fn settled(alloc: Global, list: Vec<u32>) -> Result<Numbers, AllocError>
     Numbers::from_slice(alloc, list.as_slice())
 }
 
-/// The numbers of each of two rising cubes that the other has not; an error only for want of memory.
+/// The numbers of each of two rising cubes that the other has not.
 pub(crate) fn own_parts(
     alloc: Global,
     one: &[u32],
@@ -28,7 +31,8 @@ pub(crate) fn own_parts(
 ) -> Result<(Numbers, Numbers), AllocError>
     requires one { IsStrictlySortedBy nat_cmp one.now }
     requires other { IsStrictlySortedBy nat_cmp other.now }
-    ensures { IfOk result (λ parts. (parts.0 ≡ own one.now other.now) × (parts.1 ≡ own other.now one.now)) }
+    ensures { IfOk result (λ parts. (parts.0 ≡ own one.now other.now)
+        × (parts.1 ≡ own other.now one.now)) }
 {
     // One allocation each: neither has more numbers than its cube.
     let mut ours = Vec::with_capacity(alloc, one.len())?;

@@ -1,4 +1,4 @@
-//! The numbers of a cube mixed into one, so that a hasher takes one number and not each of them.
+//! The numbers of a cube mixed into one word, which is hashed in place of them.
 
 ghost use Rattle.std.specs.Prelude.{◌≡◌};
 ghost use Rattle.net_gains.specs.Mixing.{mixed_with};

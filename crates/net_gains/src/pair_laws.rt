@@ -1,11 +1,11 @@
-//! Gains of pairs are what division saves.
+//! Laws of gains: they are what division saves, and what gains is a candidate of `fx`.
 
 ghost use Rattle.std.specs.Prelude.{◌≡◌, ◌+◌, ◌<◌, ℕ, true, List};
 ghost use Rattle.std.specs.List.{sum_by};
 ghost use Rattle.circuit_model.specs.Counts.{literals_of_table};
 ghost use Rattle.circuit_model.specs.Soundness.{IsSound};
-ghost use Rattle.circuit_model.specs.declared.circuit.Table.{Table as TheTable};
-ghost use Rattle.circuit_model.specs.declared.circuit.Circuit.{Circuit as TheCircuit};
+ghost use Rattle.circuit_model.specs.declared.circuit.Table.{Table};
+ghost use Rattle.circuit_model.specs.declared.circuit.Circuit.{Circuit};
 ghost use Rattle.alg_div.specs.Cubes.{Has};
 ghost use Rattle.net_candidates.specs.Candidates.{IsCandidate, cubes_of};
 ghost use Rattle.net_candidates.specs.declared.rule.Rule.TheVariants.{Fx};
@@ -15,15 +15,17 @@ ghost use Rattle.net_gains.specs.Gains.{gains};
 ghost use Rattle.alg_tables.specs.Dividing.{divided};
 ghost use Rattle.circuit_tables.specs.Tidy.{rows_differ};
 
-/// A table in which no row stands twice loses just its gains when it is divided by a candidate of `fx`, in a sound circuit and under a new
-/// name.
+/// A table in which no row stands twice loses just its gains when it is divided by a candidate of
+/// `fx`, in a sound circuit and under a new name.
 pub fn gains_are_what_tables_lose()
-    ensures { (circuit : TheCircuit) (name : List ℕ) (cover : NamedCover) (table : TheTable) → IsSound circuit → IsNewName circuit name
+    ensures { (circuit : Circuit) (name : List ℕ) (cover : NamedCover) (table : Table)
+        → IsSound circuit → IsNewName circuit name
         → IsCandidate Fx circuit.tables cover → Has table circuit.tables → rows_differ table.rows ≡ true
         → literals_of_table (divided name true cover table) + gains cover (cubes_of table) ≡ literals_of_table table }
 {}
 
 /// A cover that gains in tables is a candidate of them.
 pub fn what_gains_is_a_candidate()
-    ensures { (tables : List TheTable) (cover : NamedCover) → 0 < sum_by (λ (table : TheTable). gains cover (cubes_of table)) tables → IsCandidate Fx tables cover }
+    ensures { (tables : List Table) (cover : NamedCover) → 0 < sum_by
+        (λ (table : Table). gains cover (cubes_of table)) tables → IsCandidate Fx tables cover }
 {}

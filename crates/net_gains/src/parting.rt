@@ -1,4 +1,7 @@
-//! Cubes that are among others, and those that are not.
+//! Two lists of cubes compared: the cubes of both, those removed and those added.
+//!
+//! Callers rely on the order of each list to be kept. The sets borrow the cubes; only the parts are
+//! copies.
 
 ghost use Rattle.std.specs.Prelude.{◌≡◌, List, ℕ, map, IfOk};
 ghost use Rattle.circuit_model.specs.Names.{has};
@@ -7,7 +10,8 @@ ghost use Rattle.net_gains.specs.Turning.{among, apart};
 use indexmap::IndexSet;
 use std::alloc::{AllocError, Global};
 
-/// Two lists of cubes by their parts: the cubes of both, those of the first alone and those of the second alone.
+/// Two lists of cubes by their parts: the cubes of both, those of the first alone and those of the
+/// second alone.
 #[derive(Drop)]
 pub(crate) struct Parts {
     pub(crate) kept: Vec<Vec<u32>>,
@@ -17,7 +21,8 @@ pub(crate) struct Parts {
 
 // The set of some cubes, which stay where they are.
 fn set_of<'a>(alloc: Global, cubes: &'a [Vec<u32>]) -> Result<IndexSet<&'a [u32]>, AllocError>
-    ensures { IfOk result (λ set. (cube : List ℕ) → has (map (λ key. key.now) set.keys) cube ≡ has (map (λ cube. cube.items) cubes.now) cube) }
+    ensures { IfOk result (λ set. (cube : List ℕ) → has (map (λ key. key.now) set.keys) cube ≡ has
+        (map (λ cube. cube.items) cubes.now) cube) }
 {
     let mut set = IndexSet::new(alloc);
     for cube in cubes {
@@ -39,7 +44,8 @@ fn cubes_in(
     cubes: &[Vec<u32>],
     set: &IndexSet<&[u32]>,
 ) -> Result<Vec<Vec<u32>>, AllocError>
-    ensures { IfOk result (λ made. map (λ cube. cube.items) made.items ≡ among (map (λ key. key.now) set.now.keys) (map (λ cube. cube.items) cubes.now)) }
+    ensures { IfOk result (λ made. map (λ cube. cube.items) made.items ≡ among
+        (map (λ key. key.now) set.now.keys) (map (λ cube. cube.items) cubes.now)) }
 {
     let mut made = Vec::new(alloc);
     for cube in cubes {
@@ -56,7 +62,8 @@ fn cubes_beside(
     cubes: &[Vec<u32>],
     set: &IndexSet<&[u32]>,
 ) -> Result<Vec<Vec<u32>>, AllocError>
-    ensures { IfOk result (λ made. map (λ cube. cube.items) made.items ≡ apart (map (λ key. key.now) set.now.keys) (map (λ cube. cube.items) cubes.now)) }
+    ensures { IfOk result (λ made. map (λ cube. cube.items) made.items ≡ apart
+        (map (λ key. key.now) set.now.keys) (map (λ cube. cube.items) cubes.now)) }
 {
     let mut made = Vec::new(alloc);
     for cube in cubes {
@@ -67,15 +74,18 @@ fn cubes_beside(
     Ok(made)
 }
 
-/// The parts of two lists of cubes, by two look-ups of each cube at most; an error only for want of memory.
+/// The parts of two lists of cubes, by two look-ups of each cube at most.
 pub(crate) fn parts_of(
     alloc: Global,
     old: &[Vec<u32>],
     new: &[Vec<u32>],
 ) -> Result<Parts, AllocError>
-    ensures kept { IfOk result (λ parts. map (λ cube. cube.items) parts.kept.items ≡ among (map (λ cube. cube.items) new.now) (map (λ cube. cube.items) old.now)) }
-    ensures gone { IfOk result (λ parts. map (λ cube. cube.items) parts.gone.items ≡ apart (map (λ cube. cube.items) new.now) (map (λ cube. cube.items) old.now)) }
-    ensures come { IfOk result (λ parts. map (λ cube. cube.items) parts.come.items ≡ apart (map (λ cube. cube.items) old.now) (map (λ cube. cube.items) new.now)) }
+    ensures kept { IfOk result (λ parts. map (λ cube. cube.items) parts.kept.items ≡ among
+        (map (λ cube. cube.items) new.now) (map (λ cube. cube.items) old.now)) }
+    ensures gone { IfOk result (λ parts. map (λ cube. cube.items) parts.gone.items ≡ apart
+        (map (λ cube. cube.items) new.now) (map (λ cube. cube.items) old.now)) }
+    ensures come { IfOk result (λ parts. map (λ cube. cube.items) parts.come.items ≡ apart
+        (map (λ cube. cube.items) old.now) (map (λ cube. cube.items) new.now)) }
 {
     let new_set = set_of(alloc, new)?;
     let kept = cubes_in(alloc, old, &new_set)?;

@@ -1,8 +1,11 @@
-//! Whether the cover of a divisor passes a trial.
+//! Converts a divisor to a cover of names, and submits it to a trial.
+//!
+//! Callers rely on none exactly if the divisor is no cover of the names, or its cover fails the
+//! trial.
 
 ghost use Rattle.std.specs.Prelude.{◌≡◌, ◌≤◌, IfOk, MatchOption};
 ghost use Rattle.net_gains.specs.Divisors.{cover_of};
-ghost use Rattle.net_gains.specs.CodedGains.{literals_in as numbers_in};
+ghost use Rattle.net_gains.specs.Gains.{literals_in};
 ghost use Rattle.net_gains.specs.Numbers.{Fails, DoesPass};
 
 use crate::SharedDivisor;
@@ -11,7 +14,7 @@ use crate::trial::Trial;
 use cover_names::NamedCover;
 use std::alloc::{AllocError, Global};
 
-/// The cover of a divisor that has a literal, if there is one and it passes; an error only for want of memory.
+/// The cover of a divisor that has a literal, if there is one and it passes.
 pub(crate) fn passing_cover<T: Trial>(
     alloc: Global,
     codes: &Codes,
@@ -19,8 +22,10 @@ pub(crate) fn passing_cover<T: Trial>(
     divisor: &SharedDivisor,
 ) -> Result<Option<NamedCover>, AllocError>
     requires ready { T.IsReady trial.now }
-    requires some { 1 ≤ numbers_in (cover_of divisor.now) }
-    ensures { IfOk result (λ found. MatchOption found (Fails (T.Passes trial.now) codes.now (cover_of divisor.now)) (DoesPass (T.Passes trial.now) codes.now (cover_of divisor.now))) }
+    requires some { 1 ≤ literals_in (cover_of divisor.now) }
+    ensures { IfOk result (λ found. MatchOption found
+        (Fails (T.Passes trial.now) codes.now (cover_of divisor.now))
+        (DoesPass (T.Passes trial.now) codes.now (cover_of divisor.now))) }
 {
     codes.sound();
     let numbers = divisor.cubes(alloc)?;

@@ -1,4 +1,7 @@
-//! The rows of tables by numbers: of each row the numbers of its literals, rising.
+//! The rows of tables by numbers: for each row the numbers of its literals, in rising order.
+//!
+//! The numbers of an input's two literals are looked up once for each table. Callers rely on
+//! `AreNumbers`, and on none exactly if an input is not one of the names or a row occurs twice.
 
 ghost use Rattle.std.specs.Prelude.{◌≡◌, ◌++◌, ◌∷◌, [], ℕ, true, false, List, map, IfOk, OnOk, MatchOption};
 ghost use Rattle.std.specs.Ordering.{nat_cmp};
@@ -13,7 +16,7 @@ use crate::codes::{Codes, Signal};
 use alg_div::literals_of;
 use cube_cover::Row;
 use indexmap::IndexSet;
-use net_core::Table;
+use net_core::CoverTable;
 use std::alloc::{AllocError, Global};
 
 // The number of a signal's literal.
@@ -29,7 +32,8 @@ fn number_of(signal: Signal, bit: bool) -> u32
 
 // Puts the number of a signal's literal behind others, if the place has one.
 fn add_number(numbers: &mut Vec<u32>, signal: Signal, place: Option<bool>) -> Result<(), AllocError>
-    ensures { OnOk result (numbers.new.items ≡ numbers.old.items ++ numbers_from (signal ∷ []) (place ∷ [])) }
+    ensures { OnOk result (numbers.new.items ≡ numbers.old.items ++ numbers_from (signal ∷ [])
+        (place ∷ [])) }
 {
     if let Some(bit) = place {
         numbers.push(number_of(signal, bit))?;
@@ -68,7 +72,8 @@ fn cubes_over<R: Row>(
     signals: &[Signal],
     rows: &[R],
 ) -> Result<Vec<Vec<u32>>, AllocError>
-    ensures { IfOk result (λ cubes. lists_in cubes.items ≡ map (rising_from signals.now) (map R.literals rows.now)) }
+    ensures { IfOk result (λ cubes. lists_in cubes.items ≡ map (rising_from signals.now)
+        (map R.literals rows.now)) }
 {
     let mut cubes = Vec::with_capacity(alloc, rows.len())?;
     for row in rows {
@@ -89,15 +94,17 @@ fn are_apart(alloc: Global, cubes: &[Vec<u32>]) -> Result<bool, AllocError>
     Ok(seen.len() == cubes.len())
 }
 
-/// The numbers of a table's rows, if each input has numbers and no row stands twice; an error only for want of memory.
+/// The numbers of a table's rows, if each input has numbers and no row stands twice.
 pub(crate) fn numbers_of<R: Row>(
     alloc: Global,
     codes: &Codes,
-    table: &Table<R>,
+    table: &CoverTable<R>,
 ) -> Result<Option<Vec<Vec<u32>>>, AllocError>
     requires over { IsOverInputs table.now }
     requires once { all_different table.now.inputs ≡ true }
-    ensures { IfOk result (λ found. (output : List ℕ) → MatchOption found (is_countable codes.now (named output table.now) ≡ false) (λ cubes. AreNumbers codes.now (named output table.now) (lists_in cubes.items))) }
+    ensures { IfOk result (λ found. (output : List ℕ) → MatchOption found
+        (is_countable codes.now (named output table.now) ≡ false)
+        (λ cubes. AreNumbers codes.now (named output table.now) (lists_in cubes.items))) }
 {
     codes.sound();
     let signals = match codes.signals(alloc, table.inputs.as_slice())? {

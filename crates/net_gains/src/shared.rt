@@ -1,10 +1,12 @@
-//! Divisors with several owners: the totals and the ranking own one and the same, so that it is made once and lies in one piece of memory.
+//! Divisors with several owners: the totals and the ranking own one and the same, so that it is
+//! made once and lies in one piece of memory.
 //!
-//! Promised: contracts see such a divisor as the divisor itself, and so do equality, order and hash.
+//! Promised: contracts see such a divisor as the divisor itself, and so do equality, order and
+//! hash.
 
 ghost use Rattle.std.specs.Prelude.{◌≡◌, map, IfOk};
 ghost use Rattle.net_gains.specs.Divisors.{cover_of};
-ghost use Rattle.net_gains.specs.CodedGains.{literals_in};
+ghost use Rattle.net_gains.specs.Gains.{literals_in};
 
 use crate::divisor::Divisor;
 use indexmap::Equivalent;
@@ -22,9 +24,9 @@ pub struct SharedDivisor {
 }
 
 impl Model for SharedDivisor {
-    ghost use Rattle.net_gains.specs.declared.divisor.Divisor.{Divisor as TheDivisor};
+    ghost use Rattle.net_gains.specs.declared.divisor.Divisor.{Divisor};
 
-    ghost Value = { TheDivisor };
+    ghost Value = { Divisor };
 
     ghost view = { λ s. s.divisor.value };
 }
@@ -36,7 +38,7 @@ impl Drop for SharedDivisor {
 }
 
 impl SharedDivisor {
-    /// A divisor with one owner; an error only for want of memory.
+    /// A divisor with one owner.
     pub(crate) fn new(alloc: Global, divisor: Divisor) -> Result<SharedDivisor, AllocError>
         ensures { IfOk result (λ made. made ≡ divisor) }
     {
@@ -52,7 +54,7 @@ impl SharedDivisor {
         self.divisor.as_ref()
     }
 
-    /// The cubes, each by its numbers; an error only for want of memory.
+    /// The cubes, each by its numbers.
     pub fn cubes(&self, alloc: Global) -> Result<Vec<Vec<u32>>, AllocError>
         ensures { IfOk result (λ cubes. map (λ cube. cube.items) cubes.items ≡ cover_of self.now) }
     {

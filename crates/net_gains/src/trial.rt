@@ -1,8 +1,8 @@
-//! What a cover must pass.
+//! The trait of trials that a cover must pass.
 
 ghost use Rattle.std.specs.Prelude.{◌≡◌, ◌≤◌, true, false, IfOk};
-ghost use Rattle.cover_names.specs.Literals.{NamedCover as TheCover};
-ghost use Rattle.net_gains.specs.Kept.{literals_in};
+ghost use Rattle.cover_names.specs.Literals.{NamedCover};
+ghost use Rattle.net_gains.specs.Gains.{literals_in};
 
 use cover_names::NamedCover;
 use std::alloc::{AllocError, Global};
@@ -11,9 +11,9 @@ use std::alloc::{AllocError, Global};
 pub trait Trial {
     ghost IsReady: { Self → Type 0 };
 
-    ghost Passes: { Self → TheCover → Type 0 };
+    ghost Passes: { Self → NamedCover → Type 0 };
 
-    /// Whether a cover that has a literal passes, where the trial is ready; an error only for want of memory.
+    /// Whether a cover that has a literal passes, where the trial is ready.
     fn passes(&self, alloc: Global, cover: &NamedCover) -> Result<bool, AllocError>
         requires ready { IsReady self.now }
         requires some { 1 ≤ literals_in cover.now }

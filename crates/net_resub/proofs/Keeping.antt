@@ -1,6 +1,5 @@
 -- The divisions that are kept: all of them at the start, those with a table that leave and come, and the lists of tables.
 use Rattle.std.proofs.Common.{◌≡◌, ℕ, ◌+◌, ◌≤◌, ◌==◌, Bool, true, false, ◌||◌, ◌&&◌, not, cond, ltb, eqb-true, Option, Some, List, [], set, length, refl, sym, ap, ◌∙◌, subst, arith}
-use Rattle.std.specs.BTreeSet.{BTreeSet}
 use Rattle.std.proofs.lemmas.Bool.{lt-ltb, le-ltb, eqb-false, or_parts, not-true, ltb-true, ltb-false}
 use Rattle.circuit_model.specs.declared.circuit.Table.{Table}
 use Rattle.net_core.proofs.Lookups.{get_set_other}
@@ -10,7 +9,6 @@ use Rattle.net_resub.specs.Divisions.{is_among, saving_in, HasJust, AreJust}
 use Rattle.net_resub.specs.Kept.{IsKeptBeside}
 use Rattle.net_resub.specs.Pairs.{saving_between, saving_at}
 use Rattle.net_resub.specs.declared.divisions.Division.{Division}
-use Rattle.net_resub.specs.declared.divisions.Pair.{Pair}
 use Rattle.net_resub.specs.declared.kept.Kept.{Kept}
 use Rattle.net_resub.proofs.Slots.{place_within}
 use Rattle.net_resub.proofs.Saving.{saving_places}
@@ -18,7 +16,7 @@ use Rattle.net_resub.proofs.Sets.{just_none, just_told, just_moved}
 
 -- ---- all divisions, those by the first tables before
 
-pub all_none : (slots : List (Option Table)) (divisions : BTreeSet Division) → divisions.keys ≡ [] → HasJust (λ division. ltb division.by 0) (saving_at slots) divisions
+pub all_none : (slots : List (Option Table)) (divisions : List (Division × ℕ)) → divisions ≡ [] → HasJust (λ division. ltb division.by 0) (saving_at slots) divisions
 all_none slots divisions none =
     just_told (λ division. false) (λ division. ltb division.by 0) (saving_at slots) divisions (λ division some. sym (le-ltb division.by 0 (omega arith))) (just_none (saving_at slots) divisions none)
 
@@ -30,13 +28,13 @@ below_or_there by count = cases (ltb by count) refl (count == by) refl
     cases false e true f = let same = eqb-true count by f in sym (lt-ltb by (count + 1) (omega (arith, same)))
     cases false e false f = let le = ltb-false by count e in let apart = eqb-false count by f in sym (le-ltb by (count + 1) (omega (arith, le, apart)))
 
-pub all_more : (slots : List (Option Table)) (count : ℕ) (pairs : List Pair) (divisions : BTreeSet Division) → AreJust (is_by count) (saving_at slots) pairs
+pub all_more : (slots : List (Option Table)) (count : ℕ) (pairs : List Division) (divisions : List (Division × ℕ)) → AreJust (is_by count) (saving_at slots) pairs
     → HasJust (λ division. ltb division.by count || is_among pairs division) (saving_at slots) divisions → HasJust (λ division. ltb division.by (count + 1)) (saving_at slots) divisions
 all_more slots count pairs divisions are =
     just_told (λ division. ltb division.by count || is_among pairs division) (λ division. ltb division.by (count + 1)) (saving_at slots) divisions
     (λ division some. ap (λ (b : Bool). ltb division.by count || b) (are division some) ∙ below_or_there division.by count)
 
-pub all_there : (slots : List (Option Table)) (count : ℕ) (divisions : BTreeSet Division) → length slots ≤ count → HasJust (λ division. ltb division.by count) (saving_at slots) divisions
+pub all_there : (slots : List (Option Table)) (count : ℕ) (divisions : List (Division × ℕ)) → length slots ≤ count → HasJust (λ division. ltb division.by count) (saving_at slots) divisions
     → HasJust (λ division. true) (saving_at slots) divisions
 all_there slots count divisions long =
     just_told (λ division. ltb division.by count) (λ division. true) (saving_at slots) divisions
@@ -47,13 +45,13 @@ all_there slots count divisions long =
 
 -- ---- those with a table
 
-pub left_beside : (slots : List (Option Table)) (place : ℕ) (pairs : List Pair) (divisions : BTreeSet Division) → AreJust (is_with place) (saving_at slots) pairs
+pub left_beside : (slots : List (Option Table)) (place : ℕ) (pairs : List Division) (divisions : List (Division × ℕ)) → AreJust (is_with place) (saving_at slots) pairs
     → HasJust (λ division. true && not (is_among pairs division)) (saving_at slots) divisions → HasJust (λ division. not (is_with place division)) (saving_at slots) divisions
 left_beside slots place pairs divisions are =
     just_told (λ division. true && not (is_among pairs division)) (λ division. not (is_with place division)) (saving_at slots) divisions
     (λ division some. ap not (are division some))
 
-pub come_whole : (slots : List (Option Table)) (place : ℕ) (pairs : List Pair) (divisions : BTreeSet Division) → AreJust (is_with place) (saving_at slots) pairs
+pub come_whole : (slots : List (Option Table)) (place : ℕ) (pairs : List Division) (divisions : List (Division × ℕ)) → AreJust (is_with place) (saving_at slots) pairs
     → HasJust (λ division. not (is_with place division) || is_among pairs division) (saving_at slots) divisions → HasJust (λ division. true) (saving_at slots) divisions
 come_whole slots place pairs divisions are =
     just_told (λ division. not (is_with place division) || is_among pairs division) (λ division. true) (saving_at slots) divisions

@@ -9,7 +9,7 @@ use Rattle.std.proofs.lemmas.Option.{same_Some}
 use Rattle.circuit_model.specs.Names.{has}
 use Rattle.circuit_model.specs.declared.circuit.Table.{Table}
 use Rattle.circuit_laws.proofs.Names.{same_name, has_either}
-use Rattle.net_readers.specs.Readers.{is_in}
+use Rattle.net_readers.specs.Fanouts.{is_in}
 use Rattle.cover_names.specs.Cubes.{is_over}
 use Rattle.net_work.specs.Placed.{table_at}
 use Rattle.net_resub.specs.Resubbed.{row_cubes}

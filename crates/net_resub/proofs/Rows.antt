@@ -7,7 +7,7 @@ use Rattle.cover_names.specs.Literals.{NamedCover}
 use Rattle.cover_names.specs.Cubes.{cube_over}
 use Rattle.net_core.specs.Tables.{named, places_of, characters_of}
 use Rattle.net_core.specs.Places.{written_of}
-use Rattle.net_core.specs.declared.table.Table.{Table as Covered}
+use Rattle.net_core.specs.declared.table.CoverTable.{CoverTable}
 use Rattle.net_core.specs.declared.places.Entry.{Entry}
 use Rattle.net_core.proofs.Rows.{places_back}
 use Rattle.net_work.specs.Placed.{table_at}
@@ -32,7 +32,7 @@ pub some_told : {A : Type 0} (found : Option A) (made : A) (P : A → Type 0) �
 some_told {A} found made P is told = subst (λ (o : Option A). IfSome o P) is told
 
 -- what is made of an entry is what is made of the table at its place
-pub divided_is : {R : Type 0} (slots : List (Option Table)) (place by : ℕ) (entry divisor : Entry R) (made : Covered R) → Some (written_of entry) ≡ table_at slots place → Some (written_of divisor) ≡ table_at slots by
+pub divided_is : {R : Type 0} (slots : List (Option Table)) (place by : ℕ) (entry divisor : Entry R) (made : CoverTable R) → Some (written_of entry) ≡ table_at slots place → Some (written_of divisor) ≡ table_at slots by
     → named entry.output made ≡ resubbed (written_of divisor) (written_of entry) → (table other : Table) → table_at slots place ≡ Some table → table_at slots by ≡ Some other
     → named table.output made ≡ resubbed other table
 unfolding named

@@ -19,8 +19,7 @@ use Rattle.circuit_laws.proofs.Paths.{replaced_acyclic, reached_apart}
 use Rattle.circuit_laws.proofs.Sound.{sound_settled, sound_replaced}
 use Rattle.circuit_laws.proofs.Tables.{obeying_turned}
 use Rattle.circuit_laws.specs.Changes.{IsExtended}
-use Rattle.circuit_laws.proofs.Chains.{follows_kept}
-use Rattle.circuit_laws.proofs.Changes.{each_extended, extended_itself, extended_through, changed_refines}
+use Rattle.circuit_laws.proofs.Changes.{each_extended, reached_extended as steps_extended, end_refines}
 use Rattle.circuit_laws.proofs.Mapped.{outputs_different, live_reads}
 use Rattle.alg_div.specs.Cubes.{Has}
 use Rattle.cover_names.specs.Cubes.{cube_over, cover_value}
@@ -30,7 +29,7 @@ use Rattle.cover_names.proofs.Worth.{cube_over_worth}
 use Rattle.net_core.specs.Tables.{places_of}
 use Rattle.alg_tables.proofs.CoverTables.{divided_reads, divided_fits}
 use Rattle.alg_tables.proofs.Divisions.{divided_value, divided_output}
-use Rattle.net_resub.specs.Resubbed.{row_cubes, resubbed, with_resubbed, IsCandidate, IsStep, IsReached, IsResubbed}
+use Rattle.net_resub.specs.Resubbed.{row_cubes, resubbed, with_resubbed, IsCandidate, IsStep, IsReached, IsDone, IsResubbed}
 
 -- ---- the cubes of a table's rows
 
@@ -139,10 +138,7 @@ pub step_extended : (circuit new : Circuit) → IsSound circuit → IsStep circu
 step_extended circuit new sound step = subst (IsExtended circuit) (sym step.made) (division_extended circuit step.by step.table sound step.best.may)
 
 pub reached_extended : (circuit new : Circuit) → IsSound circuit → IsReached circuit new → IsExtended circuit new
-reached_extended circuit new sound reached =
-    (follows_kept IsSound IsExtended IsStep extended_itself extended_through
-    (λ one other good step. let extended = step_extended one other good step in (extended.change.sound, extended))
-    reached.between circuit new sound reached.steps).1
+reached_extended = steps_extended IsStep step_extended
 
 pub resubbed_refines : (circuit new : Circuit) → IsSound circuit → IsResubbed circuit new → Refines circuit new
-resubbed_refines circuit new sound end = changed_refines circuit new sound (reached_extended circuit new sound end.reached).change
+resubbed_refines = end_refines IsStep IsDone step_extended

@@ -1,17 +1,16 @@
--- Steps: a circuit after the best division, its bounds and its literals, and a chain with one step more.
-use Rattle.std.proofs.Common.{◌≡◌, ℕ, ◌<◌, true, Option, Some, List, [], ◌∷◌, ◌++◌, set, refl, sym, ap, ◌∙◌, subst, arith}
+-- Steps: a circuit after the best division, its bounds and its literals.
+use Rattle.std.proofs.Common.{◌≡◌, ℕ, ◌<◌, true, Option, Some, List, set, sym, ap, ◌∙◌, subst, arith}
 use Rattle.circuit_model.specs.Counts.{literals_of}
 use Rattle.circuit_model.specs.Names.{all_different}
 use Rattle.circuit_model.specs.Soundness.{outputs_of}
 use Rattle.circuit_model.specs.declared.circuit.Table.{Table}
 use Rattle.circuit_model.specs.declared.circuit.Circuit.{Circuit}
-use Rattle.circuit_laws.specs.Following.{Follows}
 use Rattle.circuit_laws.specs.Edits.{with_tables, with_replaced}
 use Rattle.net_core.specs.Reads.{IsBounded, HasBounds}
 use Rattle.net_work.specs.Placed.{Placed, standing, circuit_of, table_at, with_slot}
 use Rattle.net_core.specs.Tables.{named}
-use Rattle.net_core.specs.declared.table.Table.{Table as Covered}
-use Rattle.net_resub.specs.Resubbed.{row_cubes, resubbed, with_resubbed, IsBest, IsStep, IsReached}
+use Rattle.net_core.specs.declared.table.CoverTable.{CoverTable}
+use Rattle.net_resub.specs.Resubbed.{row_cubes, resubbed, with_resubbed, IsBest, IsStep}
 use Rattle.alg_tables.proofs.Divisions.{divided_output}
 use Rattle.net_resub.specs.Best.{worth_at, IsFirst}
 use Rattle.net_resub.specs.Pairs.{saving_at}
@@ -45,7 +44,7 @@ pub step_fewer : (circuit new : Circuit) → IsStep circuit new → literals_of 
 step_fewer circuit new step = subst (λ (c : Circuit). literals_of c < literals_of circuit) (sym step.made) step.best.saves
 
 -- what stands after the best division, where the table that is made has been set at its place
-pub set_is : {R : Type 0} (placed next : Placed) (place by : ℕ) (made : Covered R) → ((old : Table) → table_at placed.slots place ≡ Some old → next ≡ with_slot placed place (Some (named old.output made)))
+pub set_is : {R : Type 0} (placed next : Placed) (place by : ℕ) (made : CoverTable R) → ((old : Table) → table_at placed.slots place ≡ Some old → next ≡ with_slot placed place (Some (named old.output made)))
     → ((table other : Table) → table_at placed.slots place ≡ Some table → table_at placed.slots by ≡ Some other → named table.output made ≡ resubbed other table)
     → (table other : Table) → table_at placed.slots place ≡ Some table → table_at placed.slots by ≡ Some other → next ≡ with_slot placed place (Some (resubbed other table))
 set_is placed next place by made set is table other here there = set table here ∙ ap (λ (t : Table). with_slot placed place (Some t)) (is table other here there)
@@ -56,7 +55,7 @@ best_saves slots best first =
     let (unled, worth) = worth_some slots best.place best.by some in
     omega (arith, some, worth)
 
-pub step_made : {R : Type 0} (placed next : Placed) (best : Division) (made : Covered R) → all_different (outputs_of (standing placed.slots)) ≡ true → IsFirst (worth_at placed.slots) best
+pub step_made : {R : Type 0} (placed next : Placed) (best : Division) (made : CoverTable R) → all_different (outputs_of (standing placed.slots)) ≡ true → IsFirst (worth_at placed.slots) best
     → ((old : Table) → table_at placed.slots best.place ≡ Some old → next ≡ with_slot placed best.place (Some (named old.output made)))
     → ((table other : Table) → table_at placed.slots best.place ≡ Some table → table_at placed.slots best.by ≡ Some other → named table.output made ≡ resubbed other table)
     → IsStep (circuit_of placed) (circuit_of next)
@@ -64,14 +63,3 @@ step_made placed next best made different first set is =
     let at = saving_places placed.slots best.place best.by (best_saves placed.slots best first) in
     step_is (circuit_of placed) (circuit_of next) at.divisor at.table (best_is placed different best at.table at.divisor first at.here at.there)
     (resubbed_circuit placed next best.place at.table at.divisor different at.here (set_is placed next best.place best.by made set is at.table at.divisor at.here at.there))
-
--- a chain
-follows_more : {N : Type 0} (Next : N → N → Type 0) (between : List N) (from to last : N) → Follows Next between from to → Next to last → Follows Next (between ++ last ∷ []) from last
-follows_more Next [] from to last same next = (subst (λ x. Next x last) (sym same) next, refl)
-follows_more Next (first ∷ between) from to last (step, rest) next = (step, follows_more Next between first to last rest next)
-
-pub reached_itself : (circuit : Circuit) → IsReached circuit circuit
-reached_itself circuit = record { between = []; steps = refl }
-
-pub reached_more : (circuit to last : Circuit) → IsReached circuit to → IsStep to last → IsReached circuit last
-reached_more circuit to last reached step = record { between = reached.between ++ last ∷ []; steps = follows_more IsStep reached.between circuit to last reached.steps step }

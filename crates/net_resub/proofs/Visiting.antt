@@ -10,7 +10,7 @@ use Rattle.std.proofs.lemmas.List.Sorted.{list_any-IsPermutation}
 use Rattle.std.proofs.lemmas.Option.{none-some, same_Some}
 use Rattle.circuit_model.specs.Names.{has}
 use Rattle.circuit_model.specs.declared.circuit.Table.{Table}
-use Rattle.net_readers.specs.Readers.{is_in}
+use Rattle.net_readers.specs.Fanouts.{is_in}
 use Rattle.net_work.specs.Placed.{table_at}
 use Rattle.net_work.specs.Slots.{inputs_in, inputs_at}
 use Rattle.cover_names.specs.Cubes.{is_over}
@@ -20,7 +20,6 @@ use Rattle.net_resub.specs.Divisions.{is_of, is_among, AreJust}
 use Rattle.net_resub.specs.Listed.{IsNeeded, is_under, AreJoined, AreListed}
 use Rattle.net_resub.specs.Pairs.{saving_at}
 use Rattle.net_resub.specs.declared.divisions.Division.{Division}
-use Rattle.net_resub.specs.declared.divisions.Pair.{Pair}
 use Rattle.net_resub.specs.declared.listed.DivisorLists.{DivisorLists}
 use Rattle.net_resub.proofs.Listing.{in_append, in_front, in_back, one_in}
 use Rattle.net_resub.proofs.Slots.{place_within}
@@ -107,23 +106,23 @@ in_more places i place none at below is =
     last true = refl
     last false = refl
 
-among_put : (pairs new : List Pair) (pair : Pair) (division : Division) → new ≡ pairs ++ pair ∷ [] → is_among new division ≡ (is_among pairs division || is_of pair division)
+among_put : (pairs new : List Division) (pair : Division) (division : Division) → new ≡ pairs ++ pair ∷ [] → is_among new division ≡ (is_among pairs division || is_of pair division)
 among_put pairs new pair division is =
-    ap (λ (ps : List Pair). is_among ps division) is
-    ∙ (list_any-append (λ (p : Pair). is_of p division) pairs (pair ∷ []) ∙ ap (λ (b : Bool). is_among pairs division || b) (last (is_of pair division)))
+    ap (λ (ps : List Division). is_among ps division) is
+    ∙ (list_any-append (λ (p : Division). is_of p division) pairs (pair ∷ []) ∙ ap (λ (b : Bool). is_among pairs division || b) (last (is_of pair division)))
   where
     last : (b : Bool) → (b || false) ≡ b
     last true = refl
     last false = refl
 
 -- those by one table
-abbrev pub ArePairsBy : ℕ → List ℕ → List Pair → Type 0
+abbrev pub ArePairsBy : ℕ → List ℕ → List Division → Type 0
 ArePairsBy by places pairs = (division : Division) → is_among pairs division ≡ (is_in places division.place && is_by by division)
 
-pub by_none : (by : ℕ) (pairs : List Pair) → pairs ≡ [] → ArePairsBy by [] pairs
-by_none by pairs none division = ap (λ (ps : List Pair). is_among ps division) none
+pub by_none : (by : ℕ) (pairs : List Division) → pairs ≡ [] → ArePairsBy by [] pairs
+by_none by pairs none division = ap (λ (ps : List Division). is_among ps division) none
 
-pub by_more : (by i place none : ℕ) (places : List ℕ) (pairs new : List Pair) → i < length places → place ≡ get_or places i none → ArePairsBy by (take i places) pairs
+pub by_more : (by i place none : ℕ) (places : List ℕ) (pairs new : List Division) → i < length places → place ≡ get_or places i none → ArePairsBy by (take i places) pairs
     → new ≡ pairs ++ record { place = place; by = by } ∷ [] → ArePairsBy by (take (i + 1) places) new
 by_more by i place none places pairs new below is are put division =
     among_put pairs new (record { place = place; by = by }) division put
@@ -137,7 +136,7 @@ by_more by i place none places pairs new below is are put division =
     both true false false = refl
     both false b c = refl
 
-pub by_all : (slots : List (Option Table)) (by i : ℕ) (places : List ℕ) (pairs : List Pair) → length places ≤ i → AreDividends slots by places → ArePairsBy by (take i places) pairs
+pub by_all : (slots : List (Option Table)) (by i : ℕ) (places : List ℕ) (pairs : List Division) → length places ≤ i → AreDividends slots by places → ArePairsBy by (take i places) pairs
     → AreJust (is_by by) (saving_at slots) pairs
 by_all slots by i places pairs long all are division some = are division ∙ cases (by == division.by) refl
   where
@@ -153,10 +152,10 @@ by_all slots by i places pairs long all are division some = are division ∙ cas
         nothing false = refl
 
 -- and those of that table by some
-abbrev pub ArePairsWith : List (Option Table) → ℕ → List ℕ → List Pair → Type 0
+abbrev pub ArePairsWith : List (Option Table) → ℕ → List ℕ → List Division → Type 0
 ArePairsWith slots place places pairs = AreJust (λ division. is_by place division || ((place == division.place) && is_in places division.by)) (saving_at slots) pairs
 
-pub with_none : (slots : List (Option Table)) (place : ℕ) (pairs : List Pair) → AreJust (is_by place) (saving_at slots) pairs → ArePairsWith slots place [] pairs
+pub with_none : (slots : List (Option Table)) (place : ℕ) (pairs : List Division) → AreJust (is_by place) (saving_at slots) pairs → ArePairsWith slots place [] pairs
 with_none slots place pairs are division some = are division some ∙ same (is_by place division) (place == division.place)
   where
     same : (a b : Bool) → a ≡ (a || (b && false))
@@ -164,7 +163,7 @@ with_none slots place pairs are division some = are division some ∙ same (is_b
     same false true = refl
     same false false = refl
 
-pub with_more : (slots : List (Option Table)) (place i by none : ℕ) (places : List ℕ) (pairs new : List Pair) → i < length places → by ≡ get_or places i none → ArePairsWith slots place (take i places) pairs
+pub with_more : (slots : List (Option Table)) (place i by none : ℕ) (places : List ℕ) (pairs new : List Division) → i < length places → by ≡ get_or places i none → ArePairsWith slots place (take i places) pairs
     → new ≡ pairs ++ record { place = place; by = by } ∷ [] → ArePairsWith slots place (take (i + 1) places) new
 with_more slots place i by none places pairs new below is are put division some =
     among_put pairs new (record { place = place; by = by }) division put
@@ -177,7 +176,7 @@ with_more slots place i by none places pairs new below is are put division some 
     both false true c d = refl
     both false false c d = refl
 
-pub with_all : (slots : List (Option Table)) (place i : ℕ) (places : List ℕ) (pairs : List Pair) → length places ≤ i → AreDivisors slots place places → ArePairsWith slots place (take i places) pairs
+pub with_all : (slots : List (Option Table)) (place i : ℕ) (places : List ℕ) (pairs : List Division) → length places ≤ i → AreDivisors slots place places → ArePairsWith slots place (take i places) pairs
     → AreJust (is_with place) (saving_at slots) pairs
 with_all slots place i places pairs long all are division some = are division some ∙ cases (place == division.place) refl
   where

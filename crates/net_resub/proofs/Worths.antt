@@ -14,7 +14,7 @@ use Rattle.net_resub.proofs.Saving.{after_is, worth_candidate, candidate_worth}
 
 module _ (placed : Placed) (different : all_different (outputs_of (standing placed.slots)) ≡ true) where
   earlier_ahead : (best : Division) (table divisor other other_by : Table) (p q : ℕ) → table_at placed.slots best.place ≡ Some table → table_at placed.slots best.by ≡ Some divisor
-      → table_at placed.slots p ≡ Some other → table_at placed.slots q ≡ Some other_by → IsEarlier (circuit_of placed) other_by other divisor table → IsAhead p q best
+      → table_at placed.slots p ≡ Some other → table_at placed.slots q ≡ Some other_by → IsEarlier (circuit_of placed) (other_by, other) (divisor, table) → IsAhead p q best
   earlier_ahead best table divisor other other_by p q here there at_p at_q (inl pair) =
       let (one, two, below, first, second) = pair_places placed.slots other table pair in
       let same_one : one ≡ p = one_place placed.slots different one p other other first at_p refl in
@@ -37,8 +37,8 @@ module _ (placed : Placed) (different : all_different (outputs_of (standing plac
       record {
         may = may;
         saves = omega (arith, least, some);
-        most = λ other_by other allowed. most least other_by other allowed;
-        first = λ other_by other allowed same earlier. first least other_by other allowed same earlier;
+        most = λ one allowed. most least one.0 one.1 allowed;
+        first = λ one allowed same earlier. first least one.0 one.1 allowed same earlier;
       }
     where
       most : literals_after (circuit_of placed) divisor table + worth_at placed.slots best.place best.by ≡ literals_of (circuit_of placed) → (other_by other : Table) → IsCandidate (circuit_of placed) other_by other
@@ -52,7 +52,7 @@ module _ (placed : Placed) (different : all_different (outputs_of (standing plac
           omega (arith, least, worth, after, le)
 
       first : literals_after (circuit_of placed) divisor table + worth_at placed.slots best.place best.by ≡ literals_of (circuit_of placed) → (other_by other : Table) → IsCandidate (circuit_of placed) other_by other
-          → literals_after (circuit_of placed) other_by other ≡ literals_after (circuit_of placed) divisor table → IsEarlier (circuit_of placed) other_by other divisor table → ⊥
+          → literals_after (circuit_of placed) other_by other ≡ literals_after (circuit_of placed) divisor table → IsEarlier (circuit_of placed) (other_by, other) (divisor, table) → ⊥
       first least other_by other may same earlier =
           let (p, at_p) = has_place placed.slots other may.stands in
           let (q, at_q) = has_place placed.slots other_by may.by_stands in
@@ -63,7 +63,7 @@ module _ (placed : Placed) (different : all_different (outputs_of (standing plac
           is.first p q equal (earlier_ahead best table divisor other other_by p q here there at_p at_q earlier)
 
   pub none_done : ((place by : ℕ) → worth_at placed.slots place by ≡ 0) → IsDone (circuit_of placed)
-  none_done none by table may =
+  none_done none (by, table) may =
       let (p, at_p) = has_place placed.slots table may.stands in
       let (q, at_q) = has_place placed.slots by may.by_stands in
       let worth = candidate_worth placed p q table by different at_p at_q may in

@@ -1,7 +1,7 @@
--- Which division is best: that which saves most, of several the one of the first table, and for that table by the first one. No public
--- clause needs these definitions.
--- Source: Brayton, Rudell, Sangiovanni-Vincentelli and Wang, "MIS: A Multiple-Level Logic Optimization System" (1987). The order among
--- divisions that save as much is the project's own.
+-- Which division is best: that which saves most, of several the one of the first table, and for
+-- that table by the first one. No public clause needs these definitions. Source: Brayton, Rudell,
+-- Sangiovanni-Vincentelli and Wang, "MIS: A Multiple-Level Logic Optimization System" (1987). The
+-- order among divisions that save as much is the project's own.
 use Rattle.std.specs.Prelude.{◌≡◌, ◌⊎◌, ℕ, ◌<◌, ◌≤◌, Bool, if◌then◌else◌, Option, Some, None, List, length}
 use Rattle.circuit_model.specs.declared.circuit.Table.{Table}
 use Rattle.circuit_checks.specs.Graphs.{leads}
@@ -10,7 +10,7 @@ use Rattle.net_resub.specs.Pairs.{saving_at}
 use Rattle.net_resub.specs.Reaching.{graph_of}
 use Rattle.net_resub.specs.declared.divisions.Division.{Division}
 
--- whether the signal of the table at a place leads, in a step or more, to that of the table at another one
+-- whether the table at an index depends, in a step or more, on that at another one
 abbrev pub is_led : List (Option Table) → ℕ → ℕ → Bool
 is_led slots from to = leads (graph_of slots) (length (graph_of slots)) from to
 
@@ -22,7 +22,8 @@ worth_at slots place by = if is_led slots by place then 0 else saving_at slots p
 abbrev pub IsAhead : ℕ → ℕ → Division → Type 0
 IsAhead place by division = (place < division.place) ⊎ ((place ≡ division.place) × (by < division.by))
 
--- a division is worth something, none is worth more, and none that is worth as much stands before it
+-- a division is worth something, none is worth more, and none that is worth as much stands before
+-- it
 pub record IsFirst (worths : Savings) (division : Division) : Type 0 where
   pub saves : 0 < saving_in worths division
   pub most : (place by : ℕ) → worths place by ≤ saving_in worths division

@@ -1,21 +1,22 @@
--- Which tables may be divided by which so that literals are saved. No public clause needs these definitions.
--- Source: Brayton, Rudell, Sangiovanni-Vincentelli and Wang, "MIS: A Multiple-Level Logic Optimization System" (1987): a divisor's literals
--- are among those of the table that it divides.
+-- Which tables may be divided by which so that literals are saved. No public clause needs these
+-- definitions. Source: Brayton, Rudell, Sangiovanni-Vincentelli and Wang, "MIS: A Multiple-Level
+-- Logic Optimization System" (1987): a divisor's literals are among those of the table that it
+-- divides.
 use Rattle.std.specs.Prelude.{◌≡◌, ℕ, ◌<◌, ◌==◌, Bool, true, ◌||◌, Option, List}
 use Rattle.circuit_model.specs.declared.circuit.Table.{Table}
-use Rattle.net_readers.specs.Readers.{is_in}
+use Rattle.net_readers.specs.Fanouts.{is_in}
 use Rattle.net_resub.specs.Pairs.{saving_at}
 use Rattle.net_resub.specs.declared.divisions.Division.{Division}
 
--- the places of all tables by which division of the one at a place saves literals are among some
+-- some indices have those of all tables by which division of the one at an index saves literals
 abbrev pub AreDivisors : List (Option Table) → ℕ → List ℕ → Type 0
 AreDivisors slots place places = (by : ℕ) → 0 < saving_at slots place by → is_in places by ≡ true
 
--- the places of all tables that division by the one at a place saves literals of are among some
+-- some indices have those of all tables whose division by the one at an index saves literals
 abbrev pub AreDividends : List (Option Table) → ℕ → List ℕ → Type 0
 AreDividends slots by places = (place : ℕ) → 0 < saving_at slots place by → is_in places place ≡ true
 
--- a division is one by the table at a place; it is one by that table or of it
+-- a division is one by the table at an index; it is one by that table or of it
 abbrev pub is_by : ℕ → Division → Bool
 is_by by division = by == division.by
 

@@ -1,33 +1,38 @@
--- Divisions in the order of what they save, and sets that have just those of some pairs. No public clause needs these definitions.
--- Source: Brayton, Rudell, Sangiovanni-Vincentelli and Wang, "MIS: A Multiple-Level Logic Optimization System" (1987). The order among
--- divisions that save as much is the project's own.
-use Rattle.std.specs.Prelude.{◌≡◌, ℕ, ◌+◌, ◌-◌, ◌^◌, ◌<◌, ◌==◌, ltb, Bool, true, false, ◌&&◌, Option, Some, None, List}
-use Rattle.std.specs.BTreeSet.{BTreeSet, contains}
+-- Divisions in the order of what they save, and queues that have just some of them. No public
+-- clause needs these definitions. Source: Brayton, Rudell, Sangiovanni-Vincentelli and Wang, "MIS:
+-- A Multiple-Level Logic Optimization System" (1987). The order among divisions that save as much
+-- is the project's own.
+use Rattle.std.specs.Prelude.{◌≡◌, ℕ, ◌<◌, ◌==◌, ltb, Bool, ◌&&◌, if◌then◌else◌, Option, Some, None, List}
 use Rattle.std.specs.List.{list_any}
-use Rattle.std.specs.Ordering.{nat_cmp, ordering_then, is_eq}
+use Rattle.std.specs.Ordering.{nat_cmp, ordering_then}
 use Rattle.std.specs.declared.cmp.Ordering.{Ordering}
+use Rattle.std.specs.declared.cmp.Reverse.{Reverse}
+use Rattle.std.proofs.Common.{ap}
+use Rattle.std.proofs.lemmas.Map.Lookups.{CmpEqualImpliesEq, exact_unsigned, exact_pairs}
+use Rattle.net_queue.specs.Greatest.{reversed}
+use Rattle.net_queue.specs.Queue.{value_in}
 use Rattle.net_resub.specs.declared.divisions.Division.{Division}
-use Rattle.net_resub.specs.declared.divisions.Pair.{Pair}
 
--- the greatest saving first, of equal ones the first place, of these the first table by which it is divided
+-- the first place first, of one place the first table by which it is divided
 abbrev pub division_cmp : Division → Division → Ordering
-division_cmp one other = ordering_then (nat_cmp one.lack other.lack) (ordering_then (nat_cmp one.place other.place) (nat_cmp one.by other.by))
+division_cmp one other = ordering_then (nat_cmp one.place other.place) (nat_cmp one.by other.by)
 
--- a literal is saved, and the saving lacks so much of the greatest number
-abbrev pub is_lack : ℕ → ℕ → Bool
-is_lack saving lack = ltb 0 saving && (lack + saving == 2 ^ 128 - 1)
+-- divisions that compare alike are one
+pub divisions_exact : CmpEqualImpliesEq division_cmp
+divisions_exact one other h =
+    ap (λ (places : ℕ × ℕ). let division : Division = record { place = places.0; by = places.1 } in division)
+    (exact_pairs nat_cmp nat_cmp exact_unsigned exact_unsigned (one.place, one.by) (other.place, other.by) h)
 
--- the division is that of a pair, or of one of some pairs
-abbrev pub is_of : Pair → Division → Bool
-is_of pair division = (pair.place == division.place) && (pair.by == division.by)
+-- the greatest saving first
+abbrev pub rank_of : Division → ℕ → Option (Reverse ℕ)
+rank_of division saving = Some (reversed saving)
 
-abbrev pub is_among : List Pair → Division → Bool
-is_among pairs division = list_any (λ pair. is_of pair division) pairs
+-- the division is another one, or one of some
+abbrev pub is_of : Division → Division → Bool
+is_of one other = (one.place == other.place) && (one.by == other.by)
 
--- the division is the one that was made, if one was
-abbrev pub is_made : Option Division → Division → Bool
-is_made None division = false
-is_made (Some made) division = is_eq (division_cmp made division)
+abbrev pub is_among : List Division → Division → Bool
+is_among divisions division = list_any (λ one. is_of one division) divisions
 
 -- what the division of one place's table by another one's saves
 abbrev pub Savings : Type 0
@@ -36,11 +41,14 @@ Savings = ℕ → ℕ → ℕ
 abbrev pub saving_in : Savings → Division → ℕ
 saving_in savings division = savings division.place division.by
 
--- a set has just those divisions that save and of which a test is true, and a machine word holds what these save
-pub record HasJust (test : Division → Bool) (savings : Savings) (divisions : BTreeSet Division) : Type 0 where
-  pub just : (division : Division) → contains division_cmp divisions division ≡ (test division && is_lack (saving_in savings division) division.lack)
-  pub held : (division : Division) → test division ≡ true → saving_in savings division < 2 ^ 128
+-- a saving, if a literal is saved
+abbrev pub saved : ℕ → Option ℕ
+saved saving = if ltb 0 saving then Some saving else None
 
--- of the divisions that save pairs are just those of which a test is true
-abbrev pub AreJust : (Division → Bool) → Savings → List Pair → Type 0
-AreJust test savings pairs = (division : Division) → 0 < saving_in savings division → is_among pairs division ≡ test division
+-- a queue has just those divisions that save and of which a test is true, with what they save
+abbrev pub HasJust : (Division → Bool) → Savings → List (Division × ℕ) → Type 0
+HasJust test savings entries = (division : Division) → value_in is_of entries division ≡ (if test division then saved (saving_in savings division) else None)
+
+-- of the divisions that save some are just those of which a test is true
+abbrev pub AreJust : (Division → Bool) → Savings → List Division → Type 0
+AreJust test savings divisions = (division : Division) → 0 < saving_in savings division → is_among divisions division ≡ test division

@@ -1,5 +1,5 @@
--- What is kept beside a network. No public clause needs these definitions.
--- Source: Brayton, Rudell, Sangiovanni-Vincentelli and Wang, "MIS: A Multiple-Level Logic Optimization System" (1987).
+-- What is kept beside a network. No public clause needs these definitions. Source: Brayton, Rudell,
+-- Sangiovanni-Vincentelli and Wang, "MIS: A Multiple-Level Logic Optimization System" (1987).
 use Rattle.std.specs.Prelude.{ℕ, ◌==◌, true, not, Option, List}
 use Rattle.circuit_model.specs.declared.circuit.Table.{Table}
 use Rattle.net_resub.specs.Candidates.{is_with}

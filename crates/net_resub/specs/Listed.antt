@@ -1,23 +1,25 @@
--- Places of tables in lists, each under a name that all tables read which the one there divides. No public clause needs these definitions.
--- Source: Brayton, Rudell, Sangiovanni-Vincentelli and Wang, "MIS: A Multiple-Level Logic Optimization System" (1987): a divisor's literals
--- are among those of the table that it divides. The lists are the project's own.
+-- Indices of tables in lists, each under a name that all tables read which the table there divides.
+-- No public clause needs these definitions.
+-- Source: Brayton, Rudell, Sangiovanni-Vincentelli and Wang, "MIS: A Multiple-Level Logic
+-- Optimization System" (1987): a divisor's literals are among those of the table that it divides.
+-- The lists are the project's own.
 use Rattle.std.specs.Prelude.{◌≡◌, ◌⊎◌, ℕ, Bool, true, Option, Some, None, List, [], bytes_eq}
 use Rattle.std.specs.declared.vec.Vec.{Vec}
 use Rattle.indexmap.specs.IndexMap.{get}
 use Rattle.circuit_model.specs.Names.{has}
 use Rattle.circuit_model.specs.declared.circuit.Table.{Table}
-use Rattle.net_readers.specs.Readers.{is_in}
+use Rattle.net_readers.specs.Fanouts.{is_in}
 use Rattle.cover_names.specs.Literals.{NamedCover}
 use Rattle.cover_names.specs.Cubes.{is_over}
 use Rattle.net_work.specs.Placed.{table_at}
 use Rattle.net_resub.specs.Resubbed.{row_cubes}
 use Rattle.net_resub.specs.declared.listed.DivisorLists.{DivisorLists}
 
--- names among which are those of all literals of a cover have a name
+-- any names that have those of all literals of a cover have a given name
 abbrev pub IsNeeded : NamedCover → List ℕ → Type 0
 IsNeeded cover name = (names : List (List ℕ)) → is_over names cover ≡ true → has names name ≡ true
 
--- the places of a list, if there is one
+-- the indices of a list, if there is one
 abbrev pub places_in : {Y : Type 0} → Option (Vec ℕ Y) → List ℕ
 places_in None = []
 places_in (Some list) = list.items
@@ -25,29 +27,30 @@ places_in (Some list) = list.items
 abbrev pub in_list : {Y : Type 0} → Option (Vec ℕ Y) → ℕ → Bool
 in_list list at = is_in (places_in list) at
 
--- whether a place is listed under a name
+-- whether an index is listed under a name
 abbrev pub is_under : DivisorLists → List ℕ → ℕ → Bool
 is_under lists name at = in_list (get bytes_eq lists.named name) at
 
--- a place is among some, and so are those that were before
+-- an index is among some, and so are those that were before
 pub record HasPut (place : ℕ) (old new : List ℕ) : Type 0 where
   pub here : is_in new place ≡ true
   pub still : (at : ℕ) → is_in old at ≡ true → is_in new at ≡ true
 
--- a place is under a name, and under each name are those that were before
+-- an index is under a name, and under each name are those that were before
 pub record HasPutUnder (name : List ℕ) (place : ℕ) (old new : List ℕ → ℕ → Bool) : Type 0 where
   pub here : new name place ≡ true
   pub still : (other : List ℕ) (at : ℕ) → old other at ≡ true → new other at ≡ true
 
--- places, and with them those that are under one of some names
+-- indices, and with them those that are under one of some names
 pub record AreJoined (under : List ℕ → ℕ → Bool) (names : List (List ℕ)) (before after : List ℕ) : Type 0 where
   pub more : (at : ℕ) → is_in before at ≡ true → is_in after at ≡ true
   pub listed : (at : ℕ) (name : List ℕ) → has names name ≡ true → under name at ≡ true → is_in after at ≡ true
 
--- the place of a table stands among those without a name, if no row has a literal, or under one that its literals need
+-- the index of a table is among those without a name, if no row has a literal, or under one that
+-- its literals need
 abbrev pub IsListed : DivisorLists → ℕ → Table → Type 0
 IsListed lists at table = ((is_in lists.unnamed.items at ≡ true) × (is_over [] (row_cubes table) ≡ true)) ⊎ ((name : List ℕ) × IsNeeded (row_cubes table) name × (is_under lists name at ≡ true))
 
--- so do those of all tables at places of which a test is true
+-- so are those of all tables at indices that pass a test
 abbrev pub AreListed : (ℕ → Bool) → List (Option Table) → DivisorLists → Type 0
 AreListed test slots lists = (at : ℕ) (table : Table) → test at ≡ true → table_at slots at ≡ Some table → IsListed lists at table

@@ -1,19 +1,25 @@
-//! By which tables a table may be divided so that literals are saved: only by those all of whose literals it reads.
+//! Which tables may divide which with a saving: a divisor's literals are among the inputs of its
+//! dividend.
+//!
+//! Source: Brayton, Rudell, Sangiovanni-Vincentelli and Wang, "MIS: A Multiple-Level Logic
+//! Optimization System" (1987). The divisors of a table are looked up in the lists under its
+//! inputs, the dividends of a table among the fanouts of the rarest name it needs. Callers rely on
+//! the lists to have every pair that saves a literal; they may have others.
 
 ghost use Rattle.std.specs.Prelude.{◌≡◌, ◌<◌, ℕ, true, IfOk};
-ghost use Rattle.net_readers.specs.Readers.{is_in};
+ghost use Rattle.net_readers.specs.Fanouts.{is_in};
 ghost use Rattle.net_resub.specs.Candidates.{AreDivisors, AreDividends, is_by, is_with};
 ghost use Rattle.net_resub.specs.Divisions.{AreJust};
 ghost use Rattle.net_resub.specs.Listed.{AreListed};
 ghost use Rattle.net_resub.specs.Pairs.{saving_at};
 
-use crate::divisions::Pair;
+use crate::divisions::Division;
 use crate::listed::{DivisorLists, rarest_name};
 use cube_cover::Row;
-use net_work::Work;
+use net_work::WorkingNetwork;
 use std::alloc::{AllocError, Global};
 
-// Places in rising order, each once.
+// Indices in rising order, each once.
 fn risen(places: Vec<usize>) -> Vec<usize>
     ensures { (at : ℕ) → is_in places.items at ≡ true → is_in result.items at ≡ true }
 {
@@ -23,10 +29,11 @@ fn risen(places: Vec<usize>) -> Vec<usize>
     sorted
 }
 
-// The places of all tables by which division of the one at a place may save literals, and perhaps others.
+// The indices of all tables by which division of the one at an index may save literals, and perhaps
+// others.
 fn divisors<R: Row>(
     alloc: Global,
-    work: &Work<R>,
+    work: &WorkingNetwork<R>,
     place: usize,
     lists: &DivisorLists,
 ) -> Result<Vec<usize>, AllocError>
@@ -44,7 +51,7 @@ fn divisors<R: Row>(
     }
 }
 
-// The first places, so many.
+// The first indices, so many.
 fn first_places(alloc: Global, count: usize) -> Result<Vec<usize>, AllocError>
     ensures { IfOk result (λ places. (at : ℕ) → at < count → is_in places.items at ≡ true) }
 {
@@ -55,8 +62,13 @@ fn first_places(alloc: Global, count: usize) -> Result<Vec<usize>, AllocError>
     Ok(places)
 }
 
-// The places of all tables that may be divided with a saving by the one at a place, and perhaps others.
-fn dividends<R: Row>(alloc: Global, work: &Work<R>, by: usize) -> Result<Vec<usize>, AllocError>
+// The indices of all tables that may be divided with a saving by the one at an index, and perhaps
+// others.
+fn dividends<R: Row>(
+    alloc: Global,
+    work: &WorkingNetwork<R>,
+    by: usize,
+) -> Result<Vec<usize>, AllocError>
     ensures { IfOk result (λ places. AreDividends work.now.slots by places.items) }
 {
     match work.entry(by) {
@@ -71,36 +83,36 @@ fn dividends<R: Row>(alloc: Global, work: &Work<R>, by: usize) -> Result<Vec<usi
     }
 }
 
-/// Pairs by the table at a place, all of those that save literals among them; an error only for want of memory.
-pub(crate) fn pairs_by<R: Row>(
+/// Divisions by the table at an index, among them all that save literals.
+pub(crate) fn divisions_by<R: Row>(
     alloc: Global,
-    work: &Work<R>,
+    work: &WorkingNetwork<R>,
     by: usize,
-) -> Result<Vec<Pair>, AllocError>
-    ensures { IfOk result (λ pairs. AreJust (is_by by) (saving_at work.now.slots) pairs.items) }
+) -> Result<Vec<Division>, AllocError>
+    ensures { IfOk result (λ divisions. AreJust (is_by by) (saving_at work.now.slots) divisions.items) }
 {
     let places = dividends(alloc, work, by)?;
-    let mut pairs = Vec::with_capacity(alloc, places.len())?;
+    let mut divisions = Vec::with_capacity(alloc, places.len())?;
     for place in places.as_slice() {
-        pairs.push(Pair { place: *place, by })?;
+        divisions.push(Division { place: *place, by })?;
     }
-    Ok(pairs)
+    Ok(divisions)
 }
 
-/// Pairs with the table at a place, all of those that save literals among them; an error only for want of memory.
-pub(crate) fn pairs_with<R: Row>(
+/// Divisions with the table at an index on either side, among them all that save literals.
+pub(crate) fn divisions_with<R: Row>(
     alloc: Global,
-    work: &Work<R>,
+    work: &WorkingNetwork<R>,
     place: usize,
     lists: &DivisorLists,
-) -> Result<Vec<Pair>, AllocError>
+) -> Result<Vec<Division>, AllocError>
     requires { AreListed (λ at. true) work.now.slots lists.now }
-    ensures { IfOk result (λ pairs. AreJust (is_with place) (saving_at work.now.slots) pairs.items) }
+    ensures { IfOk result (λ divisions. AreJust (is_with place) (saving_at work.now.slots) divisions.items) }
 {
     let places = divisors(alloc, work, place, lists)?;
-    let mut pairs = pairs_by(alloc, work, place)?;
+    let mut divisions = divisions_by(alloc, work, place)?;
     for by in places.as_slice() {
-        pairs.push(Pair { place, by: *by })?;
+        divisions.push(Division { place, by: *by })?;
     }
-    Ok(pairs)
+    Ok(divisions)
 }

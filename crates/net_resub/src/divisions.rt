@@ -1,64 +1,69 @@
-//! Divisions in the order in which they are made, and sets of them.
+//! Divisions in the order in which they are made, and queues of them.
 
-ghost use Rattle.std.specs.Prelude.{◌≡◌, ◌&&◌, ◌||◌, not, OnOk};
-ghost use Rattle.std.specs.BTreeSet.{contains};
-ghost use Rattle.net_resub.specs.Divisions.{division_cmp, is_lack, is_of, is_made};
-ghost use Rattle.net_resub.specs.declared.divisions.Division.{Division as TheDivision};
+ghost use Rattle.std.specs.Prelude.{◌≡◌, if◌then◌else◌, None, OnOk};
+ghost use Rattle.net_queue.specs.Queue.{value_in};
+ghost use Rattle.net_resub.specs.Divisions.{is_of, saved};
+ghost use Rattle.net_resub.specs.declared.divisions.Division.{Division};
 
-use std::alloc::AllocError;
-use std::collections::BTreeSet;
+use net_queue::{Queue, Ranking};
+use std::alloc::{AllocError, Global};
+use std::cmp::Reverse;
 
 /// The place of a table, and that of a table by which it may be divided.
-#[derive(Clone, Copy)]
-pub(crate) struct Pair {
-    pub(crate) place: usize,
-    pub(crate) by: usize,
-}
-
-/// The division of a pair, behind what its saving lacks of the greatest number: the first saves most; of several that save as much it is
-/// that of the first place, and of those the one by the first table.
-#[derive(Clone, Copy, PartialEq, Eq, PartialOrd, Ord, Drop)]
+#[derive(Clone, Copy, PartialEq, Eq, PartialOrd, Ord, Hash, Drop)]
 pub(crate) struct Division {
-    pub(crate) lack: u128,
     pub(crate) place: usize,
     pub(crate) by: usize,
 }
 
-// The division of a pair that saves so much, if it saves a literal.
-fn division_of(pair: Pair, saving: u128) -> Option<Division>
-    ensures { (division : TheDivision) → is_made result division ≡ (is_of pair division && is_lack saving division.lack) }
-{
-    if saving == 0 {
-        return None;
+/// The division that saves most first; of several that save as much that of the first place, and of
+/// those the one by the first table.
+pub(crate) struct MostFirst;
+
+impl Ranking<Division, u128, Reverse<u128>> for MostFirst {
+    ghost use Rattle.net_queue.specs.Greatest.{greatest_exact};
+    ghost use Rattle.net_resub.specs.Divisions.{rank_of, divisions_exact};
+
+    ghost rank_of = { rank_of };
+
+    ghost keys_exact = { divisions_exact };
+
+    ghost ranks_exact = { greatest_exact };
+
+    fn rank(_division: &Division, saving: u128) -> Option<Reverse<u128>> {
+        Some(Reverse(saving))
     }
-    Some(Division {
-        lack: u128::MAX - saving,
-        place: pair.place,
-        by: pair.by,
-    })
+
+    fn copy(_alloc: Global, division: &Division) -> Result<Division, AllocError> {
+        Ok(*division)
+    }
 }
 
-/// Puts the division of a pair that saves so much into a set, if it saves a literal; an error only for want of memory.
+/// What divisions save, those that save literals.
+pub(crate) type Divisions = Queue<Division, u128, Reverse<u128>, MostFirst>;
+
+/// A division comes that saves so much; one that saves nothing is not kept.
 pub(crate) fn put(
-    divisions: &mut BTreeSet<Division>,
-    pair: Pair,
+    alloc: Global,
+    divisions: &mut Divisions,
+    division: Division,
     saving: u128,
 ) -> Result<(), AllocError>
-    ensures { OnOk result ((division : TheDivision) → contains division_cmp divisions.new division
-        ≡ (contains division_cmp divisions.old division || (is_of pair division && is_lack saving division.lack))) }
+    ensures { OnOk result ((other : Division) → value_in is_of divisions.new other
+        ≡ (if is_of division other then saved saving else value_in is_of divisions.old other)) }
 {
-    if let Some(division) = division_of(pair, saving) {
-        divisions.insert(division)?;
+    if saving == 0 {
+        divisions.remove(&division);
+    } else {
+        divisions.set(alloc, &division, saving)?;
     }
     Ok(())
 }
 
-/// Takes the division of a pair that saves so much out of a set, if it is there.
-pub(crate) fn take(divisions: &mut BTreeSet<Division>, pair: Pair, saving: u128)
-    ensures { (division : TheDivision) → contains division_cmp divisions.new division
-        ≡ (contains division_cmp divisions.old division && not (is_of pair division && is_lack saving division.lack)) }
+/// A division goes, if it is there.
+pub(crate) fn take(divisions: &mut Divisions, division: Division)
+    ensures { (other : Division) → value_in is_of divisions.new other
+        ≡ (if is_of division other then None else value_in is_of divisions.old other) }
 {
-    if let Some(division) = division_of(pair, saving) {
-        divisions.remove(&division);
-    }
+    divisions.remove(&division);
 }

@@ -1,20 +1,26 @@
-//! Whether a signal leads to another one: a walk from a table over those that it reads.
+//! Whether the table at one index depends on that at another, through any number of tables.
+//!
+//! Source: De Micheli, "Synthesis and Optimization of Digital Circuits", chapter 8 (a logic network
+//! as a directed graph). A depth-first search from a table over its fanins marks all it reaches. If
+//! the other table reads all that the first reads no search is made, since a dependence would close
+//! a cycle. Callers rely on `is_led` exactly.
 
-ghost use Rattle.std.specs.Prelude.{◌≡◌, ℕ, ◌<◌, true, false, Option, List, ◌++◌, All, length, slice_set, replicate, option_to_list, IfOk, OnOk};
+ghost use Rattle.std.specs.Prelude.{◌≡◌, ℕ, true, Option, List, ◌++◌, option_to_list, IfOk, OnOk};
 ghost use Rattle.circuit_model.specs.Names.{has, all_different};
 ghost use Rattle.circuit_model.specs.Soundness.{outputs_of, IsSound};
 ghost use Rattle.circuit_checks.specs.Graphs.{reads_of};
-ghost use Rattle.circuit_checks.specs.Searching.{is_seen as is_marked, marks, fresh, fresh_one};
+ghost use Rattle.circuit_checks.specs.Searching.{is_seen};
 ghost use Rattle.net_work.specs.Placed.{standing, circuit_of};
-ghost use Rattle.net_resub.specs.Best.{is_led as leads_to};
-ghost use Rattle.net_resub.specs.Reaching.{places_named as named_places, graph_of, ReadsAll};
+ghost use Rattle.net_resub.specs.Best.{is_led};
+ghost use Rattle.net_resub.specs.Reaching.{places_named, graph_of, ReadsAll};
 
-use circuit_model::Name;
+use circuit_checks::{is_seen, note_all, unmarked};
+use circuit_model::{Name, has_name};
 use cube_cover::Row;
-use net_work::Work;
+use net_work::WorkingNetwork;
 use std::alloc::{AllocError, Global};
 
-// Puts a place, if there is one, behind the last.
+// Appends an index, if there is one.
 fn push_found(places: &mut Vec<usize>, found: Option<usize>) -> Result<(), AllocError>
     ensures { OnOk result (places.new.items ≡ places.old.items ++ option_to_list found) }
 {
@@ -24,14 +30,14 @@ fn push_found(places: &mut Vec<usize>, found: Option<usize>) -> Result<(), Alloc
     Ok(())
 }
 
-// The places of the tables that drive names.
+// The indices of the tables that drive names.
 fn places_named<R: Row>(
     alloc: Global,
-    work: &Work<R>,
+    work: &WorkingNetwork<R>,
     names: &[Name],
 ) -> Result<Vec<usize>, AllocError>
     requires { all_different (outputs_of (standing work.now.slots)) ≡ true }
-    ensures { IfOk result (λ places. places.items ≡ named_places work.now.slots names.now) }
+    ensures { IfOk result (λ places. places.items ≡ places_named work.now.slots names.now) }
 {
     let mut places = Vec::with_capacity(alloc, names.len())?;
     for name in names {
@@ -40,8 +46,12 @@ fn places_named<R: Row>(
     Ok(places)
 }
 
-// The places of the tables that the one at a place reads.
-fn reads_at<R: Row>(alloc: Global, work: &Work<R>, place: usize) -> Result<Vec<usize>, AllocError>
+// The indices of the tables that the one at an index reads.
+fn reads_at<R: Row>(
+    alloc: Global,
+    work: &WorkingNetwork<R>,
+    place: usize,
+) -> Result<Vec<usize>, AllocError>
     requires { all_different (outputs_of (standing work.now.slots)) ≡ true }
     ensures { IfOk result (λ places. places.items ≡ reads_of (graph_of work.now.slots) place) }
 {
@@ -51,55 +61,15 @@ fn reads_at<R: Row>(alloc: Global, work: &Work<R>, place: usize) -> Result<Vec<u
     }
 }
 
-// Whether a place is marked.
-#[tactic(auto, unfolding(circuit_checks::specs::Searching::is_seen))]
-fn is_seen(seen: &[bool], place: usize) -> bool
-    ensures { result ≡ is_marked seen.now place }
-{
-    seen.get(place).copied().unwrap_or(false)
-}
-
-// Marks a place, and puts it behind the pending ones where it is seen for the first time.
-fn note(place: usize, seen: &mut Vec<bool>, pending: &mut Vec<usize>) -> Result<(), AllocError>
-    requires { place < length seen.old.items }
-    ensures mark { OnOk result (seen.new.items ≡ slice_set seen.old.items place true) }
-    ensures fresh { OnOk result (pending.new.items ≡ pending.old.items ++ fresh_one seen.old.items place) }
-{
-    if !is_seen(seen.as_slice(), place) {
-        pending.push(place)?;
-    }
-    seen[place] = true;
-    Ok(())
-}
-
-// Marks places, and puts those behind the pending ones that are seen for the first time.
-#[tactic(auto, using(circuit_checks::proofs::Marking::marks_more, circuit_checks::proofs::Marking::marks_done, circuit_checks::proofs::Marking::fresh_more, circuit_checks::proofs::Marking::fresh_done, std::proofs::lemmas::Grind::common_steps))]
-fn note_all(
-    places: &[usize],
-    seen: &mut Vec<bool>,
-    pending: &mut Vec<usize>,
-) -> Result<(), AllocError>
-    requires { All (λ place. place < length seen.old.items) places.now }
-    ensures marks { OnOk result (seen.new.items ≡ marks seen.old.items places.now) }
-    ensures fresh { OnOk result (pending.new.items ≡ pending.old.items ++ fresh seen.old.items places.now) }
-{
-    for place in places {
-        note(*place, seen, pending)?;
-    }
-    Ok(())
-}
-
-// No marks, for so many places.
-fn unmarked(alloc: Global, count: usize) -> Result<Vec<bool>, AllocError>
-    ensures { IfOk result (λ seen. seen.items ≡ replicate count false) }
-{
-    vec![in alloc; false; count]
-}
-
 // The marks of all places to which a signal leads.
-fn reached<R: Row>(alloc: Global, work: &Work<R>, from: usize) -> Result<Vec<bool>, AllocError>
+fn reached<R: Row>(
+    alloc: Global,
+    work: &WorkingNetwork<R>,
+    from: usize,
+) -> Result<Vec<bool>, AllocError>
     requires { all_different (outputs_of (standing work.now.slots)) ≡ true }
-    ensures { IfOk result (λ seen. (place : ℕ) → is_marked seen.items place ≡ leads_to work.now.slots from place) }
+    ensures { IfOk result (λ seen. (place : ℕ) → is_seen seen.items place
+        ≡ is_led work.now.slots from place) }
 {
     let mut seen = unmarked(alloc, work.len())?;
     let mut pending = Vec::new(alloc);
@@ -112,16 +82,10 @@ fn reached<R: Row>(alloc: Global, work: &Work<R>, from: usize) -> Result<Vec<boo
     Ok(seen)
 }
 
-// Whether a name is among names.
-pub(crate) fn has_name(names: &[Name], name: &Name) -> bool
-    ensures { result ≡ has names.now name.now }
-{
-    names.iter().any(|other| *name == *other)
-}
-
 // Whether all names are among others.
 fn are_all_among(names: &[Name], others: &[Name]) -> bool
-    ensures { result ≡ true → (name : List ℕ) → has names.now name ≡ true → has others.now name ≡ true }
+    ensures { result ≡ true → (name : List ℕ) → has names.now name ≡ true → has others.now name
+        ≡ true }
 {
     for name in names {
         if !has_name(others, name) {
@@ -131,8 +95,8 @@ fn are_all_among(names: &[Name], others: &[Name]) -> bool
     true
 }
 
-// Whether the table at a place reads all that the one at another place reads.
-fn reads_all<R: Row>(work: &Work<R>, place: usize, by: usize) -> bool
+// Whether the table at an index reads all that the one at another index reads.
+fn reads_all<R: Row>(work: &WorkingNetwork<R>, place: usize, by: usize) -> bool
     ensures { result ≡ true → ReadsAll work.now.slots place by }
 {
     match work.entry(place) {
@@ -144,16 +108,16 @@ fn reads_all<R: Row>(work: &Work<R>, place: usize, by: usize) -> bool
     }
 }
 
-/// Whether the signal of the table at a place leads, in a step or more, to that of the table at another one; an error only for want
-/// of memory. Where the other one reads all that the first one reads, there is no walk: no signal leads to itself.
+/// Whether the table at an index depends, in a step or more, on that at another one. If the other
+/// one reads all that the first one reads, no search is made: no signal depends on itself.
 pub(crate) fn is_led<R: Row>(
     alloc: Global,
-    work: &Work<R>,
+    work: &WorkingNetwork<R>,
     from: usize,
     to: usize,
 ) -> Result<bool, AllocError>
     requires { IsSound (circuit_of work.now) }
-    ensures { IfOk result (λ led. led ≡ leads_to work.now.slots from to) }
+    ensures { IfOk result (λ led. led ≡ is_led work.now.slots from to) }
 {
     if reads_all(work, to, from) {
         return Ok(false);

@@ -1,4 +1,9 @@
-//! The chain of steps.
+//! Resubstitution: the best division is made, step by step, until none saves a literal.
+//!
+//! Source: Brayton, Rudell, Sangiovanni-Vincentelli and Wang, "MIS: A Multiple-Level Logic
+//! Optimization System" (1987); the SIS report (UCB/ERL M92/41), `resub`. Invariant (`IsKept`): the
+//! divisions kept are those of the current network. Callers rely on `IsResubbed`, the end of the
+//! chain of steps.
 
 ghost use Rattle.std.specs.Prelude.{◌≡◌, true, false, IfOk, OnOk};
 ghost use Rattle.circuit_model.specs.Soundness.{IsSound};
@@ -12,13 +17,13 @@ use crate::kept::Kept;
 use crate::pairs::divided_at;
 use cube_cover::Row;
 use net_core::Network;
-use net_work::Work;
+use net_work::WorkingNetwork;
 use std::alloc::{AllocError, Global};
 
-// Makes the best division, if one saves literals. Behind an error any network may stand.
+// Makes the best division, if one saves literals. After an error the network may be any.
 fn resub_once<R: Row>(
     alloc: Global,
-    work: &mut Work<R>,
+    work: &mut WorkingNetwork<R>,
     kept: &mut Kept,
 ) -> Result<bool, AllocError>
     requires sound { IsSound (circuit_of work.old) }
@@ -44,8 +49,8 @@ fn resub_once<R: Row>(
     }
 }
 
-// Makes divisions until none saves literals. Behind an error any network may stand.
-fn resub_all<R: Row>(alloc: Global, work: &mut Work<R>) -> Result<(), AllocError>
+// Makes divisions until none saves literals. After an error the network may be any.
+fn resub_all<R: Row>(alloc: Global, work: &mut WorkingNetwork<R>) -> Result<(), AllocError>
     requires { IsSound (circuit_of work.old) }
     ensures sound { OnOk result (IsSound (circuit_of work.new)) }
     ensures resubbed { OnOk result (IsResubbed (circuit_of work.old) (circuit_of work.new)) }
@@ -57,15 +62,14 @@ fn resub_all<R: Row>(alloc: Global, work: &mut Work<R>) -> Result<(), AllocError
     Ok(())
 }
 
-/// A network after resubstitution, beside the one that stays. Tables are divided by the rows of
+/// A new network, after resubstitution; the given one stays. Tables are divided by the rows of
 /// others until no division saves a literal: always the one that saves most, of those that save as
-/// much the one of the first table, and for that table by the first one. An error only for want of
-/// memory.
+/// much the one of the first table, and for that table by the first one.
 pub fn resubstitute<R: Row>(alloc: Global, network: &Network<R>) -> Result<Network<R>, AllocError>
     ensures resubbed { IfOk result (λ made. IsResubbed network.now made) }
     ensures bounds { HasBounds network.now → IfOk result HasBounds }
 {
-    let mut work = Work::of(alloc, network)?;
+    let mut work = WorkingNetwork::of(alloc, network)?;
     resub_all(alloc, &mut work)?;
     Ok(work.into_network())
 }

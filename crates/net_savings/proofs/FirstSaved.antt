@@ -1,5 +1,6 @@
 -- Where all that is noted of candidates is exact, the first of the ranking that is one is next.
 use Rattle.std.proofs.Common.{◌≡◌, ◌↔◌, ℕ, ◌+◌, ◌<◌, ◌≤◌, ◌==◌, zero, suc, true, false, Option, Some, None, List, [], ◌∷◌, length, take, get_or, slice_get, refl, sym, ap, ◌∙◌, subst, inl, inr, arith}
+use Rattle.std.specs.Prelude.{unwrap_or}
 use Rattle.std.specs.Global.{Vec}
 use Rattle.std.specs.List.{list_any, AllByRecursion}
 use Rattle.std.proofs.lemmas.Bool.{false≢true, or_cases, or_left, or_right, eq-eqb}
@@ -12,16 +13,16 @@ use Rattle.net_candidates.specs.Extracting.{IsListable, IsNext, IsDone}
 use Rattle.net_candidates.specs.declared.rule.Rule.{Rule}
 use Rattle.net_candidates.specs.declared.rule.Rule.TheVariants.{Gcx}
 use Rattle.net_candidates.proofs.Usable.{IsReader, tables_read}
-use Rattle.net_candidates.proofs.RuleKeeping.{new_is_free}
-use Rattle.net_readers.specs.Readers.{is_in}
+use Rattle.net_core.proofs.NewNames.{new_is_free}
+use Rattle.net_readers.specs.Fanouts.{is_in}
 use Rattle.cover_names.specs.Literals.{NamedCover}
 use Rattle.cover_names.specs.Cubes.{is_over}
 use Rattle.net_core.specs.Fresh.{IsNewName}
 use Rattle.net_work.specs.Placed.{Placed, standing, circuit_of, table_at}
 use Rattle.net_savings.specs.Orders.{cover_eq}
-use Rattle.net_savings.specs.Ranking.{KnownCovers, saving_in, saved, saved_by, covers_under}
+use Rattle.net_savings.specs.Ranking.{KnownCovers, saving_in, saved_by, covers_under}
 use Rattle.net_savings.proofs.Best.{IsBestOf}
-use Rattle.net_savings.proofs.Ranks.{cover_same, cover_itself}
+use Rattle.net_savings.proofs.SameCovers.{cover_same, cover_itself}
 use Rattle.net_savings.specs.Listing.{AreKept, AreOwn, IsListed}
 use Rattle.net_savings.specs.Sharing.{IsSharedBy}
 use Rattle.net_savings.specs.Saving.{literals_in, IsSaving}
@@ -158,14 +159,14 @@ module _ (rule : Rule) (now : Placed) (name : List ℕ) (sound : IsSound (circui
   saves_noted : (cover : NamedCover) (number : ℕ) → Passes cover → IsSaving (standing now.slots) name cover number → number ≡ saved_by known cover
   saves_noted cover number is saving =
       let (count, e) = noted cover is in
-      (right cover count e name (new_is_free (circuit_of now) name new).0).one number saving ∙ sym (ap saved e)
+      (right cover count e name (new_is_free (circuit_of now) name new).0).one number saving ∙ sym (ap (λ (o : Option ℕ). unwrap_or o 0) e)
 
   some_noted : (cover : NamedCover) → 1 ≤ saved_by known cover → saving_in known cover ≡ Some (saved_by known cover)
   some_noted cover some = cases (saving_in known cover) refl some
     where
-      cases : (o : Option ℕ) → saving_in known cover ≡ o → 1 ≤ saved o → saving_in known cover ≡ Some (saved_by known cover)
+      cases : (o : Option ℕ) → saving_in known cover ≡ o → 1 ≤ unwrap_or o 0 → saving_in known cover ≡ Some (saved_by known cover)
       cases None e h = absurd (omega (arith, h))
-      cases (Some number) e h = e ∙ ap (λ (n : ℕ). Some n) (sym (ap saved e))
+      cases (Some number) e h = e ∙ ap (λ (n : ℕ). Some n) (sym (ap (λ (o : Option ℕ). unwrap_or o 0) e))
 
   -- a cover that saves has a literal
   pub some_literal : (cover : NamedCover) → 1 ≤ saved_by known cover → 1 ≤ literals_in cover

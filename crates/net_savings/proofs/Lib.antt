@@ -18,6 +18,5 @@ pub mod KeptLists
 pub mod Refreshed
 pub mod NotesKept
 pub mod FirstSaved
-pub mod Ranks
+pub mod SameCovers
 pub mod Best
-pub mod Setting

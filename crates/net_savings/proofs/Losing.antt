@@ -13,7 +13,7 @@ use Rattle.net_candidates.specs.Extracting.{IsNarrow}
 use Rattle.net_candidates.proofs.Gains.{divided_or_not}
 use Rattle.net_candidates.proofs.Sums.{AreOnce}
 use Rattle.net_candidates.proofs.Usable.{all_member}
-use Rattle.net_readers.specs.Readers.{is_in}
+use Rattle.net_readers.specs.Fanouts.{is_in}
 use Rattle.cover_names.specs.Literals.{NamedCover}
 use Rattle.cover_names.specs.Cubes.{is_over}
 use Rattle.net_work.specs.Placed.{standing, table_at}

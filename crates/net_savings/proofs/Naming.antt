@@ -7,7 +7,7 @@ use Rattle.circuit_model.specs.Names.{has}
 use Rattle.circuit_model.specs.declared.circuit.Table.{Table}
 use Rattle.circuit_laws.proofs.Names.{has_head, has_tail, has_front, has_back}
 use Rattle.alg_div.specs.Cubes.{Has}
-use Rattle.net_readers.specs.Readers.{is_in}
+use Rattle.net_readers.specs.Fanouts.{is_in}
 use Rattle.cover_names.specs.Literals.{Cube, NamedCover}
 use Rattle.cover_names.specs.Cubes.{names_in, is_over}
 use Rattle.cover_names.specs.declared.literal.Literal.{Literal}

@@ -1,5 +1,6 @@
 -- What is noted of candidates: it is exact, it grows, and it stays while tables that do not concern it change.
 use Rattle.std.proofs.Common.{◌≡◌, ◌⊎◌, ℕ, Bool, true, false, ◌&&◌, if◌then◌else◌, Option, Some, None, is_none, List, [], ◌∷◌, ◌++◌, bytes_eq, refl, sym, ap, ◌∙◌, subst, inl, inr, arith}
+use Rattle.std.specs.Prelude.{unwrap_or}
 use Rattle.std.specs.List.{AllByRecursion}
 use Rattle.std.proofs.lemmas.Bool.{false≢true}
 use Rattle.std.proofs.lemmas.Option.{same_Some}
@@ -13,7 +14,6 @@ use Rattle.net_candidates.proofs.Usable.{IsReader, tables_read}
 use Rattle.cover_names.specs.Literals.{NamedCover}
 use Rattle.cover_names.specs.Cubes.{names_in}
 use Rattle.net_work.specs.Placed.{Placed, standing, circuit_of}
-use Rattle.net_savings.specs.Ranking.{saved}
 use Rattle.net_savings.specs.Saving.{IsSaving, IsSaved}
 use Rattle.net_savings.specs.Savings.{IsUndriven, IsWorth, IsExact, IsRight, AreFound, IsNoted, Grows}
 use Rattle.net_savings.proofs.Nameless.{AreFree, saving_renamed}
@@ -23,7 +23,7 @@ use Rattle.net_savings.proofs.Nameless.{AreFree, saving_renamed}
 saving_same : (tables : List Table) (name : List ℕ) (cover : NamedCover) (one two : ℕ) → IsSaving tables name cover one → IsSaving tables name cover two → two ≡ one
 saving_same tables name cover one two first second = omega (arith, first.exact, second.exact)
 
-pub saved_worth : (tables : List Table) (name : List ℕ) (cover : NamedCover) (found : Option ℕ) → IsSaved tables name cover found → IsWorth tables name cover (saved found)
+pub saved_worth : (tables : List Table) (name : List ℕ) (cover : NamedCover) (found : Option ℕ) → IsSaved tables name cover found → IsWorth tables name cover (unwrap_or found 0)
 saved_worth tables name cover None none = record {
   saving = λ some. absurd (omega (arith, some));
   one = λ other saving. absurd (none other saving);
@@ -58,11 +58,11 @@ module _ (now : Placed) (name : List ℕ) (sound : IsSound (circuit_of now)) (un
       (free_tables (given (circuit_of now)) other name cover (standing now.slots) away undriven sound.shaped (tables_read (circuit_of now) sound)) saving
 
   -- under one name that no signal has, and so under each
-  pub exact_from : (cover : NamedCover) (found : Option ℕ) → IsSaved (standing now.slots) name cover found → IsExact now cover (saved found)
+  pub exact_from : (cover : NamedCover) (found : Option ℕ) → IsSaved (standing now.slots) name cover found → IsExact now cover (unwrap_or found 0)
   exact_from cover found is = λ other away.
       let worth = saved_worth (standing now.slots) name cover found is in
       record {
-        saving = λ some. renamed other cover (saved found) away (worth.saving some);
+        saving = λ some. renamed other cover (unwrap_or found 0) away (worth.saving some);
         one = λ number saving. worth.one number (unrenamed other cover number away saving);
       }
 

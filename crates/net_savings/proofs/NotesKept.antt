@@ -10,7 +10,7 @@ use Rattle.circuit_model.specs.Names.{has}
 use Rattle.circuit_laws.proofs.Names.{has_neither, same_name, name_itself}
 use Rattle.alg_div.specs.Cubes.{Has}
 use Rattle.net_candidates.specs.declared.rule.Rule.{Rule}
-use Rattle.net_readers.specs.Readers.{is_in}
+use Rattle.net_readers.specs.Fanouts.{is_in}
 use Rattle.cover_names.specs.Literals.{NamedCover}
 use Rattle.net_core.proofs.Lookups.{get_set_other}
 use Rattle.net_work.specs.Placed.{Placed, joined, table_at, with_slot, with_last}

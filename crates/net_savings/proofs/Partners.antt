@@ -14,7 +14,7 @@ use Rattle.net_candidates.specs.Listed.{IsSharedWith}
 use Rattle.net_candidates.specs.Candidates.{cubes_of}
 use Rattle.net_candidates.specs.declared.rule.Rule.{Rule}
 use Rattle.net_candidates.specs.declared.rule.Rule.TheVariants.{Fx, Gkx, Gcx}
-use Rattle.net_readers.specs.Readers.{is_in}
+use Rattle.net_readers.specs.Fanouts.{is_in}
 use Rattle.cover_names.specs.Literals.{Cube, NamedCover}
 use Rattle.net_work.specs.Placed.{table_at}
 use Rattle.net_savings.specs.Listing.{IsListed}

@@ -1,5 +1,5 @@
 -- What is noted of candidates is made anew where changes touched it, and all of it is exact then.
-use Rattle.std.proofs.Common.{◌≡◌, ◌⊎◌, ℕ, ◌+◌, ◌<◌, ◌≤◌, zero, suc, Bool, true, false, Result, Ok, Err, Option, Some, None, OnOk, List, [], ◌∷◌, ◌++◌, map, length, take, get_or, set, slice_get, refl, sym, ap, ◌∙◌, subst, inl, inr, arith, bytes_eq, ◌==◌}
+use Rattle.std.proofs.Common.{◌≡◌, ◌⊎◌, ℕ, ◌+◌, ◌<◌, ◌≤◌, zero, suc, Bool, true, false, Option, Some, None, List, [], ◌∷◌, ◌++◌, map, length, take, get_or, set, slice_get, refl, sym, ap, ◌∙◌, subst, inl, inr, arith, bytes_eq, ◌==◌}
 use Rattle.std.specs.Global.{Vec}
 use Rattle.std.proofs.lemmas.Bool.{false≢true, or_cases, or_left, or_right, eqb-true, cases_eq}
 use Rattle.std.proofs.lemmas.List.{length-set, take_more}
@@ -12,7 +12,7 @@ use Rattle.circuit_laws.proofs.Names.{has_either, same_name}
 use Rattle.alg_div.specs.Cubes.{Has}
 use Rattle.alg_div.proofs.Lists.{Has-append}
 use Rattle.net_candidates.specs.declared.rule.Rule.{Rule}
-use Rattle.net_readers.specs.Readers.{is_in}
+use Rattle.net_readers.specs.Fanouts.{is_in}
 use Rattle.cover_names.specs.Literals.{Cube, NamedCover}
 use Rattle.cover_names.specs.Cubes.{names_in}
 use Rattle.cover_names.specs.declared.literal.Literal.{Literal}
@@ -264,8 +264,3 @@ module _ (rule : Rule) (placed : Placed) (old new : KnownCovers) (own : List (Op
       cases : (at : ℕ) (table : Table) → table_at placed.slots at ≡ Some table → (b : Bool) → is_in fresh at ≡ b → IsListed last_own at
       cases at table there true h = listed at h (below placed.slots at table there)
       cases at table there false h = stay at (notes.listed at table there h)
-
--- what three facts of a value give
-pub three_ok : {T E A B C D : Type 0} (result : Result T E) → OnOk result A → OnOk result B → OnOk result C → (A → B → C → D) → OnOk result D
-three_ok (Ok value) a b c f = f a b c
-three_ok (Err fault) a b c f = tt

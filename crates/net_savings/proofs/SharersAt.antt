@@ -11,7 +11,7 @@ use Rattle.alg_div.specs.Cubes.{Has}
 use Rattle.net_candidates.proofs.SharedNames.{names_read}
 use Rattle.net_candidates.specs.Listed.{IsSharedOf}
 use Rattle.net_candidates.specs.Candidates.{ArePair, same_literal, shared, cubes_of, all_cubes, IsSharedCube}
-use Rattle.net_readers.specs.Readers.{is_in}
+use Rattle.net_readers.specs.Fanouts.{is_in}
 use Rattle.cover_names.specs.Cubes.{is_over}
 use Rattle.cover_names.specs.Literals.{Cube, NamedCover}
 use Rattle.cover_names.specs.declared.literal.Literal.{Literal}

@@ -8,7 +8,7 @@ use Rattle.std.proofs.lemmas.List.Sums.{sum_by-cons}
 use Rattle.circuit_model.specs.declared.circuit.Table.{Table}
 use Rattle.alg_div.specs.Cubes.{Has}
 use Rattle.net_candidates.proofs.Sums.{AreOnce}
-use Rattle.net_readers.specs.Readers.{is_in}
+use Rattle.net_readers.specs.Fanouts.{is_in}
 use Rattle.net_work.specs.Placed.{standing, joined, table_at}
 use Rattle.net_core.proofs.Lookups.{get_set_other}
 

@@ -4,15 +4,15 @@ use Rattle.sis_base.specs.Rows.{HasWidth}
 use Rattle.circuit_model.specs.Counts.{literals_of_table}
 use Rattle.circuit_model.specs.Names.{has, all_different}
 use Rattle.circuit_model.specs.Soundness.{given, IsSound}
-use Rattle.circuit_model.specs.declared.circuit.Table.{Table as Written}
-use Rattle.net_candidates.proofs.RuleKeeping.{new_is_free}
+use Rattle.circuit_model.specs.declared.circuit.Table.{Table}
+use Rattle.net_core.proofs.NewNames.{new_is_free}
 use Rattle.net_candidates.proofs.Usable.{IsReader, tables_read}
 use Rattle.cover_names.specs.Literals.{NamedCover}
 use Rattle.net_core.specs.Fresh.{IsNewName}
 use Rattle.net_core.specs.Places.{written_of}
 use Rattle.net_core.specs.Tables.{named, IsOverInputs}
 use Rattle.net_core.specs.declared.places.Entry.{Entry}
-use Rattle.net_core.specs.declared.table.Table.{Table}
+use Rattle.net_core.specs.declared.table.CoverTable.{CoverTable}
 use Rattle.net_work.specs.Placed.{Placed, circuit_of, table_at}
 use Rattle.alg_tables.specs.Dividing.{divided, cover_table}
 use Rattle.alg_tables.proofs.CoverTables.{cover_table_once}
@@ -25,11 +25,11 @@ use Rattle.net_savings.proofs.Losing.{wide_loss, narrow_loss}
 use Rattle.net_savings.proofs.Slots.{all_at}
 use Rattle.sis_base.specs.declared.limits.TheConstants.{MAX_INPUTS}
 
-module _ {R : Type 0} (name : List ℕ) (cover : NamedCover) (table : Table R) where
-  module _ (made : Table R) (some : (output : List ℕ) → named output made ≡ divided name true cover (named output table)) where
+module _ {R : Type 0} (name : List ℕ) (cover : NamedCover) (table : CoverTable R) where
+  module _ (made : CoverTable R) (some : (output : List ℕ) → named output made ≡ divided name true cover (named output table)) where
     made_inputs : (output : List ℕ) → made.inputs ≡ (divided name true cover (named output table)).inputs
     unfolding named
-    made_inputs output = ap (λ (t : Written). t.inputs) (some output)
+    made_inputs output = ap (λ (t : Table). t.inputs) (some output)
 
     pub loss_wide : has table.inputs name ≡ false → (ltb MAX_INPUTS (length made.inputs) && has made.inputs name) ≡ true → (output : List ℕ) → IsLoss name cover (Some (named output table)) None
     unfolding named
@@ -45,11 +45,11 @@ module _ {R : Type 0} (name : List ℕ) (cover : NamedCover) (table : Table R) w
 
     pub made_once : all_different table.inputs ≡ true → all_different made.inputs ≡ true
     unfolding named
-    made_once once = ap (λ (t : Written). all_different t.inputs) (some []) ∙ divided_once name true cover (named [] table) once
+    made_once once = ap (λ (t : Table). all_different t.inputs) (some []) ∙ divided_once name true cover (named [] table) once
 
-pub cover_once : {R : Type 0} (cover : NamedCover) (made : Table R) → ((name : List ℕ) → named name made ≡ cover_table name cover) → all_different made.inputs ≡ true
+pub cover_once : {R : Type 0} (cover : NamedCover) (made : CoverTable R) → ((name : List ℕ) → named name made ≡ cover_table name cover) → all_different made.inputs ≡ true
 unfolding named
-cover_once cover made is = ap (λ (t : Written). all_different t.inputs) (is []) ∙ cover_table_once [] cover
+cover_once cover made is = ap (λ (t : Table). all_different t.inputs) (is []) ∙ cover_table_once [] cover
 
 -- no table reads a new name
 pub name_unread : {R : Type 0} (now : Placed) (name : List ℕ) (entry : Entry R) (at : ℕ) → IsSound (circuit_of now) → IsNewName (circuit_of now) name → Some (written_of entry) ≡ table_at now.slots at
@@ -59,6 +59,6 @@ name_unread now name entry at sound new there =
     let reader = all_at (IsReader (given (circuit_of now))) now.slots (tables_read (circuit_of now) sound) at (written_of entry) (sym there) in
     has_not entry.table.inputs name (λ m. false≢true (sym (new_is_free (circuit_of now) name new).0 ∙ reader.live name m))
 
-pub cover_inputs : {R : Type 0} (cover : NamedCover) (made : Table R) → ((name : List ℕ) → named name made ≡ cover_table name cover) → (name : List ℕ) → made.inputs ≡ (cover_table name cover).inputs
+pub cover_inputs : {R : Type 0} (cover : NamedCover) (made : CoverTable R) → ((name : List ℕ) → named name made ≡ cover_table name cover) → (name : List ℕ) → made.inputs ≡ (cover_table name cover).inputs
 unfolding named
-cover_inputs cover made is name = ap (λ (t : Written). t.inputs) (is name)
+cover_inputs cover made is name = ap (λ (t : Table). t.inputs) (is name)

@@ -41,12 +41,14 @@ first_unlisted rule now at fault before many = cases (table_at now.slots at) ref
     cases None e (ManyKernels name) h = absurd h
     cases None e Memory h = tt
     cases (Some table) e (ManyKernels name) h = record {
-      before = standing (take at now.slots);
       table = table;
-      after = standing (drop (suc at) now.slots);
-      tables_are = standing_around now.slots at table e;
-      first = before;
-      many = h.0;
+      first = record {
+        before = standing (take at now.slots);
+        after = standing (drop (suc at) now.slots);
+        is = standing_around now.slots at table e;
+        pass = before;
+        fails = h.0;
+      };
       named = h.1;
     }
     cases (Some table) e Memory h = tt

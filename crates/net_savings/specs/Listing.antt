@@ -1,26 +1,25 @@
--- What tables at places give by themselves, and which table is the first that gives too much to be listed.
--- Source: Brayton and McMullen, "The Decomposition and Factorization of Boolean Expressions" (1982): the kernels of a table. The limit on
--- their number is the project's own.
-use Rattle.std.specs.Prelude.{◌≡◌, ◌↔◌, ℕ, ◌≤◌, ◌++◌, Option, Some, None, List, [], ◌∷◌, length, slice_get}
+-- What tables at places give by themselves, and which table is the first that gives too much to be
+-- listed. Source: Brayton and McMullen, "The Decomposition and Factorization of Boolean
+-- Expressions" (1982): the kernels of a table. The limit on their number is the project's own.
+use Rattle.std.specs.Prelude.{◌≡◌, ◌↔◌, ℕ, ◌≤◌, Option, Some, None, List, [], ◌∷◌, length, slice_get}
 use Rattle.std.specs.Global.{Vec}
-use Rattle.std.specs.List.{AllByRecursion}
 use Rattle.circuit_model.specs.declared.circuit.Table.{Table}
 use Rattle.circuit_model.specs.declared.circuit.Circuit.{Circuit}
 use Rattle.alg_div.specs.Cubes.{Has}
 use Rattle.net_candidates.specs.Listed.{IsOwn}
-use Rattle.net_candidates.specs.Extracting.{HasManyKernels, IsListable}
+use Rattle.net_candidates.specs.Extracting.{HasManyKernels, IsListable, IsFirstMany}
 use Rattle.net_candidates.specs.declared.rule.Rule.{Rule}
 use Rattle.cover_names.specs.Literals.{NamedCover}
 use Rattle.net_work.specs.Placed.{table_at}
 use Rattle.net_savings.specs.declared.fault.SavingsFault.{SavingsFault}
 use Rattle.net_savings.specs.declared.fault.SavingsFault.TheVariants.{ManyKernels, Memory}
 
--- just what a table gives by itself, nothing where there is no table
+-- exactly what a table gives by itself; nothing if there is no table
 abbrev pub AreOwn : Rule → Option Table → List NamedCover → Type 0
 AreOwn rule None covers = covers ≡ []
 AreOwn rule (Some table) covers = IsListable rule table × ((cover : NamedCover) → Has cover covers ↔ IsOwn rule table cover)
 
--- a table has too many kernels; want of memory is free
+-- a table has too many kernels; want of memory needs no cause
 abbrev pub IsMany : Rule → Table → SavingsFault → Type 0
 IsMany rule table (ManyKernels name) = HasManyKernels rule table × (table.output ≡ name)
 IsMany rule table Memory = Unit {0}
@@ -30,29 +29,19 @@ IsManyIn rule (Some table) fault = IsMany rule table fault
 IsManyIn rule None (ManyKernels name) = ⊥
 IsManyIn rule None Memory = Unit {0}
 
--- the table that may stand at a place
+-- the table at an index, if there is one
 abbrev pub told : Option Table → List Table
 told None = []
 told (Some table) = table ∷ []
 
--- lists of covers that are kept are what the tables at their places give by themselves
+-- lists of covers that are kept are what the tables at their indices give by themselves
 pub record AreKept (rule : Rule) (slots : List (Option Table)) (lists : List (Option (Vec NamedCover))) : Type 0 where
   pub long : length lists ≤ length slots
   pub each : (place : ℕ) (covers : Vec NamedCover) → slice_get lists place ≡ Some (Some covers) → AreOwn rule (table_at slots place) covers.items
 
--- what the table at a place gives by itself is listed
+-- what the table at an index gives by itself is listed
 abbrev pub IsListed : List (Option (Vec NamedCover)) → ℕ → Type 0
 IsListed own place = (covers : Vec NamedCover) × (slice_get own place ≡ Some (Some covers))
-
--- the first of some tables with too many kernels has a name
-pub record IsFirstMany (rule : Rule) (tables : List Table) (name : List ℕ) : Type 0 where
-  pub before : List Table
-  pub table : Table
-  pub after : List Table
-  pub tables_are : tables ≡ before ++ table ∷ after
-  pub first : AllByRecursion (IsListable rule) before
-  pub many : HasManyKernels rule table
-  pub named : table.output ≡ name
 
 -- why the candidates of a circuit are not listed; want of memory is free
 abbrev pub IsUnlisted : Rule → Circuit → SavingsFault → Type 0

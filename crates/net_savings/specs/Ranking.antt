@@ -1,14 +1,15 @@
--- What is known of covers: what each saves, which stand under a name, and the order of those that save.
--- Source: Brayton, Rudell, Sangiovanni-Vincentelli and Wang, "MIS: A Multiple-Level Logic Optimization System" (1987): of the divisors that
--- are known that is taken which saves most. What decides between equal ones is the project's own.
-use Rattle.std.specs.Prelude.{◌≡◌, ℕ, ◌+◌, ◌-◌, ◌^◌, ◌<◌, ◌≤◌, ◌==◌, ◌&&◌, Bool, Option, Some, None, List, [], bytes_eq, nat_lt}
-use Rattle.std.specs.BTreeSet.{BTreeSet, contains}
-use Rattle.std.specs.List.{Contains}
-use Rattle.std.specs.List.Sorted.{IsStrictlySortedBy}
+-- What is known of covers: what each saves, which stand under a name, and the order of those that
+-- save. Source: Brayton, Rudell, Sangiovanni-Vincentelli and Wang, "MIS: A Multiple-Level Logic
+-- Optimization System" (1987): of the divisors that are known that is taken which saves most. What
+-- decides between equal ones is the project's own.
+use Rattle.std.specs.Prelude.{ℕ, ◌==◌, Option, Some, None, List, [], bytes_eq, unwrap_or, if◌then◌else◌}
 use Rattle.std.specs.Map.{lookup}
+use Rattle.std.specs.Ordering.{nat_cmp}
+use Rattle.std.specs.declared.cmp.Ordering.{Ordering}
+use Rattle.std.specs.declared.cmp.Reverse.{Reverse}
 use Rattle.cover_names.specs.Literals.{NamedCover}
-use Rattle.net_savings.specs.Orders.{cover_eq, ranked_cmp}
-use Rattle.net_savings.specs.declared.ranked.RankedCover.{RankedCover}
+use Rattle.net_queue.specs.Queue as queue
+use Rattle.net_savings.specs.Orders.{cover_eq}
 
 -- what covers save, and the covers that stand under names
 pub record KnownCovers : Type 0 where
@@ -17,15 +18,11 @@ pub record KnownCovers : Type 0 where
 
 -- what is known that a cover saves
 abbrev pub saving_in : KnownCovers → NamedCover → Option ℕ
-saving_in known cover = lookup (cover_eq cover) known.savings
+saving_in known cover = queue.value_in cover_eq known.savings cover
 
--- a saving that is known; 0 where none is
-abbrev pub saved : Option ℕ → ℕ
-saved None = 0
-saved (Some saving) = saving
-
+-- what a cover saves; 0 where that is not known
 abbrev pub saved_by : KnownCovers → NamedCover → ℕ
-saved_by known cover = saved (saving_in known cover)
+saved_by known cover = unwrap_or (saving_in known cover) 0
 
 -- a list of covers; none where there is no list
 abbrev pub listed : Option (List NamedCover) → List NamedCover
@@ -36,17 +33,13 @@ listed (Some covers) = covers
 abbrev pub covers_under : KnownCovers → List ℕ → List NamedCover
 covers_under known name = listed (lookup (bytes_eq name) known.lists)
 
--- a saving of a literal or more, which lacks so much of 2^128 - 1
-abbrev pub ranks : ℕ → ℕ → Bool
-ranks lack saving = nat_lt 0 saving && (lack + saving == 2 ^ 128 - 1)
+-- covers that save a literal or more have a rank
+abbrev pub rank_of : NamedCover → ℕ → Option (Reverse ℕ)
+rank_of cover saving = if saving == 0 then None else Some (record { 0 = saving })
 
--- a set has just the covers that save, each behind what its saving lacks, and no saving is more than a machine word holds
-pub record IsRanked (savings : List (NamedCover × ℕ)) (ranking : BTreeSet RankedCover) : Type 0 where
-  pub has : (ranked : RankedCover) → contains ranked_cmp ranking ranked ≡ ranks ranked.lack (saved (lookup (cover_eq ranked.cover) savings))
-  pub held : (cover : NamedCover) → saved (lookup (cover_eq cover) savings) < 2 ^ 128
+abbrev pub rank_in : KnownCovers → NamedCover → Option (Reverse ℕ)
+rank_in known cover = queue.rank_in cover_eq rank_of known.savings cover
 
--- a list has just the covers that save, each behind what its saving lacks of 2^128 - 1, and each before all later ones
-pub record AreRanked (known : KnownCovers) (keys : List RankedCover) : Type 0 where
-  pub save : (ranked : RankedCover) → Contains keys ranked → (1 ≤ saved_by known ranked.cover) × (ranked.lack + saved_by known ranked.cover ≡ 2 ^ 128 - 1)
-  pub all : (cover : NamedCover) → 1 ≤ saved_by known cover → Contains keys (record { lack = 2 ^ 128 - 1 - saved_by known cover; cover = cover })
-  pub rise : IsStrictlySortedBy ranked_cmp keys
+-- the greatest saving first
+abbrev pub greatest_first : Reverse ℕ → Reverse ℕ → Ordering
+greatest_first one other = nat_cmp other.0 one.0

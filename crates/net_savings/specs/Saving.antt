@@ -1,6 +1,7 @@
--- What the tables at places lose where they are divided by a cover, what it saves then, and whether it leaves all tables narrow.
--- Source: Brayton, Rudell, Sangiovanni-Vincentelli and Wang, "MIS: A Multiple-Level Logic Optimization System" (1987): the value of a
--- divisor is the literals that it saves.
+-- What the tables at indices lose if they are divided by a cover, what it saves then, and whether
+-- it leaves all tables narrow.
+-- Source: Brayton, Rudell, Sangiovanni-Vincentelli and Wang, "MIS: A Multiple-Level Logic
+-- Optimization System" (1987): the value of a divisor is the literals that it saves.
 use Rattle.std.specs.Prelude.{◌≡◌, ℕ, ◌+◌, ◌-◌, ◌≤◌, true, Option, Some, None, List, length}
 use Rattle.std.specs.List.{sum_by, AllByRecursion}
 use Rattle.circuit_model.specs.Counts.{literals_of_table}
@@ -11,7 +12,7 @@ use Rattle.net_work.specs.Placed.{table_at}
 use Rattle.alg_tables.specs.Dividing.{divided, cover_table}
 use Rattle.sis_base.specs.declared.limits.TheConstants.{MAX_INPUTS}
 
--- how many literals a table loses where it is divided, none where there is no table
+-- how many literals a table loses if it is divided; none if there is no table
 abbrev pub lost_by : List ℕ → NamedCover → Table → ℕ
 lost_by name cover table = literals_of_table table - literals_of_table (divided name true cover table)
 
@@ -29,17 +30,17 @@ abbrev pub IsLoss : List ℕ → NamedCover → Option Table → Option ℕ → 
 IsLoss name cover table None = IsNarrowIn name cover table → ⊥
 IsLoss name cover table (Some lost) = (lost ≡ lost_of name cover table) × IsNarrowIn name cover table
 
--- what the tables at some places lose together
+-- what the tables at some indices lose together
 abbrev pub lost_at : List ℕ → NamedCover → List (Option Table) → List ℕ → ℕ
 lost_at name cover slots places = sum_by (λ place. lost_of name cover (table_at slots place)) places
 
--- what the tables at some places lose together; or one of them has too many inputs then
+-- what the tables at some indices lose together; or one of them has too many inputs then
 abbrev pub AreLosses : List ℕ → NamedCover → List (Option Table) → List ℕ → Option ℕ → Type 0
 AreLosses name cover slots places None = (place : ℕ) × (IsNarrowIn name cover (table_at slots place) → ⊥)
 AreLosses name cover slots places (Some lost) =
     (lost ≡ lost_at name cover slots places) × AllByRecursion (λ place. IsNarrowIn name cover (table_at slots place)) places
 
--- how many literals a cover has
+-- the number of literals of a cover
 abbrev pub literals_in : NamedCover → ℕ
 literals_in cover = sum_by (λ (cube : Cube). length cube) cover
 

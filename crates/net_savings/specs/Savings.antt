@@ -1,4 +1,5 @@
--- What candidates save, kept while tables come and change: what is noted of each, which tables are listed, and what has to be made anew.
+-- What candidates save, kept while tables are added and change: what is noted of each, which tables
+-- are listed, and what must be computed anew.
 -- Source: the project's own representation.
 use Rattle.std.specs.Prelude.{◌≡◌, ◌⊎◌, ℕ, ◌≤◌, Bool, false, true, Option, Some, None, List, length, slice_get}
 use Rattle.std.specs.Global.{Vec}
@@ -8,7 +9,7 @@ use Rattle.circuit_model.specs.Soundness.{given}
 use Rattle.circuit_model.specs.declared.circuit.Table.{Table}
 use Rattle.alg_div.specs.Cubes.{Has}
 use Rattle.net_candidates.specs.declared.rule.Rule.{Rule}
-use Rattle.net_readers.specs.Readers.{is_in}
+use Rattle.net_readers.specs.Fanouts.{is_in}
 use Rattle.cover_names.specs.Literals.{NamedCover}
 use Rattle.cover_names.specs.Cubes.{names_in}
 use Rattle.net_work.specs.Placed.{Placed, standing, circuit_of, table_at}
@@ -17,13 +18,13 @@ use Rattle.net_savings.specs.Sharing.{IsSharedBy}
 use Rattle.net_savings.specs.Orders.{cover_eq}
 use Rattle.net_savings.specs.Ranking.{KnownCovers, saving_in, covers_under}
 use Rattle.net_savings.specs.Saving.{IsSaving}
-use Rattle.net_savings.specs.declared.kept.KeptSavings.{KeptSavings}
+use Rattle.net_savings.specs.declared.kept.CandidateQueue.{CandidateQueue}
 
 -- no signal has the name
 abbrev pub IsUndriven : Placed → List ℕ → Type 0
 IsUndriven placed name = has (given (circuit_of placed)) name ≡ false
 
--- a cover saves just so many literals, or none where the number is 0
+-- a cover saves exactly so many literals, or none if the number is 0
 pub record IsWorth (tables : List Table) (name : List ℕ) (cover : NamedCover) (number : ℕ) : Type 0 where
   pub saving : 1 ≤ number → IsSaving tables name cover number
   pub one : (other : ℕ) → IsSaving tables name cover other → other ≡ number
@@ -53,7 +54,8 @@ AreNoted saving own = (place : ℕ) (covers : Vec NamedCover) → slice_get own 
 abbrev pub AreNotedShared : Rule → List (Option Table) → (NamedCover → Option ℕ) → List (Option (Vec NamedCover)) → Type 0
 AreNotedShared rule slots saving own = (one other : ℕ) (cover : NamedCover) → IsListed own one → IsListed own other → IsSharedBy rule slots one other cover → IsNoted saving cover
 
--- what is noted of covers that are found under names that were not touched is exact; all tables are listed but those at fresh places
+-- what is noted of covers under names that were not touched is exact; all tables are listed except
+-- those at fresh indices
 pub record AreNotes (rule : Rule) (placed : Placed) (saving : NamedCover → Option ℕ) (under : List ℕ → List NamedCover) (own : List (Option (Vec NamedCover))) (touched : List (List ℕ)) (fresh : List ℕ) : Type 0 where
   pub found : AreFound saving under
   pub lists : AreKept rule placed.slots own
@@ -63,7 +65,8 @@ pub record AreNotes (rule : Rule) (placed : Placed) (saving : NamedCover → Opt
   pub shared : AreNotedShared rule placed.slots saving own
   pub listed : (place : ℕ) (table : Table) → table_at placed.slots place ≡ Some table → is_in fresh place ≡ false → IsListed own place
 
--- more may be noted than before, all that was right is right, and what is found anew under a name is right
+-- more may be noted than before, all that was right is right, and what is found anew under a name
+-- is right
 pub record Grows (placed : Placed) (saving : NamedCover → Option ℕ) (under : List ℕ → List NamedCover) (new : NamedCover → Option ℕ) (new_under : List ℕ → List NamedCover) : Type 0 where
   pub right : (cover : NamedCover) → IsRight placed saving cover → IsRight placed new cover
   pub noted : (cover : NamedCover) → IsNoted saving cover → IsNoted new cover
@@ -84,14 +87,14 @@ abbrev pub IsGrown : Placed → KnownCovers → KnownCovers → Type 0
 IsGrown placed known new = Grows placed (saving_in known) (covers_under known) (saving_in new) (covers_under new)
 
 -- savings that are kept are those of the tables
-abbrev pub AreSavings : Rule → Placed → KeptSavings → Type 0
+abbrev pub AreSavings : Rule → Placed → CandidateQueue → Type 0
 AreSavings rule placed kept = AreNotes rule placed (saving_in kept.ranked) (covers_under kept.ranked) kept.own.items kept.touched.keys kept.fresh.items
 
--- a cover stands in the list at a place
+-- a cover is in the list at an index
 abbrev pub IsIn : List (Option (Vec NamedCover)) → ℕ → NamedCover → Type 0
 IsIn own place cover = (covers : Vec NamedCover) × (slice_get own place ≡ Some (Some covers)) × Has cover covers.items
 
--- whether a cover stands in a list, if there is one
+-- whether a cover is in a list, if there is one
 abbrev pub held : Option (Vec NamedCover) → NamedCover → Bool
 held None cover = false
 held (Some covers) cover = list_any (cover_eq cover) covers.items

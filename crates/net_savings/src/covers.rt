@@ -1,43 +1,47 @@
-//! Covers, what each of them saves, and under which name each is found.
+//! Covers, what each of them saves, and an index of covers by one name of each.
+//!
+//! A cover whose saving is set for the first time is appended to the list under a name that the
+//! caller gives, and stays there. Invariant (`IsRanked`): the ranking holds exactly the covers that
+//! save a literal or more. Callers rely on `saving` for what was set last, and on `ranking` to
+//! begin with the covers that save most. After an error anything may be known.
 
 ghost use Rattle.std.specs.Prelude.{◌≡◌, ◌&&◌, ◌++◌, ◌∷◌, [], ℕ, List, Some, None, length, bytes_eq, is_none, if◌then◌else◌, IfOk, OnOk};
-ghost use Rattle.cover_names.specs.Literals.{NamedCover as TheCover};
+ghost use Rattle.cover_names.specs.Literals.{NamedCover, cover_cmp};
+ghost use Rattle.net_queue.specs.Queue.{AreRanked};
 ghost use Rattle.net_savings.specs.Orders.{cover_eq};
-ghost use Rattle.net_savings.specs.Ranking.{saving_in, covers_under, AreRanked};
+ghost use Rattle.net_savings.specs.Ranking.{saving_in, covers_under, rank_in, greatest_first};
 
 use crate::named::list_new;
-use crate::ranked::RankedCover;
-use crate::ranking::{Savings, note};
+use crate::ordered::OrderedCover;
+use crate::ranking::Savings;
 use circuit_model::Name;
-use cover_names::NamedCover;
 use indexmap::IndexMap;
 use sis_base::{Copied, Sequence};
 use std::alloc::{AllocError, Global};
+use std::cmp::Reverse;
 use std::collections::BTreeSet;
 use std::marker::Model;
-use std::mem;
 
-/// Covers, what each of them saves, and under which name each is found; contracts see what is known of them.
+/// Covers, what each of them saves, and under which name each is found; contracts see what is known
+/// of them.
 #[derive(Drop)]
-pub struct RankedCovers {
+pub(crate) struct RankedCovers {
     savings: Savings,
-    lists: IndexMap<Name, Sequence<NamedCover>>,
+    lists: IndexMap<Name, Sequence<OrderedCover>>,
 }
 
 impl Model for RankedCovers {
-    ghost use Rattle.net_savings.specs.Ranking.{KnownCovers, IsRanked};
+    ghost use Rattle.net_savings.specs.Ranking.{KnownCovers};
 
     ghost Value = { KnownCovers };
 
-    ghost view = { λ r. record { savings = r.savings.known.entries; lists = r.lists.entries } };
-
-    ghost invariant = { λ r. IsRanked r.savings.known.entries r.savings.ranking };
+    ghost view = { λ r. record { savings = r.savings; lists = r.lists.entries } };
 }
 
 impl RankedCovers {
     /// No cover is known; takes no memory.
-    pub fn new(alloc: Global) -> RankedCovers
-        ensures savings { (cover : TheCover) → saving_in result cover ≡ None }
+    pub(crate) fn new(alloc: Global) -> RankedCovers
+        ensures savings { (cover : NamedCover) → saving_in result cover ≡ None }
         ensures lists { (name : List ℕ) → covers_under result name ≡ [] }
     {
         RankedCovers {
@@ -47,41 +51,40 @@ impl RankedCovers {
     }
 
     /// Of how many covers it is known what they save.
-    pub fn len(&self) -> usize
+    pub(crate) fn len(&self) -> usize
         ensures { result ≡ length self.now.savings }
     {
-        self.savings.known.len()
+        self.savings.len()
     }
 
     /// What a cover saves, if it is known.
-    pub fn saving(&self, cover: &NamedCover) -> Option<u128>
+    pub(crate) fn saving(&self, cover: &OrderedCover) -> Option<u128>
         ensures { result ≡ saving_in self.now cover.now }
     {
-        self.savings.known.get(cover).copied()
+        self.savings.get(cover)
     }
 
-    /// Sets what a cover saves; one that is not known yet is put behind those under a name. An error only for want of memory; behind it
-    /// anything may be known.
-    pub fn set(
+    /// Sets what a cover saves; one that is not known yet is put behind those under a name. An
+    /// error only for want of memory; behind it anything may be known.
+    pub(crate) fn set(
         &mut self,
         alloc: Global,
-        cover: &NamedCover,
+        cover: &OrderedCover,
         name: &Name,
         saving: u128,
     ) -> Result<(), AllocError>
-        ensures savings { OnOk result ((other : TheCover) → saving_in self.new other ≡ (if cover_eq cover.now other then Some saving else saving_in self.old other)) }
+        ensures savings { OnOk result ((other : NamedCover) → saving_in self.new other
+            ≡ (if cover_eq cover.now other then Some saving else saving_in self.old other)) }
         ensures lists { OnOk result ((other : List ℕ) → covers_under self.new other
             ≡ (if is_none (saving_in self.old cover.now) && bytes_eq name.now other then covers_under self.old other ++ cover.now ∷ [] else covers_under self.old other)) }
     {
-        let mut savings = mem::replace(&mut self.savings, Savings::new(alloc));
-        let before = note(&mut savings, alloc, cover, saving)?;
+        let before = self.savings.set(alloc, cover, saving)?;
         list_new(alloc, &mut self.lists, name, cover, before.is_none())?;
-        self.savings = savings;
         Ok(())
     }
 
-    /// The covers that stand under a name; an error only for want of memory.
-    pub fn under(&self, alloc: Global, name: &Name) -> Result<Vec<NamedCover>, AllocError>
+    /// The covers that stand under a name.
+    pub(crate) fn under(&self, alloc: Global, name: &Name) -> Result<Vec<OrderedCover>, AllocError>
         ensures { IfOk result (λ covers. covers.items ≡ covers_under self.now name.now) }
     {
         match self.lists.get(name) {
@@ -90,11 +93,11 @@ impl RankedCovers {
         }
     }
 
-    /// The covers that save a literal or more: that which saves most first, of equal ones the first in the order of covers.
-    pub fn ranking(&self) -> &BTreeSet<RankedCover>
-        ensures { AreRanked self.now result.now.keys }
+    /// The covers that save a literal or more: that which saves most first, of equal ones the first
+    /// in the order of covers.
+    pub(crate) fn ranking(&self) -> &BTreeSet<(Reverse<u128>, OrderedCover)>
+        ensures { AreRanked greatest_first cover_cmp (rank_in self.now) result.now.keys }
     {
-        let _ascending = self.savings.ranking.len();
-        &self.savings.ranking
+        self.savings.order()
     }
 }

@@ -1,4 +1,4 @@
-//! Why the best candidate is not told.
+//! Why the best candidate is not found: a table has too many kernels, or memory ran out.
 
 use circuit_model::Name;
 use std::alloc::AllocError;

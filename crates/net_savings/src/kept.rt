@@ -1,12 +1,17 @@
-//! What candidates save, kept while tables come and change: what a change touches is written down, and made anew before the next choice.
+//! What candidates save, kept while tables are added and change.
+//!
+//! Source: the project's own representation. A change only notes which names and tables it touches;
+//! the savings of covers with a touched name, and the candidates of touched tables, are computed
+//! anew before the next choice. Invariant (`AreSavings`): what is noted of any other cover is
+//! exact. Callers announce each change before they make it.
 
 ghost use Rattle.std.specs.Prelude.{◌≡◌, ℕ, ◌<◌, true, false, Some, None, List, length, slice_get, IfOk, OnOk};
 ghost use Rattle.std.specs.Global.{Vec as TheVec};
 ghost use Rattle.circuit_model.specs.Names.{has};
-ghost use Rattle.circuit_model.specs.declared.circuit.Table.{Table as TheTable};
-ghost use Rattle.net_candidates.specs.declared.rule.Rule.{Rule as TheRule};
-ghost use Rattle.net_readers.specs.Readers.{is_in};
-ghost use Rattle.cover_names.specs.Literals.{NamedCover as TheCover};
+ghost use Rattle.circuit_model.specs.declared.circuit.Table.{Table};
+ghost use Rattle.net_candidates.specs.declared.rule.Rule.{Rule};
+ghost use Rattle.net_readers.specs.Fanouts.{is_in};
+ghost use Rattle.cover_names.specs.Literals.{NamedCover};
 ghost use Rattle.net_core.specs.Tables.{named};
 ghost use Rattle.net_work.specs.Placed.{Placed, table_at, with_slot, with_last};
 ghost use Rattle.net_savings.specs.Savings.{AreSavings};
@@ -16,18 +21,20 @@ use crate::owned::{OwnLists, taken};
 use circuit_model::Name;
 use cube_cover::Row;
 use indexmap::IndexSet;
-use net_core::Table;
-use net_work::Work;
+use net_core::CoverTable;
+use net_work::WorkingNetwork;
 use sis_base::Copied;
 use std::alloc::{AllocError, Global};
 
-/// What candidates save, and what has to be made anew of it; of which network, contracts say by `AreSavings`.
-pub struct KeptSavings {
+/// What candidates save, and what has to be made anew of it; of which network, contracts say by
+/// `AreSavings`.
+pub struct CandidateQueue {
     // What covers save, in order, and found by a name of each.
     pub(crate) ranked: RankedCovers,
     // What tables give by themselves, of those that are listed.
     pub(crate) own: OwnLists,
-    // The names that changed tables read or have read: what covers under them save is to be made anew.
+    // The names that changed tables read or have read: what covers under them save is to be made
+    // anew.
     pub(crate) touched: IndexSet<Name>,
     // The places whose tables are to be listed anew.
     pub(crate) fresh: Vec<usize>,
@@ -36,9 +43,9 @@ pub struct KeptSavings {
 }
 
 // By hand, so that letting it go is one call in the functions that own it.
-impl Drop for KeptSavings {
+impl Drop for CandidateQueue {
     fn drop(self) {
-        let KeptSavings {
+        let CandidateQueue {
             ranked: _ranked,
             own: _own,
             touched: _touched,
@@ -51,7 +58,8 @@ impl Drop for KeptSavings {
 // As many lists as places, none of which is known, and all places.
 fn unknown_lists(alloc: Global, count: usize) -> Result<(OwnLists, Vec<usize>), AllocError>
     ensures long { IfOk result (λ made. length made.0.items ≡ count) }
-    ensures none { IfOk result (λ made. (at : ℕ) (covers : TheVec TheCover) → slice_get made.0.items at ≡ Some (Some covers) → ⊥) }
+    ensures none { IfOk result (λ made. (at : ℕ) (covers : TheVec NamedCover)
+        → slice_get made.0.items at ≡ Some (Some covers) → ⊥) }
     ensures all { IfOk result (λ made. (at : ℕ) → at < count → is_in made.1.items at ≡ true) }
 {
     let mut lists = Vec::new(alloc);
@@ -65,7 +73,8 @@ fn unknown_lists(alloc: Global, count: usize) -> Result<(OwnLists, Vec<usize>), 
 
 // Puts names to others.
 fn push_names(alloc: Global, names: &mut IndexSet<Name>, more: &[Name]) -> Result<(), AllocError>
-    ensures { OnOk result ((name : List ℕ) → has names.new.keys name ≡ false → (has names.old.keys name ≡ false) × (has more.now name ≡ false)) }
+    ensures { OnOk result ((name : List ℕ) → has names.new.keys name ≡ false
+        → (has names.old.keys name ≡ false) × (has more.now name ≡ false)) }
 {
     for name in more {
         let _new = names.insert(name.copy(alloc)?)?;
@@ -73,13 +82,16 @@ fn push_names(alloc: Global, names: &mut IndexSet<Name>, more: &[Name]) -> Resul
     Ok(())
 }
 
-impl KeptSavings {
-    /// Nothing is known of a network: all places are fresh. An error only for want of memory.
-    pub fn begin<R: Row>(alloc: Global, work: &Work<R>) -> Result<KeptSavings, AllocError>
-        ensures { IfOk result (λ kept. (rule : TheRule) → AreSavings rule work.now kept) }
+impl CandidateQueue {
+    /// Nothing is known of a network: all places are fresh.
+    pub fn begin<R: Row>(
+        alloc: Global,
+        work: &WorkingNetwork<R>,
+    ) -> Result<CandidateQueue, AllocError>
+        ensures { IfOk result (λ kept. (rule : Rule) → AreSavings rule work.now kept) }
     {
         let (own, fresh) = unknown_lists(alloc, work.len())?;
-        Ok(KeptSavings {
+        Ok(CandidateQueue {
             ranked: RankedCovers::new(alloc),
             own,
             touched: IndexSet::new(alloc),
@@ -96,7 +108,9 @@ impl KeptSavings {
         before: &[Name],
         now: &[Name],
     ) -> Result<(), AllocError>
-        ensures { OnOk result ((rule : TheRule) (placed : Placed) (old new : TheTable) → table_at placed.slots place ≡ Some old → new.output ≡ old.output → before.now ≡ old.inputs → now.now ≡ new.inputs
+        ensures { OnOk result ((rule : Rule) (placed : Placed) (old new : Table)
+            → table_at placed.slots place ≡ Some old → new.output ≡ old.output → before.now
+            ≡ old.inputs → now.now ≡ new.inputs
             → AreSavings rule placed self.old → AreSavings rule (with_slot placed place (Some new)) self.new) }
     {
         push_names(alloc, &mut self.touched, before)?;
@@ -106,15 +120,17 @@ impl KeptSavings {
         Ok(())
     }
 
-    /// The table at a place of a network is about to change. An error only for want of memory; behind it anything may be kept.
+    /// The table at a place of a network is about to change. An error only for want of memory;
+    /// behind it anything may be kept.
     pub fn set<R: Row>(
         &mut self,
         alloc: Global,
-        work: &Work<R>,
+        work: &WorkingNetwork<R>,
         place: usize,
-        table: &Table<R>,
+        table: &CoverTable<R>,
     ) -> Result<(), AllocError>
-        ensures { OnOk result ((rule : TheRule) (old : TheTable) → table_at work.now.slots place ≡ Some old → AreSavings rule work.now self.old
+        ensures { OnOk result ((rule : Rule) (old : Table) → table_at work.now.slots place
+            ≡ Some old → AreSavings rule work.now self.old
             → AreSavings rule (with_slot work.now place (Some (named old.output table.now))) self.new) }
     {
         match work.entry(place) {
@@ -126,14 +142,17 @@ impl KeptSavings {
         }
     }
 
-    /// A table is about to come behind the last of a network. An error only for want of memory; behind it anything may be kept.
+    /// A table is about to come behind the last of a network. An error only for want of memory;
+    /// behind it anything may be kept.
     pub fn push<R: Row>(
         &mut self,
         alloc: Global,
-        work: &Work<R>,
-        table: &Table<R>,
+        work: &WorkingNetwork<R>,
+        table: &CoverTable<R>,
     ) -> Result<(), AllocError>
-        ensures { OnOk result ((rule : TheRule) (output : List ℕ) → AreSavings rule work.now self.old → AreSavings rule (with_last work.now (named output table.now)) self.new) }
+        ensures { OnOk result ((rule : Rule) (output : List ℕ)
+            → AreSavings rule work.now self.old → AreSavings rule
+            (with_last work.now (named output table.now)) self.new) }
     {
         push_names(alloc, &mut self.touched, table.inputs.as_slice())?;
         self.own.push(None)?;

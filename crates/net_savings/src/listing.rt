@@ -1,8 +1,9 @@
-//! Tables are listed: what a table gives by itself, and together with the tables that were listed before.
+//! Tables are listed: what a table gives by itself, and together with the tables that were listed
+//! before.
 
 ghost use Rattle.std.specs.Prelude.{◌≡◌, ℕ, ◌<◌, true, List, length, IfErr, OnOk};
 ghost use Rattle.circuit_model.specs.Soundness.{IsSound};
-ghost use Rattle.net_readers.specs.Readers.{is_in};
+ghost use Rattle.net_readers.specs.Fanouts.{is_in};
 ghost use Rattle.net_core.specs.Fresh.{IsNewName};
 ghost use Rattle.net_work.specs.Placed.{circuit_of};
 ghost use Rattle.net_savings.specs.Listing.{IsListed, IsUnlisted};
@@ -17,13 +18,13 @@ use crate::sharing::shared_here;
 use circuit_model::Name;
 use cube_cover::Row;
 use net_candidates::Rule;
-use net_work::Work;
+use net_work::WorkingNetwork;
 use std::alloc::Global;
 
 // What the table at a place gives is listed, unless it is, and what that saves is noted.
 fn list_place<R: Row>(
     alloc: Global,
-    work: &Work<R>,
+    work: &WorkingNetwork<R>,
     rule: Rule,
     name: &Name,
     ranked: &mut RankedCovers,
@@ -49,11 +50,11 @@ fn list_place<R: Row>(
     Ok(())
 }
 
-/// What the tables at places give is listed, and what that saves is noted. `ManyKernels` with the name of the first table that has too many
-/// kernels; else an error is want of memory.
+/// What the tables at places give is listed, and what that saves is noted. `ManyKernels` with the
+/// name of the first table that has too many kernels.
 pub(crate) fn list_places<R: Row>(
     alloc: Global,
-    work: &Work<R>,
+    work: &WorkingNetwork<R>,
     rule: Rule,
     name: &Name,
     ranked: &mut RankedCovers,
@@ -65,7 +66,8 @@ pub(crate) fn list_places<R: Row>(
     requires known { AreTrue rule work.now ranked.old own.old.items }
     ensures known { OnOk result (AreTrue rule work.now ranked.new own.new.items) }
     ensures stays { OnOk result ((at : ℕ) → IsListed own.old.items at → IsListed own.new.items at) }
-    ensures listed { OnOk result ((at : ℕ) → is_in places.now at ≡ true → at < length work.now.slots → IsListed own.new.items at) }
+    ensures listed { OnOk result ((at : ℕ) → is_in places.now at ≡ true → at < length work.now.slots
+        → IsListed own.new.items at) }
     ensures stopped { IfErr result (IsUnlisted rule (circuit_of work.now)) }
 {
     for place in places {

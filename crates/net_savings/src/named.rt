@@ -1,11 +1,13 @@
-//! Covers in lists, each list under a name.
+//! Lists of covers, each list under a name.
+//!
+//! A cover is appended to the list under its name, and no cover leaves a list.
 
 ghost use Rattle.std.specs.Prelude.{◌≡◌, ◌++◌, ◌∷◌, ◌&&◌, [], List, ℕ, bytes_eq, if◌then◌else◌, OnOk};
 ghost use Rattle.indexmap.specs.IndexMap.{get};
 ghost use Rattle.net_savings.specs.Ranking.{listed};
 
+use crate::ordered::OrderedCover;
 use circuit_model::Name;
-use cover_names::NamedCover;
 use indexmap::IndexMap;
 use sis_base::{Copied, Sequence};
 use std::alloc::{AllocError, Global};
@@ -13,9 +15,9 @@ use std::alloc::{AllocError, Global};
 // Puts a cover behind those under a name.
 fn put_under(
     alloc: Global,
-    lists: &mut IndexMap<Name, Sequence<NamedCover>>,
+    lists: &mut IndexMap<Name, Sequence<OrderedCover>>,
     name: &Name,
-    cover: NamedCover,
+    cover: OrderedCover,
 ) -> Result<(), AllocError>
     ensures { OnOk result ((other : List ℕ) → listed (get bytes_eq lists.new other)
         ≡ (if bytes_eq name.now other then listed (get bytes_eq lists.old other) ++ cover ∷ [] else listed (get bytes_eq lists.old other))) }
@@ -31,12 +33,12 @@ fn put_under(
     Ok(())
 }
 
-/// Puts a cover behind those under a name, if it is new; an error only for want of memory.
+/// Puts a cover behind those under a name, if it is new.
 pub(crate) fn list_new(
     alloc: Global,
-    lists: &mut IndexMap<Name, Sequence<NamedCover>>,
+    lists: &mut IndexMap<Name, Sequence<OrderedCover>>,
     name: &Name,
-    cover: &NamedCover,
+    cover: &OrderedCover,
     is_new: bool,
 ) -> Result<(), AllocError>
     ensures { OnOk result ((other : List ℕ) → listed (get bytes_eq lists.new other)

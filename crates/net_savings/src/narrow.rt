@@ -1,4 +1,8 @@
-//! Whether a cover leaves all tables narrow: its own, and those that are divided by it.
+//! Whether a cover fits the limit of inputs: neither its table nor a table divided by it exceeds
+//! `MAX_INPUTS`.
+//!
+//! Division adds at most one input, so only tables that have `MAX_INPUTS` inputs or more are
+//! divided for the test. Callers rely on `LeavesNarrow`.
 
 ghost use Rattle.std.specs.Prelude.{◌≤◌, ◌↔◌, IfOk, IsTrue};
 ghost use Rattle.std.specs.List.{AllByRecursion};
@@ -12,23 +16,24 @@ use alg_tables::cover_table;
 use circuit_model::Name;
 use cover_names::Cube;
 use cube_cover::Row;
-use net_core::Table;
-use net_work::Work;
+use net_core::CoverTable;
+use net_work::WorkingNetwork;
 use sis_base::limits::MAX_INPUTS;
 use std::alloc::{AllocError, Global};
 
-// Whether the table at a place stays or becomes narrow, if one stands there. Division adds one input at most, so that only a table that
-// has as many as may be is divided to see it.
+// Whether the table at a place stays or becomes narrow, if one stands there. Division adds one
+// input at most, so that only a table that has as many as may be is divided to see it.
 fn is_narrow_at<R: Row>(
     alloc: Global,
-    work: &Work<R>,
+    work: &WorkingNetwork<R>,
     name: &Name,
     cover: &[Cube],
     place: usize,
 ) -> Result<bool, AllocError>
     requires sound { IsSound (circuit_of work.now) }
     requires free { IsNewName (circuit_of work.now) name.now }
-    ensures { IfOk result (λ narrow. IsTrue narrow ↔ IsNarrowIn name.now cover.now (table_at work.now.slots place)) }
+    ensures { IfOk result (λ narrow. IsTrue narrow ↔ IsNarrowIn name.now cover.now
+        (table_at work.now.slots place)) }
 {
     match work.entry(place) {
         None => Ok(true),
@@ -46,14 +51,15 @@ fn is_narrow_at<R: Row>(
 // Whether all tables at some places stay or become narrow.
 fn are_narrow_at<R: Row>(
     alloc: Global,
-    work: &Work<R>,
+    work: &WorkingNetwork<R>,
     name: &Name,
     cover: &[Cube],
     places: &[usize],
 ) -> Result<bool, AllocError>
     requires sound { IsSound (circuit_of work.now) }
     requires free { IsNewName (circuit_of work.now) name.now }
-    ensures { IfOk result (λ narrow. IsTrue narrow ↔ AllByRecursion (λ place. IsNarrowIn name.now cover.now (table_at work.now.slots place)) places.now) }
+    ensures { IfOk result (λ narrow. IsTrue narrow ↔ AllByRecursion
+        (λ place. IsNarrowIn name.now cover.now (table_at work.now.slots place)) places.now) }
 {
     for place in places {
         if !is_narrow_at(alloc, work, name, cover, *place)? {
@@ -64,20 +70,20 @@ fn are_narrow_at<R: Row>(
 }
 
 /// Whether a cover that is extracted under a new name leaves all tables narrow: none that it adds
-/// or changes has more than `MAX_INPUTS` inputs then. An
-/// error only for want of memory.
-pub fn leaves_narrow<R: Row>(
+/// or changes has more than `MAX_INPUTS` inputs then.
+pub fn fits_input_limit<R: Row>(
     alloc: Global,
-    work: &Work<R>,
+    work: &WorkingNetwork<R>,
     name: &Name,
     cover: &[Cube],
 ) -> Result<bool, AllocError>
     requires sound { IsSound (circuit_of work.now) }
     requires free { IsNewName (circuit_of work.now) name.now }
     requires some { 1 ≤ literals_in cover.now }
-    ensures { IfOk result (λ narrow. IsTrue narrow ↔ LeavesNarrow (standing work.now.slots) name.now cover.now) }
+    ensures { IfOk result (λ narrow. IsTrue narrow ↔ LeavesNarrow
+        (standing work.now.slots) name.now cover.now) }
 {
-    let table: Table<R> = cover_table(alloc, cover)?;
+    let table: CoverTable<R> = cover_table(alloc, cover)?;
     if MAX_INPUTS < table.inputs.len() {
         return Ok(false);
     }

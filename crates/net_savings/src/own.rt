@@ -1,4 +1,7 @@
-//! What tables give by themselves.
+//! The candidates that the table at an index gives by itself, of a network at work.
+//!
+//! Callers rely on `AreOwn`: exactly these candidates, none where there is no table. `ManyKernels`
+//! names the first table of the network that has too many kernels, whichever index was asked for.
 
 ghost use Rattle.std.specs.Prelude.{◌≡◌, IfOk, IfErr};
 ghost use Rattle.std.specs.List.{AllByRecursion};
@@ -13,7 +16,7 @@ use cover_names::NamedCover;
 use cube_cover::Row;
 use net_candidates::{ListFault, Rule, own_candidates};
 use net_core::Entry;
-use net_work::Work;
+use net_work::WorkingNetwork;
 use sis_base::Copied;
 use std::alloc::Global;
 
@@ -40,7 +43,7 @@ fn own_of<R: Row>(
 // What the table at a place gives by itself.
 fn own_at<R: Row>(
     alloc: Global,
-    work: &Work<R>,
+    work: &WorkingNetwork<R>,
     rule: Rule,
     place: usize,
 ) -> Result<Vec<NamedCover>, SavingsFault>
@@ -54,7 +57,7 @@ fn own_at<R: Row>(
 }
 
 // The first table with too many kernels, where there is one; or want of memory.
-fn first_many<R: Row>(alloc: Global, work: &Work<R>, rule: Rule) -> SavingsFault
+fn first_many<R: Row>(alloc: Global, work: &WorkingNetwork<R>, rule: Rule) -> SavingsFault
     requires { AllByRecursion (IsListable rule) (standing work.now.slots) → ⊥ }
     ensures { IsUnlisted rule (circuit_of work.now) result }
 {
@@ -67,10 +70,11 @@ fn first_many<R: Row>(alloc: Global, work: &Work<R>, rule: Rule) -> SavingsFault
     unreachable!()
 }
 
-/// What the table at a place gives by itself; `ManyKernels` with the name of the first table of all that has too many kernels.
+/// What the table at a place gives by itself; `ManyKernels` with the name of the first table of all
+/// that has too many kernels.
 pub(crate) fn own_made<R: Row>(
     alloc: Global,
-    work: &Work<R>,
+    work: &WorkingNetwork<R>,
     rule: Rule,
     place: usize,
 ) -> Result<Vec<NamedCover>, SavingsFault>

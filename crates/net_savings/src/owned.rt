@@ -1,4 +1,6 @@
-//! What tables give by themselves, place by place, where it is known.
+//! The candidates that tables give by themselves, listed by index, where they are known.
+//!
+//! An entry without a list is unknown, not empty: it is to be listed again.
 
 ghost use Rattle.std.specs.Prelude.{◌≡◌, ◌↔◌, Some, None, slice_get, slice_set, IsTrue, IfSome};
 ghost use Rattle.net_savings.specs.Listing.{IsListed};

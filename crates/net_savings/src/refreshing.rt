@@ -1,4 +1,7 @@
-//! What candidates save, made anew where changes touched it.
+//! Brings the savings of candidates up to date after changes of the network.
+//!
+//! Covers found under a touched name get their saving anew, and fresh tables are listed anew.
+//! Callers rely on no name being touched and no table fresh afterwards.
 
 ghost use Rattle.std.specs.Prelude.{◌≡◌, [], IfErr, OnOk};
 ghost use Rattle.circuit_model.specs.Soundness.{IsSound};
@@ -8,25 +11,28 @@ ghost use Rattle.net_savings.specs.Listing.{IsUnlisted};
 ghost use Rattle.net_savings.specs.Savings.{AreSavings};
 
 use crate::fault::SavingsFault;
-use crate::kept::KeptSavings;
+use crate::kept::CandidateQueue;
 use crate::listing::list_places;
 use crate::renewing::renew_touched;
 use circuit_model::Name;
 use cube_cover::Row;
 use indexmap::IndexSet;
 use net_candidates::Rule;
-use net_work::Work;
+use net_work::WorkingNetwork;
 use std::alloc::Global;
 use std::mem;
 
-/// All that changes touched is made anew. `ManyKernels` with the name of the first table that has too many kernels; else an error is want
-/// of memory.
+/// So many covers that no table gives any more are always let be.
+const STALE_COVERS: usize = 100;
+
+/// All that changes touched is made anew. `ManyKernels` with the name of the first table that has
+/// too many kernels.
 pub(crate) fn refresh<R: Row>(
     alloc: Global,
-    work: &Work<R>,
+    work: &WorkingNetwork<R>,
     rule: Rule,
     name: &Name,
-    kept: &mut KeptSavings,
+    kept: &mut CandidateQueue,
 ) -> Result<(), SavingsFault>
     requires sound { IsSound (circuit_of work.now) }
     requires free { IsNewName (circuit_of work.now) name.now }
@@ -47,5 +53,10 @@ pub(crate) fn refresh<R: Row>(
         &mut kept.ranked,
         &mut kept.own,
         fresh.as_slice(),
-    )
+    )?;
+    // so many as are known at the beginning, a quarter more, and some
+    let known = kept.ranked.len();
+    let bound = known.saturating_add(known / 4).saturating_add(STALE_COVERS);
+    kept.bound = kept.bound.min(bound);
+    Ok(())
 }

@@ -1,38 +1,39 @@
-//! What covers save is noted: anew, where changes touched it, and where it was not known.
+//! Computes and notes what covers save: anew under touched names, and for covers that are not
+//! known.
+//!
+//! A cover is found under the name of its literals that fewest tables read, as of when it was first
+//! noted. Callers rely on `IsGrown`: what was noted right stays right, and what was noted stays
+//! noted. The name for the new signal is given; a saving is the same under any name that no signal
+//! has.
 
 ghost use Rattle.std.specs.Prelude.{◌≡◌, ℕ, ◌≤◌, true, List, IfOk, OnOk};
 ghost use Rattle.circuit_model.specs.Names.{has};
 ghost use Rattle.circuit_model.specs.Soundness.{IsSound};
 ghost use Rattle.alg_div.specs.Cubes.{Has};
-ghost use Rattle.cover_names.specs.Literals.{NamedCover as TheCover};
+ghost use Rattle.cover_names.specs.Literals.{NamedCover};
 ghost use Rattle.net_core.specs.Fresh.{IsNewName};
 ghost use Rattle.net_work.specs.Placed.{circuit_of};
-ghost use Rattle.net_savings.specs.Ranking.{saving_in, covers_under, saved};
+ghost use Rattle.net_savings.specs.Ranking.{saving_in, covers_under};
 ghost use Rattle.net_savings.specs.Saving.{literals_in};
 ghost use Rattle.net_savings.specs.Savings.{IsRight, IsNoted, AreFound, IsGrown};
 
 use crate::covers::RankedCovers;
+use crate::ordered::OrderedCover;
 use crate::saving::{rarest_name, saving_of};
 use circuit_model::Name;
 use cover_names::NamedCover;
 use cube_cover::Row;
-use net_work::Work;
+use net_work::WorkingNetwork;
+use sis_base::Copied;
 use std::alloc::{AllocError, Global};
-
-// A number, 0 where there is none.
-fn number_of(saving: Option<u128>) -> u128
-    ensures { result ≡ saved saving }
-{
-    saving.unwrap_or(0)
-}
 
 // What a cover saves is noted, under a name of it where it is not known yet.
 fn renew<R: Row>(
     alloc: Global,
-    work: &Work<R>,
+    work: &WorkingNetwork<R>,
     name: &Name,
     ranked: &mut RankedCovers,
-    cover: &NamedCover,
+    cover: &OrderedCover,
 ) -> Result<(), AllocError>
     requires sound { IsSound (circuit_of work.now) }
     requires free { IsNewName (circuit_of work.now) name.now }
@@ -41,40 +42,21 @@ fn renew<R: Row>(
     ensures right { OnOk result (IsRight work.now (saving_in ranked.new) cover.now) }
     ensures noted { OnOk result (IsNoted (saving_in ranked.new) cover.now) }
 {
-    let saving = saving_of(alloc, work, name, cover.as_slice())?;
-    match rarest_name(work, cover.as_slice()) {
+    let cubes = cover.get().as_slice();
+    let saving = saving_of(alloc, work, name, cubes)?;
+    match rarest_name(work, cubes) {
         None => unreachable!(),
         Some(found) => {
-            ranked.set(alloc, cover, found, number_of(saving))?;
+            ranked.set(alloc, cover, found, saving.unwrap_or(0))?;
             Ok(())
         }
     }
 }
 
-// What covers save is noted anew.
-fn renew_all<R: Row>(
-    alloc: Global,
-    work: &Work<R>,
-    name: &Name,
-    ranked: &mut RankedCovers,
-    covers: &[NamedCover],
-) -> Result<(), AllocError>
-    requires sound { IsSound (circuit_of work.now) }
-    requires free { IsNewName (circuit_of work.now) name.now }
-    requires some { (cover : TheCover) → Has cover covers.now → 1 ≤ literals_in cover }
-    ensures grown { OnOk result (IsGrown work.now ranked.old ranked.new) }
-    ensures right { OnOk result ((cover : TheCover) → Has cover covers.now → IsRight work.now (saving_in ranked.new) cover) }
-{
-    for cover in covers {
-        renew(alloc, work, name, ranked, cover)?;
-    }
-    Ok(())
-}
-
 // What the covers under a name save is noted anew.
 fn renew_under<R: Row>(
     alloc: Global,
-    work: &Work<R>,
+    work: &WorkingNetwork<R>,
     name: &Name,
     ranked: &mut RankedCovers,
     touched: &Name,
@@ -83,17 +65,20 @@ fn renew_under<R: Row>(
     requires free { IsNewName (circuit_of work.now) name.now }
     requires found { AreFound (saving_in ranked.old) (covers_under ranked.old) }
     ensures grown { OnOk result (IsGrown work.now ranked.old ranked.new) }
-    ensures right { OnOk result ((cover : TheCover) → Has cover (covers_under ranked.new touched.now) → IsRight work.now (saving_in ranked.new) cover) }
+    ensures right { OnOk result ((cover : NamedCover) → Has cover
+        (covers_under ranked.new touched.now) → IsRight work.now (saving_in ranked.new) cover) }
 {
     let covers = ranked.under(alloc, touched)?;
-    renew_all(alloc, work, name, ranked, covers.as_slice())?;
+    for cover in &covers {
+        renew(alloc, work, name, ranked, cover)?;
+    }
     Ok(())
 }
 
-/// What the covers under names save is noted anew; an error only for want of memory.
+/// What the covers under names save is noted anew.
 pub(crate) fn renew_touched<R: Row>(
     alloc: Global,
-    work: &Work<R>,
+    work: &WorkingNetwork<R>,
     name: &Name,
     ranked: &mut RankedCovers,
     touched: &[Name],
@@ -102,7 +87,8 @@ pub(crate) fn renew_touched<R: Row>(
     requires free { IsNewName (circuit_of work.now) name.now }
     requires found { AreFound (saving_in ranked.old) (covers_under ranked.old) }
     ensures grown { OnOk result (IsGrown work.now ranked.old ranked.new) }
-    ensures right { OnOk result ((under : List ℕ) (cover : TheCover) → has touched.now under ≡ true → Has cover (covers_under ranked.new under) → IsRight work.now (saving_in ranked.new) cover) }
+    ensures right { OnOk result ((under : List ℕ) (cover : NamedCover) → has touched.now under ≡ true
+        → Has cover (covers_under ranked.new under) → IsRight work.now (saving_in ranked.new) cover) }
 {
     for one in touched {
         renew_under(alloc, work, name, ranked, one)?;
@@ -113,7 +99,7 @@ pub(crate) fn renew_touched<R: Row>(
 // What a cover saves is noted, unless it is.
 fn note<R: Row>(
     alloc: Global,
-    work: &Work<R>,
+    work: &WorkingNetwork<R>,
     name: &Name,
     ranked: &mut RankedCovers,
     cover: &NamedCover,
@@ -124,25 +110,27 @@ fn note<R: Row>(
     ensures grown { OnOk result (IsGrown work.now ranked.old ranked.new) }
     ensures noted { OnOk result (IsNoted (saving_in ranked.new) cover.now) }
 {
-    match ranked.saving(cover) {
+    let ordered = OrderedCover::new(cover.copy(alloc)?);
+    match ranked.saving(&ordered) {
         Some(_saving) => Ok(()),
-        None => renew(alloc, work, name, ranked, cover),
+        None => renew(alloc, work, name, ranked, &ordered),
     }
 }
 
-/// What covers save is noted, of those of which nothing is noted yet; an error only for want of memory.
+/// What covers save is noted, of those of which nothing is noted yet.
 pub(crate) fn note_all<R: Row>(
     alloc: Global,
-    work: &Work<R>,
+    work: &WorkingNetwork<R>,
     name: &Name,
     ranked: &mut RankedCovers,
     covers: &[NamedCover],
 ) -> Result<(), AllocError>
     requires sound { IsSound (circuit_of work.now) }
     requires free { IsNewName (circuit_of work.now) name.now }
-    requires some { (cover : TheCover) → Has cover covers.now → 1 ≤ literals_in cover }
+    requires some { (cover : NamedCover) → Has cover covers.now → 1 ≤ literals_in cover }
     ensures grown { OnOk result (IsGrown work.now ranked.old ranked.new) }
-    ensures noted { OnOk result ((cover : TheCover) → Has cover covers.now → IsNoted (saving_in ranked.new) cover) }
+    ensures noted { OnOk result ((cover : NamedCover) → Has cover covers.now → IsNoted
+        (saving_in ranked.new) cover) }
 {
     for cover in covers {
         note(alloc, work, name, ranked, cover)?;

@@ -1,12 +1,19 @@
-//! The best candidate of a network by the savings that are kept.
+//! The best candidate of a network, by savings that are kept from step to step.
+//!
+//! First the savings that changes touched are brought up to date; then the covers that save are
+//! searched, best first, for one that is still a candidate. Covers that no table gives any more are
+//! kept until there are too many of them. Callers rely on `AreSavings` after a call, on the best
+//! candidate exactly (`IsNext`), on none exactly if extraction is done, and on `ManyKernels` with
+//! the first table that has too many kernels.
 
 ghost use Rattle.std.specs.Prelude.{◌≡◌, ◌↔◌, ℕ, ◌≤◌, true, Some, [], slice_get, IsTrue, IfOk, IfErr, OnOk, MatchOption};
 ghost use Rattle.std.specs.List.{list_any};
 ghost use Rattle.circuit_model.specs.Soundness.{IsSound};
-ghost use Rattle.circuit_model.specs.declared.circuit.Table.{Table as TheTable};
+ghost use Rattle.circuit_model.specs.declared.circuit.Table.{Table};
 ghost use Rattle.net_candidates.specs.Candidates.{IsCandidate};
 ghost use Rattle.net_candidates.specs.Extracting.{IsNext, IsDone};
-ghost use Rattle.net_readers.specs.Readers.{is_in};
+ghost use Rattle.net_candidates.specs.declared.rule.Rule.{Rule};
+ghost use Rattle.net_readers.specs.Fanouts.{is_in};
 ghost use Rattle.net_core.specs.Fresh.{IsNewName};
 ghost use Rattle.net_work.specs.Placed.{standing, circuit_of, table_at};
 ghost use Rattle.net_savings.specs.Orders.{cover_eq};
@@ -15,7 +22,7 @@ ghost use Rattle.net_savings.specs.Saving.{literals_in};
 ghost use Rattle.net_savings.specs.Savings.{held, held_at, IsIn, AreSavings};
 
 use crate::fault::SavingsFault;
-use crate::kept::KeptSavings;
+use crate::kept::CandidateQueue;
 use crate::owned::OwnLists;
 use crate::refreshing::refresh;
 use crate::saving::places_for;
@@ -24,12 +31,9 @@ use circuit_model::Name;
 use cover_names::NamedCover;
 use cube_cover::Row;
 use net_candidates::Rule;
-use net_work::Work;
+use net_work::WorkingNetwork;
 use sis_base::Copied;
 use std::alloc::{AllocError, Global};
-
-/// So many covers that no table gives any more are always let be.
-const STALE_COVERS: usize = 100;
 
 // Whether a cover is among covers.
 fn is_among(covers: &[NamedCover], cover: &NamedCover) -> bool
@@ -60,7 +64,8 @@ fn is_held(own: &OwnLists, place: usize, cover: &NamedCover) -> bool
 
 // Whether a cover stands in a list at one of some places.
 fn is_held_at(own: &OwnLists, places: &[usize], cover: &NamedCover) -> bool
-    ensures { IsTrue result ↔ ((place : ℕ) × (is_in places.now place ≡ true) × IsIn own.now.items place cover.now) }
+    ensures { IsTrue result ↔ ((place : ℕ) × (is_in places.now place ≡ true)
+        × IsIn own.now.items place cover.now) }
 {
     for place in places {
         if is_held(own, *place, cover) {
@@ -73,7 +78,7 @@ fn is_held_at(own: &OwnLists, places: &[usize], cover: &NamedCover) -> bool
 // Whether a cover is a candidate, where all tables are listed.
 fn is_candidate<R: Row>(
     alloc: Global,
-    work: &Work<R>,
+    work: &WorkingNetwork<R>,
     rule: Rule,
     own: &OwnLists,
     cover: &NamedCover,
@@ -81,7 +86,8 @@ fn is_candidate<R: Row>(
     requires sound { IsSound (circuit_of work.now) }
     requires some { 1 ≤ literals_in cover.now }
     requires kept { AreKept rule work.now.slots own.now.items }
-    requires listed { (place : ℕ) (table : TheTable) → table_at work.now.slots place ≡ Some table → IsListed own.now.items place }
+    requires listed { (place : ℕ) (table : Table) → table_at work.now.slots place ≡ Some table
+        → IsListed own.now.items place }
     ensures { IfOk result (λ is. IsTrue is ↔ IsCandidate rule (standing work.now.slots) cover.now) }
 {
     let places = places_for(alloc, work, cover.as_slice())?;
@@ -94,72 +100,65 @@ fn is_candidate<R: Row>(
 // The first of the ranking that is a candidate, where all is made anew.
 fn first_saved<R: Row>(
     alloc: Global,
-    work: &Work<R>,
+    work: &WorkingNetwork<R>,
     rule: Rule,
     name: &Name,
-    kept: &KeptSavings,
+    kept: &CandidateQueue,
 ) -> Result<Option<NamedCover>, AllocError>
     requires sound { IsSound (circuit_of work.now) }
     requires free { IsNewName (circuit_of work.now) name.now }
     requires savings { AreSavings rule work.now kept.now }
     requires touched { kept.now.touched.keys ≡ [] }
     requires fresh { kept.now.fresh.items ≡ [] }
-    ensures { IfOk result (λ found. MatchOption found (IsDone rule (circuit_of work.now)) (IsNext rule (circuit_of work.now) name.now)) }
+    ensures { IfOk result (λ found. MatchOption found (IsDone rule (circuit_of work.now))
+        (IsNext rule (circuit_of work.now) name.now)) }
 {
     for ranked in kept.ranked.ranking() {
-        if is_candidate(alloc, work, rule, &kept.own, &ranked.cover)? {
-            return Ok(Some(ranked.cover.copy(alloc)?));
+        let cover = ranked.1.get();
+        if is_candidate(alloc, work, rule, &kept.own, cover)? {
+            return Ok(Some(cover.copy(alloc)?));
         }
     }
     Ok(None)
 }
 
-// All that changes touched is made anew; or all is, where so many covers are known that many may be given by no table any more. So what is done
-// for such covers is no more than a part of what is done for the others; no clause says so.
-fn renew_savings<R: Row>(
+// All is begun anew where so many covers are known that many may be given by no table any more. So
+// what is done for such covers is no more than a part of what is done for the others; no clause
+// says so.
+fn begin_where_stale<R: Row>(
     alloc: Global,
-    work: &Work<R>,
-    rule: Rule,
-    name: &Name,
-    kept: &mut KeptSavings,
-) -> Result<(), SavingsFault>
-    requires sound { IsSound (circuit_of work.now) }
-    requires free { IsNewName (circuit_of work.now) name.now }
-    requires savings { AreSavings rule work.now kept.old }
-    ensures savings { OnOk result (AreSavings rule work.now kept.new) }
-    ensures touched { OnOk result (kept.new.touched.keys ≡ []) }
-    ensures fresh { OnOk result (kept.new.fresh.items ≡ []) }
-    ensures stopped { IfErr result (IsUnlisted rule (circuit_of work.now)) }
+    work: &WorkingNetwork<R>,
+    kept: &mut CandidateQueue,
+) -> Result<(), AllocError>
+    ensures { OnOk result ((rule : Rule) → AreSavings rule work.now kept.old
+        → AreSavings rule work.now kept.new) }
 {
     if kept.bound < kept.ranked.len() {
-        *kept = KeptSavings::begin(alloc, work)?;
+        *kept = CandidateQueue::begin(alloc, work)?;
     }
-    refresh(alloc, work, rule, name, kept)?;
-    // so many as are known at the beginning, a quarter more, and some
-    let known = kept.ranked.len();
-    let bound = known.saturating_add(known / 4).saturating_add(STALE_COVERS);
-    kept.bound = kept.bound.min(bound);
     Ok(())
 }
 
-/// The best candidate of a network by a rule, under a new name: all that changes touched is made anew, and the first of the ranking is taken
-/// that is a candidate still; none where none saves a literal. `ManyKernels` with the name of the first table that has too many kernels; else
-/// an error is want of memory.
+/// The best candidate of a network by a rule, under a new name: all that changes touched is made
+/// anew, and the first of the ranking is taken that is a candidate still; none where none saves a
+/// literal. `ManyKernels` with the name of the first table that has too many kernels.
 pub fn best_saved<R: Row>(
     alloc: Global,
-    work: &Work<R>,
+    work: &WorkingNetwork<R>,
     rule: Rule,
     name: &Name,
-    kept: &mut KeptSavings,
+    kept: &mut CandidateQueue,
 ) -> Result<Option<NamedCover>, SavingsFault>
     requires sound { IsSound (circuit_of work.now) }
     requires free { IsNewName (circuit_of work.now) name.now }
     requires savings { AreSavings rule work.now kept.old }
     ensures savings { OnOk result (AreSavings rule work.now kept.new) }
-    ensures found { IfOk result (λ found. MatchOption found (IsDone rule (circuit_of work.now)) (IsNext rule (circuit_of work.now) name.now)) }
+    ensures found { IfOk result (λ found. MatchOption found (IsDone rule (circuit_of work.now))
+        (IsNext rule (circuit_of work.now) name.now)) }
     ensures stopped { IfErr result (IsUnlisted rule (circuit_of work.now)) }
 {
-    renew_savings(alloc, work, rule, name, kept)?;
+    begin_where_stale(alloc, work, kept)?;
+    refresh(alloc, work, rule, name, kept)?;
     let found = first_saved(alloc, work, rule, name, kept)?;
     Ok(found)
 }

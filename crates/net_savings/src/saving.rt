@@ -1,15 +1,21 @@
-//! What a candidate saves: what the tables that can be divided by it lose, without the literals of
-//! its own table.
+//! What a candidate saves: the literals that its dividends lose, less the literals of its own
+//! table.
+//!
+//! Source: Brayton, Rudell, Sangiovanni-Vincentelli and Wang, "MIS: A Multiple-Level Logic
+//! Optimization System" (1987): the value of a divisor is the literals that it saves. A table can
+//! be divided only if it reads all names of the cover, so only fanouts of one of them, the one with
+//! the fewest, are divided. Callers rely on `IsSaved`: the exact number, and none exactly if
+//! nothing is saved or a table would have more than `MAX_INPUTS` inputs.
 
 ghost use Rattle.std.specs.Prelude.{◌≡◌, ℕ, ◌+◌, ◌-◌, ◌≤◌, ◌<◌, ltb, ◌&&◌, ◌⊎◌, true, false, Option, Some, List, length, IfOk, MatchOption};
 ghost use Rattle.std.specs.List.Sorted.{IsStrictlyIncreasing};
 ghost use Rattle.circuit_model.specs.Names.{has, all_different};
 ghost use Rattle.circuit_model.specs.Soundness.{IsSound};
-ghost use Rattle.circuit_model.specs.declared.circuit.Table.{Table as TheTable};
+ghost use Rattle.circuit_model.specs.declared.circuit.Table.{Table};
 ghost use Rattle.alg_div.specs.Cubes.{Has};
-ghost use Rattle.net_readers.specs.Readers.{is_in};
+ghost use Rattle.net_readers.specs.Fanouts.{is_in};
 ghost use Rattle.cover_names.specs.Cubes.{is_over, names_in};
-ghost use Rattle.cover_names.specs.declared.literal.Literal.{Literal as TheLiteral};
+ghost use Rattle.cover_names.specs.declared.literal.Literal.{Literal};
 ghost use Rattle.net_core.specs.Fresh.{IsNewName};
 ghost use Rattle.net_core.specs.Tables.{named, IsOverInputs};
 ghost use Rattle.net_work.specs.Placed.{standing, circuit_of, table_at};
@@ -19,8 +25,8 @@ use alg_tables::{cover_table, divided_table};
 use circuit_model::Name;
 use cover_names::{Cube, Literal};
 use cube_cover::Row;
-use net_core::Table;
-use net_work::{Work, literal_count};
+use net_core::CoverTable;
+use net_work::{WorkingNetwork, literal_count};
 use sis_base::limits::MAX_INPUTS;
 use std::alloc::{AllocError, Global};
 
@@ -45,7 +51,7 @@ fn first_name(cover: &[Cube]) -> Option<&Name>
 }
 
 // The one of two names that fewer tables read, the second where as many do.
-fn rarer<'a, R: Row>(work: &Work<R>, one: &'a Name, other: &'a Name) -> &'a Name
+fn rarer<'a, R: Row>(work: &WorkingNetwork<R>, one: &'a Name, other: &'a Name) -> &'a Name
     ensures { (result.now ≡ one.now) ⊎ (result.now ≡ other.now) }
 {
     if work.reader_count(one) < work.reader_count(other) {
@@ -56,9 +62,9 @@ fn rarer<'a, R: Row>(work: &Work<R>, one: &'a Name, other: &'a Name) -> &'a Name
 }
 
 // Of a name and those of a cube's literals the one that fewest tables read.
-fn rarest_in<'a, R: Row>(work: &Work<R>, cube: &'a [Literal], name: &'a Name) -> &'a Name
+fn rarest_in<'a, R: Row>(work: &WorkingNetwork<R>, cube: &'a [Literal], name: &'a Name) -> &'a Name
     ensures { (result.now ≡ name.now)
-        ⊎ ((literal : TheLiteral) × Has literal cube.now × (literal.name ≡ result.now)) }
+        ⊎ ((literal : Literal) × Has literal cube.now × (literal.name ≡ result.now)) }
 {
     let mut rarest = name;
     for literal in cube {
@@ -68,7 +74,10 @@ fn rarest_in<'a, R: Row>(work: &Work<R>, cube: &'a [Literal], name: &'a Name) ->
 }
 
 /// The name of a cover's literals that fewest tables read.
-pub(crate) fn rarest_name<'a, R: Row>(work: &Work<R>, cover: &'a [Cube]) -> Option<&'a Name>
+pub(crate) fn rarest_name<'a, R: Row>(
+    work: &WorkingNetwork<R>,
+    cover: &'a [Cube],
+) -> Option<&'a Name>
     ensures { MatchOption result (literals_in cover.now ≡ 0)
         (λ name. has (names_in cover.now) name.now ≡ true) }
 {
@@ -80,17 +89,17 @@ pub(crate) fn rarest_name<'a, R: Row>(work: &Work<R>, cover: &'a [Cube]) -> Opti
 }
 
 /// Places of the network, each once, in rising order, among which are those of all tables that read
-/// all that a cover reads; an error only for want of memory.
+/// all that a cover reads.
 pub fn places_for<R: Row>(
     alloc: Global,
-    work: &Work<R>,
+    work: &WorkingNetwork<R>,
     cover: &[Cube],
 ) -> Result<Vec<usize>, AllocError>
     requires { 1 ≤ literals_in cover.now }
     ensures rising { IfOk result (λ places. IsStrictlyIncreasing places.items) }
     ensures within { IfOk result (λ places. (at : ℕ) → is_in places.items at ≡ true
         → at < length work.now.slots) }
-    ensures all { IfOk result (λ places. (at : ℕ) (table : TheTable)
+    ensures all { IfOk result (λ places. (at : ℕ) (table : Table)
         → table_at work.now.slots at ≡ Some table → is_over table.inputs cover.now ≡ true
         → is_in places.items at ≡ true) }
 {
@@ -104,7 +113,7 @@ pub fn places_for<R: Row>(
 }
 
 // Whether a table has too many inputs, and a name is one of them.
-fn is_wide<R: Row>(table: &Table<R>, name: &Name) -> bool
+fn is_wide<R: Row>(table: &CoverTable<R>, name: &Name) -> bool
     ensures { result ≡ (ltb MAX_INPUTS (length table.now.inputs) && has table.now.inputs name.now) }
 {
     MAX_INPUTS < table.inputs.len() && has_name(table.inputs.as_slice(), name)
@@ -113,7 +122,7 @@ fn is_wide<R: Row>(table: &Table<R>, name: &Name) -> bool
 /// What a table loses where it is divided by a cover; none where it has too many inputs then.
 pub(crate) fn loss_of<R: Row>(
     alloc: Global,
-    table: &Table<R>,
+    table: &CoverTable<R>,
     name: &Name,
     cover: &[Cube],
 ) -> Result<Option<u128>, AllocError>
@@ -140,7 +149,7 @@ pub(crate) fn loss_of<R: Row>(
 // What the table at a place loses, if one stands there.
 fn loss_at<R: Row>(
     alloc: Global,
-    work: &Work<R>,
+    work: &WorkingNetwork<R>,
     name: &Name,
     cover: &[Cube],
     place: usize,
@@ -168,7 +177,7 @@ fn sum_of(one: u128, other: u128) -> Result<u128, AllocError>
 // What the tables at some places lose together; none where one of them has too many inputs then.
 fn losses_at<R: Row>(
     alloc: Global,
-    work: &Work<R>,
+    work: &WorkingNetwork<R>,
     name: &Name,
     cover: &[Cube],
     places: &[usize],
@@ -203,7 +212,7 @@ fn excess(lost: Option<u128>, own: u128) -> Option<u128>
 /// a table has too many inputs then.
 pub(crate) fn saving_of<R: Row>(
     alloc: Global,
-    work: &Work<R>,
+    work: &WorkingNetwork<R>,
     name: &Name,
     cover: &[Cube],
 ) -> Result<Option<u128>, AllocError>
@@ -212,7 +221,7 @@ pub(crate) fn saving_of<R: Row>(
     requires some { 1 ≤ literals_in cover.now }
     ensures { IfOk result (λ saved. IsSaved (standing work.now.slots) name.now cover.now saved) }
 {
-    let table: Table<R> = cover_table(alloc, cover)?;
+    let table: CoverTable<R> = cover_table(alloc, cover)?;
     if MAX_INPUTS < table.inputs.len() {
         return Ok(None);
     }

@@ -1,17 +1,20 @@
-//! What the table at a place gives together with itself and with others: the cubes that rows share.
+//! The cubes that the rows of the table at an index share with one another and with rows of other
+//! tables.
 //!
-//! Source: the SIS report (UCB/ERL M92/41), `gcx`. Two rows that share two literals are of tables that both read some name besides any given
-//! one. So the partners of a table are the readers of its inputs but of the one that most tables read; no clause says which one is left out.
+//! Source: the SIS report (UCB/ERL M92/41), `gcx`. Two rows that share two literals are of tables
+//! that both read some name besides any given one. So the partners of a table are the fanouts of
+//! its inputs except the one with most fanouts; no clause says which one is left out. Callers rely
+//! on `AreSharedHere` to have all cubes shared with listed tables, and on `is_shared_at` exactly.
 
 ghost use Rattle.std.specs.Prelude.{◌≡◌, ◌≢◌, ◌↔◌, ◌++◌, ℕ, ◌≤◌, true, Some, List, flat_map, IsTrue, IfOk, OnOk};
 ghost use Rattle.std.specs.List.Sorted.{IsStrictlyIncreasing};
 ghost use Rattle.circuit_model.specs.Names.{has, all_different};
-ghost use Rattle.circuit_model.specs.declared.circuit.Table.{Table as TheTable};
+ghost use Rattle.circuit_model.specs.declared.circuit.Table.{Table};
 ghost use Rattle.alg_div.specs.Cubes.{Has};
 ghost use Rattle.net_candidates.specs.Candidates.{IsSharedCube};
-ghost use Rattle.net_readers.specs.Readers.{is_in};
+ghost use Rattle.net_readers.specs.Fanouts.{is_in};
 ghost use Rattle.cover_names.specs.Cubes.{is_over};
-ghost use Rattle.cover_names.specs.Literals.{NamedCover as TheCover};
+ghost use Rattle.cover_names.specs.Literals.{NamedCover};
 ghost use Rattle.net_core.specs.Places.{written_of};
 ghost use Rattle.net_core.specs.Tables.{IsOverInputs};
 ghost use Rattle.net_work.specs.Placed.{standing, table_at};
@@ -25,12 +28,16 @@ use cover_names::{Cube, NamedCover};
 use cube_cover::Row;
 use net_candidates::{Rule, cubes_of, is_shared, shared_with};
 use net_core::Entry;
-use net_work::Work;
+use net_work::WorkingNetwork;
 use sis_base::Sequence;
 use std::alloc::{AllocError, Global};
 
 // The cubes of the table at a place, none where no table stands there.
-fn cubes_at<R: Row>(alloc: Global, work: &Work<R>, place: usize) -> Result<NamedCover, AllocError>
+fn cubes_at<R: Row>(
+    alloc: Global,
+    work: &WorkingNetwork<R>,
+    place: usize,
+) -> Result<NamedCover, AllocError>
     ensures { IfOk result (λ cubes. cubes ≡ cubes_in (table_at work.now.slots place)) }
 {
     match work.entry(place) {
@@ -52,10 +59,11 @@ fn push_cubes(cubes: &mut Vec<Cube>, more: NamedCover) -> Result<(), AllocError>
 // The cubes of the tables at places, in the order of the places.
 fn cubes_at_all<R: Row>(
     alloc: Global,
-    work: &Work<R>,
+    work: &WorkingNetwork<R>,
     places: &[usize],
 ) -> Result<Vec<Cube>, AllocError>
-    ensures { IfOk result (λ cubes. cubes.items ≡ flat_map (λ at. cubes_in (table_at work.now.slots at)) places.now) }
+    ensures { IfOk result (λ cubes. cubes.items ≡ flat_map
+        (λ at. cubes_in (table_at work.now.slots at)) places.now) }
 {
     let mut cubes = Vec::new(alloc);
     for place in places {
@@ -66,7 +74,7 @@ fn cubes_at_all<R: Row>(
 }
 
 // Of a name and some others the one that most tables read.
-fn most_read<'a, R: Row>(work: &Work<R>, first: &'a Name, names: &'a [Name]) -> &'a Name {
+fn most_read<'a, R: Row>(work: &WorkingNetwork<R>, first: &'a Name, names: &'a [Name]) -> &'a Name {
     let mut most = first;
     for name in names {
         if work.reader_count(most) < work.reader_count(name) {
@@ -79,12 +87,14 @@ fn most_read<'a, R: Row>(work: &Work<R>, first: &'a Name, names: &'a [Name]) -> 
 // Puts the places of the tables that read a name behind others.
 fn push_readers<R: Row>(
     alloc: Global,
-    work: &Work<R>,
+    work: &WorkingNetwork<R>,
     name: &Name,
     places: &mut Vec<usize>,
 ) -> Result<(), AllocError>
-    ensures still { OnOk result ((at : ℕ) → is_in places.old.items at ≡ true → is_in places.new.items at ≡ true) }
-    ensures more { OnOk result ((at : ℕ) (table : TheTable) → table_at work.now.slots at ≡ Some table → has table.inputs name.now ≡ true → is_in places.new.items at ≡ true) }
+    ensures still { OnOk result ((at : ℕ) → is_in places.old.items at ≡ true
+        → is_in places.new.items at ≡ true) }
+    ensures more { OnOk result ((at : ℕ) (table : Table) → table_at work.now.slots at
+        ≡ Some table → has table.inputs name.now ≡ true → is_in places.new.items at ≡ true) }
 {
     let readers = work.readers(alloc, name)?;
     places.extend_from_slice(readers.into_vec().as_slice())?;
@@ -94,11 +104,13 @@ fn push_readers<R: Row>(
 // The places of the tables that read one of some names besides a given one.
 fn readers_besides<R: Row>(
     alloc: Global,
-    work: &Work<R>,
+    work: &WorkingNetwork<R>,
     names: &[Name],
     left: &Name,
 ) -> Result<Vec<usize>, AllocError>
-    ensures { IfOk result (λ places. (at : ℕ) (table : TheTable) (name : List ℕ) → table_at work.now.slots at ≡ Some table → has table.inputs name ≡ true → has names.now name ≡ true → name ≢ left.now
+    ensures { IfOk result (λ places. (at : ℕ) (table : Table) (name : List ℕ)
+        → table_at work.now.slots at ≡ Some table → has table.inputs name ≡ true
+        → has names.now name ≡ true → name ≢ left.now
         → is_in places.items at ≡ true) }
 {
     let mut places = Vec::new(alloc);
@@ -112,8 +124,10 @@ fn readers_besides<R: Row>(
 
 // Those of some places that are listed; besides, which no clause says, in rising order, each once.
 fn listed_of(alloc: Global, own: &OwnLists, places: Vec<usize>) -> Result<Vec<usize>, AllocError>
-    ensures all { IfOk result (λ listed. (at : ℕ) → is_in places.items at ≡ true → IsListed own.now.items at → is_in listed.items at ≡ true) }
-    ensures only { IfOk result (λ listed. (at : ℕ) → is_in listed.items at ≡ true → (is_in places.items at ≡ true) × IsListed own.now.items at) }
+    ensures all { IfOk result (λ listed. (at : ℕ) → is_in places.items at ≡ true
+        → IsListed own.now.items at → is_in listed.items at ≡ true) }
+    ensures only { IfOk result (λ listed. (at : ℕ) → is_in listed.items at ≡ true
+        → (is_in places.items at ≡ true) × IsListed own.now.items at) }
 {
     let mut sorted = places;
     sorted.sort_unstable();
@@ -130,12 +144,13 @@ fn listed_of(alloc: Global, own: &OwnLists, places: Vec<usize>) -> Result<Vec<us
 // The places that are listed and whose tables may share two literals with a given one.
 fn partners_of<R: Row>(
     alloc: Global,
-    work: &Work<R>,
+    work: &WorkingNetwork<R>,
     own: &OwnLists,
     entry: &Entry<R>,
 ) -> Result<Vec<usize>, AllocError>
     requires { all_different entry.now.table.inputs ≡ true }
-    ensures { IfOk result (λ partners. (one other : ℕ) (cover : TheCover) → one ≢ other → IsListed own.now.items other
+    ensures { IfOk result (λ partners. (one other : ℕ) (cover : NamedCover) → one ≢ other
+        → IsListed own.now.items other
         → AreSharers one other (Some (written_of entry.now)) (table_at work.now.slots other) cover → is_in partners.items other ≡ true) }
 {
     let names = entry.table.inputs.as_slice();
@@ -152,15 +167,19 @@ fn partners_of<R: Row>(
 // What the rows of a table share with one another, and with rows of those that are listed.
 fn shared_by_table<R: Row>(
     alloc: Global,
-    work: &Work<R>,
+    work: &WorkingNetwork<R>,
     own: &OwnLists,
     entry: &Entry<R>,
 ) -> Result<Vec<NamedCover>, AllocError>
     requires over { IsOverInputs entry.now.table }
     requires once { all_different entry.now.table.inputs ≡ true }
-    ensures some { IfOk result (λ covers. (cover : TheCover) → Has cover covers.items → 1 ≤ literals_in cover) }
-    ensures here { IfOk result (λ covers. (one : ℕ) (cover : TheCover) → AreSharers one one (Some (written_of entry.now)) (Some (written_of entry.now)) cover → Has cover covers.items) }
-    ensures there { IfOk result (λ covers. (one other : ℕ) (cover : TheCover) → IsListed own.now.items other → AreSharers one other (Some (written_of entry.now)) (table_at work.now.slots other) cover
+    ensures some { IfOk result (λ covers. (cover : NamedCover) → Has cover covers.items
+        → 1 ≤ literals_in cover) }
+    ensures here { IfOk result (λ covers. (one : ℕ) (cover : NamedCover) → AreSharers one one
+        (Some (written_of entry.now)) (Some (written_of entry.now)) cover → Has cover covers.items) }
+    ensures there { IfOk result (λ covers. (one other : ℕ) (cover : NamedCover)
+        → IsListed own.now.items other → AreSharers one other (Some (written_of entry.now))
+        (table_at work.now.slots other) cover
         → Has cover covers.items) }
 {
     let cubes = cubes_of(alloc, &entry.table)?;
@@ -169,16 +188,17 @@ fn shared_by_table<R: Row>(
     shared_with(alloc, cubes.as_slice(), others.as_slice())
 }
 
-/// What the table at a place gives together with itself and with those that are listed, where a rule asks for what rows share; an error only
-/// for want of memory.
+/// What the table at a place gives together with itself and with those that are listed, where a
+/// rule asks for what rows share.
 pub(crate) fn shared_here<R: Row>(
     alloc: Global,
-    work: &Work<R>,
+    work: &WorkingNetwork<R>,
     rule: Rule,
     own: &OwnLists,
     place: usize,
 ) -> Result<Vec<NamedCover>, AllocError>
-    ensures { IfOk result (λ covers. AreSharedHere rule work.now.slots own.now.items place covers.items) }
+    ensures { IfOk result (λ covers. AreSharedHere rule work.now.slots own.now.items place
+        covers.items) }
 {
     match (rule, work.entry(place)) {
         (Rule::Gcx, Some(entry)) => shared_by_table(alloc, work, own, entry),
@@ -186,16 +206,17 @@ pub(crate) fn shared_here<R: Row>(
     }
 }
 
-/// Whether two rows of a network share a cover, by the rows at places among which are those of all tables that read all its names; an error
-/// only for want of memory.
+/// Whether two rows of a network share a cover, by the rows at places among which are those of all
+/// tables that read all its names.
 pub(crate) fn is_shared_at<R: Row>(
     alloc: Global,
-    work: &Work<R>,
+    work: &WorkingNetwork<R>,
     places: &[usize],
     cover: &NamedCover,
 ) -> Result<bool, AllocError>
     requires rising { IsStrictlyIncreasing places.now }
-    requires all { (at : ℕ) (table : TheTable) → table_at work.now.slots at ≡ Some table → is_over table.inputs cover.now ≡ true → is_in places.now at ≡ true }
+    requires all { (at : ℕ) (table : Table) → table_at work.now.slots at ≡ Some table
+        → is_over table.inputs cover.now ≡ true → is_in places.now at ≡ true }
     ensures { IfOk result (λ is. IsTrue is ↔ IsSharedCube (standing work.now.slots) cover.now) }
 {
     let cubes = cubes_at_all(alloc, work, places)?;

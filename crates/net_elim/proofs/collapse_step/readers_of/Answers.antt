@@ -3,8 +3,8 @@ use Rattle.std.specs.List.Sorted.{IsNonDecreasing}
 use Rattle.std.proofs.lemmas.Map.Keys.{non_decreasing_from_sorted, sorted_from_strictly_increasing}
 use Rattle.std.proofs.lemmas.Option.{same_Some}
 use Rattle.circuit_model.specs.Names.{has}
-use Rattle.circuit_model.specs.declared.circuit.Table.{Table as Written}
-use Rattle.net_readers.specs.Readers.{is_in}
+use Rattle.circuit_model.specs.declared.circuit.Table.{Table}
+use Rattle.net_readers.specs.Fanouts.{is_in}
 use Rattle.net_core.specs.Places.{written_of}
 use Rattle.net_core.specs.Tables.{named}
 use Rattle.net_work.specs.Slots.{inputs_at}
@@ -15,7 +15,7 @@ unfolding named
 returns-clause-exact g c = λ inner there at.
     ap (λ (places : List ℕ). is_in places at) c.into_vec.ensures
     ∙ (c.in_ok-readers-in-Some.ensures.exact at
-    ∙ ap (λ (table : Written). has (inputs_at c.args.work.now.slots at) table.output)
+    ∙ ap (λ (table : Table). has (inputs_at c.args.work.now.slots at) table.output)
     (same_Some (written_of c.in-Some.inner.now) inner (c.in-Some.ensures.table ∙ there)))
 
 pub returns-clause-rising : goal.returns-clause-rising

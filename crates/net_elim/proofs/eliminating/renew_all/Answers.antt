@@ -1,25 +1,16 @@
-use Rattle.std.proofs.Common.{◌<◌, ℤ, ℕ, List, length, get_or, take, subst, arith, w32}
+use Rattle.std.proofs.Common.{ℤ, ℕ, List, take, subst, w32}
 use Rattle.std.proofs.lemmas.Int.{to_z-of_z}
 use Rattle.std.proofs.lemmas.List.{take_all}
 use Rattle.net_elim.specs.Touching.{AreRenewed}
-use Rattle.net_elim.proofs.Touched.{renewed_begun, renewed_more, listed}
+use Rattle.net_elim.proofs.Touched.{renewed_begun, renewed_more}
 use Rattle.net_elim.proofs.eliminating.renew_all.Goals as goal
-
-pub renew-requires : goal.renew-requires
-renew-requires g c =
-    let within : get_or c.args.places.now c.loop-place.place-index 0 < length c.args.waiting.now =
-    c.requires (get_or c.args.places.now c.loop-place.place-index 0) (listed c.args.places.now c.loop-place.place-index 0 c.loop-place-test.true) in
-    omega (arith, within, c.loop-place.invariant.long)
 
 pub loop-place-init : goal.loop-place-init
 loop-place-init g c = renewed_begun _ c.args.work.now c.args.waiting.now
 
 pub loop-place-preserved : goal.loop-place-preserved
 loop-place-preserved g c =
-    let within : get_or c.args.places.now c.loop-place.place-index 0 < length c.args.waiting.now =
-    c.requires (get_or c.args.places.now c.loop-place.place-index 0) (listed c.args.places.now c.loop-place.place-index 0 c.loop-place-test.true) in
-    renewed_more _ c.args.work.now c.args.places.now c.loop-place.place-index 0 c.args.waiting.now c.loop-place.waiting c.renew.new.waiting c.loop-place-test.true (omega (arith, within, c.loop-place.invariant.long)) c.loop-place.invariant
-    c.in_ok-renew.ensures
+    renewed_more _ c.args.work.now c.args.places.now c.loop-place.place-index 0 c.args.waiting.now c.loop-place.waiting c.renew.new.waiting c.loop-place-test.true c.loop-place.invariant c.in_ok-renew.ensures
 
 pub returns : goal.returns
 returns g c =

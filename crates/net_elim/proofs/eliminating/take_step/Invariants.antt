@@ -1,6 +1,5 @@
-use Rattle.std.proofs.Common.{◌≡◌}
+use Rattle.std.proofs.Common.{◌≡◌, length}
 use Rattle.net_elim.specs.Waiting.{AreWaiting}
-use Rattle.net_elim.proofs.Leasts.{value_count}
 use Rattle.net_elim.proofs.eliminating.take_step.Given as goal
 
 abbrev pub invariant-loop-place : goal.invariant-loop-place
@@ -10,4 +9,4 @@ invariant-loop-place g l = record {
 }
 
 abbrev pub decreases-loop-place : goal.decreases-loop-place
-decreases-loop-place g l = value_count l.waiting
+decreases-loop-place g l = length l.waiting

@@ -1,16 +1,9 @@
-use Rattle.std.proofs.Common.{ℤ, sym, subst, arith, w32}
+use Rattle.std.proofs.Common.{ℤ, sym, subst, w32}
 use Rattle.std.proofs.lemmas.Int.{to_z-of_z}
 use Rattle.net_elim.specs.Touching.{AreTouched, AreRenewed}
-use Rattle.net_elim.proofs.Readers.{before_there}
+use Rattle.net_elim.proofs.Fanouts.{before_there}
 use Rattle.net_elim.proofs.Touched.{waiting_stepped}
 use Rattle.net_elim.proofs.eliminating.try_at.Goals as goal
-
-pub renew_all-requires : goal.renew_all-requires
-renew_all-requires g c =
-    let (inner, e) = before_there c.args.work.now.slots c.args.place c.requires.there in
-    let touched : AreTouched c.args.work.now.slots inner.output c.args.place c.as_slice.result.now =
-    subst (AreTouched c.args.work.now.slots inner.output c.args.place) (sym c.as_slice.ensures.value) (c.in_ok-touched.ensures inner e) in
-    λ at k. omega (arith, touched.within at k, c.requires.waiting.long)
 
 pub returns-then-branch-clause-waiting : goal.returns-then-branch-clause-waiting
 returns-then-branch-clause-waiting g c =

@@ -1,5 +1,5 @@
 use Rattle.std.proofs.lemmas.Result.{err_from_is_err_and}
-use Rattle.net_elim.proofs.Readers.{refused_among, listed}
+use Rattle.net_elim.proofs.Fanouts.{refused_among, listed}
 use Rattle.net_elim.proofs.putting.all_made.Goals as goal
 
 pub returns-in_err-push_made-clause-fault : goal.returns-in_err-push_made-clause-fault

@@ -2,7 +2,7 @@ use Rattle.std.proofs.Common.{sym, ◌∙◌, subst}
 use Rattle.std.specs.List.{AllByRecursion}
 use Rattle.std.proofs.lemmas.List.{nil_from_length}
 use Rattle.net_elim.specs.Putting.{IsFit}
-use Rattle.net_elim.proofs.Readers.{front_of, partly_begun, partly_there, partly_more, partly_ended}
+use Rattle.net_elim.proofs.Fanouts.{front_of, partly_begun, partly_there, partly_more, partly_ended}
 use Rattle.net_elim.proofs.putting.set_all.Goals as goal
 
 pub loop-one-init : goal.loop-one-init

@@ -1,6 +1,6 @@
 use Rattle.std.proofs.Common.{ℕ, List, ap, ◌∙◌, subst}
 use Rattle.std.proofs.lemmas.List.{take_all}
-use Rattle.net_readers.specs.Readers.{is_in}
+use Rattle.net_readers.specs.Fanouts.{is_in}
 use Rattle.net_elim.proofs.Touched.{ArePartly, partly_next, touched_all}
 use Rattle.net_elim.proofs.touching.touched_by.Goals as goal
 

@@ -1,47 +1,37 @@
-use Rattle.std.proofs.Common.{ℕ, List, ◌+◌, map, refl, sym, ap, ◌∙◌, subst, arith, drop, nat_cmp}
+use Rattle.std.proofs.Common.{◌+◌, refl, sym, subst, drop}
 use Rattle.std.specs.List.{sum_by}
-use Rattle.std.specs.List.Sorted.{IsStrictlySortedBy}
-use Rattle.std.proofs.lemmas.List.{length-map}
-use Rattle.net_gains.specs.CodedGains.{sum_gain}
-use Rattle.net_gains.specs.Turning.{beside}
-use Rattle.net_gains.proofs.Pairing.{cube_at, sum_map_next, sum_past}
+use Rattle.net_gains.specs.Totals.{total_of}
+use Rattle.net_gains.proofs.Pairing.{sum_next, sum_past}
+use Rattle.net_gains.proofs.Summed.{all_at}
 use Rattle.net_gains.proofs.Turned.{partly_begun, partly_allowed, partly_more, partly_ended}
 use Rattle.net_gains.proofs.pairs.note_across.Goals as goal
 
-pub loop-cube-init : goal.loop-cube-init
-loop-cube-init c =
-    partly_begun c.args.change c.args.noted.now (λ cover. beside cover (map (λ cube. cube.items) c.args.cubes.now) (map (λ cube. cube.items) c.args.others.now))
-    (λ cover. sum_by (λ cube. sum_by (sum_gain cover cube) (map (λ cube. cube.items) c.args.others.now)) (drop 0 (map (λ cube. cube.items) c.args.cubes.now))) c.requires.kept (λ cover. refl)
+pub loop-item-init : goal.loop-item-init
+loop-item-init g c =
+    partly_begun c.args.change (total_of c.args.totals.now) (λ cover. sum_by (λ item. sum_by (g.T.SavesInPairs.gain cover item) c.args.others.now) c.args.items.now)
+    (λ cover. sum_by (λ item. sum_by (g.T.SavesInPairs.gain cover item) c.args.others.now) (drop 0 c.args.items.now)) (λ cover. refl)
 
 pub note_beside-requires-clause-one : goal.note_beside-requires-clause-one
-note_beside-requires-clause-one c =
-    subst (IsStrictlySortedBy nat_cmp) (sym c.as_slice.ensures.value)
-    (cube_at (IsStrictlySortedBy nat_cmp) (λ cube. cube.items) c.args.cubes.now c.loop-cube.cube-index c.cube-item.result c.cube-item.result c.requires.cubes c.loop-cube-test.true c.cube-item.is)
+note_beside-requires-clause-one g c =
+    subst g.T.SavesInPairs.Rises (sym c.item-item.is) (all_at g.T.SavesInPairs.Rises c.args.items.now c.loop-item.item-index c.item-item.result c.loop-item-test.true c.requires.items)
 
 pub note_beside-requires-clause-allowed : goal.note_beside-requires-clause-allowed
-note_beside-requires-clause-allowed c =
-    partly_allowed c.args.change c.args.noted.now c.loop-cube.noted (λ cover. beside cover (map (λ cube. cube.items) c.args.cubes.now) (map (λ cube. cube.items) c.args.others.now))
-    (λ cover. sum_by (λ cube. sum_by (sum_gain cover cube) (map (λ cube. cube.items) c.args.others.now)) (drop c.loop-cube.cube-index (map (λ cube. cube.items) c.args.cubes.now)))
-    (λ cover. sum_by (sum_gain cover c.as_slice.result.now) (map (λ cube. cube.items) c.args.others.now))
-    (λ cover. sum_by (λ cube. sum_by (sum_gain cover cube) (map (λ cube. cube.items) c.args.others.now)) (drop (c.loop-cube.cube-index + 1) (map (λ cube. cube.items) c.args.cubes.now))) c.requires.allowed c.loop-cube.invariant
-    (λ cover.
-    sum_map_next (λ cube. sum_by (sum_gain cover cube) (map (λ cube. cube.items) c.args.others.now)) (λ cube. cube.items) c.args.cubes.now c.loop-cube.cube-index c.cube-item.result c.cube-item.result c.loop-cube-test.true c.cube-item.is
-    ∙ ap (λ (cube : List ℕ). sum_by (sum_gain cover cube) (map (λ cube. cube.items) c.args.others.now) + sum_by (λ cube. sum_by (sum_gain cover cube) (map (λ cube. cube.items) c.args.others.now)) (drop (c.loop-cube.cube-index + 1) (map (λ cube. cube.items) c.args.cubes.now))) (sym c.as_slice.ensures.value))
+note_beside-requires-clause-allowed g c =
+    partly_allowed c.args.change (total_of c.args.totals.now) (total_of c.loop-item.totals) (λ cover. sum_by (λ item. sum_by (g.T.SavesInPairs.gain cover item) c.args.others.now) c.args.items.now)
+    (λ cover. sum_by (λ item. sum_by (g.T.SavesInPairs.gain cover item) c.args.others.now) (drop c.loop-item.item-index c.args.items.now)) (λ cover. sum_by (g.T.SavesInPairs.gain cover c.item-item.result) c.args.others.now)
+    (λ cover. sum_by (λ item. sum_by (g.T.SavesInPairs.gain cover item) c.args.others.now) (drop (c.loop-item.item-index + 1) c.args.items.now)) c.requires.allowed c.loop-item.invariant
+    (λ cover. sum_next (λ item. sum_by (g.T.SavesInPairs.gain cover item) c.args.others.now) c.args.items.now c.loop-item.item-index c.item-item.result c.item-item.result c.loop-item-test.true c.item-item.is)
 
-pub loop-cube-preserved : goal.loop-cube-preserved
-loop-cube-preserved c =
-    partly_more c.args.change c.args.noted.now c.loop-cube.noted c.note_beside.new.noted (λ cover. beside cover (map (λ cube. cube.items) c.args.cubes.now) (map (λ cube. cube.items) c.args.others.now))
-    (λ cover. sum_by (λ cube. sum_by (sum_gain cover cube) (map (λ cube. cube.items) c.args.others.now)) (drop c.loop-cube.cube-index (map (λ cube. cube.items) c.args.cubes.now)))
-    (λ cover. sum_by (sum_gain cover c.as_slice.result.now) (map (λ cube. cube.items) c.args.others.now))
-    (λ cover. sum_by (λ cube. sum_by (sum_gain cover cube) (map (λ cube. cube.items) c.args.others.now)) (drop (c.loop-cube.cube-index + 1) (map (λ cube. cube.items) c.args.cubes.now))) c.loop-cube.invariant
-    (λ cover.
-    sum_map_next (λ cube. sum_by (sum_gain cover cube) (map (λ cube. cube.items) c.args.others.now)) (λ cube. cube.items) c.args.cubes.now c.loop-cube.cube-index c.cube-item.result c.cube-item.result c.loop-cube-test.true c.cube-item.is
-    ∙ ap (λ (cube : List ℕ). sum_by (sum_gain cover cube) (map (λ cube. cube.items) c.args.others.now) + sum_by (λ cube. sum_by (sum_gain cover cube) (map (λ cube. cube.items) c.args.others.now)) (drop (c.loop-cube.cube-index + 1) (map (λ cube. cube.items) c.args.cubes.now))) (sym c.as_slice.ensures.value))
+pub loop-item-preserved : goal.loop-item-preserved
+loop-item-preserved g c =
+    partly_more c.args.change (total_of c.args.totals.now) (total_of c.loop-item.totals) (total_of c.note_beside.new.totals) (λ cover. sum_by (λ item. sum_by (g.T.SavesInPairs.gain cover item) c.args.others.now) c.args.items.now)
+    (λ cover. sum_by (λ item. sum_by (g.T.SavesInPairs.gain cover item) c.args.others.now) (drop c.loop-item.item-index c.args.items.now)) (λ cover. sum_by (g.T.SavesInPairs.gain cover c.item-item.result) c.args.others.now)
+    (λ cover. sum_by (λ item. sum_by (g.T.SavesInPairs.gain cover item) c.args.others.now) (drop (c.loop-item.item-index + 1) c.args.items.now)) c.loop-item.invariant
+    (λ cover. sum_next (λ item. sum_by (g.T.SavesInPairs.gain cover item) c.args.others.now) c.args.items.now c.loop-item.item-index c.item-item.result c.item-item.result c.loop-item-test.true c.item-item.is)
     c.in_ok-note_beside.ensures
 
 pub returns : goal.returns
-returns c =
-    partly_ended c.args.change c.args.noted.now c.loop-cube.noted (λ cover. beside cover (map (λ cube. cube.items) c.args.cubes.now) (map (λ cube. cube.items) c.args.others.now))
-    (λ cover. sum_by (λ cube. sum_by (sum_gain cover cube) (map (λ cube. cube.items) c.args.others.now)) (drop c.loop-cube.cube-index (map (λ cube. cube.items) c.args.cubes.now))) c.loop-cube.invariant
-    (λ cover. sum_past (λ cube. sum_by (sum_gain cover cube) (map (λ cube. cube.items) c.args.others.now)) (map (λ cube. cube.items) c.args.cubes.now) c.loop-cube.cube-index
-    (let long = length-map c.args.cubes.now (λ cube. cube.items) in omega (arith, long, c.loop-cube-test.false)))
+returns g c =
+    partly_ended c.args.change (total_of c.args.totals.now) (total_of c.loop-item.totals) (λ cover. sum_by (λ item. sum_by (g.T.SavesInPairs.gain cover item) c.args.others.now) c.args.items.now)
+    (λ cover. sum_by (λ item. sum_by (g.T.SavesInPairs.gain cover item) c.args.others.now) (drop c.loop-item.item-index c.args.items.now)) c.loop-item.invariant
+    (λ cover. sum_past (λ item. sum_by (g.T.SavesInPairs.gain cover item) c.args.others.now) c.args.items.now c.loop-item.item-index c.loop-item-test.false)

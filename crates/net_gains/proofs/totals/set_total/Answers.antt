@@ -1,19 +1,21 @@
-use Rattle.std.proofs.Common.{ap, ◌∙◌, subst}
-use Rattle.std.proofs.lemmas.Bool.{false≢true}
-use Rattle.std.specs.Prelude.{IsSome}
-use Rattle.std.proofs.lemmas.Option.{slice_get_within}
-use Rattle.indexmap.specs.IndexMap.{get}
-use Rattle.indexmap.proofs.CallerLemmas.{updates-with_value_at}
-use Rattle.net_gains.specs.Orders.{divisor_eq, divisors_equiv}
-use Rattle.net_gains.specs.Totals.{noted}
-use Rattle.net_gains.proofs.Noting.{noted_if}
+use Rattle.std.proofs.Common.{◌≡◌, ℕ, cond, Option, sym, ap, ◌∙◌, arith}
+use Rattle.std.specs.Map.{lookup}
+use Rattle.std.specs.Prelude.{unwrap_or}
+use Rattle.std.proofs.lemmas.Result.{on_ok_weaker}
+use Rattle.net_gains.specs.Orders.{divisor_eq}
+use Rattle.net_gains.specs.Totals.{total_at}
+use Rattle.net_gains.proofs.Noting.{total_set, total_gone}
 use Rattle.net_gains.proofs.totals.set_total.Goals as goal
 
-pub returns-in-Some : goal.returns-in-Some
-returns-in-Some c = λ divisor before at other.
-    ap noted ((updates-with_value_at c.args.totals.now c.args.index c.args.total divisors_equiv c.get_index_mut.ensures.unique divisor before at).0 other)
-    ∙ noted_if (divisor_eq divisor other) c.args.total (get divisor_eq c.args.totals.now other)
+pub returns-then-total-eq0 : goal.returns-then-total-eq0
+returns-then-total-eq0 c = λ divisor before at other.
+    let none : c.args.total ≡ 0 = omega (arith, c.if-total-eq0.true) in
+    ap (λ (known : Option ℕ). unwrap_or known 0) (c.remove_index.ensures divisor before at other) ∙ total_gone (divisor_eq divisor other) (lookup (divisor_eq other) c.args.totals.now)
+    ∙ ap (λ (total : ℕ). cond (divisor_eq divisor other) total (total_at c.args.totals.now other)) (sym none)
 
-pub returns-in_default : goal.returns-in_default
-returns-in_default c = λ divisor before at other.
-    absurd (false≢true (subst IsSome c.in_default.is (c.get_index_mut.ensures.found.1 (slice_get_within c.args.totals.now.entries c.args.index (divisor, before) at))))
+pub returns : goal.returns
+returns c =
+    on_ok_weaker c.set_index.result
+    (λ told divisor before at other.
+    ap (λ (known : Option ℕ). unwrap_or known 0) (told divisor before at other) ∙ total_set (divisor_eq divisor other) c.args.total (lookup (divisor_eq other) c.args.totals.now))
+    c.set_index.ensures.values

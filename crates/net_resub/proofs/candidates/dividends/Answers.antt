@@ -1,6 +1,6 @@
 use Rattle.std.proofs.Common.{◌≡◌, ◌<◌, ℕ, true, List, sym, ap, ◌∙◌, arith}
 use Rattle.std.proofs.lemmas.Result.{IfOk-weaker}
-use Rattle.net_readers.specs.Readers.{is_in}
+use Rattle.net_readers.specs.Fanouts.{is_in}
 use Rattle.net_core.specs.Places.{written_of}
 use Rattle.net_resub.specs.Candidates.{AreDividends}
 use Rattle.net_resub.proofs.Visiting.{dividends_none, dividends_all, dividends_readers}

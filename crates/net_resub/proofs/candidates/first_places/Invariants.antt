@@ -1,5 +1,5 @@
 use Rattle.std.proofs.Common.{◌≡◌, ◌<◌, ℕ, true}
-use Rattle.net_readers.specs.Readers.{is_in}
+use Rattle.net_readers.specs.Fanouts.{is_in}
 use Rattle.net_resub.proofs.candidates.first_places.Given as goal
 
 abbrev pub invariant-loop-place : goal.invariant-loop-place

@@ -1,5 +1,5 @@
 use Rattle.std.proofs.Common.{◌≡◌, ℕ, true, List, subst}
-use Rattle.net_readers.specs.Readers.{is_in}
+use Rattle.net_readers.specs.Fanouts.{is_in}
 use Rattle.net_resub.proofs.Listing.{last_in}
 use Rattle.net_resub.proofs.listed.push_place.Goals as goal
 

@@ -2,7 +2,7 @@ use Rattle.std.proofs.Common.{◌+◌, ◌≡◌, ◌∷◌, [], true, ℕ, Opti
 use Rattle.std.specs.Global.{Vec}
 use Rattle.cover_names.specs.Literals.{NamedCover}
 use Rattle.std.proofs.lemmas.List.{length-append}
-use Rattle.net_readers.specs.Readers.{is_in}
+use Rattle.net_readers.specs.Fanouts.{is_in}
 use Rattle.net_savings.proofs.NotesKept.{pushed_some, first_more}
 use Rattle.net_savings.proofs.kept.unknown_lists.Goals as goal
 

@@ -1,6 +1,6 @@
 use Rattle.std.proofs.Common.{◌≡◌, ℕ, ◌<◌, true, Some, length, slice_get}
 use Rattle.std.specs.Global.{Vec}
-use Rattle.net_readers.specs.Readers.{is_in}
+use Rattle.net_readers.specs.Fanouts.{is_in}
 use Rattle.cover_names.specs.Literals.{NamedCover}
 use Rattle.net_savings.proofs.kept.unknown_lists.Given as goal
 

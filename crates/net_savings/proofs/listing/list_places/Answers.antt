@@ -1,6 +1,6 @@
 use Rattle.std.proofs.Common.{◌≡◌, ℕ, true, List, get_or, refl, sym, subst}
 use Rattle.std.proofs.lemmas.List.{take_all}
-use Rattle.net_readers.specs.Readers.{is_in}
+use Rattle.net_readers.specs.Fanouts.{is_in}
 use Rattle.net_savings.proofs.Refreshed.{listed_next}
 use Rattle.net_savings.proofs.listing.list_places.Goals as goal
 

@@ -1,5 +1,5 @@
 use Rattle.std.proofs.Common.{◌≡◌, ℕ, ◌<◌, true, take, length}
-use Rattle.net_readers.specs.Readers.{is_in}
+use Rattle.net_readers.specs.Fanouts.{is_in}
 use Rattle.net_savings.specs.Listing.{IsListed}
 use Rattle.net_savings.specs.Savings.{AreTrue}
 use Rattle.net_savings.proofs.listing.list_places.Given as goal

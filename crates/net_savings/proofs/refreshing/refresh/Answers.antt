@@ -1,8 +1,8 @@
 use Rattle.std.proofs.Common.{◌≡◌, true, ℕ, ◌∙◌, sym, ap, subst}
 use Rattle.std.specs.Global.{Vec}
 use Rattle.circuit_model.specs.Names.{has}
-use Rattle.net_readers.specs.Readers.{is_in}
-use Rattle.net_savings.proofs.Refreshed.{all_true, all_settled, three_ok}
+use Rattle.net_readers.specs.Fanouts.{is_in}
+use Rattle.net_savings.proofs.Refreshed.{all_true, all_settled}
 use Rattle.net_savings.proofs.refreshing.refresh.Goals as goal
 
 pub list_places-requires-clause-known : goal.list_places-requires-clause-known
@@ -12,8 +12,8 @@ list_places-requires-clause-known g c =
 
 pub returns-clause-savings : goal.returns-clause-savings
 returns-clause-savings g c =
-    three_ok c.list_places.result c.list_places.ensures.known c.list_places.ensures.stays c.list_places.ensures.listed
-    (λ known stays listed.
     all_settled c.args.rule c.args.work.now c.args.kept.now.ranked c.renew_touched.new.ranked c.args.kept.now.own.items c.args.kept.now.touched.keys c.args.kept.now.fresh.items c.requires.savings c.in_ok-renew_touched.ensures.grown
     (λ under cover h m. c.in_ok-renew_touched.ensures.right under cover (subst (λ names. has names under ≡ true) (sym (c.as_slice.ensures.keys ∙ ap (λ names. names.keys) c.replace-touched.ensures.value)) h) m)
-    c.list_places.new.ranked c.list_places.new.own.items known stays (λ at h. listed at (subst (λ places. is_in places at ≡ true) (sym (c.as_slice-2.ensures.value ∙ ap (λ (places : Vec ℕ). places.items) c.replace-fresh.ensures.value)) h)) c.replace-touched.new.dest.keys c.replace-fresh.new.dest.items)
+    c.list_places.new.ranked c.list_places.new.own.items c.in_ok-list_places.ensures.known c.in_ok-list_places.ensures.stays
+    (λ at h. c.in_ok-list_places.ensures.listed at (subst (λ places. is_in places at ≡ true) (sym (c.as_slice-2.ensures.value ∙ ap (λ (places : Vec ℕ). places.items) c.replace-fresh.ensures.value)) h))
+    c.replace-touched.new.dest.keys c.replace-fresh.new.dest.items

@@ -1,5 +1,5 @@
 use Rattle.std.proofs.Common.{◌≡◌, ℕ, true, take}
-use Rattle.net_readers.specs.Readers.{is_in}
+use Rattle.net_readers.specs.Fanouts.{is_in}
 use Rattle.net_savings.specs.Savings.{IsIn}
 use Rattle.net_savings.proofs.saved.is_held_at.Given as goal
 

@@ -3,7 +3,7 @@ use Rattle.std.proofs.lemmas.Bool.{false≢true}
 use Rattle.std.proofs.lemmas.List.{take_all}
 use Rattle.std.proofs.lemmas.List.Filters.{dedup_is}
 use Rattle.std.proofs.lemmas.List.Sorted.{list_any-IsPermutation}
-use Rattle.net_readers.specs.Readers.{is_in}
+use Rattle.net_readers.specs.Fanouts.{is_in}
 use Rattle.net_savings.proofs.Naming.{dedup_kept, of_dedup}
 use Rattle.net_savings.proofs.Partners.{listed_left, listed_more, only_left, only_more}
 use Rattle.net_savings.proofs.sharing.listed_of.Goals as goal

@@ -1,9 +1,8 @@
 use Rattle.std.proofs.Common.{subst}
-use Rattle.net_savings.specs.Ranking.{KnownCovers, AreRanked}
-use Rattle.net_savings.proofs.Best.{ranking_told}
+use Rattle.cover_names.specs.Literals.{cover_cmp}
+use Rattle.net_queue.specs.Queue.{AreRanked}
+use Rattle.net_savings.specs.Ranking.{KnownCovers, rank_in, greatest_first}
 use Rattle.net_savings.proofs.covers.RankedCovers.ranking.Goals as goal
 
 pub returns : goal.returns
-returns c =
-    subst (λ (known : KnownCovers). AreRanked known c.self.inside.savings.ranking.keys) c.self.view_is
-    (ranking_told (record { savings = c.self.inside.savings.known.entries; lists = c.self.inside.lists.entries }) c.self.inside.savings.ranking c.self.invariant c.len-ascending.ensures.ordered)
+returns c = subst (λ (known : KnownCovers). AreRanked greatest_first cover_cmp (rank_in known) c.order.result.now.keys) c.self.view_is c.order.ensures
