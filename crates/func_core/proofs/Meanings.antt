@@ -1,5 +1,4 @@
--- What follows of functions that numbers mean: the laws, and the steps that callers of any object
--- take.
+-- Consequences of what numbers mean: the laws, and the steps that callers of any object take.
 use Rattle.std.proofs.Common.{◌≡◌, ℕ, suc, ◌<◌, ◌≤◌, Bool, true, false, not, if◌then◌else◌, refl, ap, sym, ◌∙◌, subst, arith}
 use Rattle.func_core.specs.Trees.{BooleanFunction, Tree, Zero, One, Node, eval, IsReduced, IsTreeOf, constant, variable, complement}
 use Rattle.func_core.specs.Sizes.{inner, size}
@@ -126,7 +125,7 @@ pub IsBig-same : (limit : ℕ) (f g : BooleanFunction) → IsBig limit f → ((p
 IsBig-same limit f g b e = record { tree = b.tree; is_tree = IsTreeOf-same f g b.tree b.is_tree e; above = b.above }
 
 module _ {S : Type 0} (holds : S → ℕ → Type 0) (tree : S → ℕ → Tree) (limit : S → ℕ) where
-  -- a number that stands means the function of its tree
+  -- a valid number means the function of its tree
   pub Means-own : (state : S) (n : ℕ) → holds state n → IsReduced 0 (tree state n) → size (tree state n) ≤ limit state →
       Means holds tree limit state n (eval (tree state n))
   Means-own state n h r k = record { stands = h; is_tree = own-tree (tree state n) r; fits = k }

@@ -1,4 +1,4 @@
--- The trees of numbers that stand for places in a list of built trees.
+-- The trees of numbers that are indices in a list of trees.
 use Rattle.std.proofs.Common.{◌≡◌, ℕ, Bool, not, get_or, ap, sym, ◌∙◌, subst}
 use Rattle.std.proofs.lemmas.List.{get_or-map}
 use Rattle.func_core.specs.Trees.{Tree, Zero, eval, IsReduced, IsTreeOf, complement}
@@ -6,7 +6,7 @@ use Rattle.func_core.specs.PlainTrees.{shape, plain_tree, PlainHolds}
 use Rattle.func_core.specs.declared.diagram.Diagram.{Diagram}
 use Rattle.func_core.specs.declared.plain.PlainFunctions.{PlainFunctions}
 
--- the tree of a number is the one at its place
+-- the tree of a number is the one at its index
 pub plain_tree-shape : (functions : PlainFunctions) (n : ℕ) (d : Diagram) → PlainHolds functions n →
     d ≡ get_or functions.diagrams.items n d → plain_tree functions n ≡ shape d
 plain_tree-shape functions n d s e = get_or-map shape functions.diagrams.items n d Zero s.0 ∙ ap shape (sym e)

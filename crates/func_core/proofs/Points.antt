@@ -1,4 +1,4 @@
--- The given path of a reduced tree: its point makes the function true, and no variable stands on it
+-- The path of a reduced tree: its point makes the function true, and no variable occurs on it
 -- twice.
 use Rattle.std.proofs.Common.{◌≡◌, ℕ, suc, Bool, true, false, Some, None, List, ◌∷◌, if◌then◌else◌, refl, sym, ◌∙◌, subst}
 use Rattle.func_core.specs.Trees.{Tree, Zero, One, Node, eval, IsReduced}
@@ -51,7 +51,7 @@ path-rises least (Node place lo hi) r =
     cases true p q = (r.0, q)
     cases false p q = (r.0, p)
 
--- one_path's answer taken apart
+-- the cases of one_path's answer
 given : (b : Bool) (p ls : List (ℕ × Bool)) → (if b then None else Some p) ≡ Some ls → (b ≡ false) × (p ≡ ls)
 given true p ls h = cc
 given false p ls h = (refl, cc)

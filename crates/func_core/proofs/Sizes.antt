@@ -5,18 +5,11 @@ use Rattle.std.specs.List.{AllByRecursion, IsDistinct}
 use Rattle.std.proofs.lemmas.List.Folds.{list_any-append}
 use Rattle.std.proofs.lemmas.Map.Made.{length-from_keys}
 use Rattle.std.proofs.lemmas.Map.Steps.{list_any_congr}
+use Rattle.std.proofs.Math.Bool.{or-false, or_assoc}
 use Rattle.func_core.specs.Trees.{Tree, Zero, One, Node}
 use Rattle.func_core.specs.Sizes.{tree_eq, inner, size}
 use Rattle.func_core.specs.PlainTrees.{Adds}
 use Rattle.func_core.proofs.Trees.{tree_eq-laws}
-
-or-false : (a : Bool) → (a || false) ≡ a
-or-false true = refl
-or-false false = refl
-
-or-chain : (a b c : Bool) → ((a || b) || c) ≡ (a || (b || c))
-or-chain true b c = refl
-or-chain false b c = refl
 
 pub Adds-none : (seen : List Tree) → Adds seen [] seen
 Adds-none seen = record { once = λ h. h; members = λ t. sym (or-false (is_member tree_eq seen t)) }
@@ -68,7 +61,7 @@ Adds-chain seen first some second all a b = record {
   members = λ t.
       b.members t
       ∙ ap (λ (c : Bool). c || is_member tree_eq second t) (a.members t)
-      ∙ or-chain (is_member tree_eq seen t) (is_member tree_eq first t) (is_member tree_eq second t)
+      ∙ or_assoc (is_member tree_eq seen t) (is_member tree_eq first t) (is_member tree_eq second t)
       ∙ ap (λ (c : Bool). is_member tree_eq seen t || c) (sym (list_any-append (tree_eq t) first second));
 }
 

@@ -1,6 +1,5 @@
--- The recursion by which Bryant's "apply" makes the tree of an operation: one step, over its two
--- trees' top variables, with the halves' trees already made. What the made tree computes, and that
--- it is reduced.
+-- The recursion by which Bryant's "apply" builds the tree of an operation: one step, over its two
+-- trees' top variables, given the halves' trees. What the result computes, and that it is reduced.
 use Rattle.std.proofs.Common.{Result, IfOk, ◌≡◌, ℕ, suc, ◌<◌, ◌≤◌, Bool, true, false, if◌then◌else◌, refl, ap, sym, ◌∙◌, subst, arith}
 use Rattle.std.proofs.lemmas.Result.{IfOk-weaker}
 use Rattle.func_core.specs.Trees.{Tree, Zero, One, Node, eval, IsReduced}
@@ -11,7 +10,7 @@ use Rattle.func_core.specs.declared.diagram.Diagram.{Diagram}
 use Rattle.func_core.specs.declared.diagram.Operation.{Operation}
 use Rattle.func_core.specs.declared.diagram.Operation.TheVariants.{And, Or, Xor}
 
--- a made tree takes one of two halves by a variable
+-- a tree takes one of two halves by a variable
 abbrev pub Splits : ℕ → Tree → Tree → Tree → Type 0
 Splits place lo hi made =
     (point : ℕ → Bool) → eval made point ≡ (if point place then eval hi point else eval lo point)
@@ -21,7 +20,7 @@ abbrev pub StaysReduced : ℕ → Tree → Tree → Tree → Type 0
 StaysReduced place lo hi made =
     (least : ℕ) → least ≤ place → IsReduced (suc place) lo → IsReduced (suc place) hi → IsReduced least made
 
--- a half stands for both where they are one
+-- a half represents both if they are equal
 pub splits-same : (place : ℕ) (lo hi : Tree) → tree_eq lo hi ≡ true → Splits place lo hi lo
 splits-same place lo hi e point = cases (point place) (ap (λ (t : Tree). eval t point) (tree_eq-same lo hi e))
   where
@@ -68,7 +67,7 @@ pub IsReduced-Node : (least : ℕ) (t lo hi : Tree) (place : ℕ) → t ≡ Node
 unfolding IsReduced
 IsReduced-Node least t lo hi place e r = subst (λ (u : Tree). IsReduced least u) e r
 
--- a tree whose top variable stands behind another one is reduced from there on
+-- a tree whose top variable comes after another one is reduced from there on
 pub above-Node : (least place other : ℕ) (t lo hi : Tree) → t ≡ Node other lo hi → place < other →
     IsReduced least t → IsReduced (suc place) t
 unfolding IsReduced
@@ -88,7 +87,7 @@ both-halves : (join : Bool → Bool → Bool) (b : Bool) (x y r s l h v t u : Bo
 both-halves join true x y r s l h v t u e f g p q = e ∙ q ∙ ap (λ (a : Bool). join a s) (sym f) ∙ ap (join t) (sym g)
 both-halves join false x y r s l h v t u e f g p q = e ∙ p ∙ ap (λ (a : Bool). join a r) (sym f) ∙ ap (join t) (sym g)
 
--- one tree splits at the variable, and each half goes through a change of its bit
+-- one tree splits at the variable, and a change of bits is applied to each half
 computes-one : (change : (ℕ → Bool) → Bool → Bool) (place : ℕ) (t lo hi l h made : Tree) → t ≡ Node place lo hi →
     Splits place l h made →
     ((point : ℕ → Bool) → eval l point ≡ change point (eval lo point)) →

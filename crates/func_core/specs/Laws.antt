@@ -25,7 +25,7 @@ BigGoesByPoints =
     (limit : ℕ) (f g : BooleanFunction) → IsBig limit f → ((point : ℕ → Bool) → f point ≡ g point) →
     IsBig limit g
 
--- a function whose tree is within a limit isn't too big for it
+-- a function whose tree is within a limit is not too big for it
 abbrev pub FittingIsNotBig : Type 0
 FittingIsNotBig = (limit : ℕ) (f : BooleanFunction) (t : Tree) → IsTreeOf f t → size t ≤ limit → IsBig limit f → ⊥
 
@@ -34,22 +34,22 @@ abbrev pub ComplementHasSize : Type 0
 ComplementHasSize =
     (f : BooleanFunction) (t u : Tree) → IsTreeOf f t → IsTreeOf (complement f) u → size u ≡ size t
 
--- a function whose tree isn't Zero is true somewhere
+-- a function whose tree is not Zero is true somewhere
 abbrev pub NonzeroIsTrueSomewhere : Type 0
 NonzeroIsTrueSomewhere =
     (f : BooleanFunction) (t : Tree) → IsTreeOf f t → (t ≡ Zero → ⊥) → (point : ℕ → Bool) × (f point ≡ true)
 
--- only Zero has no path to give
+-- only Zero has no path
 abbrev pub NoPointIsZero : Type 0
 NoPointIsZero = (t : Tree) → one_path t ≡ None → t ≡ Zero
 
--- a reduced tree is true at each valuation that follows the path given for it
+-- a reduced tree is true at each valuation that follows its path
 abbrev pub PointIsTrue : Type 0
 PointIsTrue =
     (t : Tree) (literals : List (ℕ × Bool)) (point : ℕ → Bool) →
     IsReduced 0 t → one_path t ≡ Some literals → Follows point literals → eval t point ≡ true
 
--- no variable stands twice on the given path
+-- no variable occurs twice on the path
 abbrev pub PointRises : Type 0
 PointRises =
     (t : Tree) (literals : List (ℕ × Bool)) → IsReduced 0 t → one_path t ≡ Some literals → IsRising 0 literals

@@ -10,14 +10,13 @@ is_constant_zero Zero = true
 is_constant_zero One = false
 is_constant_zero (Node place lo hi) = false
 
--- the variables on the path that takes the false half wherever that isn't Zero, each with the half
--- taken
+-- the literals on the path that takes the false half unless that is Zero
 unfoldable pub path : Tree → List (ℕ × Bool)
 path Zero = []
 path One = []
 path (Node place lo hi) = if is_constant_zero lo then (place, true) ∷ path hi else (place, false) ∷ path lo
 
--- that path, where the tree isn't Zero
+-- that path, if the tree is not Zero
 abbrev pub one_path : Tree → Option (List (ℕ × Bool))
 one_path t = if is_constant_zero t then None else Some (path t)
 
@@ -26,7 +25,7 @@ unfoldable pub Follows : (ℕ → Bool) → List (ℕ × Bool) → Type 0
 Follows point [] = Unit {0}
 Follows point (l ∷ ls) = (point l.0 ≡ l.1) × Follows point ls
 
--- the places of the literals rise, from a least one
+-- the variables of the literals increase, from a least one
 unfoldable pub IsRising : ℕ → List (ℕ × Bool) → Type 0
 IsRising least [] = Unit {0}
 IsRising least (l ∷ ls) = (least ≤ l.0) × IsRising (suc l.0) ls

@@ -23,7 +23,7 @@ complement f = λ point. not (f point)
 abbrev pub conjunction : BooleanFunction → BooleanFunction → BooleanFunction
 conjunction f g = λ point. f point && g point
 
--- true where one of the functions is, or both are
+-- true where at least one of the functions is
 abbrev pub disjunction : BooleanFunction → BooleanFunction → BooleanFunction
 disjunction f g = λ point. f point || g point
 
@@ -32,12 +32,11 @@ abbrev pub differ : Bool → Bool → Bool
 differ false b = b
 differ true b = not b
 
--- true where just one of the functions is
+-- true where exactly one of the functions is
 abbrev pub exclusive_or : BooleanFunction → BooleanFunction → BooleanFunction
 exclusive_or f g = λ point. differ (f point) (g point)
 
--- a decision tree: a constant, or a variable with the tree where it is false and the tree where it
--- is true
+-- a decision tree: a constant, or a variable with its subtrees for false and for true
 pub data Tree : Type 0 where
   Zero : Tree
   One : Tree
@@ -49,7 +48,7 @@ eval Zero point = false
 eval One point = true
 eval (Node place lo hi) point = if point place then eval hi point else eval lo point
 
--- reduced, and with no variable below a least one: variables rise on each path, and no node has
+-- reduced, and with no variable below a least one: variables increase on each path, and no node has
 -- equal halves
 unfoldable pub IsReduced : ℕ → Tree → Type 0
 IsReduced least Zero = Unit {0}

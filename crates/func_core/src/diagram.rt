@@ -1,4 +1,10 @@
-//! Built decision trees, and the operations on them.
+//! Decision trees in memory, and the operations on them.
+//!
+//! Source: R. E. Bryant, "Graph-Based Algorithms for Boolean Function Manipulation" (1986): apply,
+//! satisfy-one and reduced trees. Each operation returns a tree that computes the operation's
+//! function, and that is reduced if its arguments are: variables increase on each path and no node
+//! has equal halves. No subtrees are shared. `size_of` counts different inner subtrees by comparing
+//! them, so it is meant for small trees.
 
 ghost use Rattle.std.specs.Prelude.{◌≡◌, ℕ, suc, ◌≤◌, Bool, IfOk, map, [], ◌∷◌, if◌then◌else◌};
 ghost use Rattle.std.specs.Set.{is_member};
@@ -9,8 +15,7 @@ ghost use Rattle.func_core.specs.PlainTrees.{shape, bits, Adds};
 
 use std::alloc::{AllocError, Global};
 
-/// A decision tree: a constant, or a variable with the tree where it is false and the tree where it
-/// is true.
+/// A decision tree: a constant, or a variable with its subtrees for false and for true.
 #[derive(Drop)]
 pub enum Diagram {
     Zero,
@@ -26,7 +31,7 @@ pub enum Operation {
     Xor,
 }
 
-/// What an operation makes of two bits.
+/// The result of an operation on two bits.
 fn bit_of(operation: Operation, left: bool, right: bool) -> bool
     ensures { result ≡ bits operation left right }
 {
@@ -60,7 +65,7 @@ pub fn variable_at(alloc: Global, place: usize) -> Result<Diagram, AllocError>
     ))
 }
 
-/// Whether two trees are one.
+/// Whether two trees are equal.
 #[tactic(auto, unfolding(crate::specs::Sizes::tree_eq))]
 pub fn is_same(a: &Diagram, b: &Diagram) -> bool
     ensures { result ≡ tree_eq (shape a.now) (shape b.now) }
@@ -75,7 +80,7 @@ pub fn is_same(a: &Diagram, b: &Diagram) -> bool
     }
 }
 
-/// A node over two trees, or the first where both are one.
+/// A node over two trees, or the first if both are equal.
 fn join_halves(alloc: Global, place: usize, lo: Diagram, hi: Diagram) -> Result<Diagram, AllocError>
     ensures computes { IfOk result (λ made. (point : ℕ → Bool) → eval (shape made) point ≡
         (if point place then eval (shape hi) point else eval (shape lo) point)) }
@@ -88,7 +93,7 @@ fn join_halves(alloc: Global, place: usize, lo: Diagram, hi: Diagram) -> Result<
     Ok(Diagram::Branch(place, Box::new(alloc, lo)?, Box::new(alloc, hi)?))
 }
 
-/// The tree of an operation on a constant and a tree; as the operations commute, either may come
+/// The tree of an operation on a constant and a tree; since the operations commute, either may come
 /// first.
 pub fn with_constant(
     alloc: Global,
@@ -161,7 +166,7 @@ fn is_among(others: &[&Diagram], tree: &Diagram) -> bool
     false
 }
 
-/// The trees seen, and behind them a further one unless it is among them.
+/// The trees seen, followed by one more unless it is among them.
 fn see<'a>(seen: Vec<&'a Diagram>, tree: &'a Diagram) -> Result<Vec<&'a Diagram>, AllocError>
     ensures { IfOk result (λ all. Adds (map (λ d. shape d.now) seen.entry.items)
         (shape tree.now ∷ []) (map (λ d. shape d.now) all.items)) }
@@ -174,7 +179,7 @@ fn see<'a>(seen: Vec<&'a Diagram>, tree: &'a Diagram) -> Result<Vec<&'a Diagram>
     Ok(all)
 }
 
-/// The trees seen, and behind them each inner subtree of a tree that is not among them yet.
+/// The trees seen, followed by each inner subtree of a tree that is not among them yet.
 fn see_inner<'a>(seen: Vec<&'a Diagram>, tree: &'a Diagram) -> Result<Vec<&'a Diagram>, AllocError>
     ensures { IfOk result (λ all. Adds (map (λ d. shape d.now) seen.entry.items) (inner
         (shape tree.now)) (map (λ d. shape d.now) all.items)) }
@@ -208,7 +213,7 @@ pub fn is_false(tree: &Diagram) -> bool
     }
 }
 
-/// The variables on the path that takes the false half wherever that is not constant false.
+/// The literals on the path that takes the false half unless that is the constant false.
 #[tactic(auto, unfolding(crate::specs::Points::path))]
 pub fn path_of(alloc: Global, tree: &Diagram) -> Result<Vec<(usize, bool)>, AllocError>
     ensures { IfOk result (λ literals. literals.items ≡ path (shape tree.now)) }

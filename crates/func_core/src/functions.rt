@@ -1,5 +1,10 @@
-//! Functions by number: what any body owes, whether it holds plain trees or a shared table of
-//! nodes.
+//! Functions by number: the contract of every implementation, whether it keeps plain trees or a
+//! shared table of nodes.
+//!
+//! Source: R. E. Bryant, "Graph-Based Algorithms for Boolean Function Manipulation" (1986). A valid
+//! number denotes one reduced tree whose size is within the object's limit, and keeps denoting it
+//! until `clear`. Callers rely on `TooBig` being exact: a function that fits is never refused for
+//! its size.
 
 ghost use Rattle.std.specs.Prelude.{◌≡◌, ℕ, ◌≤◌, ◌↔◌, IsTrue, IfOk};
 ghost use Rattle.func_core.specs.Trees.{Tree, Zero, eval, IsReduced, constant, variable, complement, conjunction, disjunction, exclusive_or};
@@ -10,16 +15,16 @@ ghost use Rattle.func_core.specs.Numbers.{Means, IsBig, Stays, NoneStands};
 use sis_base::Sequence;
 use std::alloc::AllocError;
 
-/// The number of a function, of the object that gave it, since its last `clear`.
+/// The number of a function, valid for the object that returned it until its next `clear`.
 #[derive(Clone, Copy, Debug, PartialEq, Eq)]
 pub struct Func(pub usize);
 
-/// Why no function was given.
+/// Why no function was returned.
 #[derive(Clone, Copy, Debug, PartialEq, Eq)]
 pub enum FuncFault {
     /// The function's size is above the limit.
     TooBig,
-    /// No memory was left.
+    /// There is not enough memory, or the object cannot number further variables or functions.
     Memory,
 }
 
@@ -34,9 +39,9 @@ impl From<AllocError> for FuncFault {
     }
 }
 
-/// An object that names Boolean functions by numbers. Each number that stands is that of one tree,
-/// which is reduced and within the object's limit on the size of a tree. The limit is at least 1,
-/// the size of a variable.
+/// An object that gives Boolean functions numbers. Each valid number denotes one tree, which is
+/// reduced and within the object's limit on the size of a tree. The limit is at least 1, the size
+/// of a variable.
 pub trait Functions: Drop {
     ghost holds: { Self → ℕ → Type 0 };
 
@@ -44,20 +49,19 @@ pub trait Functions: Drop {
 
     ghost limit: { Self → ℕ };
 
-    /// The function that is the bit of the variable at a place, whose size is 1: it is never too
-    /// big.
+    /// The function that is the bit of a variable. Its size is 1, so it is never too big.
     fn var(&mut self, place: usize) -> Result<Func, FuncFault>
         ensures ok { IfOk result (λ h. Means holds tree limit self.new h.0 (variable place)) }
         ensures fits { result ≡ Err FuncFault.TooBig → ⊥ }
         ensures stays { Stays holds tree limit self.old self.new };
 
-    /// The function that is one bit everywhere, whose size is 0: it is never too big.
+    /// The constant function of a bit. Its size is 0, so it is never too big.
     fn constant(&mut self, value: bool) -> Result<Func, FuncFault>
         ensures ok { IfOk result (λ h. Means holds tree limit self.new h.0 (constant value)) }
         ensures fits { result ≡ Err FuncFault.TooBig → ⊥ }
         ensures stays { Stays holds tree limit self.old self.new };
 
-    /// The complement of a function, whose size is the function's: it is never too big.
+    /// The complement of a function. It has the function's size, so it is never too big.
     fn not(&mut self, f: Func) -> Result<Func, FuncFault>
         requires { holds self.old f.0 }
         ensures ok { IfOk result (λ h. Means holds tree limit self.new h.0 (complement (eval
@@ -65,7 +69,7 @@ pub trait Functions: Drop {
         ensures fits { result ≡ Err FuncFault.TooBig → ⊥ }
         ensures stays { Stays holds tree limit self.old self.new };
 
-    /// Where both functions are true.
+    /// The conjunction of two functions.
     fn and(&mut self, f: Func, g: Func) -> Result<Func, FuncFault>
         requires f { holds self.old f.0 }
         requires g { holds self.old g.0 }
@@ -75,7 +79,7 @@ pub trait Functions: Drop {
             (tree self.old f.0)) (eval (tree self.old g.0))) }
         ensures stays { Stays holds tree limit self.old self.new };
 
-    /// Where one of the functions is true, or both are.
+    /// The disjunction of two functions.
     fn or(&mut self, f: Func, g: Func) -> Result<Func, FuncFault>
         requires f { holds self.old f.0 }
         requires g { holds self.old g.0 }
@@ -85,7 +89,7 @@ pub trait Functions: Drop {
             (tree self.old f.0)) (eval (tree self.old g.0))) }
         ensures stays { Stays holds tree limit self.old self.new };
 
-    /// Where just one of the functions is true.
+    /// The exclusive or of two functions.
     fn xor(&mut self, f: Func, g: Func) -> Result<Func, FuncFault>
         requires f { holds self.old f.0 }
         requires g { holds self.old g.0 }
@@ -95,15 +99,14 @@ pub trait Functions: Drop {
             (tree self.old f.0)) (eval (tree self.old g.0))) }
         ensures stays { Stays holds tree limit self.old self.new };
 
-    /// Whether a function is false everywhere; takes no memory.
+    /// Whether a function is false everywhere; allocates nothing.
     fn is_zero(&self, f: Func) -> bool
         requires { holds self.now f.0 }
         ensures { IsTrue result ↔ (tree self.now f.0 ≡ Zero) };
 
-    /// The variables, each with its bit, on the path to a point where the function is true; none
-    /// exactly where it is false everywhere. Variables rise, those that are not named may have any
-    /// bit, and the path takes the half where a variable is false wherever that is not false
-    /// everywhere.
+    /// The literals on the path to a point at which the function is true; `None` exactly if it is
+    /// false everywhere. Variables increase, those without a literal may have any bit, and the path
+    /// takes the half in which a variable is false unless that half is false everywhere.
     fn one_point(&self, f: Func) -> Result<Option<Sequence<(usize, bool)>>, AllocError>
         requires { holds self.now f.0 }
         ensures { IfOk result (λ point. point ≡ one_path (tree self.now f.0)) };
@@ -113,11 +116,11 @@ pub trait Functions: Drop {
         requires { holds self.now f.0 }
         ensures { IfOk result (λ count. count ≡ size (tree self.now f.0)) };
 
-    /// Whether so much is held that a caller who can do without its numbers had better clear it. It
-    /// tells nothing of any function.
+    /// Whether so much is kept that a caller who can do without its numbers should clear it. It
+    /// says nothing of any function.
     fn is_full(&self) -> bool;
 
-    /// Takes all numbers back; takes no memory.
+    /// Makes all numbers invalid; allocates nothing.
     fn clear(&mut self)
         ensures none { NoneStands holds self.new }
         ensures limit { limit self.new ≡ limit self.old };

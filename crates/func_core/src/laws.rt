@@ -8,9 +8,9 @@ pub fn equal_functions_have_one_tree()
     ensures { OneTree }
 {}
 
-/// What a number means, and what is too big, goes by the bits of a function alone: where two
+/// The meaning of a number, and whether it is too big, depend on the function's bits alone: if two
 /// functions agree at each valuation, a tree of one is a tree of the other, and they are too big
-/// together.
+/// for the same limits.
 pub fn functions_go_by_points()
     ensures tree { TreeGoesByPoints }
     ensures big { BigGoesByPoints }
@@ -26,8 +26,8 @@ pub fn complements_have_one_size()
     ensures { ComplementHasSize }
 {}
 
-/// A function that is not the constant false is true somewhere. The given path of a tree leads to a
-/// point where the function is true, only the constant false has none, and no variable stands on it
+/// A function that is not the constant false is true somewhere. The path of a tree leads to a point
+/// at which the function is true, only the constant false has none, and no variable occurs on it
 /// twice.
 pub fn given_points_are_true()
     ensures somewhere { NonzeroIsTrueSomewhere }

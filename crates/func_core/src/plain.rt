@@ -1,4 +1,9 @@
 //! Functions as plain trees, one for each number, without sharing.
+//!
+//! A function's number is the index of its tree, which is reduced and within the limit (R. E.
+//! Bryant, 1986). This is the reference implementation of `Functions`: simple, and for small
+//! functions only, since an operation recurses as deep as its trees and a size is counted by
+//! comparing subtrees.
 
 ghost use Rattle.std.specs.Prelude.{◌≡◌, ℕ, ◌<◌, ◌≤◌, IfOk};
 
@@ -7,8 +12,8 @@ use crate::functions::{Func, FuncFault, Functions};
 use sis_base::Sequence;
 use std::alloc::{AllocError, Global};
 
-/// Functions as plain reduced trees, each of its own. An operation goes down its trees by calls, as
-/// deep as variables stand on a path, and a size is counted by comparing subtrees.
+/// Functions as plain reduced trees, one for each number. An operation recurses over its trees, as
+/// deep as variables occur on a path, and a size is counted by comparing subtrees.
 #[derive(Drop)]
 pub struct PlainFunctions {
     alloc: Global,
@@ -23,8 +28,8 @@ impl PlainFunctions {
     ghost use Rattle.func_core.specs.Numbers.{Means, IsBig, Stays, NoneStands};
     ghost use Rattle.func_core.specs.PlainTrees.{shape, bits, plain_tree, plain_limit, PlainHolds};
 
-    /// An object without numbers, for trees of a size up to the limit, which is at least 1; takes
-    /// no memory.
+    /// An object without valid numbers, for trees of a size up to the limit, which is at least 1;
+    /// allocates nothing.
     pub fn new(alloc: Global, limit: usize) -> Self
         requires { 1 ≤ limit }
         ensures limit { ⟦<PlainFunctions as Functions>⟧.limit result ≡ limit }
@@ -37,8 +42,7 @@ impl PlainFunctions {
         }
     }
 
-    /// Puts a reduced tree behind the others, unless its size is above the limit; its number is its
-    /// place.
+    /// Appends a reduced tree, unless its size is above the limit; its number is its index.
     fn keep(&mut self, made: Diagram) -> Result<Func, FuncFault>
         requires { IsReduced 0 (shape made) }
         ensures ok { IfOk result (λ h. Means PlainHolds plain_tree plain_limit self.new h.0 (eval
@@ -125,7 +129,7 @@ impl Functions for PlainFunctions {
         diagram::size_of(self.alloc, &self.diagrams[f.0])
     }
 
-    // Each number has memory of its own, so any are worth taking back.
+    // Each number has memory of its own, so even one is worth clearing.
     fn is_full(&self) -> bool {
         !self.diagrams.is_empty()
     }

@@ -1,4 +1,4 @@
--- The stack of frames: what a step puts on it, and that it stands while the table grows.
+-- The stack of frames: what a step pushes on it, and that it stays right while the table grows.
 use Rattle.std.proofs.Common.{◌≡◌, ℕ, suc, ◌⊎◌, inl, inr, true, List, [], ◌∷◌, ◌++◌, reverse, refl, ap, sym, ◌∙◌, subst, arith}
 use Rattle.std.specs.Set.{is_member}
 use Rattle.std.proofs.lemmas.List.{reverse-append}
@@ -154,7 +154,7 @@ stack_within vs operation goal (frame ∷ below) asked is x h =
     stack_within vs operation goal below (made vs operation (pair_of frame)) is.1 x
     (frame_within vs operation frame asked is.0 x h)
 
--- an answer that is known goes to the stack that asks for it
+-- an answer that is known is passed to the stack that asks for it
 pub stack_known : (vs : List Vertex) (operation : Operation) (goal : Tree) (frames : List Frame)
     (pair asked : Pair) (number : ℕ) →
     IsTable vs → IsTurned pair asked → Has vs number (made vs operation pair) →

@@ -1,4 +1,4 @@
--- What stays as a table grows, and how many vertices it grows by.
+-- What is kept as a table grows, and the number of vertices by which it grows.
 pub use Rattle.func_shared.proofs.Inner.{inner_through, inner_smaller}
 use Rattle.std.proofs.Common.{◌≡◌, ℕ, zero, suc, ◌+◌, ◌-◌, ◌<◌, ◌≤◌, Bool, true, false, ◌||◌, Some, List, [], ◌∷◌, ◌++◌, length, take, drop, slice_get, refl, sym, ap, ◌∙◌, subst, inl, inr, ◌⊎◌, arith}
 use Rattle.std.specs.List.{AllByRecursion, IsDistinct}
@@ -20,7 +20,7 @@ pub length_grows : (old new : List Vertex) → Grows old new → length old ≤ 
 length_grows old new grows =
     omega (arith, length-take (length old) new, ap (λ (vs : List Vertex). length vs) grows)
 
--- a table that grew is the old one with vertices behind it
+-- a table that grew is the old one followed by further vertices
 grown : (old new : List Vertex) → Grows old new → new ≡ old ++ drop (length old) new
 grown old new grows =
     sym (take-append-drop (length old) new)

@@ -1,4 +1,4 @@
--- How the trees of numbers split at a place.
+-- How the trees of numbers split at a variable.
 use Rattle.std.proofs.Common.{◌≡◌, ℕ, zero, suc, ◌<◌, ◌≤◌, List, refl, sym, ◌∙◌, subst, arith}
 use Rattle.func_core.specs.Trees.{Tree, Zero, One, Node, IsReduced}
 use Rattle.func_shared.specs.Vertices.{tree_at, IsNumber, IsTable}

@@ -2,7 +2,7 @@
 use Rattle.std.proofs.Common.{◌≡◌, ℕ, ◌≤◌, Bool, true, false, ◌||◌, cond, List, [], ◌∷◌, ◌++◌, length, refl, sym, ap, ◌∙◌, subst, inl, inr, ◌⊎◌}
 use Rattle.std.specs.List.{AllByRecursion, IsDistinct, list_any}
 use Rattle.std.specs.Set.{is_member, unique_keys}
-use Rattle.std.proofs.lemmas.Bool.{false≢true}
+use Rattle.std.proofs.lemmas.Bool.{false≢true, or_left, or_right}
 use Rattle.std.proofs.lemmas.List.Folds.{list_any-append}
 use Rattle.std.proofs.lemmas.Map.Made.{length-le_from_is_member}
 use Rattle.std.proofs.lemmas.Map.Steps.{list_any_congr}
@@ -14,31 +14,23 @@ pub or_cases : (a b : Bool) → (a || b) ≡ true → (a ≡ true) ⊎ (b ≡ tr
 or_cases true b e = inl refl
 or_cases false b e = inr e
 
-pub or_first : (a b : Bool) → a ≡ true → (a || b) ≡ true
-or_first true b e = refl
-or_first false b e = absurd (false≢true e)
-
-pub or_second : (a b : Bool) → b ≡ true → (a || b) ≡ true
-or_second true b e = refl
-or_second false b e = e
-
 -- the inner subtrees of a node, one after another
 pub inner-itself : (place : ℕ) (low high : Tree) →
     is_member tree_eq (inner (Node place low high)) (Node place low high) ≡ true
 unfolding inner
-inner-itself place low high = or_first _ _ (tree_eq-refl (Node place low high))
+inner-itself place low high = or_left _ _ (tree_eq-refl (Node place low high))
 
 pub inner-low : (place : ℕ) (low high s : Tree) → is_member tree_eq (inner low) s ≡ true →
     is_member tree_eq (inner (Node place low high)) s ≡ true
 unfolding inner
 inner-low place low high s e =
-    or_second _ _ (list_any-append (tree_eq s) (inner low) (inner high) ∙ or_first _ _ e)
+    or_right _ _ (list_any-append (tree_eq s) (inner low) (inner high) ∙ or_left _ _ e)
 
 pub inner-high : (place : ℕ) (low high s : Tree) → is_member tree_eq (inner high) s ≡ true →
     is_member tree_eq (inner (Node place low high)) s ≡ true
 unfolding inner
 inner-high place low high s e =
-    or_second _ _ (list_any-append (tree_eq s) (inner low) (inner high) ∙ or_second _ _ e)
+    or_right _ _ (list_any-append (tree_eq s) (inner low) (inner high) ∙ or_right _ _ e)
 
 pub inner-cases : (place : ℕ) (low high s : Tree) →
     is_member tree_eq (inner (Node place low high)) s ≡ true →

@@ -1,4 +1,4 @@
--- What an operation makes of two trees: its bit at each point, that it is reduced, and one step.
+-- The result of an operation on two trees: its bit at each point, that it is reduced, and one step.
 use Rattle.std.proofs.Common.{◌≡◌, ℕ, suc, ◌≤◌, Bool, true, false, if◌then◌else◌, refl, ap, sym, ◌∙◌, subst, arith, nat_lt}
 use Rattle.std.proofs.lemmas.Bool.{ltb-true, ltb-false}
 use Rattle.func_core.specs.Trees.{Tree, Zero, One, Node, eval, IsReduced}
@@ -62,7 +62,7 @@ unfolding IsReduced
 leaf-reduced least true = tt
 leaf-reduced least false = tt
 
--- a change of a bit goes through a choice, and so does an operation on two
+-- a change of a bit commutes with a choice, and so does an operation on two
 by-half : (change : Bool → Bool) (b : Bool) (l h x y v : Bool) → v ≡ (if b then h else l) →
     l ≡ change x → h ≡ change y → v ≡ change (if b then y else x)
 by-half change true l h x y v e p q = e ∙ q
@@ -223,7 +223,7 @@ merged_commutes operation t u r s =
     (λ point. bits_turn operation (eval t point) (eval u point)
     ∙ sym (merged_computes operation u t point))
 
--- one step, at any place at which both trees split
+-- one step, at any variable at which both trees split
 pub merged_splits : (operation : Operation) (place : ℕ) (t t0 t1 u u0 u1 : Tree) → IsReduced 0 t →
     IsReduced 0 u →
     SplitsAt place t t0 t1 → SplitsAt place u u0 u1 →
@@ -242,7 +242,7 @@ merged_splits operation place t t0 t1 u u0 u1 r s a b =
     (sym (a.computes point))
     ∙ ap (bits operation (eval t point)) (sym (b.computes point))))
 
--- a node splits at its place, and so does a tree whose top place is above
+-- a node splits at its variable, and so does a tree whose top variable is above it
 pub splits_node : (least place : ℕ) (low high : Tree) → IsReduced least (Node place low high) →
     SplitsAt place (Node place low high) low high
 unfolding eval IsReduced

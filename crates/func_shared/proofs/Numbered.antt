@@ -1,12 +1,12 @@
 -- The trees of numbered vertices, and that a table stays one where a vertex is put behind it and
 -- where it is cut.
-use Rattle.std.proofs.Common.{◌≡◌, ℕ, zero, suc, ◌+◌, ◌-◌, ◌<◌, ◌≤◌, Bool, true, false, ◌&&◌, if◌then◌else◌, Option, Some, None, List, [], ◌∷◌, ◌++◌, length, fold, get_or, slice_get, take, drop, refl, sym, ap, ◌∙◌, subst, inl, inr, ◌⊎◌, arith, length-append, eq-eqb}
+use Rattle.std.proofs.Common.{◌≡◌, ℕ, zero, suc, ◌+◌, ◌-◌, ◌<◌, ◌≤◌, Bool, true, false, if◌then◌else◌, Option, Some, None, List, [], ◌∷◌, ◌++◌, length, fold, get_or, slice_get, take, drop, refl, sym, ap, ◌∙◌, subst, inl, inr, ◌⊎◌, arith, length-append, eq-eqb}
 use Rattle.std.specs.List.{list_any}
 use Rattle.std.specs.Option.{IfSome}
 use Rattle.std.specs.Set.{is_member}
 use Rattle.std.proofs.Math.ListN.{get_or-append}
 use Rattle.std.proofs.Math.Seq.{get_or-append_seam, take-append_seam}
-use Rattle.std.proofs.lemmas.Bool.{cases_lt, false≢true, eqb-true}
+use Rattle.std.proofs.lemmas.Bool.{cases_lt, false≢true, eqb-true, and_parts}
 use Rattle.std.proofs.lemmas.List.{take-append-drop, take_all}
 use Rattle.std.proofs.lemmas.List.Sums.{fold-append}
 use Rattle.std.proofs.lemmas.List.Folds.{list_any_at}
@@ -40,7 +40,7 @@ pub length-trees : (vs : List Vertex) → length (trees vs) ≡ 2 + length vs
 unfolding trees
 length-trees vs = omega (arith, fold-length vs (Zero ∷ One ∷ []))
 
--- trees that are given stay, whatever vertices come behind them
+-- given trees stay, whatever vertices follow them
 fold-old : (vs : List Vertex) (ts : List Tree) (n : ℕ) → n < length ts →
     tree_in (fold with_vertex ts vs) n ≡ tree_in ts n
 fold-old [] ts n lt = refl
@@ -106,7 +106,7 @@ pub table-reads : (vs : List Vertex) (n : ℕ) (v : Vertex) → IsTable vs → s
     tree_at vs (2 + n) ≡ Node v.place (tree_at vs v.low) (tree_at vs v.high)
 table-reads vs n v table at = reads vs n v at (table.below n v at).0 (table.below n v at).1
 
--- what stands in a list at a place
+-- the item of a list at an index
 pub slice_get-take : {X : Type 0} (xs : List X) (count n : ℕ) (x : X) →
     slice_get (take count xs) n ≡ Some x → slice_get xs n ≡ Some x
 slice_get-take [] zero n x at = at
@@ -155,7 +155,7 @@ same_vertex v w p q r =
     ap (λ (n : ℕ). vertex_of n v.low v.high) p ∙ ap (λ (n : ℕ). vertex_of w.place n v.high) q
     ∙ ap (λ (n : ℕ). vertex_of w.place w.low n) r
 
--- a vertex may be put behind a table
+-- a vertex may be appended to a table
 pub record MayFollow (vs : List Vertex) (v : Vertex) : Type 0 where
   pub low : IsNumber vs v.low
   pub high : IsNumber vs v.high
@@ -302,7 +302,7 @@ table-cut vs count table = record {
           | inr a ↦ reduced_zero (tree_at (take count vs) n) (tree_at-past (take count vs) n a)
         ]
 
--- a vertex was put behind others, or was one of them
+-- a vertex was appended to others, or was one of them
 abbrev pub IsPut : List Vertex → List Vertex → Vertex → Type 0
 IsPut old new v = (new ≡ old) ⊎ ((new ≡ old ++ v ∷ []) × IsNew old v)
 
@@ -340,7 +340,7 @@ joined-node place low high apart = cases (tree_eq low high) refl
     cases true e = absurd (apart (tree_eq-same low high e))
     cases false e = refl
 
--- the tree of the vertex that was put
+-- the tree of the inserted vertex
 put-tree : (old new : List Vertex) (v : Vertex) (n : ℕ) → IsPut old new v → IsTable old →
     MayFollow old v → slice_get new n ≡ Some v →
     tree_at new (2 + n) ≡ joined v.place (tree_at old v.low) (tree_at old v.high)
@@ -418,15 +418,11 @@ test_itself v = rw (
   eq-eqb v.high v.high refl,
 ) refl
 
-both : (a b : Bool) → (a && b) ≡ true → (a ≡ true) × (b ≡ true)
-both true b e = (refl, e)
-both false b e = absurd (false≢true e)
-
 -- vertices that pass the test are one vertex
 pub test_same : (v w : Vertex) → same_test v w ≡ true → v ≡ w
 test_same v w e =
-    let (place, rest) = both _ _ e in
-    let (low, high) = both _ _ rest in
+    let (place, rest) = and_parts _ _ e in
+    let (low, high) = and_parts _ _ rest in
     same_vertex v w (eqb-true v.place w.place place) (eqb-true v.low w.low low)
     (eqb-true v.high w.high high)
 
@@ -448,12 +444,12 @@ set-put old new v keys = cases (list_any (same_test v) old) refl keys
     cases true e put = inl put
     cases false e put = inr (put, λ n at. none_there v old n e at)
 
--- the vertex that the set gives for the one that was put
+-- the vertex that the set returns for the inserted one
 pub set-at : (new : List Vertex) (v : Vertex) (n : ℕ) →
     ((k : Vertex) × (slice_get new n ≡ Some k) × (same_test v k ≡ true)) → slice_get new n ≡ Some v
 set-at new v n (k, at, same) = at ∙ ap (λ (u : Vertex). Some u) (sym (test_same v k same))
 
--- what a look-up in the set tells of a number's vertex
+-- what a lookup in the set says of a number's vertex
 module _ (vs : List Vertex) (number index : ℕ) (table : IsTable vs) (above : 2 ≤ number)
     (at : index ≡ number - 2) where
   pub found-tree : (found : Option Vertex) → found ≡ slice_get vs index →

@@ -26,7 +26,7 @@ merged_tree operation t u r s = record {
   computes = merged_computes operation t u;
 }
 
--- a number that stands in a table that grows stands for the same tree
+-- a valid number of a table that grows denotes the same tree
 pub shared_stays : (old new : SharedFunctions) (after : List Vertex) →
     new.nodes ≡ after → Grows old.nodes after →
     old.standing ≤ new.standing → new.limit ≡ old.limit →
@@ -149,7 +149,7 @@ zero_number functions n table h = (
       (e ∙ sym (tree_at-zero functions.nodes))),
 )
 
--- a number that stands is one of the table
+-- a valid number is one of the table
 pub standing_number : (functions : SharedFunctions) (n : ℕ) → SharedHolds functions n →
     IsNumber functions.nodes n
 standing_number functions n h =

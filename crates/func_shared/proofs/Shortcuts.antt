@@ -1,4 +1,4 @@
--- The answers that equal numbers and constants tell.
+-- The answers that equal numbers and constants determine.
 use Rattle.std.proofs.Common.{◌≡◌, ℕ, List, refl, ap, sym, ◌∙◌, subst, arith}
 use Rattle.func_core.specs.Trees.{Tree, Zero, One}
 use Rattle.func_shared.specs.Vertices.{tree_at, Has, IsTable}

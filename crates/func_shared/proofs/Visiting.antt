@@ -3,7 +3,7 @@ use Rattle.std.proofs.Common.{◌≡◌, ℕ, zero, suc, ◌+◌, ◌<◌, ◌�
 use Rattle.std.specs.Prelude.{nat_lt, ◌==◌}
 use Rattle.std.specs.List.{AllByRecursion, IsDistinct, list_any}
 use Rattle.std.specs.Set.{is_member}
-use Rattle.std.proofs.lemmas.Bool.{false≢true, cases_lt, ltb-false, le-ltb, eqb-true}
+use Rattle.std.proofs.lemmas.Bool.{false≢true, cases_lt, ltb-false, le-ltb, eqb-true, or_parts, or_left, or_right}
 use Rattle.std.proofs.lemmas.Option.{slice_get_within, slice_get-map}
 use Rattle.std.specs.Option.{option_map}
 use Rattle.std.proofs.lemmas.List.{map-append, length-map}
@@ -19,7 +19,7 @@ use Rattle.func_shared.specs.Walks.{with_number}
 use Rattle.func_shared.specs.Vertices.{tree_at, IsNumber, IsTable}
 use Rattle.func_shared.proofs.Numbered.{tree_at-zero, tree_at-one, number_vertex, table-reads}
 use Rattle.func_shared.proofs.Growing.{size_below}
-use Rattle.func_shared.proofs.Inner.{or_cases, or_first, or_second, inner-itself, inner-low, inner-high, inner-cases, inner-zero, inner-one, inner_through, size-within, size-above}
+use Rattle.func_shared.proofs.Inner.{or_cases, inner-itself, inner-low, inner-high, inner-cases, inner-zero, inner-one, inner_through, size-within, size-above}
 
 path-high : (low high : Tree) (place : ℕ) → is_constant_zero low ≡ true →
     path (Node place low high) ≡ (place, true) ∷ path high
@@ -45,7 +45,7 @@ other-number vs n table is other = cases (is_constant_zero (tree_at vs n)) refl
         (is_zero-true (tree_at vs n) e ∙ sym (tree_at-zero vs))))
     cases false e = refl
 
--- one step, to the one half or the other, puts its literal behind those that there are
+-- one step, to one half or the other, appends its literal to those collected
 path-step : (place : ℕ) (bit : Bool) (t low high next : Tree)
     (literals pushed all : List (ℕ × Bool)) →
     t ≡ Node place low high → path (Node place low high) ≡ (place, bit) ∷ path next →
@@ -89,12 +89,12 @@ is_constant (Node place low high) = false
 abbrev pub noted : List Tree → Tree → Bool
 noted ts t = is_constant t || is_member tree_eq ts t
 
--- the trees seen, and behind them a further one unless it need not be seen
+-- the trees seen, followed by one more unless it need not be seen
 abbrev pub with_tree : List Tree → Tree → List Tree
 with_tree ts t = if noted ts t then ts else ts ++ t ∷ []
 
--- a walk over the inner subtrees of a tree: those that it has seen are different, and the halves of
--- those that it is done with are noted
+-- the state of a walk over the inner subtrees of a tree: those seen are different, and the halves
+-- of the finished ones are seen
 pub record IsWalk (tree : Tree) (ts : List Tree) (done : ℕ) : Type 0 where
   pub distinct : IsDistinct tree_eq ts
   pub within : (s : Tree) → is_member tree_eq ts s ≡ true → is_member tree_eq (inner tree) s ≡ true
@@ -112,20 +112,16 @@ with_tree-cases P ts t same new = cases (noted ts t) refl
     cases true e = same e
     cases false e = new e
 
-not_either : (a b : Bool) → (a || b) ≡ false → (a ≡ false) × (b ≡ false)
-not_either true b e = absurd (false≢true (sym e))
-not_either false b e = (refl, e)
-
 noted-more : (ts : List Tree) (t s : Tree) → noted ts s ≡ true → noted (with_tree ts t) s ≡ true
 noted-more ts t s is = with_tree-cases (λ us. noted us s ≡ true) ts t (λ _. is)
     (λ _. by (or_cases (is_constant s) (is_member tree_eq ts s) is))
   where
     by : (is_constant s ≡ true) ⊎ (is_member tree_eq ts s ≡ true) → noted (ts ++ t ∷ []) s ≡ true
-    by (inl c) = or_first (is_constant s) (is_member tree_eq (ts ++ t ∷ []) s) c
+    by (inl c) = or_left (is_constant s) (is_member tree_eq (ts ++ t ∷ []) s) c
     by (inr m) =
-        or_second (is_constant s) (is_member tree_eq (ts ++ t ∷ []) s)
+        or_right (is_constant s) (is_member tree_eq (ts ++ t ∷ []) s)
         (list_any-append (tree_eq s) ts (t ∷ [])
-        ∙ or_first (is_member tree_eq ts s) (tree_eq s t || false) m)
+        ∙ or_left (is_member tree_eq ts s) (tree_eq s t || false) m)
 
 noted-itself : (ts : List Tree) (t : Tree) → noted (with_tree ts t) t ≡ true
 noted-itself ts t = cases (noted ts t) refl
@@ -133,10 +129,10 @@ noted-itself ts t = cases (noted ts t) refl
     cases : (b : Bool) → noted ts t ≡ b → noted (if b then ts else ts ++ t ∷ []) t ≡ true
     cases true e = e
     cases false e =
-        or_second (is_constant t) (is_member tree_eq (ts ++ t ∷ []) t)
+        or_right (is_constant t) (is_member tree_eq (ts ++ t ∷ []) t)
         (list_any-append (tree_eq t) ts (t ∷ [])
-        ∙ or_second (is_member tree_eq ts t) (tree_eq t t || false)
-        (or_first (tree_eq t t) false (tree_eq-refl t)))
+        ∙ or_right (is_member tree_eq ts t) (tree_eq t t || false)
+        (or_left (tree_eq t t) false (tree_eq-refl t)))
 
 longer : (ts : List Tree) (t : Tree) → length ts ≤ length (with_tree ts t)
 longer ts t =
@@ -181,11 +177,11 @@ walk-more : (tree : Tree) (ts : List Tree) (done : ℕ) (t : Tree) →
 walk-more tree ts done t inside walk = record {
   distinct = with_tree-cases (IsDistinct tree_eq) ts t (λ _. walk.distinct)
       (λ new. IsDistinct-push tree_eq-laws ts t walk.distinct
-      (not_either (is_constant t) (is_member tree_eq ts t) new).1);
+      (or_parts (is_constant t) (is_member tree_eq ts t) new).1);
   within = λ s. with_tree-cases
       (λ us. is_member tree_eq us s ≡ true → is_member tree_eq (inner tree) s ≡ true) ts t
       (λ _. walk.within s) (λ new m. further s
-      (not_either (is_constant t) (is_member tree_eq ts t) new).0
+      (or_parts (is_constant t) (is_member tree_eq ts t) new).0
       (or_cases (is_member tree_eq ts s) (tree_eq s t || false)
       (sym (list_any-append (tree_eq s) ts (t ∷ [])) ∙ m)));
   start = noted-more ts t tree walk.start;
@@ -222,8 +218,8 @@ unfolding IsDistinct
 walk-alone tree e = record {
   distinct = (tt, tt);
   within = λ s m. by s (or_cases (tree_eq s tree) false m);
-  start = or_second (is_constant tree) (tree_eq tree tree || false)
-      (or_first (tree_eq tree tree) false (tree_eq-refl tree));
+  start = or_right (is_constant tree) (tree_eq tree tree || false)
+      (or_left (tree_eq tree tree) false (tree_eq-refl tree));
   closed = λ k place low high lt at. absurd (omega (arith, lt));
   reached = omega arith;
 }
@@ -237,17 +233,17 @@ walk-alone tree e = record {
 pub walk-start : (tree : Tree) → IsWalk tree (with_tree [] tree) 0
 walk-start tree =
     with_tree-cases (λ ts. IsWalk tree ts 0) [] tree (λ e. walk-none tree e)
-    (λ e. walk-alone tree (not_either (is_constant tree) false e).0)
+    (λ e. walk-alone tree (or_parts (is_constant tree) false e).0)
 
--- trees that stand in a list are its members
+-- trees of a list are its members
 at-member : (ts : List Tree) (k : ℕ) (t : Tree) → slice_get ts k ≡ Some t →
     is_member tree_eq ts t ≡ true
 at-member [] k t at = cc
 at-member (u ∷ ts) zero t at =
     let same : u ≡ t = cc in
-    or_first (tree_eq t u) (is_member tree_eq ts t) (ap (tree_eq t) same ∙ tree_eq-refl t)
+    or_left (tree_eq t u) (is_member tree_eq ts t) (ap (tree_eq t) same ∙ tree_eq-refl t)
 at-member (u ∷ ts) (suc k) t at =
-    or_second (tree_eq t u) (is_member tree_eq ts t) (at-member ts k t at)
+    or_right (tree_eq t u) (is_member tree_eq ts t) (at-member ts k t at)
 
 member-at : (ts : List Tree) (t : Tree) → is_member tree_eq ts t ≡ true →
     (k : ℕ) × (k < length ts) × (slice_get ts k ≡ Some t)
@@ -435,7 +431,7 @@ trees-more vs seen n table are is =
     cases false true e = absurd (false≢true e)
     cases false false e = map-append (tree_at vs) seen (n ∷ [])
 
--- a place in a list is past its end where nothing stands
+-- an index of a list is past its end if there is no item
 past_end : {X : Type 0} (xs : List X) (k : ℕ) → slice_get xs k ≡ None → length xs ≤ k
 past_end [] k e = omega arith
 past_end (x ∷ xs) zero e = cc

@@ -1,4 +1,4 @@
--- The operation while it works: what holds at each turn, and that it does at the next.
+-- The operation at work: what holds at each turn, and that it holds at the next.
 use Rattle.std.proofs.Common.{◌≡◌, ℕ, ◌+◌, ◌-◌, ◌<◌, List, [], ◌∷◌, ◌++◌, reverse, length, refl, ap, sym, ◌∙◌, subst, arith}
 use Rattle.std.proofs.lemmas.List.{reverse-append}
 use Rattle.func_core.specs.Trees.{Tree}
@@ -39,7 +39,7 @@ begins vs answers operation goal frames e are right = record {
       (made vs operation goal)) (sym e) refl;
 }
 
--- how a stack goes on to a turn
+-- how a stack continues to a turn
 abbrev pub GoesOn : List Vertex → List Vertex → Operation → List Frame → Tree → List Frame → Turn →
     Type 0
 GoesOn old new operation before waited frames turn =
@@ -70,7 +70,7 @@ top_frame vs operation whole frames below frame asked e stack =
     subst (λ (fs : List Frame). IsStack vs operation whole fs asked)
     (ap (λ (fs : List Frame). reverse fs) e ∙ reverse-append below (frame ∷ [])) stack
 
--- an answer is taken to the top frame
+-- an answer is passed to the top frame
 pub resumed_added : (old vs new : List Vertex) (answers : Answers) (operation : Operation)
     (whole : Tree) (before below : List Frame) (frame : Frame) (given : Turn) →
     before ≡ below ++ frame ∷ [] → IsWorking old vs answers operation whole before given →

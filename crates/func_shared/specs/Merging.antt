@@ -1,19 +1,19 @@
--- What an operation on two bits makes of two trees.
--- Source: R. E. Bryant, "Graph-Based Algorithms for Boolean Function Manipulation", IEEE
--- Transactions on Computers C-35 (1986), "apply" and the Shannon expansion.
+-- The result of an operation on bits, applied to trees. Source: R. E. Bryant, "Graph-Based
+-- Algorithms for Boolean Function Manipulation", IEEE Transactions on Computers C-35 (1986),
+-- "apply" and the Shannon expansion.
 use Rattle.std.specs.Prelude.{◌≡◌, ℕ, suc, Bool, true, false, ◌&&◌, ◌||◌, if◌then◌else◌, nat_lt}
 use Rattle.func_core.specs.Trees.{Tree, Zero, One, Node, eval, IsReduced, differ}
 use Rattle.func_core.specs.Sizes.{tree_eq}
 use Rattle.func_shared.specs.declared.operation.Operation.{Operation}
 use Rattle.func_shared.specs.declared.operation.Operation.TheVariants.{And, Or, Xor}
 
--- what an operation makes of two bits
+-- the result of an operation on two bits
 abbrev pub bits : Operation → Bool → Bool → Bool
 bits And = ◌&&◌
 bits Or = ◌||◌
 bits Xor = differ
 
--- a node, or its half where both halves are one
+-- a node, or its half if both halves are equal
 unfoldable pub joined : ℕ → Tree → Tree → Tree
 joined place low high = if tree_eq low high then low else Node place low high
 
@@ -22,14 +22,15 @@ abbrev pub leaf : Bool → Tree
 leaf false = Zero
 leaf true = One
 
--- what an operation makes of a bit and a tree
+-- the result of an operation on a bit and a tree
 unfoldable pub merged_bit : Operation → Bool → Tree → Tree
 merged_bit operation bit Zero = leaf (bits operation bit false)
 merged_bit operation bit One = leaf (bits operation bit true)
 merged_bit operation bit (Node place low high) =
     joined place (merged_bit operation bit low) (merged_bit operation bit high)
 
--- what it makes of a node, whose halves it makes of any tree, and a tree
+-- the result of an operation on a node and a tree, given its results on the node's halves and any
+-- tree
 unfoldable pub merged_node : Operation → ℕ → Tree → Tree → (Tree → Tree) → (Tree → Tree) →
     Tree → Tree
 merged_node operation place low high of_low of_high Zero =
@@ -43,15 +44,15 @@ merged_node operation place low high of_low of_high (Node other lo hi) =
     (merged_node operation place low high of_low of_high hi)
     else joined place (of_low lo) (of_high hi))
 
--- what it makes of two trees
+-- the result of an operation on two trees
 unfoldable pub merged : Operation → Tree → Tree → Tree
 merged operation Zero other = merged_bit operation false other
 merged operation One other = merged_bit operation true other
 merged operation (Node place low high) other =
     merged_node operation place low high (merged operation low) (merged operation high) other
 
--- two trees above a place are the halves of a tree there: also of one that doesn't read the place,
--- whose halves are both itself
+-- two trees above a variable are the halves of a tree there; a tree that does not read the variable
+-- is itself both halves
 pub record SplitsAt (place : ℕ) (t low high : Tree) : Type 0 where
   pub low_reduced : IsReduced (suc place) low
   pub high_reduced : IsReduced (suc place) high

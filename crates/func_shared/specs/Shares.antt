@@ -1,6 +1,6 @@
--- How `SharedFunctions` holds its functions: as numbers of one table, of which those below a mark
--- stand. These words serve its private functions: a caller needs none of them, since each clause of
--- the trait and of the laws is said without.
+-- How `SharedFunctions` stores its functions: as numbers of one table, of which those below a mark
+-- are valid. These words serve its private functions: a caller needs none of them, since each
+-- clause of the trait and of the laws is stated without them.
 use Rattle.std.specs.Prelude.{ℕ, ◌<◌}
 use Rattle.func_core.specs.Trees.{BooleanFunction, Tree, eval, IsReduced}
 use Rattle.func_shared.specs.Vertices.{tree_at}
@@ -12,7 +12,7 @@ use Rattle.func_shared.specs.declared.shared.SharedFunctions.{SharedFunctions}
 abbrev pub shared_tree : SharedFunctions → ℕ → Tree
 shared_tree functions n = tree_at functions.nodes n
 
--- a number stands: it is below the mark, and its tree is reduced
+-- a number is valid: it is below the mark, and its tree is reduced
 abbrev pub SharedHolds : SharedFunctions → ℕ → Type 0
 SharedHolds functions n = (n < functions.standing) × IsReduced 0 (shared_tree functions n)
 

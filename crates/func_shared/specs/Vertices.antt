@@ -10,7 +10,7 @@ use Rattle.func_core.specs.Trees.{Tree, Zero, One, Node, IsReduced}
 use Rattle.func_core.specs.Sizes.{tree_eq, inner}
 use Rattle.func_shared.specs.declared.vertex.Vertex.{Vertex}
 
--- the tree of a number, where the trees of numbers are given in order
+-- the tree of a number, if the trees of numbers are given in order
 abbrev pub tree_in : List Tree → ℕ → Tree
 tree_in ts n = slice_index_or ts n Zero
 
@@ -50,11 +50,11 @@ pub record IsTable (vertices : List Vertex) : Type 0 where
   pub reduced : (n : ℕ) → IsReduced 0 (tree_at vertices n)
   pub short : 2 + length vertices ≤ 4294967296
 
--- vertices are put behind the last; so each number that had a tree has it still
+-- vertices are appended, so each number that had a tree still has it
 abbrev pub Grows : List Vertex → List Vertex → Type 0
 Grows old new = take (length old) new ≡ old
 
--- each number that is new has an inner subtree of a tree
+-- the tree of each new number is an inner subtree of a tree
 abbrev pub AddsWithin : List Vertex → List Vertex → Tree → Type 0
 AddsWithin old new t =
     (n : ℕ) → IsNumber new n → IsNumber old n ⊎ (is_member tree_eq (inner t) (tree_at new n) ≡ true)

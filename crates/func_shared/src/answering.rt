@@ -1,9 +1,16 @@
-//! The operation on two numbers of a table, with a stack of its own in place of recursion.
+//! The operation on two numbers of a table, with an explicit stack instead of recursion.
+//!
+//! Source: R. E. Bryant (1986), "apply": the operation is applied to the halves of both trees at
+//! the higher of their variables, and the answers are joined by a node. Each frame of the stack
+//! waits for the answer of its low or high halves; answers are looked up in and added to the
+//! computed table (K. S. Brace, R. L. Rudell and R. E. Bryant, 1990). `answer` returns the number
+//! of exactly the tree that `specs/Merging.antt` defines. All new vertices are inner subtrees of
+//! it, so `TooBig` is exact.
 
 ghost use Rattle.std.specs.Prelude.{◌≡◌, ℕ, ◌+◌, ◌<◌, ◌≤◌, List, None, reverse, IfOk, IfSome};
 ghost use Rattle.func_core.specs.Trees.{Tree};
 ghost use Rattle.func_core.specs.Sizes.{size};
-ghost use Rattle.func_shared.specs.declared.vertex.Vertex.{Vertex as TheVertex};
+ghost use Rattle.func_shared.specs.declared.vertex.Vertex.{Vertex};
 ghost use Rattle.func_shared.specs.Vertices.{tree_at, IsNumber, Has, IsTable, Grows, AddsWithin};
 ghost use Rattle.func_shared.specs.Merging.{merged, SplitsAt};
 ghost use Rattle.func_shared.specs.Answers.{made, AreNumbers, AreAnswers, IsOpened, pair_of, IsFrame, IsStack, turn_tree, IsTurn, turn_cost, frame_cost, stack_cost};
@@ -15,7 +22,7 @@ use crate::vertex::Vertex;
 use func_core::FuncFault;
 use std::alloc::{AllocError, Global};
 
-/// Two numbers' halves at the higher of their places.
+/// The halves of two numbers at the higher of their variables.
 #[derive(Clone, Copy)]
 struct Halves {
     place: u32,
@@ -23,28 +30,30 @@ struct Halves {
     high: Pair,
 }
 
-/// What waits for an answer.
+/// A pair that waits for an answer.
 #[derive(Clone, Copy)]
 enum Frame {
-    /// A pair that waits for its low halves' answer, with its place and its high halves.
+    /// A pair that waits for the answer of its low halves, with its variable and its high halves.
     Low(Pair, u32, Pair),
-    /// A pair that waits for its high halves' answer, with its place and its low halves' answer.
+    /// A pair that waits for the answer of its high halves, with its variable and the answer of its
+    /// low halves.
     High(Pair, u32, u32),
 }
 
-/// What comes next.
+/// The next step.
 #[derive(Clone, Copy)]
 enum Turn {
-    /// The answer of two numbers is asked for.
+    /// The answer of two numbers is needed.
     Asks(Pair),
     /// The number is the answer.
     Gives(u32),
 }
 
-/// The answer for equal numbers, or for a constant and a number that is not lower, if they tell it.
+/// The answer for equal numbers, or for a constant and a number that is not lower, if these
+/// determine it.
 fn shortcut(operation: Operation, pair: Pair) -> Option<u32>
     requires { pair.left ≤ pair.right }
-    ensures right { IfSome result (λ number. (vertices : List TheVertex) → IsTable vertices
+    ensures right { IfSome result (λ number. (vertices : List Vertex) → IsTable vertices
         → AreNumbers vertices pair → Has vertices number (made vertices operation pair)) }
     ensures none { result ≡ None → 2 ≤ pair.right }
 {
@@ -64,7 +73,8 @@ fn shortcut(operation: Operation, pair: Pair) -> Option<u32>
     }
 }
 
-/// The vertex of a number. That of a constant has it as both halves, and stands below all others.
+/// The vertex of a number. For a constant it is a vertex below all others, with the constant as
+/// both halves.
 fn opened(table: &Table, number: u32) -> Vertex
     requires { IsNumber table.now number }
     ensures { IsOpened table.now number result }
@@ -80,7 +90,7 @@ fn opened(table: &Table, number: u32) -> Vertex
     }
 }
 
-/// The halves of two numbers; where one's vertex stands lower, it is itself both its halves.
+/// The halves of two numbers. If the vertex of one is lower, both its halves are the number itself.
 fn halves_of(table: &Table, pair: Pair) -> Halves
     requires numbers { AreNumbers table.now pair }
     requires order { pair.left ≤ pair.right }
@@ -117,7 +127,7 @@ fn halves_of(table: &Table, pair: Pair) -> Halves
     }
 }
 
-/// Answers at once where that is known. Else the pair waits, and its low halves are asked for.
+/// Answers at once if the answer is known. Otherwise pushes the pair, and asks for its low halves.
 fn ask(
     table: &Table,
     answers: &Answers,
@@ -149,7 +159,7 @@ fn ask(
     Ok(Turn::Asks(halves.low))
 }
 
-/// Takes an answer to the frame that waits for it.
+/// Passes an answer to the frame that waits for it.
 fn resume(
     table: &mut Table,
     answers: &mut Answers,
@@ -186,8 +196,8 @@ fn resume(
     }
 }
 
-/// The number of what an operation makes of two numbers. It is too big only where the table has got
-/// more new vertices than the limit, for each of them stands in it.
+/// The number of the result of an operation on two numbers. `TooBig` is returned only if the table
+/// has got more new vertices than the limit, each of which belongs to the result.
 pub(crate) fn answer(
     alloc: Global,
     table: &mut Table,

@@ -1,19 +1,25 @@
-//! The answers of operations that are remembered. An answer that is lost costs time alone.
+//! The computed table: remembered answers of operations (K. S. Brace, R. L. Rudell and R. E.
+//! Bryant, "Efficient Implementation of a BDD Package", 1990).
+//!
+//! Each answer has one slot, by a hash of its operation and numbers, and replaces what the slot
+//! held; a lost answer costs time alone. The table doubles when as many answers were added as it
+//! has slots, up to a bound, and stays as it is if memory runs out. Invariant: every remembered
+//! answer is right for the table of vertices.
 
 ghost use Rattle.std.specs.Prelude.{◌≡◌, ◌≤◌, ◌⊎◌, List, IfSome};
-ghost use Rattle.func_shared.specs.declared.vertex.Vertex.{Vertex as TheVertex};
+ghost use Rattle.func_shared.specs.declared.vertex.Vertex.{Vertex};
 ghost use Rattle.func_shared.specs.Vertices.{Has};
 ghost use Rattle.func_shared.specs.Answers.{made, AreNumbers, IsAnswer, AreAnswers, StayAnswers};
 
 use crate::operation::Operation;
 use std::alloc::Global;
 
-/// How many answers there is room for at first, and at most.
+/// The number of answers for which there is room at first, and at most.
 const FIRST_ANSWERS: usize = 4096;
 
 const MAX_ANSWERS: usize = 4_194_304;
 
-/// False and false is false: what stands where no answer is kept.
+/// The answer that false and false is false; it fills the empty slots.
 const NOTHING: Answer = Answer {
     operation: Operation::And,
     left: 0,
@@ -47,7 +53,7 @@ impl Pair {
         Pair::new(self.right, self.left)
     }
 
-    /// Where the answer of an operation on the pair is kept, among so many places, a power of two.
+    /// The slot for the answer of an operation on the pair, among `count` slots, a power of two.
     fn place(self, operation: Operation, count: usize) -> usize {
         let packed = (u64::from(self.left) << 32) | u64::from(self.right);
         let first = (packed ^ (operation as u64) << 62).wrapping_mul(0x9E37_79B9_7F4A_7C15);
@@ -56,7 +62,7 @@ impl Pair {
     }
 }
 
-/// What an operation made of two numbers, the lower first. Sixteen bytes.
+/// The result of an operation on two numbers, the lower first. Sixteen bytes.
 #[derive(Clone, Copy)]
 pub(crate) struct Answer {
     operation: Operation,
@@ -66,7 +72,7 @@ pub(crate) struct Answer {
 }
 
 impl Answer {
-    /// The numbers that it is of.
+    /// The numbers of the operation.
     fn pair(self) -> Pair
         ensures left { result.left ≡ self.left }
         ensures right { result.right ≡ self.right }
@@ -75,19 +81,19 @@ impl Answer {
     }
 }
 
-/// Answers of operations on the numbers of one table, each in the one place that its numbers give:
-/// a new answer takes the place of an old one.
+/// Answers of operations on the numbers of one table, each in the one slot that its operation and
+/// numbers determine: a new answer replaces an old one.
 #[derive(Drop)]
 pub(crate) struct Answers {
     slots: Vec<Answer>,
-    /// How many were put in since there was more room last.
+    /// The number of answers added since the table last grew.
     count: usize,
 }
 
 impl Answers {
-    /// No answers; takes no memory.
+    /// No answers; allocates nothing.
     pub(crate) fn new(alloc: Global) -> Answers
-        ensures { (vertices : List TheVertex) → AreAnswers vertices result }
+        ensures { (vertices : List Vertex) → AreAnswers vertices result }
     {
         Answers {
             slots: Vec::new(alloc),
@@ -95,17 +101,17 @@ impl Answers {
         }
     }
 
-    /// Forgets all.
+    /// Forgets all answers.
     pub(crate) fn clear(&mut self)
-        ensures { (vertices : List TheVertex) → AreAnswers vertices self.new }
+        ensures { (vertices : List Vertex) → AreAnswers vertices self.new }
     {
         self.slots.clear();
         self.count = 0;
     }
 
-    /// The answer of an operation on two numbers, if it is kept.
+    /// The answer of an operation on two numbers, if it is remembered.
     pub(crate) fn get(&self, operation: Operation, pair: Pair) -> Option<u32>
-        ensures { IfSome result (λ number. (vertices : List TheVertex)
+        ensures { IfSome result (λ number. (vertices : List Vertex)
             → AreAnswers vertices self.now → Has vertices number (made vertices operation pair)) }
     {
         let slot = self.slots.get(pair.place(operation, self.slots.len()))?;
@@ -115,9 +121,9 @@ impl Answers {
         None
     }
 
-    /// Keeps an answer. Makes more room first, where as many were put in as there is room for.
+    /// Remembers an answer. Doubles the room first, if as many were added as there is room for.
     pub(crate) fn put(&mut self, operation: Operation, pair: Pair, number: u32)
-        ensures { (vertices : List TheVertex) → AreAnswers vertices self.old
+        ensures { (vertices : List Vertex) → AreAnswers vertices self.old
             → AreNumbers vertices pair → Has vertices number (made vertices operation pair)
             → AreAnswers vertices self.new }
     {
@@ -133,9 +139,9 @@ impl Answers {
         });
     }
 
-    /// Puts an answer in its place, if there is any room.
+    /// Stores an answer in its slot, if there is any room.
     fn keep(&mut self, answer: Answer)
-        ensures kept { (vertices : List TheVertex) → AreAnswers vertices self.old
+        ensures kept { (vertices : List Vertex) → AreAnswers vertices self.old
             → IsAnswer vertices answer → AreAnswers vertices self.new }
         ensures count { self.new.count ≡ self.old.count }
     {
@@ -145,7 +151,7 @@ impl Answers {
         }
     }
 
-    /// Doubles the room, unless it is the most there may be or there is no memory.
+    /// Doubles the room, unless it is the maximum or memory runs out.
     fn grow(&mut self)
         ensures kept { StayAnswers self.old self.new }
         ensures count { self.new.count ≡ 0 }
@@ -161,7 +167,7 @@ impl Answers {
         }
     }
 
-    /// Puts the first answers where they belong now.
+    /// Moves the answers of the first slots to their new slots.
     fn spread(&mut self, count: usize)
         ensures kept { StayAnswers self.old self.new }
         ensures count { self.new.count ≡ self.old.count }
@@ -171,7 +177,7 @@ impl Answers {
         }
     }
 
-    /// Puts the answer of a place where it belongs.
+    /// Moves the answer of a slot to its new slot.
     fn move_from(&mut self, place: usize)
         ensures kept { StayAnswers self.old self.new }
         ensures count { self.new.count ≡ self.old.count }

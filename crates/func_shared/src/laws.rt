@@ -1,4 +1,4 @@
-//! What holds of functions in one table of nodes.
+//! The law of functions in one table of nodes.
 
 ghost use Rattle.std.specs.Prelude.{◌≡◌, ℕ, Bool};
 ghost use Rattle.func_core.specs.Trees.{eval};

@@ -1,4 +1,10 @@
-//! The table of vertices with the answers that are remembered of it.
+//! The table of vertices together with the remembered answers of operations on it.
+//!
+//! `operate` returns the number of the result if its tree is within the limit, and `TooBig` exactly
+//! if it is not; on an error it removes the new vertices and all answers, so that earlier numbers
+//! denote the same trees. Invariant: all remembered answers are right, and no two numbers have one
+//! tree (R. E. Bryant, 1986). `operate` also keeps all trees within the limit. `shed` drops all
+//! vertices if there are too many to keep.
 
 ghost use Rattle.std.specs.Prelude.{◌≡◌, ℕ, ◌<◌, ◌≤◌, Err, [], length, IfOk};
 ghost use Rattle.func_core.specs.Trees.{Zero, One, Node};
@@ -16,11 +22,11 @@ use func_core::FuncFault;
 use std::alloc::{AllocError, Global};
 use std::marker::Model;
 
-/// How many vertices are kept, with the answers that speak of them, where no number stands.
+/// The number of vertices that are kept, with the answers about them, when no number is valid.
 const MAX_NODES_KEPT: usize = 1 << 20;
 
-/// A table beside the answers that are remembered of it, so that no answer outlives a vertex that
-/// it speaks of. Contracts see the list of its vertices.
+/// A table and the remembered answers about it, so that no answer outlives a vertex that it
+/// mentions. Contracts see the list of its vertices.
 #[derive(Drop)]
 pub(crate) struct Nodes {
     alloc: Global,
@@ -30,9 +36,9 @@ pub(crate) struct Nodes {
 
 impl Model for Nodes {
     ghost use Rattle.std.specs.Prelude.{List};
-    ghost use Rattle.func_shared.specs.declared.vertex.Vertex.{Vertex as TheVertex};
+    ghost use Rattle.func_shared.specs.declared.vertex.Vertex.{Vertex};
 
-    ghost Value = { List TheVertex };
+    ghost Value = { List Vertex };
 
     ghost use Rattle.func_shared.specs.Answers.{AreAnswers};
 
@@ -42,7 +48,7 @@ impl Model for Nodes {
 }
 
 impl Nodes {
-    /// A table without vertices; takes no memory.
+    /// A table without vertices; allocates nothing.
     pub(crate) fn new(alloc: Global) -> Nodes
         ensures { result ≡ [] }
     {
@@ -53,15 +59,15 @@ impl Nodes {
         }
     }
 
-    /// What holds of every table.
+    /// The invariant of every table.
     pub(crate) fn sound(&self)
         ensures { IsTable self.now }
     {
         self.table.sound();
     }
 
-    /// The number of the tree that an operation makes of those of two numbers, unless its size is
-    /// above the limit. An error leaves the numbers as they were.
+    /// The number of the result of an operation on the trees of two numbers, unless its size is
+    /// above the limit. On an error the table is as it was.
     pub(crate) fn operate(
         &mut self,
         operation: Operation,
@@ -89,7 +95,7 @@ impl Nodes {
         result
     }
 
-    /// The same, but an error may leave vertices behind whose trees do not fit.
+    /// Like `operate`, but an error may leave new vertices in the table whose trees do not fit.
     fn attempt(&mut self, operation: Operation, goal: Pair, limit: usize) -> Result<u32, FuncFault>
         requires left { IsNumber self.old goal.left }
         requires right { IsNumber self.old goal.right }
@@ -131,7 +137,7 @@ impl Nodes {
         joined
     }
 
-    /// The size of a number's tree, where a bound on it is known.
+    /// The size of a number's tree, given a bound on it.
     pub(crate) fn size(&self, number: u32, limit: usize) -> Result<usize, AllocError>
         requires number { IsNumber self.now number }
         requires fits { size (tree_at self.now number) ≤ limit }
@@ -141,7 +147,7 @@ impl Nodes {
         Ok(counted.unwrap_or(0))
     }
 
-    /// The path of a number's tree to a point where it is true, if it is not Zero.
+    /// The path of a number's tree to a point at which it is true, if it is not Zero.
     pub(crate) fn path(&self, number: u32) -> Result<Vec<(usize, bool)>, AllocError>
         requires { IsNumber self.now number }
         ensures { IfOk result (λ literals. literals.items ≡ path (tree_at self.now number)) }
@@ -149,12 +155,12 @@ impl Nodes {
         walking::path_of(self.alloc, &self.table, number)
     }
 
-    /// Whether there are too many vertices to be kept for later.
+    /// Whether there are too many vertices to keep.
     pub(crate) fn is_crowded(&self) -> bool {
         self.table.len() > MAX_NODES_KEPT
     }
 
-    /// Lets all vertices go where there are too many to be kept for later; takes no memory.
+    /// Drops all vertices if there are too many to keep; allocates nothing.
     pub(crate) fn shed(&mut self)
         ensures fit { (limit : ℕ) → AllFit self.old limit → AllFit self.new limit }
         ensures one { AreDifferent self.new }

@@ -1,4 +1,10 @@
 //! Functions in one table of different nodes.
+//!
+//! `SharedFunctions` implements the trait `Functions` of func_core: a function's number is that of
+//! its vertex, so equal functions have one number (R. E. Bryant, 1986; K. S. Brace, R. L. Rudell
+//! and R. E. Bryant, 1990). Numbers below `standing` are valid. Invariants: valid numbers are
+//! numbers of the table, every tree is within the limit, and no two numbers have one tree. A
+//! variable above 32 bits is refused with `Memory`.
 
 ghost use Rattle.std.specs.Prelude.{◌≡◌, ℕ, ◌+◌, ◌<◌, ◌≤◌, length, IfOk};
 ghost use Rattle.func_shared.specs.Fitting.{AllFit};
@@ -12,8 +18,8 @@ use sis_base::Sequence;
 use std::alloc::{AllocError, Global};
 
 /// Functions in one table of different nodes: equal functions have one number, and an operation
-/// looks up what it has been asked before. `clear` takes the numbers back, and keeps the nodes for
-/// later unless there are very many.
+/// looks up earlier answers. `clear` makes the numbers invalid, and keeps the nodes for later
+/// unless there are very many.
 #[derive(Drop)]
 pub struct SharedFunctions {
     limit: usize,
@@ -31,8 +37,8 @@ impl SharedFunctions {
     ghost use Rattle.func_shared.specs.Vertices.{IsNumber};
     ghost use Rattle.func_shared.specs.Shares.{shared_tree, shared_limit, SharedHolds, operated};
 
-    /// An object without numbers, for trees of a size up to the limit, which is at least 1; takes
-    /// no memory.
+    /// An object without valid numbers, for trees of a size up to the limit, which is at least 1;
+    /// allocates nothing.
     pub fn new(alloc: Global, limit: usize) -> Self
         requires { 1 ≤ limit }
         ensures limit { ⟦<SharedFunctions as Functions>⟧.limit result ≡ limit }
@@ -47,7 +53,7 @@ impl SharedFunctions {
         }
     }
 
-    /// The number in the table of a function.
+    /// The number of a function in the table.
     fn number_of(&self, f: Func) -> u32
         requires { SharedHolds self.now f.0 }
         ensures same { result ≡ f.0 }
@@ -57,7 +63,7 @@ impl SharedFunctions {
         f.0 as u32
     }
 
-    /// Lets a number stand.
+    /// Makes a number valid.
     fn stand(&mut self, number: u32) -> Func
         requires number { IsNumber self.old.nodes number }
         ensures same { result.0 ≡ number }

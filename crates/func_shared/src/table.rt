@@ -1,4 +1,6 @@
-//! The table of vertices.
+//! The unique table of vertices (K. S. Brace, R. L. Rudell and R. E. Bryant, 1990): numbers 0 and 1
+//! are the constants, and number n + 2 is the vertex at index n. Each vertex is over lower numbers,
+//! no two numbers have one tree, and each tree is reduced.
 
 ghost use Rattle.std.specs.Prelude.{◌≡◌, ℕ, suc, ◌+◌, ◌<◌, ◌≤◌, Some, None, [], length, take, IfOk, IfSome, OnOk};
 ghost use Rattle.func_core.specs.Trees.{Node, IsReduced};
@@ -19,9 +21,9 @@ pub(crate) struct Table {
 
 impl Model for Table {
     ghost use Rattle.std.specs.Prelude.{List};
-    ghost use Rattle.func_shared.specs.declared.vertex.Vertex.{Vertex as TheVertex};
+    ghost use Rattle.func_shared.specs.declared.vertex.Vertex.{Vertex};
 
-    ghost Value = { List TheVertex };
+    ghost Value = { List Vertex };
 
     ghost use Rattle.func_shared.specs.Vertices.{IsTable};
 
@@ -31,7 +33,7 @@ impl Model for Table {
 }
 
 impl Table {
-    /// The table without vertices; takes no memory.
+    /// The table without vertices; allocates nothing.
     pub(crate) fn new(alloc: Global) -> Table
         ensures { result ≡ [] }
     {
@@ -40,28 +42,28 @@ impl Table {
         }
     }
 
-    /// What holds of every table.
+    /// The invariant of every table.
     pub(crate) fn sound(&self)
         ensures { IsTable self.now }
     {
         let _vertices = &self.vertices;
     }
 
-    /// How many vertices there are.
+    /// The number of vertices.
     pub(crate) fn len(&self) -> usize
         ensures { result ≡ length self.now }
     {
         self.vertices.len()
     }
 
-    /// Keeps the first vertices; takes no memory.
+    /// Keeps only the first vertices; allocates nothing.
     pub(crate) fn cut(&mut self, count: usize)
         ensures { self.new ≡ take count self.old }
     {
         self.vertices.truncate(count);
     }
 
-    /// The vertex of a number, if it is not that of a constant; its halves have lower numbers.
+    /// The vertex of a number, unless it is a constant's; its halves have lower numbers.
     pub(crate) fn vertex(&self, number: u32) -> Option<Vertex>
         requires { IsNumber self.now number }
         ensures constant { result ≡ None → number < 2 }
@@ -73,8 +75,8 @@ impl Table {
         self.vertices.get_index(index).copied()
     }
 
-    /// The number of a node over the trees of two numbers, or that of its half where both are one.
-    /// A vertex is added only if no number had the tree.
+    /// The number of a node over the trees of two numbers, or of the half if both are equal. A
+    /// vertex is added only if no number had the tree.
     pub(crate) fn join(&mut self, place: u32, low: u32, high: u32) -> Result<u32, AllocError>
         requires low { IsNumber self.old low }
         requires high { IsNumber self.old high }

@@ -1,4 +1,5 @@
-//! Walks over the vertices of one function.
+//! Walks over the vertices of one function: its size, by a worklist that holds each number once,
+//! and its path to a point at which it is true.
 
 ghost use Rattle.std.specs.Prelude.{◌≡◌, ◌<◌, ◌≤◌, IfOk, OnOk, MatchOption};
 ghost use Rattle.func_core.specs.Sizes.{size};
@@ -10,7 +11,7 @@ use crate::table::Table;
 use indexmap::IndexSet;
 use std::alloc::{AllocError, Global};
 
-/// Notes a number that is seen, if it is not a constant's.
+/// Adds a number to those seen, unless it is a constant's.
 fn see(seen: &mut IndexSet<u32>, number: u32) -> Result<(), AllocError>
     ensures { OnOk result (seen.new.keys ≡ with_number seen.old.keys number) }
 {
@@ -20,8 +21,9 @@ fn see(seen: &mut IndexSet<u32>, number: u32) -> Result<(), AllocError>
     Ok(())
 }
 
-/// How many vertices the tree of a number has, or none where they are more than a limit: the walk
-/// stops once it has seen more, so it takes no longer than what it sees.
+/// The number of vertices of a number's tree, or `None` if it is above the limit. The walk stops
+/// once it has seen more than the limit, so it takes no longer than what it sees; no clause says
+/// so.
 pub(crate) fn count_within(
     alloc: Global,
     table: &Table,
@@ -49,8 +51,8 @@ pub(crate) fn count_within(
     Ok(Some(done))
 }
 
-/// The variables on the path from a number that takes the half where a variable is false wherever
-/// that is not constant false, each with the half taken.
+/// The literals on the path from a number that takes the half in which a variable is false unless
+/// that is the constant false.
 pub(crate) fn path_of(
     alloc: Global,
     table: &Table,

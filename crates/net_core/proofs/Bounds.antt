@@ -1,4 +1,4 @@
--- What is read keeps the bounds in which literals are counted.
+-- A circuit that is read keeps the bounds within which literals are counted.
 use Rattle.std.proofs.Common.{List, [], ◌∷◌, arith}
 use Rattle.std.specs.List.{AllByRecursion}
 use Rattle.circuit_model.specs.Counts.{IsSmallTable, IsWithinLimits}

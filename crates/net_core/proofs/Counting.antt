@@ -12,10 +12,10 @@ use Rattle.circuit_model.specs.Runs.{latch_outputs}
 use Rattle.circuit_model.specs.Counts.{is_literal, literals_of_row, literals_of_table}
 use Rattle.circuit_model.specs.Soundness.{given, control_of, names_of, outputs_of, IsSound, IsShaped}
 use Rattle.circuit_model.specs.declared.circuit.Tri.{Tri}
-use Rattle.circuit_model.specs.declared.circuit.Table.{Table as Written}
+use Rattle.circuit_model.specs.declared.circuit.Table.{Table}
 use Rattle.circuit_model.specs.declared.circuit.Circuit.{Circuit}
 use Rattle.net_core.specs.declared.places.Entry.{Entry}
-use Rattle.net_core.specs.declared.table.Table.{Table}
+use Rattle.net_core.specs.declared.table.CoverTable.{CoverTable}
 use Rattle.net_core.specs.Tables.{character_of, characters_of, named}
 use Rattle.net_core.specs.Places.{present}
 use Rattle.net_core.specs.Reads.{readers_of, IsBounded, HasBounds}
@@ -31,18 +31,18 @@ unfolding literals_of_row
 literals_more row i lt = sum_more (λ (c : Tri). if is_literal c then 1 else 0) character_of row i None lt
 
 -- what holds of each table holds of the driver of a signal
-pub driver_has : (P : Written → Type 0) (tables : List Written) (q : List ℕ) (t : Written) → AllByRecursion P tables → driver tables q ≡ Some t → P t
+pub driver_has : (P : Table → Type 0) (tables : List Table) (q : List ℕ) (t : Table) → AllByRecursion P tables → driver tables q ≡ Some t → P t
 unfolding driver
 driver_has P [] q t h e = absurd cc
 driver_has P (first ∷ tables) q t h e = cases (bytes_eq q first.output) e (λ k. driver_has P tables q t h.1 k)
   where
-    cases : (b : Bool) → cond b (Some first) (find (λ (table : Written). bytes_eq q table.output) tables) ≡ Some t → (find (λ (table : Written). bytes_eq q table.output) tables ≡ Some t → P t) → P t
-    cases true k rest = subst (λ (x : Written). P x) (same_Some first t k) h.0
+    cases : (b : Bool) → cond b (Some first) (find (λ (table : Table). bytes_eq q table.output) tables) ≡ Some t → (find (λ (table : Table). bytes_eq q table.output) tables ≡ Some t → P t) → P t
+    cases true k rest = subst (λ (x : Table). P x) (same_Some first t k) h.0
     cases false k rest = rest k
 
 module _ {R : Type 0} where
-  -- a sum over the tables at places, and a bound on it
-  pub sum_slots : (f : Written → ℕ) (bound : ℕ) (slots : List (Option (Entry R))) (i : ℕ) (x : Option (Entry R)) (total here : ℕ) → i < length slots → x ≡ get_or slots i x
+  -- a sum over the tables in slots, and a bound on it
+  pub sum_slots : (f : Table → ℕ) (bound : ℕ) (slots : List (Option (Entry R))) (i : ℕ) (x : Option (Entry R)) (total here : ℕ) → i < length slots → x ≡ get_or slots i x
       → (total ≡ sum_by f (present (take i slots))) × (total ≤ length (present (take i slots)) * bound) → here ≡ sum_by f (present (x ∷ [])) → here ≤ length (present (x ∷ [])) * bound
       → (total + here ≡ sum_by f (present (take (i + 1) slots))) × (total + here ≤ length (present (take (i + 1) slots)) * bound)
   sum_slots f bound slots i x total here lt e h a b =
@@ -72,7 +72,7 @@ module _ {R : Type 0} where
       let few : length (present (take n slots)) ≤ 2 ^ 29 = omega (arith, present_front slots n, k) in
       omega (arith, h, mul-le (length (present (take n slots))) bound (2 ^ 29) bound few (omega arith))
 
-  pub all_present_at : (P : Written → Type 0) (slots : List (Option (Entry R))) (i : ℕ) (x : Option (Entry R)) → AllByRecursion P (present slots) → i < length slots → x ≡ get_or slots i x → AllByRecursion P (present (x ∷ []))
+  pub all_present_at : (P : Table → Type 0) (slots : List (Option (Entry R))) (i : ℕ) (x : Option (Entry R)) → AllByRecursion P (present slots) → i < length slots → x ≡ get_or slots i x → AllByRecursion P (present (x ∷ []))
   unfolding present
   all_present_at P [] i x h lt e = absurd (omega arith)
   all_present_at P (y ∷ slots) zero x h lt e = subst (λ (z : Option (Entry R)). AllByRecursion P (present (z ∷ []))) (sym e) (first y h)
@@ -87,7 +87,7 @@ module _ {R : Type 0} where
   unfolding present named
   few_rows_of e h = omega (arith, h.0.rows, length-map e.table.cover.rows characters_of)
 
-  pub few_rows_named : (q : List ℕ) (t : Table R) → IsBounded (named q t) → length t.cover.rows < 2 ^ 29
+  pub few_rows_named : (q : List ℕ) (t : CoverTable R) → IsBounded (named q t) → length t.cover.rows < 2 ^ 29
   unfolding named
   few_rows_named q t h = omega (arith, h.rows, length-map t.cover.rows characters_of)
 
@@ -102,19 +102,19 @@ rows_bound w (row ∷ rows) h =
     let tail : sum_by literals_of_row rows ≤ length rows * w = rows_bound w rows h.1 in
     omega (arith, sum_by-cons literals_of_row row rows, count_by-le-length is_literal row, h.0, tail)
 
-pub literals_bound : (c : Circuit) (q : List ℕ) (t : Written) → IsSound c → HasBounds c → driver c.tables q ≡ Some t → literals_of_table t ≤ 2 ^ 59
+pub literals_bound : (c : Circuit) (q : List ℕ) (t : Table) → IsSound c → HasBounds c → driver c.tables q ≡ Some t → literals_of_table t ≤ 2 ^ 59
 unfolding literals_of_table
 literals_bound c q t h b e =
     let shaped : IsShaped t = driver_has IsShaped c.tables q t h.shaped e in
     let small : IsBounded t = driver_has IsBounded c.tables q t b.tables e in
     omega (arith, rows_bound (length t.inputs) t.rows shaped.0, mul-le (length t.rows) (length t.inputs) (2 ^ 29) (2 ^ 30) (omega (arith, small.rows)) (omega (arith, small.inputs)))
 
--- the readers among tables before and behind
-pub readers-append : (xs ys : List Written) (q : List ℕ) → readers_of (xs ++ ys) q ≡ readers_of xs q ++ readers_of ys q
+-- the fanouts among the tables before and after
+pub readers-append : (xs ys : List Table) (q : List ℕ) → readers_of (xs ++ ys) q ≡ readers_of xs q ++ readers_of ys q
 unfolding readers_of
 readers-append xs ys q =
-    ap (map (λ (t : Written). t.output)) (filter-append (λ (t : Written). has t.inputs q) xs ys)
-    ∙ map-append (λ (t : Written). t.output) (filter (λ (t : Written). has t.inputs q) xs) (filter (λ (t : Written). has t.inputs q) ys)
+    ap (map (λ (t : Table). t.output)) (filter-append (λ (t : Table). has t.inputs q) xs ys)
+    ∙ map-append (λ (t : Table). t.output) (filter (λ (t : Table). has t.inputs q) xs) (filter (λ (t : Table). has t.inputs q) ys)
 
 -- where a name is used
 used_is : (c : Circuit) (q : List ℕ) → has (used_names c) q

@@ -1,4 +1,5 @@
--- The places of tables: what stands in order, and that each name leads to its place, after a push, a write and a removal.
+-- The slots of tables: the tables in order, and that each name leads to its slot, after a push, a
+-- write and a removal.
 use Rattle.std.proofs.Common.{◌≡◌, ℕ, ◌<◌, ◌+◌, zero, suc, Bool, true, false, ◌||◌, if◌then◌else◌, Option, Some, None, List, [], ◌∷◌, ◌++◌, length, get_or, set, take, drop, bytes_eq, is_some, IfSome, refl, sym, ap, ◌∙◌, subst, arith, inl, inr, ◌⊎◌}
 use Rattle.std.specs.List.{slice_get}
 use Rattle.std.proofs.lemmas.Bool.{cases_eq}
@@ -7,7 +8,7 @@ use Rattle.std.proofs.lemmas.Option.{same_Some}
 use Rattle.circuit_model.specs.Names.{has, all_different}
 use Rattle.circuit_model.specs.Soundness.{outputs_of}
 use Rattle.circuit_model.specs.Values.{driver}
-use Rattle.circuit_model.specs.declared.circuit.Table.{Table as Written}
+use Rattle.circuit_model.specs.declared.circuit.Table.{Table}
 use Rattle.circuit_laws.specs.Edits.{replaced, without, tables_kept}
 use Rattle.net_core.specs.declared.places.Entry.{Entry}
 use Rattle.net_core.specs.Tables.{named, IsOverInputs}
@@ -23,13 +24,13 @@ module _ {R : Type 0} where
   unfolding present
   present-append [] ys = refl
   present-append (None ∷ xs) ys = present-append xs ys
-  present-append (Some e ∷ xs) ys = ap (λ (ts : List Written). written_of e ∷ ts) (present-append xs ys)
+  present-append (Some e ∷ xs) ys = ap (λ (ts : List Table). written_of e ∷ ts) (present-append xs ys)
 
   pub present_push : (xs : List (Option (Entry R))) (e : Entry R) → present (xs ++ Some e ∷ []) ≡ present xs ++ written_of e ∷ []
   unfolding present
   present_push xs e = present-append xs (Some e ∷ [])
 
-  -- a name that some table has stands at a place, and a name at a place is that of a table
+  -- a name that some table has is in a slot, and a name in a slot is that of a table
   pub place_of_present : (slots : List (Option (Entry R))) (q : List ℕ) → has (outputs_of (present slots)) q ≡ true
       → (i : ℕ) × (e : Entry R) × (slice_get slots i ≡ Some (Some e)) × (e.output ≡ q)
   unfolding present named
@@ -69,7 +70,7 @@ module _ {R : Type 0} where
           let (t, a, b) = h.only q i e in
           let x : true ≡ false = sym (present_at slots i t a) ∙ (ap (has (outputs_of (present slots))) b ∙ k) in absurd cc
 
-  -- no table at a place but the one has the name
+  -- no other slot has a table of that name
   abbrev pub IsAlone : List (Option (Entry R)) → ℕ → List ℕ → Type 0
   IsAlone slots i q = (j : ℕ) (e : Entry R) → slice_get slots j ≡ Some (Some e) → e.output ≡ q → j ≡ i
 
@@ -105,7 +106,7 @@ module _ {R : Type 0} where
       let n : bytes_eq new.output f.output ≡ false = name_not new.output f.output (λ k. let z : zero ≡ suc i = a zero f refl (sym k) in omega arith) in
       rw (n, present_replaced slots i old new h e (λ j t x y. let k : suc j ≡ suc i = a (suc j) t x y in omega arith)) refl
 
-  -- a table taken away
+  -- a table is removed
   pub present_without : (slots : List (Option (Entry R))) (i : ℕ) (old : Entry R) → slice_get slots i ≡ Some (Some old) → IsAlone slots i old.output
       → present (set slots i None) ≡ without (present slots) old.output
   unfolding present tables_kept named
@@ -190,7 +191,8 @@ module _ {R : Type 0} where
           let n : j ≡ i → ⊥ = λ z. apart old.output q s (ap (λ (u : Entry R). u.output) (same_Some old t (same_Some (Some old) (Some t) (sym a ∙ (ap (slice_get slots) (sym z) ∙ x)))) ∙ y) in
           (t, get_set_other slots i j None n ∙ x, y)
 
-  -- a cover over its inputs at each place: after a push, a write and a removal, and at the next place of a loop
+  -- a cover over its inputs in each slot: after a push, a write and a removal, and at the next slot
+  -- of a loop
   pub over_push : (slots : List (Option (Entry R))) (e : Entry R) → AreOverInputs slots → IsOverInputs e.table → AreOverInputs (slots ++ Some e ∷ [])
   unfolding AreOverInputs
   over_push slots e h w i t a = elim (get_push_cases slots (Some e) (Some t) i a) [
@@ -224,7 +226,7 @@ module _ {R : Type 0} where
   next_over slots i None h lt e = tt
   next_over slots i (Some stored) h lt e = over_at slots i stored h (get_at slots i (Some stored) lt ∙ ap (λ (x : Option (Entry R)). Some x) (sym e))
 
-  -- tables at places that names lead to have different names
+  -- tables in slots to which names lead have different names
   not_in_tail : (slots : List (Option (Entry R))) (q : List ℕ) → ((j : ℕ) (e : Entry R) → slice_get slots j ≡ Some (Some e) → e.output ≡ q → ⊥) → has (outputs_of (present slots)) q ≡ false
   not_in_tail slots q h = cases (has (outputs_of (present slots)) q) refl
     where
@@ -244,7 +246,7 @@ module _ {R : Type 0} where
   pub different_indexed : (slots : List (Option (Entry R))) (f : List ℕ → Option ℕ) → IsIndexed slots f → all_different (outputs_of (present slots)) ≡ true
   different_indexed slots f h = different slots (λ i j d e a b k. same_Some i j (sym (h.placed i d a) ∙ (ap f k ∙ h.placed j e b)))
 
-  -- the places before one, and the one
+  -- the slots before one, and that one
   pub present_more : (slots : List (Option (Entry R))) (i : ℕ) (x : Option (Entry R)) → i < length slots → x ≡ get_or slots i x → present (take (i + 1) slots) ≡ present (take i slots) ++ present (x ∷ [])
   present_more slots i x lt e = ap present (take_more slots i x lt) ∙ (present-append (take i slots) (get_or slots i x ∷ []) ∙ ap (λ (z : Option (Entry R)). present (take i slots) ++ present (z ∷ [])) (sym e))
 
@@ -257,10 +259,10 @@ module _ {R : Type 0} where
   next_present_is_new slots i x d lt e q h =
       let parts : slots ≡ take i slots ++ (x ∷ drop (i + 1) slots) = sym (take-append-drop i slots) ∙ ap (λ (zs : List (Option (Entry R))). take i slots ++ zs) (drop_more slots i x lt ∙ ap (λ (z : Option (Entry R)). z ∷ drop (i + 1) slots) (sym e)) in
       let split : present slots ≡ present (take i slots) ++ (present (x ∷ []) ++ present (drop (i + 1) slots)) =
-      ap present parts ∙ (present-append (take i slots) (x ∷ drop (i + 1) slots) ∙ ap (λ (zs : List Written). present (take i slots) ++ zs) (present-append (x ∷ []) (drop (i + 1) slots))) in
+      ap present parts ∙ (present-append (take i slots) (x ∷ drop (i + 1) slots) ∙ ap (λ (zs : List Table). present (take i slots) ++ zs) (present-append (x ∷ []) (drop (i + 1) slots))) in
       let names : outputs_of (present slots) ≡ outputs_of (present (take i slots)) ++ (outputs_of (present (x ∷ [])) ++ outputs_of (present (drop (i + 1) slots))) =
-      ap outputs_of split ∙ (map-append (λ (t : Written). t.output) (present (take i slots)) (present (x ∷ []) ++ present (drop (i + 1) slots))
-      ∙ ap (λ (zs : List (List ℕ)). outputs_of (present (take i slots)) ++ zs) (map-append (λ (t : Written). t.output) (present (x ∷ [])) (present (drop (i + 1) slots)))) in
+      ap outputs_of split ∙ (map-append (λ (t : Table). t.output) (present (take i slots)) (present (x ∷ []) ++ present (drop (i + 1) slots))
+      ∙ ap (λ (zs : List (List ℕ)). outputs_of (present (take i slots)) ++ zs) (map-append (λ (t : Table). t.output) (present (x ∷ [])) (present (drop (i + 1) slots)))) in
       apart_parts (outputs_of (present (take i slots))) (outputs_of (present (x ∷ [])) ++ outputs_of (present (drop (i + 1) slots))) q (ap all_different (sym names) ∙ d)
       (has-append (outputs_of (present (x ∷ []))) (outputs_of (present (drop (i + 1) slots))) q ∙ ap (λ (b : Bool). b || has (outputs_of (present (drop (i + 1) slots))) q) h)
 
@@ -273,7 +275,7 @@ module _ {R : Type 0} where
       let n : bytes_eq q f.output ≡ false = name_not q f.output (λ e. h zero f refl (sym e)) in
       rw n (driver_absent slots q (λ j e a b. h (suc j) e a b))
 
-  -- the table at a place drives its name
+  -- the table in a slot drives its name
   pub driver_at : (slots : List (Option (Entry R))) (i : ℕ) (e : Entry R) → slice_get slots i ≡ Some (Some e) → IsAlone slots i e.output → driver (present slots) e.output ≡ Some (written_of e)
   unfolding present named driver
   driver_at [] i e h a = cc
@@ -288,8 +290,8 @@ module _ {R : Type 0} where
       rw n (driver_at slots i e h (λ j t x y. let k : suc j ≡ suc i = a (suc j) t x y in omega arith))
 
 -- the next of tables with different names is not one of those before it
-pub next_is_new : (tables : List Written) (i : ℕ) (x : Written) → all_different (outputs_of tables) ≡ true → i < length tables → x ≡ get_or tables i x → has (outputs_of (take i tables)) x.output ≡ false
+pub next_is_new : (tables : List Table) (i : ℕ) (x : Table) → all_different (outputs_of tables) ≡ true → i < length tables → x ≡ get_or tables i x → has (outputs_of (take i tables)) x.output ≡ false
 next_is_new tables i x d lt e =
-    let parts : tables ≡ take i tables ++ (x ∷ drop (i + 1) tables) = sym (take-append-drop i tables) ∙ ap (λ (zs : List Written). take i tables ++ zs) (drop_more tables i x lt ∙ ap (λ (z : Written). z ∷ drop (i + 1) tables) (sym e)) in
-    let names : outputs_of tables ≡ outputs_of (take i tables) ++ (x.output ∷ outputs_of (drop (i + 1) tables)) = ap outputs_of parts ∙ map-append (λ (t : Written). t.output) (take i tables) (x ∷ drop (i + 1) tables) in
+    let parts : tables ≡ take i tables ++ (x ∷ drop (i + 1) tables) = sym (take-append-drop i tables) ∙ ap (λ (zs : List Table). take i tables ++ zs) (drop_more tables i x lt ∙ ap (λ (z : Table). z ∷ drop (i + 1) tables) (sym e)) in
+    let names : outputs_of tables ≡ outputs_of (take i tables) ++ (x.output ∷ outputs_of (drop (i + 1) tables)) = ap outputs_of parts ∙ map-append (λ (t : Table). t.output) (take i tables) (x ∷ drop (i + 1) tables) in
     apart_parts (outputs_of (take i tables)) (x.output ∷ outputs_of (drop (i + 1) tables)) x.output (ap all_different (sym names) ∙ d) (ap (λ (b : Bool). b || has (outputs_of (drop (i + 1) tables)) x.output) (name_itself x.output))

@@ -7,3 +7,4 @@ pub mod NewNames
 pub mod Tidied
 pub mod Sounds
 pub mod Bounds
+pub mod Noted

@@ -1,4 +1,4 @@
--- Look-ups by place in a list that was written, pushed to or cut, and tests of names.
+-- Lookups by index in a list that was written, appended to or cut, and tests of names.
 use Rattle.std.proofs.Common.{◌≡◌, ℕ, ◌<◌, zero, suc, Bool, true, false, not, ◌||◌, ◌&&◌, Some, List, [], ◌∷◌, ◌++◌, length, get_or, set, map, bytes_eq, refl, sym, ap, ◌∙◌, subst, arith, inl, inr, ◌⊎◌}
 use Rattle.std.specs.List.{slice_get, flat_map, AllByRecursion}
 use Rattle.std.proofs.lemmas.Slice.Eq.{bytes_eq-Decides}
@@ -31,7 +31,7 @@ name_cases x y = cases (bytes_eq x y) refl
     cases true e = inl (same_name x y e)
     cases false e = inr (apart x y e)
 
--- places of a list
+-- items of a list by index
 pub get_set_same : {X : Type 0} (xs : List X) (i : ℕ) (x y : X) → slice_get xs i ≡ Some x → slice_get (set xs i y) i ≡ Some y
 get_set_same [] i x y h = cc
 get_set_same (z ∷ xs) zero x y h = refl
@@ -73,7 +73,7 @@ has-append (x ∷ xs) ys q = cases (bytes_eq q x) (has-append xs ys q)
     cases true h = refl
     cases false h = h
 
--- what stands in the second of two parts stands not in the first, where no name stands twice
+-- if no name occurs twice, what is in the second of two parts is not in the first
 pub apart_parts : (xs ys : List (List ℕ)) (q : List ℕ) → all_different (xs ++ ys) ≡ true → has ys q ≡ true → has xs q ≡ false
 unfolding all_different
 apart_parts [] ys q h k = refl
@@ -98,13 +98,13 @@ apart_parts (x ∷ xs) ys q h k = cases (bytes_eq q x) refl (apart_parts xs ys q
         let z : true ≡ false = sym m ∙ (ap (has (xs ++ ys)) (same_name q x e) ∙ n) in absurd cc
     cases false e r = r
 
--- all parts of a list, by recursion, at a place
+-- all parts of a list, by recursion, at an index
 pub all_at : {X : Type 0} (P : X → Type 0) (xs : List X) (i : ℕ) (x : X) → AllByRecursion P xs → i < length xs → x ≡ get_or xs i x → P x
 all_at P [] i x h lt e = absurd (omega arith)
 all_at P (y ∷ xs) zero x h lt e = subst (λ z. P z) (sym e) h.0
 all_at P (y ∷ xs) (suc i) x h lt e = all_at P xs i x h.1 (omega arith) e
 
--- a name found on the way is among the names
+-- a name found by a loop is among the names
 pub has_map_at : {X : Type 0} (f : X → List ℕ) (xs : List X) (i : ℕ) (x : X) (q : List ℕ) → i < length xs → x ≡ get_or xs i x → bytes_eq q (f x) ≡ true → has (map f xs) q ≡ true
 has_map_at f [] i x q lt e h = absurd (omega arith)
 has_map_at f (y ∷ xs) zero x q lt e h = ap (λ z. bytes_eq q (f z) || has (map f xs) q) (sym e) ∙ ap (λ b. b || has (map f xs) q) h

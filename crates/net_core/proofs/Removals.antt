@@ -1,4 +1,4 @@
--- A table or a latch that goes from a sound circuit.
+-- The removal of a table or a latch from a sound circuit.
 use Rattle.std.proofs.Common.{◌≡◌, ℕ, Bool, true, false, not, ◌||◌, ◌&&◌, cond, Option, None, List, [], ◌∷◌, ◌++◌, map, bytes_eq, refl, sym, ap}
 use Rattle.std.specs.List.{filter}
 use Rattle.circuit_model.specs.Names.{has, all_different}

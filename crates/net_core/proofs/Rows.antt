@@ -1,10 +1,10 @@
--- The characters and the places of rows: each gives the other back, and a loop that fills a row.
+-- The characters and the literals of rows: each determines the other, and a loop that fills a row.
 use Rattle.std.proofs.Common.{◌≡◌, ℕ, ◌<◌, ◌+◌, zero, suc, Bool, true, false, Option, Some, None, List, [], ◌∷◌, ◌++◌, length, get_or, set, take, drop, map, refl, sym, ap, ◌∙◌, arith}
 use Rattle.std.proofs.lemmas.List.{length-map, get_or-map}
 use Rattle.sis_base.specs.Rows.{HasWidth}
 use Rattle.circuit_model.specs.declared.circuit.Tri.{Tri}
 use Rattle.circuit_model.specs.declared.circuit.Tri.TheVariants.{Zero, One, Free}
-use Rattle.circuit_model.specs.declared.circuit.Table.{Table as Written}
+use Rattle.circuit_model.specs.declared.circuit.Table.{Table}
 use Rattle.circuit_model.specs.Values.{literal_of}
 use Rattle.net_core.specs.Tables.{character_of, places_of, characters_of, HasCharacters, named, covered}
 
@@ -54,6 +54,6 @@ unfolding HasWidth
 width_of_characters w [] h = tt
 width_of_characters w (row ∷ rows) h = (length-map row literal_of ∙ h.0, width_of_characters w rows h.1)
 
-pub written_back : (R : Type 0) (t : Written) → named t.output (covered {R = R} t) ≡ t
+pub written_back : (R : Type 0) (t : Table) → named t.output (covered {R = R} t) ≡ t
 unfolding named covered
 written_back R t = ap (λ (rows : List (List Tri)). record t { rows = rows }) (all_characters_back t.rows)

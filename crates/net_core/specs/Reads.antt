@@ -1,7 +1,8 @@
--- What a network tells of its tables: who reads a signal, what a table is worth, and how many there are.
--- Source: Brayton, Rudell, Sangiovanni-Vincentelli and Wang, "MIS: A Multiple-Level Logic Optimization System" (1987),
--- and De Micheli, "Synthesis and Optimization of Digital Circuits", chapter 8: eliminating a node of l literals that is
--- used n times adds n * l - n - l literals.
+-- Queries about the tables of a network: the fanouts of a signal, the elimination value of a table,
+-- and how many tables there are. Source: Brayton, Rudell, Sangiovanni-Vincentelli and Wang, "MIS: A
+-- Multiple-Level Logic Optimization System" (1987), and De Micheli, "Synthesis and Optimization of
+-- Digital Circuits", chapter 8: eliminating a node of l literals that is used n times adds n * l -
+-- n - l literals.
 use Rattle.std.specs.Prelude.{ℕ, ◌+◌, ◌*◌, ◌<◌, ◌^◌, ℤ, pos, ◌-ℤ◌, Option, Some, None, List, map, filter, length, position, count_by, sum_by, slice_index_or, bytes_eq}
 use Rattle.std.specs.List.{AllByRecursion}
 use Rattle.circuit_model.specs.Names.{has}
@@ -17,16 +18,16 @@ use Rattle.net_core.specs.declared.network.Sizes.{Sizes}
 unfoldable pub readers_of : List Table → List ℕ → List (List ℕ)
 readers_of tables name = map (λ (table : Table). table.output) (filter (λ (table : Table). has table.inputs name) tables)
 
--- how many rows have a literal at a place
+-- the number of rows with a literal in a column
 unfoldable pub rows_with : ℕ → List (List Tri) → ℕ
 rows_with place rows = count_by (λ (row : List Tri). is_literal (slice_index_or row place Free)) rows
 
--- how many rows of a table have a literal of a signal, which is one of its inputs or none
+-- the number of rows with a literal in a signal's column; 0 if it has none
 abbrev pub rows_at : Option ℕ → List (List Tri) → ℕ
 rows_at None rows = 0
 rows_at (Some place) rows = rows_with place rows
 
--- how many rows of a table have a literal of a signal
+-- the number of rows of a table with a literal of a signal
 unfoldable pub uses_in : List ℕ → Table → ℕ
 uses_in name table = rows_at (position (bytes_eq name) table.inputs) table.rows
 
@@ -34,16 +35,16 @@ uses_in name table = rows_at (position (bytes_eq name) table.inputs) table.rows
 unfoldable pub uses_of : List Table → List ℕ → ℕ
 uses_of tables name = sum_by (uses_in name) tables
 
--- the literals of a table, 0 where there is none
+-- the number of a table's literals, 0 if there is no table
 abbrev pub literals_in : Option Table → ℕ
 literals_in None = 0
 literals_in (Some table) = literals_of_table table
 
--- the literals of the table of a signal
+-- the number of literals of the table of a signal
 unfoldable pub own_literals : List Table → List ℕ → ℕ
 own_literals tables name = literals_in (driver tables name)
 
--- n * l - n - l for n uses and l literals
+-- the elimination value: n * l - n - l, for n uses and l literals
 unfoldable pub value_of : List Table → List ℕ → ℤ
 value_of tables name =
     pos (uses_of tables name * own_literals tables name) -ℤ pos (uses_of tables name) -ℤ pos (own_literals tables name)
@@ -53,13 +54,13 @@ pub record IsBounded (table : Table) : Type 0 where
   pub rows : length table.rows < 2 ^ 29
   pub inputs : length table.inputs < 2 ^ 30
 
--- fewer than 2^29 tables and latches, each table within its bounds; what is read keeps far below. Of the circuit's own
--- inputs nothing is asked: a table reads only some of them.
+-- fewer than 2^29 tables and latches, each table within its bounds, so that all sums are far below
+-- what fits. Nothing is asked of the circuit's own inputs: a table reads only some of them.
 pub record HasBounds (circuit : Circuit) : Type 0 where
   pub nodes : length circuit.tables + length circuit.latches < 2 ^ 29
   pub tables : AllByRecursion IsBounded circuit.tables
 
--- how many inputs, outputs, tables, latches and tables of the don't-care part a circuit has
+-- the numbers of inputs, outputs, tables, latches and tables of the don't-care part
 unfoldable pub sizes_of : Circuit → Sizes
 sizes_of circuit = record {
   inputs = length circuit.inputs;

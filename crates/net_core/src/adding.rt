@@ -1,21 +1,27 @@
-//! A table is added to a network under a new name.
+//! The addition of a table to a network under a new name.
+//!
+//! The names `[n]` are those of SIS's own new nodes (SIS report, UCB/ERL M92/41); that the least
+//! free number is taken, and the limit `MAX_NODES` on tables and latches, are the project's own. A
+//! name is free if no signal, port, clock or control has it and the don't-care part does not
+//! mention it. `is_full` is exact, but counts the tables only if there are so many slots that it
+//! must.
 
 ghost use Rattle.std.specs.Prelude.{◌≡◌, ℕ, ◌+◌, ◌<◌, ◌≤◌, Bool, true, false, ◌||◌, ◌↔◌, Option, Some, None, List, [], ◌∷◌, ◌++◌, length, map, decimal, codes, IfOk, OnOk, OnErr, IsTrue};
 ghost use Rattle.circuit_model.specs.Names.{has};
 ghost use Rattle.circuit_model.specs.Soundness.{outputs_of, control_of, names_of, given};
-ghost use Rattle.circuit_model.specs.declared.circuit.Latch.{Latch as TheLatch};
+ghost use Rattle.circuit_model.specs.declared.circuit.Latch.{Latch};
 ghost use Rattle.net_core.specs.Places.{present};
 ghost use Rattle.net_core.specs.declared.adding.AddFault.TheVariants.{Memory};
 ghost use Rattle.net_core.specs.Fresh.{bracketed};
 
 use crate::places::Entry;
-use crate::reads::is_among;
-use circuit_model::{Latch, Name, Table as Written, Timing};
+use circuit_model::{Latch, Name, Table, Timing, has_name};
 use cube_cover::Row;
 use sis_base::limits::MAX_NODES;
 use std::alloc::{AllocError, Global};
 
-/// Why no table was added: so many tables and latches stand already, or memory is wanting.
+/// Why no table was added: there are `MAX_NODES` tables and latches already, the tables of the
+/// don't-care part included, or there is not enough memory.
 #[derive(Clone, Copy, Debug, PartialEq, Eq, Drop)]
 pub enum AddFault {
     NodeLimit,
@@ -30,7 +36,7 @@ impl From<AllocError> for AddFault {
     }
 }
 
-/// A number in brackets; an error only for want of memory.
+/// The name of a number: the number in brackets.
 #[tactic(auto, using(std::proofs::lemmas::Grind::common_steps), unfolding(crate::specs::Fresh::bracketed))]
 pub fn bracketed_name(alloc: Global, number: u64) -> Result<Name, AllocError>
     ensures { IfOk result (λ name. name ≡ bracketed number) }
@@ -45,7 +51,7 @@ pub fn bracketed_name(alloc: Global, number: u64) -> Result<Name, AllocError>
 
 // Whether a latch drives a name.
 pub(crate) fn drives_latch(latches: &[Latch], name: &Name) -> bool
-    ensures { result ≡ has (map (λ (latch : TheLatch). latch.output) latches.now) name.now }
+    ensures { result ≡ has (map (λ (latch : Latch). latch.output) latches.now) name.now }
 {
     for latch in latches {
         if *name == latch.output {
@@ -55,7 +61,7 @@ pub(crate) fn drives_latch(latches: &[Latch], name: &Name) -> bool
     false
 }
 
-// Whether a name is the control.
+// Whether a name is that of the control.
 pub(crate) fn is_control(timing: &Option<Timing>, name: &Name) -> bool
     ensures { result ≡ has (control_of timing.now) name.now }
 {
@@ -68,15 +74,15 @@ pub(crate) fn is_control(timing: &Option<Timing>, name: &Name) -> bool
     }
 }
 
-// Whether a table has the name or reads it.
-fn mentions(table: &Written, name: &Name) -> bool
+// Whether a table drives the name or reads it.
+fn mentions(table: &Table, name: &Name) -> bool
     ensures { result ≡ has (table.now.output ∷ table.now.inputs) name.now }
 {
-    *name == table.output || is_among(&table.inputs, name)
+    *name == table.output || has_name(table.inputs.as_slice(), name)
 }
 
-// Whether some of the tables has the name or reads it.
-pub(crate) fn is_mentioned(tables: &[Written], name: &Name) -> bool
+// Whether one of the tables drives the name or reads it.
+pub(crate) fn is_mentioned(tables: &[Table], name: &Name) -> bool
     ensures { result ≡ has (names_of tables.now) name.now }
 {
     for table in tables {
@@ -87,14 +93,14 @@ pub(crate) fn is_mentioned(tables: &[Written], name: &Name) -> bool
     false
 }
 
-// Whether no more table may stand.
+// Whether no more table may be added.
 fn is_over(tables: usize, latches: usize, dont_care: usize) -> bool
     ensures { IsTrue result ↔ (MAX_NODES ≤ tables + latches + dont_care) }
 {
     MAX_NODES as u128 <= tables as u128 + latches as u128 + dont_care as u128
 }
 
-// One for a table, none where it is gone.
+// 1 for a table, 0 for an empty slot.
 #[tactic(auto, unfolding(crate::specs::Places::present))]
 fn slot_count<R: Row>(slot: &Option<Entry<R>>) -> usize
     ensures count { result ≡ length (present (slot.now ∷ [])) }
@@ -106,7 +112,7 @@ fn slot_count<R: Row>(slot: &Option<Entry<R>>) -> usize
     }
 }
 
-// How many tables are left.
+// The number of tables.
 pub(crate) fn table_count<R: Row>(slots: &[Option<Entry<R>>]) -> usize
     ensures { result ≡ length (present slots.now) }
 {
@@ -117,8 +123,8 @@ pub(crate) fn table_count<R: Row>(slots: &[Option<Entry<R>>]) -> usize
     count
 }
 
-/// Whether no more table may stand beside those that are left, the latches and the tables of the don't-care part. It goes over the
-/// places only where there are so many that it must.
+/// Whether no more table may be added to those in the slots, the latches and the tables of the
+/// don't-care part. Counts the tables only if there are so many slots that it must.
 #[tactic(auto, using(crate::proofs::Counting::fewer_present))]
 pub fn is_full<R: Row>(slots: &[Option<Entry<R>>], latches: usize, dont_care: usize) -> bool
     ensures { IsTrue result ↔ (MAX_NODES ≤ length (present slots.now) + latches + dont_care) }

@@ -1,4 +1,11 @@
-//! Networks: a circuit whose tables are found by their names.
+//! Networks: circuits whose tables are found by their names.
+//!
+//! Source: De Micheli, "Synthesis and Optimization of Digital Circuits", chapter 8 (logic
+//! networks), and the BLIF appendix of the SIS report (UCB/ERL M92/41). Contracts see a network as
+//! its circuit, and its invariant is that this circuit is sound; `sound` gives the caller this
+//! fact. `replace`, `remove` and `add` change one table or latch and ask for what keeps the circuit
+//! sound. `from_circuit` and `to_circuit` convert rows to covers and back; `into_parts` and
+//! `from_parts` move the parts, for code that changes tables by index.
 
 ghost use Rattle.std.specs.Prelude.{◌≡◌, ℕ, ◌<◌, Bool, true, false, not, Option, Some, None, List, [], ◌∷◌, ◌++◌, length, filter, bytes_eq, ◌≤◌, ◌↔◌, option_map, IsTrue, IfSome, IfOk, OnOk, OnErr};
 ghost use Rattle.std.specs.List.{AllByRecursion};
@@ -20,10 +27,9 @@ use crate::adding::{
     AddFault, bracketed_name, drives_latch, is_control, is_full, is_mentioned, table_count,
 };
 use crate::places::{Entry, NamedTables};
-use crate::reads::is_among;
-use crate::table::Table;
+use crate::table::CoverTable;
 use circuit_model::{
-    Circuit, Latch, Latches, Name, Names, Table as Written, Tables, Timing, timing_copied,
+    Circuit, Latch, Latches, Name, Names, Table as Written, Tables, Timing, has_name, timing_copied,
 };
 use circuit_order::order;
 use cube_cover::Row;
@@ -33,7 +39,7 @@ use sis_base::{Copied, Sequence, Whole};
 use std::alloc::{AllocError, Global};
 use std::marker::Model;
 
-/// How many inputs, outputs, tables, latches and tables of the don't-care part a network has.
+/// The numbers of inputs, outputs, tables, latches and tables of the don't-care part.
 #[derive(Clone, Copy)]
 pub struct Sizes {
     pub inputs: usize,
@@ -43,7 +49,7 @@ pub struct Sizes {
     pub dont_cares: usize,
 }
 
-/// A sound circuit whose tables are found by their names, and changed one at a time.
+/// A sound circuit whose tables are found by their names and changed one at a time.
 pub struct Network<R: Row> {
     name: Name,
     inputs: Names,
@@ -55,7 +61,7 @@ pub struct Network<R: Row> {
     dont_care: Tables,
 }
 
-// By hand, so that letting a network go is one call in the functions that own one.
+// By hand, so that functions that own a network drop it in one call.
 impl<R: Row> Drop for Network<R> {
     fn drop(self) {
         let Network {
@@ -71,7 +77,8 @@ impl<R: Row> Drop for Network<R> {
     }
 }
 
-/// What a network is made of: the circuit without its tables, the tables at their places, and where each name stands.
+/// The parts of a network: the circuit without its tables, the tables in their slots, and the index
+/// of the slot of each name.
 #[derive(Drop)]
 pub struct Parts<R: Row> {
     pub frame: Circuit,
@@ -80,9 +87,9 @@ pub struct Parts<R: Row> {
 }
 
 impl<R: Row> Model for Network<R> {
-    ghost use Rattle.circuit_model.specs.declared.circuit.Circuit.{Circuit as TheCircuit};
+    ghost use Rattle.circuit_model.specs.declared.circuit.Circuit.{Circuit};
 
-    ghost Value = { TheCircuit };
+    ghost Value = { Circuit };
 
     ghost use Rattle.circuit_model.specs.Soundness.{IsSound};
 
@@ -91,7 +98,7 @@ impl<R: Row> Model for Network<R> {
     ghost invariant = { λ n. IsSound (record { name = n.name; inputs = n.inputs; outputs = n.outputs; clocks = n.clocks; timing = n.timing; latches = n.latches.items; tables = n.tables; dont_care = n.dont_care }) };
 }
 
-// The tables of a circuit, found by their names.
+// The tables of a circuit, with their rows as covers, found by their names.
 fn tables_from<R: Row>(alloc: Global, tables: &[Written]) -> Result<NamedTables<R>, AllocError>
     requires distinct { all_different (outputs_of tables.now) ≡ true }
     requires shaped { AllByRecursion IsShaped tables.now }
@@ -99,13 +106,13 @@ fn tables_from<R: Row>(alloc: Global, tables: &[Written]) -> Result<NamedTables<
 {
     let mut made = NamedTables::new(alloc);
     for written in tables {
-        let table = Table::from_written(alloc, written)?;
+        let table = CoverTable::from_written(alloc, written)?;
         made.push(alloc, &written.output, table)?;
     }
     Ok(made)
 }
 
-// Puts the table of a circuit that an entry is behind the last.
+// Appends the circuit's table of an entry, if there is one.
 #[tactic(auto, unfolding(crate::specs::Places::present))]
 fn push_written<R: Row>(
     alloc: Global,
@@ -120,7 +127,7 @@ fn push_written<R: Row>(
     Ok(())
 }
 
-// The tables of a circuit that some entries are.
+// The circuit's tables of the entries.
 fn tables_to<R: Row>(alloc: Global, slots: &[Option<Entry<R>>]) -> Result<Tables, AllocError>
     ensures { IfOk result (λ made. made ≡ present slots.now) }
 {
@@ -131,14 +138,15 @@ fn tables_to<R: Row>(alloc: Global, slots: &[Option<Entry<R>>]) -> Result<Tables
     Ok(Sequence::from_vec(made))
 }
 
-// Puts a copy of an entry's table behind the last.
+// Appends a copy of an entry's table, if there is one.
 #[tactic(auto, using(crate::proofs::Indexing::entry_named), unfolding(crate::specs::Places::present))]
 fn push_copy<R: Row>(
     alloc: Global,
     made: &mut NamedTables<R>,
     entry: &Option<Entry<R>>,
 ) -> Result<(), AllocError>
-    requires new { (name : List ℕ) → has (outputs_of (present (entry.now ∷ []))) name ≡ true → has (outputs_of made.old) name ≡ false }
+    requires new { (name : List ℕ) → has (outputs_of (present (entry.now ∷ []))) name ≡ true → has
+        (outputs_of made.old) name ≡ false }
     requires over { IfSome entry.now (λ stored. IsOverInputs stored.table) }
     ensures { OnOk result (made.new ≡ made.old ++ present (entry.now ∷ [])) }
 {
@@ -148,7 +156,7 @@ fn push_copy<R: Row>(
     Ok(())
 }
 
-// A copy of tables.
+// Copies tables.
 fn tables_copied<R: Row>(
     alloc: Global,
     slots: &[Option<Entry<R>>],
@@ -175,7 +183,7 @@ fn latches_copied(alloc: Global, latches: &[Latch]) -> Result<Latches, AllocErro
     Ok(Sequence::from_vec(made))
 }
 
-// Takes the latch of a name away.
+// Removes the latch of a name.
 #[tactic(auto, unfolding(circuit_laws::specs::Edits::latches_kept))]
 fn remove_latch(latches: &mut Vec<Latch>, name: &Name)
     ensures { latches.new.items ≡ latches_kept (is_other name.now) latches.old.items }
@@ -183,7 +191,7 @@ fn remove_latch(latches: &mut Vec<Latch>, name: &Name)
     latches.retain(|latch| *name != latch.output);
 }
 
-// There is timing only where a latch stands.
+// Drops the timing if there is no latch.
 fn drop_timing(latches: &[Latch], timing: &mut Option<Timing>)
     ensures { timing.new ≡ timing_with latches.now timing.old }
 {
@@ -192,7 +200,7 @@ fn drop_timing(latches: &[Latch], timing: &mut Option<Timing>)
     }
 }
 
-// What names a circuit and its signals.
+// The names of a circuit: its own, its ports and its clocks.
 struct Ports {
     name: Name,
     inputs: Names,
@@ -200,7 +208,7 @@ struct Ports {
     clocks: Names,
 }
 
-// By hand, so that letting them go is one call.
+// By hand, so that one call drops them.
 impl Drop for Ports {
     fn drop(self) {
         let Ports {
@@ -213,7 +221,7 @@ impl Drop for Ports {
 }
 
 impl Ports {
-    // The circuit of these names without tables.
+    // The circuit with these names and no tables.
     fn into_frame(
         self,
         alloc: Global,
@@ -221,7 +229,17 @@ impl Ports {
         latches: Latches,
         dont_care: Tables,
     ) -> Circuit
-        ensures { result ≡ record { name = self.name; inputs = self.inputs; outputs = self.outputs; clocks = self.clocks; timing = timing; latches = latches; tables = []; dont_care = dont_care } }
+        ensures { result ≡ record {
+          name = self.name;
+          inputs = self.inputs;
+          outputs = self.outputs;
+          clocks = self.clocks;
+          timing = timing;
+          latches = latches;
+          tables = [];
+          dont_care =
+              dont_care;
+        } }
     {
         let Ports {
             name,
@@ -242,7 +260,7 @@ impl Ports {
     }
 }
 
-// The circuit with other tables; takes no memory.
+// The circuit with other tables; allocates nothing.
 fn circuit_with(frame: Circuit, tables: Tables) -> Circuit
     ensures { result ≡ with_tables frame tables }
 {
@@ -259,7 +277,7 @@ fn circuit_with(frame: Circuit, tables: Tables) -> Circuit
 }
 
 impl<R: Row> Network<R> {
-    // The network of a circuit with other tables; takes no memory.
+    // The network of a circuit with other tables; allocates nothing.
     fn with(frame: Circuit, tables: NamedTables<R>) -> Network<R>
         requires { IsSound (with_tables frame tables) }
         ensures { result ≡ with_tables frame tables }
@@ -276,9 +294,11 @@ impl<R: Row> Network<R> {
         }
     }
 
-    // Copies of the names of a network.
+    // Copies the names of a network.
     fn ports_copied(&self, alloc: Global) -> Result<Ports, AllocError>
-        ensures { IfOk result (λ ports. (ports.name ≡ self.now.name) × (ports.inputs ≡ self.now.inputs) × (ports.outputs ≡ self.now.outputs) × (ports.clocks ≡ self.now.clocks)) }
+        ensures { IfOk result (λ ports. (ports.name ≡ self.now.name)
+            × (ports.inputs ≡ self.now.inputs) × (ports.outputs ≡ self.now.outputs)
+            × (ports.clocks ≡ self.now.clocks)) }
     {
         Ok(Ports {
             name: self.name.copy(alloc)?,
@@ -288,7 +308,7 @@ impl<R: Row> Network<R> {
         })
     }
 
-    // A copy of the circuit, without its tables.
+    // Copies the circuit without its tables.
     fn frame_copied(&self, alloc: Global) -> Result<Circuit, AllocError>
         ensures { IfOk result (λ frame. frame ≡ with_tables self.now []) }
     {
@@ -299,19 +319,19 @@ impl<R: Row> Network<R> {
         Ok(ports.into_frame(alloc, timing, latches, dont_care))
     }
 
-    /// The network of a sound circuit, whose parts move over; the covers of its tables are made, and an error comes only
-    /// for want of memory for them.
+    /// The network of a sound circuit, whose parts move over; only the covers of its tables are
+    /// built.
     pub fn from_circuit(alloc: Global, circuit: Circuit) -> Result<Network<R>, AllocError>
         requires { IsSound circuit }
         ensures { IfOk result (λ network. network ≡ circuit) }
     {
-        // A whole, so that letting it go is one call.
+        // A whole, so that one call drops it.
         let whole = Whole { it: circuit };
         let tables = tables_from(alloc, whole.it.tables.as_slice())?;
         Ok(Network::with(whole.into_it(), tables))
     }
 
-    /// The parts, moved out; takes no memory.
+    /// Moves the parts out; allocates nothing.
     pub fn into_parts(self, alloc: Global) -> Parts<R>
         ensures circuit { self ≡ with_tables result.frame (present result.slots.items) }
         ensures indexed { IsIndexed result.slots.items (get bytes_eq result.places) }
@@ -346,7 +366,7 @@ impl<R: Row> Network<R> {
         }
     }
 
-    /// The network of parts whose circuit is sound; takes no memory.
+    /// The network of parts whose circuit is sound; allocates nothing.
     pub fn from_parts(parts: Parts<R>) -> Network<R>
         requires indexed { IsIndexed parts.slots.items (get bytes_eq parts.places) }
         requires over { AreOverInputs parts.slots.items }
@@ -361,11 +381,11 @@ impl<R: Row> Network<R> {
         Network::with(frame, NamedTables { slots, places })
     }
 
-    /// The circuit; an error only for want of memory.
+    /// The circuit of the network, as a copy.
     pub fn to_circuit(&self, alloc: Global) -> Result<Circuit, AllocError>
         ensures { IfOk result (λ circuit. circuit ≡ self.now) }
     {
-        // A whole, so that letting it go is one call.
+        // A whole, so that one call drops it.
         let frame = Whole {
             it: self.frame_copied(alloc)?,
         };
@@ -373,11 +393,11 @@ impl<R: Row> Network<R> {
         Ok(circuit_with(frame.into_it(), tables))
     }
 
-    /// The same network; an error only for want of memory.
+    /// Copies the network.
     pub fn copy(&self, alloc: Global) -> Result<Network<R>, AllocError>
         ensures { IfOk result (λ network. network ≡ self.now) }
     {
-        // A whole, so that letting it go is one call.
+        // A whole, so that one call drops it.
         let frame = Whole {
             it: self.frame_copied(alloc)?,
         };
@@ -420,7 +440,8 @@ impl<R: Row> Network<R> {
         self.dont_care.as_slice()
     }
 
-    /// The tables in order, each with its name; none at a place whose table is gone.
+    /// The slots, in order: each has a table with its name, or is empty because its table was
+    /// removed.
     pub fn entries(&self) -> &[Option<Entry<R>>]
         ensures tables { present result.now ≡ self.now.tables }
         ensures over { AreOverInputs result.now }
@@ -428,7 +449,7 @@ impl<R: Row> Network<R> {
         self.tables.slots()
     }
 
-    /// How much of everything there is.
+    /// The sizes of the network.
     #[tactic(auto, unfolding(crate::specs::Reads::sizes_of))]
     pub fn sizes(&self) -> Sizes
         ensures { result ≡ sizes_of self.now }
@@ -442,8 +463,8 @@ impl<R: Row> Network<R> {
         }
     }
 
-    /// The names of the tables, each behind those of the tables that it reads: again and again the first that may come
-    /// next. An error only for want of memory.
+    /// The names of the tables in topological order: at each step the first table, in the network's
+    /// order, that reads no table not listed yet.
     pub fn order(&self, alloc: Global) -> Result<Names, AllocError>
         ensures { IfOk result (λ names. names ≡ order_of self.now.tables) }
     {
@@ -451,16 +472,17 @@ impl<R: Row> Network<R> {
         order(alloc, tables.as_slice())
     }
 
-    /// What every network is: a sound circuit. It does nothing, and gives its caller this fact.
+    /// The invariant of every network: its circuit is sound. Does nothing, and gives its caller
+    /// this fact.
     pub fn sound(&self)
         ensures { IsSound self.now }
     {
         let _name = &self.name;
     }
 
-    /// Puts another table in the place of the table of a name.
+    /// Replaces the table of a name.
     #[tactic(auto, unfolding(circuit_laws::specs::Edits::with_replaced))]
-    pub fn replace(&mut self, name: &Name, table: Table<R>)
+    pub fn replace(&mut self, name: &Name, table: CoverTable<R>)
         requires known { has (outputs_of self.old.tables) name.now ≡ true }
         requires fitting { IsFitting self.old (named name.now table) }
         requires acyclic { IsAcyclic (replaced self.old.tables (named name.now table)) }
@@ -470,7 +492,8 @@ impl<R: Row> Network<R> {
         self.tables.replace(name, table);
     }
 
-    /// Takes the table or the latch of a name away that nothing else needs; the timing goes with the last latch.
+    /// Removes the table or the latch of a name that nothing else needs; the timing is removed with
+    /// the last latch.
     #[tactic(auto, using(crate::proofs::Removals::removed_table, crate::proofs::Removals::removed_latch))]
     pub fn remove(&mut self, name: &Name)
         requires { IsClosed self.old (is_other name.now) }
@@ -483,10 +506,11 @@ impl<R: Row> Network<R> {
         drop_timing(self.latches.as_slice(), &mut self.timing);
     }
 
-    /// Adds a table under the least number in brackets that names nothing, behind the last table; refused where as many
-    /// tables and latches stand as may. An error changes nothing.
+    /// Adds a table after the last, under the least number in brackets that is not a name in use.
+    /// `NodeLimit` if there are `MAX_NODES` tables and latches already, those of the don't-care
+    /// part included. An error changes nothing.
     #[tactic(auto, using(crate::proofs::Counting::new_is_no_table), unfolding(circuit_laws::specs::Edits::with_added))]
-    pub fn add(&mut self, alloc: Global, table: Table<R>) -> Result<Name, AddFault>
+    pub fn add(&mut self, alloc: Global, table: CoverTable<R>) -> Result<Name, AddFault>
         requires fitting { (name : List ℕ) → IsFitting self.old (named name table) }
         requires over { IsOverInputs table }
         ensures { Adds self.old table self.new result }
@@ -507,16 +531,17 @@ impl<R: Row> Network<R> {
         if self.tables.contains(name) {
             return true;
         }
-        let input = is_among(&self.inputs, name);
+        let input = has_name(self.inputs.as_slice(), name);
         let latch = drives_latch(self.latches.as_slice(), name);
-        let output = is_among(&self.outputs, name);
-        let clock = is_among(&self.clocks, name);
+        let output = has_name(self.outputs.as_slice(), name);
+        let clock = has_name(self.clocks.as_slice(), name);
         let control = is_control(&self.timing, name);
         let part = is_mentioned(self.dont_care.as_slice(), name);
         input || latch || output || clock || control || part
     }
 
-    // The least number in brackets that is not used; no machine has memory for so many names that there is none.
+    // The name of the least number in brackets that is not in use. No machine has memory for so
+    // many names that all numbers are.
     fn new_name(&self, alloc: Global) -> Result<Name, AllocError>
         ensures { IfOk result (λ name. IsNewName self.now name) }
     {
@@ -529,7 +554,7 @@ impl<R: Row> Network<R> {
         Err(AllocError)
     }
 
-    // Whether no more table may stand.
+    // Whether no more table may be added.
     fn is_at_limit(&self) -> bool
         ensures { IsTrue result ↔ (MAX_NODES ≤ node_count self.now) }
     {
@@ -537,14 +562,15 @@ impl<R: Row> Network<R> {
     }
 
     /// The table of a name, if there is one.
-    pub fn table(&self, name: &Name) -> Option<&Table<R>>
-        ensures driver { driver self.now.tables name.now ≡ option_map (λ table. named name.now table.now) result }
+    pub fn table(&self, name: &Name) -> Option<&CoverTable<R>>
+        ensures driver { driver self.now.tables name.now ≡ option_map
+            (λ table. named name.now table.now) result }
         ensures over { IfSome result (λ table. IsOverInputs table.now) }
     {
         self.tables.get(name)
     }
 
-    // The places of the tables in order: at each a table, or none where it is gone.
+    // The slots, in order: each has a table, or is empty because its table was removed.
     pub(crate) fn slots(&self) -> &[Option<Entry<R>>]
         ensures { present result.now ≡ self.now.tables }
     {

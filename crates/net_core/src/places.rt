@@ -1,6 +1,10 @@
-//! Tables in order, each at a place of its own, found by their names.
+//! Tables in order, each in a slot of its own, found by their names.
 //!
-//! A table that goes leaves its place empty, so that the others keep theirs; an index leads from a name to its place.
+//! A removed table leaves its slot empty, so that the others keep their indices. A hash map leads
+//! from a name to its slot (De Micheli, "Synthesis and Optimization of Digital Circuits", chapter
+//! 8: a logic network as a set of nodes known by their names). Invariant: each table's name leads
+//! to its slot, and no other name leads anywhere. The functions on slots and the map also serve
+//! code that works on `Parts`.
 
 ghost use Rattle.std.specs.Prelude.{◌≡◌, ℕ, ◌<◌, Bool, true, false, Option, Some, None, List, [], ◌∷◌, ◌++◌, length, slice_get, slice_set, bytes_eq, is_some, option_map, if◌then◌else◌, IsSome, IfSome, IfOk, OnOk, OnErr};
 ghost use Rattle.indexmap.specs.IndexMap.{get};
@@ -11,9 +15,9 @@ ghost use Rattle.circuit_model.specs.Values.{driver};
 ghost use Rattle.circuit_laws.specs.Edits.{replaced, without};
 ghost use Rattle.net_core.specs.Tables.{named, IsOverInputs};
 ghost use Rattle.net_core.specs.Places.{present, written_of, IsIndexed, AreOverInputs};
-ghost use Rattle.net_core.specs.declared.places.Entry.{Entry as TheEntry};
+ghost use Rattle.net_core.specs.declared.places.Entry.{Entry};
 
-use crate::table::Table;
+use crate::table::CoverTable;
 use circuit_model::{Name, Table as Written};
 use cube_cover::Row;
 use indexmap::IndexMap;
@@ -25,7 +29,7 @@ use std::marker::Model;
 #[derive(Drop)]
 pub struct Entry<R: Row> {
     pub output: Name,
-    pub table: Table<R>,
+    pub table: CoverTable<R>,
 }
 
 /// Tables in order, found by their names; contracts see them as the tables of a circuit.
@@ -49,14 +53,14 @@ impl<R: Row> Model for NamedTables<R> {
     ghost invariant = { λ t. IsIndexed t.slots.items (get bytes_eq t.places) × AreOverInputs t.slots.items };
 }
 
-/// Where the table of a name stands.
+/// The index of the slot of a name, if it has a table.
 pub fn found_place(places: &IndexMap<Name, usize>, name: &Name) -> Option<usize>
     ensures { result ≡ get bytes_eq places.now name.now }
 {
     places.get(name).copied()
 }
 
-// Where the table of a name that has one stands.
+// The index of the slot of a name, which must have a table.
 fn known_place(places: &IndexMap<Name, usize>, name: &Name) -> usize
     requires { IsSome (get bytes_eq places.now name.now) }
     ensures { get bytes_eq places.now name.now ≡ Some result }
@@ -67,25 +71,28 @@ fn known_place(places: &IndexMap<Name, usize>, name: &Name) -> usize
     }
 }
 
-/// Forgets the place of a name.
+/// Removes a name from the map.
 pub fn unplace(places: &mut IndexMap<Name, usize>, name: &Name)
-    ensures { (other : List ℕ) → get bytes_eq places.new other ≡ (if bytes_eq name.now other then None else get bytes_eq places.old other) }
+    ensures { (other : List ℕ) → get bytes_eq places.new other
+        ≡ (if bytes_eq name.now other then None else get bytes_eq places.old other) }
 {
     let _place = places.swap_remove(name);
 }
 
-// Notes the place of a name; on an error nothing changed.
+// Sets the index of a name. On an error the map is unchanged.
 fn place_at(places: &mut IndexMap<Name, usize>, name: Name, place: usize) -> Result<(), AllocError>
-    ensures ok { OnOk result ((other : List ℕ) → get bytes_eq places.new other ≡ (if bytes_eq name other then Some place else get bytes_eq places.old other)) }
-    ensures err { OnErr result ((other : List ℕ) → get bytes_eq places.new other ≡ get bytes_eq places.old other) }
+    ensures ok { OnOk result ((other : List ℕ) → get bytes_eq places.new other
+        ≡ (if bytes_eq name other then Some place else get bytes_eq places.old other)) }
+    ensures err { OnErr result ((other : List ℕ) → get bytes_eq places.new other
+        ≡ get bytes_eq places.old other) }
 {
     let _place = places.insert(name, place)?;
     Ok(())
 }
 
-/// The entry at a place that has one.
+/// The entry of a slot, which must have one.
 pub fn entry_at<R: Row>(slots: &[Option<Entry<R>>], place: usize) -> &Entry<R>
-    requires { (entry : TheEntry R) × (slice_get slots.now place ≡ Some (Some entry)) }
+    requires { (entry : Entry R) × (slice_get slots.now place ≡ Some (Some entry)) }
     ensures { slice_get slots.now place ≡ Some (Some result.now) }
 {
     match &slots[place] {
@@ -94,10 +101,12 @@ pub fn entry_at<R: Row>(slots: &[Option<Entry<R>>], place: usize) -> &Entry<R>
     }
 }
 
-/// Puts another table at the place of an entry, which keeps its name.
-pub fn set_table<R: Row>(slots: &mut Vec<Option<Entry<R>>>, place: usize, table: Table<R>)
-    requires { (entry : TheEntry R) × (slice_get slots.old.items place ≡ Some (Some entry)) }
-    ensures { (entry : TheEntry R) → slice_get slots.old.items place ≡ Some (Some entry) → slots.new.items ≡ slice_set slots.old.items place (Some (record { output = entry.output; table = table })) }
+/// Replaces the table of a slot, which must have one; its name stays.
+pub fn set_table<R: Row>(slots: &mut Vec<Option<Entry<R>>>, place: usize, table: CoverTable<R>)
+    requires { (entry : Entry R) × (slice_get slots.old.items place ≡ Some (Some entry)) }
+    ensures { (entry : Entry R) → slice_get slots.old.items place ≡ Some (Some entry)
+        → slots.new.items ≡ slice_set slots.old.items place
+        (Some (record { output = entry.output; table = table })) }
 {
     match &mut slots[place] {
         Some(entry) => entry.table = table,
@@ -105,7 +114,7 @@ pub fn set_table<R: Row>(slots: &mut Vec<Option<Entry<R>>>, place: usize, table:
     }
 }
 
-/// Puts an entry behind the last and notes its place; on an error nothing changed.
+/// Appends an entry and sets the index of its name. On an error nothing is changed.
 pub fn put_last<R: Row>(
     slots: &mut Vec<Option<Entry<R>>>,
     places: &mut IndexMap<Name, usize>,
@@ -114,9 +123,12 @@ pub fn put_last<R: Row>(
 ) -> Result<(), AllocError>
     requires { key ≡ entry.output }
     ensures slots_ok { OnOk result (slots.new.items ≡ slots.old.items ++ Some entry ∷ []) }
-    ensures places_ok { OnOk result ((other : List ℕ) → get bytes_eq places.new other ≡ (if bytes_eq key other then Some (length slots.old.items) else get bytes_eq places.old other)) }
+    ensures places_ok { OnOk result ((other : List ℕ) → get bytes_eq places.new other
+        ≡ (if bytes_eq key other then Some (length slots.old.items) else get bytes_eq places.old
+        other)) }
     ensures slots_err { OnErr result (slots.new.items ≡ slots.old.items) }
-    ensures places_err { OnErr result ((other : List ℕ) → get bytes_eq places.new other ≡ get bytes_eq places.old other) }
+    ensures places_err { OnErr result ((other : List ℕ) → get bytes_eq places.new other
+        ≡ get bytes_eq places.old other) }
 {
     let place = slots.len();
     slots.push(Some(entry))?;
@@ -130,7 +142,7 @@ pub fn put_last<R: Row>(
 }
 
 impl<R: Row> NamedTables<R> {
-    /// No table; takes no memory.
+    /// No tables; allocates nothing.
     pub fn new(alloc: Global) -> NamedTables<R>
         ensures { result ≡ [] }
     {
@@ -140,8 +152,8 @@ impl<R: Row> NamedTables<R> {
         }
     }
 
-    /// The places in order: at each a table, or none where it is gone. No two tables have one name, and each table's
-    /// cover has one place for each of its inputs.
+    /// The slots, in order: each has a table, or is empty because its table was removed. No two
+    /// tables have the same name, and each table's cover has a column for each of its inputs.
     pub fn slots(&self) -> &[Option<Entry<R>>]
         ensures items { present result.now ≡ self.now }
         ensures distinct { all_different (outputs_of (present result.now)) ≡ true }
@@ -158,8 +170,9 @@ impl<R: Row> NamedTables<R> {
     }
 
     /// The table of a name, if there is one.
-    pub fn get(&self, name: &Name) -> Option<&Table<R>>
-        ensures driver { driver self.now name.now ≡ option_map (λ table. named name.now table.now) result }
+    pub fn get(&self, name: &Name) -> Option<&CoverTable<R>>
+        ensures driver { driver self.now name.now ≡ option_map
+            (λ table. named name.now table.now) result }
         ensures over { IfSome result (λ table. IsOverInputs table.now) }
     {
         match found_place(&self.places, name) {
@@ -168,9 +181,13 @@ impl<R: Row> NamedTables<R> {
         }
     }
 
-    /// Puts a table behind the last under a name that no table has; an error only for want of memory, and then nothing
-    /// changed.
-    pub fn push(&mut self, alloc: Global, name: &Name, table: Table<R>) -> Result<(), AllocError>
+    /// Appends a table under a name that no table has. On an error nothing is changed.
+    pub fn push(
+        &mut self,
+        alloc: Global,
+        name: &Name,
+        table: CoverTable<R>,
+    ) -> Result<(), AllocError>
         requires new { has (outputs_of self.old) name.now ≡ false }
         requires over { IsOverInputs table }
         ensures ok { OnOk result (self.new ≡ self.old ++ named name.now table ∷ []) }
@@ -187,8 +204,8 @@ impl<R: Row> NamedTables<R> {
         Ok(())
     }
 
-    /// Puts another table in the place of the table of a name.
-    pub fn replace(&mut self, name: &Name, table: Table<R>)
+    /// Replaces the table of a name.
+    pub fn replace(&mut self, name: &Name, table: CoverTable<R>)
         requires known { has (outputs_of self.old) name.now ≡ true }
         requires over { IsOverInputs table }
         ensures { self.new ≡ replaced self.old (named name.now table) }
@@ -197,7 +214,7 @@ impl<R: Row> NamedTables<R> {
         set_table(&mut self.slots, place, table);
     }
 
-    /// Takes the table of a name away, if there is one; answers whether there was.
+    /// Removes the table of a name. Returns whether there was one.
     pub fn remove(&mut self, name: &Name) -> bool
         ensures tables { self.new ≡ without self.old name.now }
         ensures found { result ≡ has (outputs_of self.old) name.now }

@@ -1,24 +1,38 @@
-//! Tables whose rows are a cover, and the ways between them and the tables of circuits.
+//! Tables whose rows are a cover, and the conversions between them and the tables of circuits.
+//!
+//! Source: BLIF appendix of the SIS report (UCB/ERL M92/41), `.names`; De Micheli, "Synthesis and
+//! Optimization of Digital Circuits", chapter 8 (the local function of a node). A character 0, 1 or
+//! - of a row is a negative literal, a positive literal or a dash. A `CoverTable` has no name of its
+//! own: `to_written` takes one. The cover must have a column for each input (`IsOverInputs`), which
+//! `from_written` ensures.
 
 ghost use Rattle.std.specs.Prelude.{◌≡◌, ℕ, List, length, map, IfOk};
 ghost use Rattle.std.specs.List.{AllByRecursion};
 ghost use Rattle.circuit_model.specs.Values.{literal_of};
+ghost use Rattle.net_core.specs.Reads.{IsBounded};
 ghost use Rattle.net_core.specs.Tables.{character_of, places_of, characters_of, covered, named, HasCharacters};
 
-use circuit_model::{Name, Names, Row as Characters, Rows, Table as Written, Tri};
+use circuit_model::{Name, Names, Row as Characters, Rows, Table, Tri};
 use cube_cover::{Cover, Row};
 use sis_base::{Copied, Sequence};
 use std::alloc::{AllocError, Global};
 
-/// A table: where some row of the cover matches the inputs' bits the value is `phase`, else the other bit.
+/// A table of so many inputs is not made: that is answered as want of memory.
+const INPUT_BOUND: usize = 1 << 30;
+
+/// Nor is a table of so many rows.
+const ROW_BOUND: usize = 1 << 29;
+
+/// A table: where some row of the cover matches the inputs' bits the value is `phase`, else the
+/// other bit.
 #[derive(Drop)]
-pub struct Table<R: Row> {
+pub struct CoverTable<R: Row> {
     pub inputs: Names,
     pub cover: Cover<R>,
     pub phase: bool,
 }
 
-// The place of a row that a character stands for.
+// The literal or dash of a character.
 fn place_from(character: Tri) -> Option<bool>
     ensures { result ≡ literal_of character }
 {
@@ -29,7 +43,7 @@ fn place_from(character: Tri) -> Option<bool>
     }
 }
 
-// The character of a place of a row.
+// The character of a literal or dash.
 fn character_from(place: Option<bool>) -> Tri
     ensures { result ≡ character_of place }
 {
@@ -40,7 +54,7 @@ fn character_from(place: Option<bool>) -> Tri
     }
 }
 
-// The row with the places of some characters.
+// The row with the literals of characters.
 fn row_from<R: Row>(alloc: Global, characters: &[Tri]) -> Result<R, AllocError>
     ensures { IfOk result (λ row. R.literals row ≡ places_of characters.now) }
 {
@@ -84,43 +98,55 @@ fn all_characters<R: Row>(alloc: Global, rows: &[R]) -> Result<Rows, AllocError>
     Ok(Sequence::from_vec(made))
 }
 
-impl<R: Row> Table<R> {
-    /// The same table; an error only for want of memory.
-    pub fn copy(&self, alloc: Global) -> Result<Table<R>, AllocError>
+impl<R: Row> CoverTable<R> {
+    /// Copies the table.
+    pub fn copy(&self, alloc: Global) -> Result<CoverTable<R>, AllocError>
         ensures { IfOk result (λ made. made ≡ self.now) }
     {
-        Ok(Table {
+        Ok(CoverTable {
             inputs: self.inputs.copy(alloc)?,
             cover: self.cover.copy(alloc)?,
             phase: self.phase,
         })
     }
 
-    /// The table with the inputs, rows and phase of a circuit's table, each of whose rows has a character for each
-    /// input; an error only for want of memory.
+    /// The table with the inputs, rows and phase of a circuit's table. Each row must have a
+    /// character for each input.
     #[tactic(auto, using(crate::proofs::Rows::width_of_characters), unfolding(crate::specs::Tables::covered))]
-    pub fn from_written(alloc: Global, written: &Written) -> Result<Table<R>, AllocError>
+    pub fn from_written(alloc: Global, written: &Table) -> Result<CoverTable<R>, AllocError>
         requires { HasCharacters (length written.now.inputs) written.now.rows }
         ensures { IfOk result (λ table. table ≡ covered written.now) }
     {
         let rows = rows_from(alloc, written.rows.as_slice())?;
-        Ok(Table {
+        Ok(CoverTable {
             inputs: written.inputs.copy(alloc)?,
             cover: Cover::of(written.inputs.len(), rows),
             phase: written.phase,
         })
     }
 
-    /// The table of a circuit that drives the name by this table; an error only for want of memory.
+    /// The table of a circuit that drives the name by this table.
     #[tactic(auto, unfolding(crate::specs::Tables::named))]
-    pub fn to_written(&self, alloc: Global, name: &Name) -> Result<Written, AllocError>
+    pub fn to_written(&self, alloc: Global, name: &Name) -> Result<Table, AllocError>
         ensures { IfOk result (λ written. written ≡ named name.now self.now) }
     {
-        Ok(Written {
+        Ok(Table {
             inputs: self.inputs.copy(alloc)?,
             output: name.copy(alloc)?,
             rows: all_characters(alloc, self.cover.rows())?,
             phase: self.phase,
         })
+    }
+}
+
+/// A table, unless it is as large as none is made.
+pub fn bounded<R: Row>(table: CoverTable<R>) -> Result<CoverTable<R>, AllocError>
+    ensures { IfOk result (λ made. (made ≡ table) × ((name : List ℕ) → IsBounded
+        (named name table))) }
+{
+    if table.inputs.len() < INPUT_BOUND && table.cover.rows().len() < ROW_BOUND {
+        Ok(table)
+    } else {
+        Err(AllocError)
     }
 }

@@ -8,21 +8,21 @@ use Rattle.sis_base.specs.Rows.{some_matches, value_by_phase, HasWidth}
 use Rattle.sis_base.specs.Written.{is_word}
 use Rattle.circuit_model.specs.Names.{has, all_different}
 use Rattle.circuit_model.specs.Values.{driver, driven_value, table_value}
-use Rattle.circuit_model.specs.Soundness.{outputs_of, control_of, names_of, given, IsShaped, IsSound}
+use Rattle.circuit_model.specs.Soundness.{outputs_of, control_of, given, IsShaped, IsSound}
 use Rattle.circuit_model.specs.declared.circuit.Table.{Table}
 use Rattle.circuit_model.specs.declared.circuit.Circuit.{Circuit}
 use Rattle.circuit_laws.specs.Edits.{with_added}
 use Rattle.circuit_laws.specs.Fitting.{IsFitting}
-use Rattle.circuit_laws.proofs.Names.{same_name, name_itself, name_not, all_from_has, has_neither, different_head, different_tail}
+use Rattle.circuit_laws.proofs.Names.{same_name, name_itself, name_not, all_from_has, different_head, different_tail}
 use Rattle.circuit_laws.proofs.Drivers.{driver_append, driver_output, driver_reads}
 use Rattle.circuit_laws.proofs.Paths.{driver_added_own}
 use Rattle.circuit_laws.specs.Changes.{IsExtended}
 use Rattle.circuit_laws.proofs.Changes.{added_extended, extended_itself, extended_through}
 use Rattle.circuit_laws.proofs.Mapped.{live_reads}
-use Rattle.net_core.specs.Fresh.{used_names, IsNewName}
+use Rattle.net_core.specs.Fresh.{IsNewName}
 use Rattle.net_core.specs.Tables.{characters_of, character_of, HasCharacters}
 use Rattle.net_core.proofs.Rows.{all_places_back}
-use Rattle.net_core.proofs.NewNames.{bracketed_is_word}
+use Rattle.net_core.proofs.NewNames.{new_is_word, new_is_free}
 use Rattle.net_core.proofs.Counting.{new_is_no_table}
 use Rattle.circuit_tables.proofs.Tidied.{tidied_value, tidied_output, tidied_reads, tidied_once, tidied_shaped}
 use Rattle.net_decomp.specs.Partings.{part_table, ArePartsAdded}
@@ -80,18 +80,6 @@ part_fits circuit table part name sound at wide = record {
   once = part_once table part name;
   shaped = part_shaped table part name wide;
 }
-
--- a new name is a word that nothing drives, and not the control
-pub new_is_word : (circuit : Circuit) (name : List ℕ) → IsNewName circuit name → is_word name ≡ true
-new_is_word circuit name new = ap is_word new.is ∙ bracketed_is_word new.number new.fits
-
-pub new_is_free : (circuit : Circuit) (name : List ℕ) → IsNewName circuit name → (has (given circuit) name ≡ false) × (has (control_of circuit.timing) name ≡ false)
-unfolding used_names
-new_is_free circuit name new =
-    let first = has_neither (given circuit) (circuit.outputs ++ (circuit.clocks ++ (control_of circuit.timing ++ names_of circuit.dont_care))) name (ap (has (used_names circuit)) new.is ∙ new.free) in
-    let second = has_neither circuit.outputs (circuit.clocks ++ (control_of circuit.timing ++ names_of circuit.dont_care)) name first.1 in
-    let third = has_neither circuit.clocks (control_of circuit.timing ++ names_of circuit.dont_care) name second.1 in
-    (first.0, (has_neither (control_of circuit.timing) (names_of circuit.dont_care) name third.1).0)
 
 -- what drives a signal drives it when a table is added; the new table drives its own
 pub added_kept : (circuit : Circuit) (new : Table) (signal : List ℕ) (table : Table) → driver circuit.tables signal ≡ Some table → driver (with_added circuit new).tables signal ≡ Some table

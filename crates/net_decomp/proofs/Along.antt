@@ -1,16 +1,16 @@
 -- Steps at a place, and from place to place: where they lead, and where there is no room.
-use Rattle.std.proofs.Common.{◌≡◌, ℕ, ◌+◌, ◌<◌, ◌≤◌, ◌^◌, Err, Some, List, [], ◌∷◌, ◌++◌, length, refl, sym, ap, ◌∙◌, subst, inl, inr, arith}
+use Rattle.std.proofs.Common.{◌≡◌, ℕ, ◌+◌, ◌<◌, ◌≤◌, ◌^◌, Err, Some, length, refl, sym, ap, ◌∙◌, subst, inl, inr, arith}
 use Rattle.std.proofs.lemmas.Bool.{cases_order}
 use Rattle.circuit_model.specs.Soundness.{IsSound}
 use Rattle.circuit_model.specs.declared.circuit.Table.{Table}
 use Rattle.circuit_model.specs.declared.circuit.Circuit.{Circuit}
 use Rattle.circuit_laws.specs.Edits.{with_tables}
-use Rattle.circuit_laws.specs.Following.{Follows}
+use Rattle.circuit_laws.proofs.Greedy.{reached_itself, reached_both, reached_more}
 use Rattle.net_core.specs.declared.adding.AddFault.{AddFault}
 use Rattle.net_core.specs.declared.adding.AddFault.TheVariants.{NodeLimit, Memory}
 use Rattle.net_decomp.specs.Partings.{Parting}
-use Rattle.net_decomp.specs.Rules.{IsDone, IsDue}
-use Rattle.net_decomp.specs.Decomposed.{IsNext, IsStep, IsReached, IsDecomposed, IsFull}
+use Rattle.net_decomp.specs.Rules.{IsDone, IsDecomposable}
+use Rattle.net_decomp.specs.Decomposed.{IsNext, IsStep, IsDecomposed, IsFull}
 use Rattle.net_decomp.specs.declared.rule.Rule.{Rule}
 use Rattle.net_decomp.proofs.PartedSteps.{step_extended}
 use Rattle.net_decomp.proofs.Bounded.{HadRoom, step_room}
@@ -19,23 +19,12 @@ use Rattle.net_decomp.specs.Decompose.{HasDecomposed}
 use Rattle.net_decomp.specs.Cursor.{IsPartedAt, IsOverAt, AreDone, IsAlong}
 use Rattle.net_decomp.proofs.Slots.{among, all_standing}
 
--- chains one behind the other
-follows_both : {N : Type 0} (Next : N → N → Type 0) (one other : List N) (from between to : N) → Follows Next one from between → Follows Next other between to → Follows Next (one ++ other) from to
-follows_both Next [] other from between to same rest = subst (λ x. Follows Next other x to) (sym same) rest
-follows_both Next (next ∷ one) other from between to steps rest = (steps.0, follows_both Next one other next between to steps.1 rest)
-
-reached_both : (rule : Rule) (from between to : Circuit) → IsReached rule from between → IsReached rule between to → IsReached rule from to
-reached_both rule from between to first second = record {
-  between = first.between ++ second.between;
-  steps = follows_both (IsStep rule) first.between second.between from between to first.steps second.steps;
-}
-
 -- the table at a place is next, where those below are done
-next_at_place : (rule : Rule) (place : ℕ) (now : Placed) (table : Table) (parting : Parting) → AreDone rule place now.slots → table_at now.slots place ≡ Some table → IsDue rule table parting
+next_at_place : (rule : Rule) (place : ℕ) (now : Placed) (table : Table) (parting : Parting) → AreDone rule place now.slots → table_at now.slots place ≡ Some table → IsDecomposable rule table parting
     → IsNext rule (circuit_of now) table parting
 next_at_place rule place now table parting done there due =
     let at = among (IsDone rule) now.slots place table there done in
-    record { before = at.before; after = at.after; tables = at.is; first = at.all; due = due }
+    record { before = at.before; after = at.after; is = at.is; pass = at.all; fails = due }
 
 parted_step : (rule : Rule) (place : ℕ) (before now : Placed) → AreDone rule place before.slots → IsPartedAt rule place before now → IsStep rule (circuit_of before) (circuit_of now)
 parted_step rule place before now done parted = record {
@@ -47,7 +36,7 @@ parted_step rule place before now done parted = record {
 
 pub along_begin : (rule : Rule) (place : ℕ) (now : Placed) → IsSound (circuit_of now) → AreDone rule place now.slots → IsAlong rule place now now
 along_begin rule place now sound done = record {
-  reached = record { between = []; steps = refl };
+  reached = reached_itself (IsStep rule) (circuit_of now);
   done = done;
   sound = sound;
   bounds = λ bounds. bounds;
@@ -66,7 +55,7 @@ pub along_more : (rule : Rule) (place : ℕ) (before now new : Placed) → IsAlo
 along_more rule place before now new along parted =
     let step = parted_step rule place now new along.done parted in
     record {
-      reached = reached_both rule (circuit_of before) (circuit_of now) (circuit_of new) along.reached (record { between = circuit_of new ∷ []; steps = (step, refl) });
+      reached = reached_more (IsStep rule) (circuit_of before) (circuit_of now) (circuit_of new) along.reached step;
       done = λ at table below here. along.done at table below (sym (parted.others at below) ∙ here);
       sound = (step_extended rule (circuit_of now) (circuit_of new) along.sound step).change.sound;
       bounds = λ bounds. record {
@@ -91,7 +80,7 @@ along_done rule place before now along this = record {
 
 pub along_both : (rule : Rule) (place later : ℕ) (before now new : Placed) → IsAlong rule place before now → IsAlong rule later now new → IsAlong rule later before new
 along_both rule place later before now new first second = record {
-  reached = reached_both rule (circuit_of before) (circuit_of now) (circuit_of new) first.reached second.reached;
+  reached = reached_both (IsStep rule) (circuit_of before) (circuit_of now) (circuit_of new) first.reached second.reached;
   done = second.done;
   sound = second.sound;
   bounds = λ bounds. second.bounds (first.bounds bounds);
@@ -100,22 +89,21 @@ along_both rule place later before now new first second = record {
 -- no room
 pub along_over : (rule : Rule) (place : ℕ) (before now : Placed) → IsAlong rule place before now → IsOverAt rule place now → IsFull rule (circuit_of before)
 along_over rule place before now along over = record {
-  full = circuit_of now;
+  last = circuit_of now;
   reached = along.reached;
-  table = over.table;
-  parting = over.parting;
-  next = next_at_place rule place now over.table over.parting along.done over.there over.due;
-  over = over.over;
+  stops = record {
+    table = over.table;
+    parting = over.parting;
+    next = next_at_place rule place now over.table over.parting along.done over.there over.due;
+    over = over.over;
+  };
 }
 
 pub along_full : (rule : Rule) (place : ℕ) (before now : Placed) → IsAlong rule place before now → IsFull rule (circuit_of now) → IsFull rule (circuit_of before)
 along_full rule place before now along full = record {
-  full = full.full;
-  reached = reached_both rule (circuit_of before) (circuit_of now) full.full along.reached full.reached;
-  table = full.table;
-  parting = full.parting;
-  next = full.next;
-  over = full.over;
+  last = full.last;
+  reached = reached_both (IsStep rule) (circuit_of before) (circuit_of now) full.last along.reached full.reached;
+  stops = full.stops;
 }
 
 -- all places

@@ -7,21 +7,20 @@ use Rattle.std.proofs.lemmas.Bool.{cases_lt}
 use Rattle.std.proofs.lemmas.List.{length-append, length-map}
 use Rattle.sis_base.specs.Rows.{HasWidth}
 use Rattle.circuit_model.specs.Soundness.{IsShaped, IsSound}
-use Rattle.circuit_model.specs.declared.circuit.Tri.{Tri}
 use Rattle.circuit_model.specs.declared.circuit.Table.{Table}
 use Rattle.circuit_model.specs.declared.circuit.Circuit.{Circuit}
 use Rattle.circuit_laws.specs.Edits.{replaced, with_tables, with_replaced, with_added}
 use Rattle.circuit_laws.proofs.Drivers.{driver_all, outputs-replaced}
 use Rattle.circuit_laws.proofs.Kept.{all_weaker}
 use Rattle.circuit_laws.proofs.Sound.{all_append}
-use Rattle.circuit_laws.proofs.Chains.{follows_kept}
+use Rattle.circuit_laws.proofs.Greedy.{reached_kept}
 use Rattle.net_core.specs.Fresh.{node_count}
 use Rattle.net_core.specs.Reads.{IsBounded, HasBounds}
 use Rattle.net_core.specs.Tables.{characters_of, places_of}
 use Rattle.circuit_tables.specs.Folding.{folded}
 use Rattle.circuit_tables.proofs.Folded.{folded_shaped, folded_input_count, folded_row_count}
-use Rattle.circuit_tables.specs.Tidy.{some_row_or_phase_one, used_places, rows_once, chosen, narrowed, with_rows_once, tidied}
-use Rattle.circuit_tables.proofs.Tidied.{chosen_small, once_small, phase_kept}
+use Rattle.circuit_tables.specs.Tidy.{used_places, rows_once, chosen, narrowed, with_rows_once, tidied}
+use Rattle.circuit_tables.proofs.Tidied.{chosen_small, once_small, phase_kept, shaped_some}
 use Rattle.net_decomp.specs.Partings.{rows_of, part_table, parted_table, ArePartsAdded}
 use Rattle.net_decomp.specs.Decomposed.{IsStep, IsReached}
 use Rattle.net_decomp.specs.declared.rule.Rule.{Rule}
@@ -35,11 +34,6 @@ use Rattle.sis_base.specs.declared.limits.TheConstants.{MAX_NODES}
 abbrev pub IsWithin : ℕ → ℕ → Table → Type 0
 IsWithin rows inputs table = (length table.rows ≤ rows) × (length table.inputs ≤ inputs)
 
--- what is made tidy of a shaped table has no more rows and no more inputs
-pub shaped_row : (rows : List (List Tri)) (phase : Bool) → (rows ≡ [] → phase ≡ true) → some_row_or_phase_one rows phase ≡ true
-shaped_row [] phase h = h refl
-shaped_row (row ∷ rows) phase h = refl
-
 pub narrowed_within : (table : Table) → IsWithin (length table.rows) (length table.inputs) (narrowed (with_rows_once table))
 unfolding narrowed
 narrowed_within table =
@@ -52,7 +46,7 @@ unfolding tidied
 tidied_within table shaped =
     let small = narrowed_within (folded table) in
     subst (λ (made : Table). IsWithin (length table.rows) (length table.inputs) (narrowed (with_rows_once made)))
-    (sym (phase_kept (folded table) (shaped_row (folded table).rows (folded table).phase (folded_shaped table shaped).1)))
+    (sym (phase_kept (folded table) (shaped_some (folded table).rows (folded table).phase (folded_shaped table shaped).1)))
     (omega (arith, small.0, folded_row_count table shaped), omega (arith, small.1, folded_input_count table))
 
 -- the tables of parts, and the parted one
@@ -190,7 +184,7 @@ step_within rule circuit new rows inputs sound step one all =
     keeps = next_keeps rule circuit step.table step.parting sound step.next
 
     counts : HasCounts (sums_of rule) (length (rows_of step.table)) step.parting
-    counts = due_counts rule step.table step.parting step.next.due
+    counts = due_counts rule step.table step.parting step.next.fails
 
     same : length (rows_of step.table) ≡ length step.table.rows
     same = length-map step.table.rows places_of
@@ -227,8 +221,8 @@ step_within_nodes rule start rows inputs one circuit new within step =
 pub reached_within_nodes : (rule : Rule) (start rows inputs : ℕ) → 1 ≤ sums_of rule → (circuit new : Circuit) → IsWithinNodes start rows inputs circuit → IsReached rule circuit new
     → IsWithinNodes start rows inputs new × HadRoom circuit new
 reached_within_nodes rule start rows inputs one circuit new within reached =
-    follows_kept (IsWithinNodes start rows inputs) HadRoom (IsStep rule) (λ same good. inl refl) room_through (step_within_nodes rule start rows inputs one)
-    reached.between circuit new within reached.steps
+    reached_kept (IsWithinNodes start rows inputs) HadRoom (IsStep rule) (λ same good. inl refl) room_through (step_within_nodes rule start rows inputs one)
+    circuit new within reached
 
 -- where all but the tables stays, and there was room for each node more, the bounds stay
 pub room_bounds : (inputs : ℕ) (circuit new : Circuit) → inputs + MAX_NODES < 2 ^ 30 → HasBounds circuit → new ≡ with_tables circuit new.tables

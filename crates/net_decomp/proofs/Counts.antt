@@ -8,7 +8,7 @@ use Rattle.alg_factor.specs.Forms.{with_literal, no_literal, IsChosen}
 use Rattle.alg_factor.proofs.Laws.{count_literal, count_other}
 use Rattle.circuit_model.specs.declared.circuit.Table.{Table}
 use Rattle.net_decomp.specs.Partings.{Parting, rows_of}
-use Rattle.net_decomp.specs.Rules.{padded, signal_row, literal_parting, is_long, with_signals, rows_parting, first_literals, later_literals, product_parting, sum_parting, is_gate, gate_parting, IsDue}
+use Rattle.net_decomp.specs.Rules.{padded, signal_row, literal_parting, is_long, with_signals, rows_parting, first_literals, later_literals, product_parting, sum_parting, is_gate, gate_parting, IsDecomposable}
 use Rattle.net_decomp.specs.declared.rule.Rule.{Rule}
 use Rattle.net_decomp.specs.declared.rule.Rule.TheVariants.{Shared, Gates}
 
@@ -160,7 +160,7 @@ gate_counts products sums width rows no_gate = dashes (some_dashes rows)
     dashes false = long (ltb 1 (length rows) && list_any is_long rows)
 
 -- how a table is parted
-pub due_counts : (rule : Rule) (table : Table) (parting : Parting) → IsDue rule table parting → HasCounts (sums_of rule) (length (rows_of table)) parting
+pub due_counts : (rule : Rule) (table : Table) (parting : Parting) → IsDecomposable rule table parting → HasCounts (sums_of rule) (length (rows_of table)) parting
 due_counts Shared table parting (place, bit, chosen, is) =
     subst (HasCounts 1 (length (rows_of table))) (sym is) (literal_counts 1 (length table.inputs) place bit (rows_of table) chosen)
 due_counts (Gates products sums) table parting (no_gate, is) =

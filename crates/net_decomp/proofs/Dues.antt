@@ -11,50 +11,50 @@ use Rattle.net_core.specs.Places.{written_of}
 use Rattle.net_core.specs.Reads.{IsBounded}
 use Rattle.net_core.specs.Tables.{named, characters_of, IsOverInputs}
 use Rattle.net_core.specs.declared.places.Entry.{Entry}
-use Rattle.net_core.specs.declared.table.Table.{Table as Covered}
+use Rattle.net_core.specs.declared.table.CoverTable.{CoverTable}
 use Rattle.net_core.proofs.Rows.{all_places_back}
 use Rattle.circuit_tables.specs.Tidy.{tidied}
 use Rattle.net_decomp.specs.Partings.{rows_of, parted_table}
-use Rattle.net_decomp.specs.Rules.{IsDone, IsDue}
+use Rattle.net_decomp.specs.Rules.{IsDone, IsDecomposable}
 use Rattle.net_decomp.specs.declared.rule.Rule.{Rule}
 use Rattle.net_decomp.proofs.Values.{due_keeps}
 use Rattle.net_core.specs.Fresh.{node_count}
 use Rattle.net_work.specs.Placed.{Placed, circuit_of, table_at, with_slot}
 use Rattle.net_decomp.specs.Told.{told}
-use Rattle.net_decomp.specs.Cursor.{IsDueOf, IsDueAt, ArePut, IsTurned, IsPartedAt, HasRoomFor, IsOverAt}
-use Rattle.net_decomp.specs.declared.parting.Parting.{Parting as Parted}
+use Rattle.net_decomp.specs.Cursor.{IsDecomposableOf, IsDecomposableAt, ArePut, IsTurned, IsPartedAt, HasRoomFor, IsOverAt}
+use Rattle.net_decomp.specs.declared.parting.Parting.{Parting}
 use Rattle.net_decomp.specs.declared.stepping.Due.{Due}
 use Rattle.net_decomp.proofs.Putting.{put_names}
 use Rattle.net_decomp.proofs.Turning.{put_at, over_full, turned_parted}
 
 module _ {R : Type 0} (f : R → List (Option Bool)) (rule : Rule) where
-  at_named : (table : Covered R) (found : Option (Parted R)) (name : List ℕ) → IsOverInputs table
-      → ((written : Table) → length written.inputs ≡ table.cover.width → rows_of written ≡ table.cover.rows → MatchOption found (IsDone rule written) (λ parting. IsDue rule written (told f parting)))
-      → MatchOption found (IsDone rule (named name table)) (λ parting. IsDue rule (named name table) (told f parting))
+  at_named : (table : CoverTable R) (found : Option (Parting R)) (name : List ℕ) → IsOverInputs table
+      → ((written : Table) → length written.inputs ≡ table.cover.width → rows_of written ≡ table.cover.rows → MatchOption found (IsDone rule written) (λ parting. IsDecomposable rule written (told f parting)))
+      → MatchOption found (IsDone rule (named name table)) (λ parting. IsDecomposable rule (named name table) (told f parting))
   unfolding named
   at_named table found name over is = is (named name table) (sym over) (all_places_back table.cover.rows)
 
-  pub found_none : (table : Covered R) (found : Option (Parted R)) (name : List ℕ) → IsOverInputs table
-      → ((written : Table) → length written.inputs ≡ table.cover.width → rows_of written ≡ table.cover.rows → MatchOption found (IsDone rule written) (λ parting. IsDue rule written (told f parting)))
+  pub found_none : (table : CoverTable R) (found : Option (Parting R)) (name : List ℕ) → IsOverInputs table
+      → ((written : Table) → length written.inputs ≡ table.cover.width → rows_of written ≡ table.cover.rows → MatchOption found (IsDone rule written) (λ parting. IsDecomposable rule written (told f parting)))
       → found ≡ None → IsDone rule (named name table)
   found_none table found name over is none =
-      subst (λ (o : Option (Parted R)). MatchOption o (IsDone rule (named name table)) (λ parting. IsDue rule (named name table) (told f parting))) none (at_named table found name over is)
+      subst (λ (o : Option (Parting R)). MatchOption o (IsDone rule (named name table)) (λ parting. IsDecomposable rule (named name table) (told f parting))) none (at_named table found name over is)
 
-  pub found_due : (table : Covered R) (found : Option (Parted R)) (name : List ℕ) (parting : Parted R) (inputs : List (List ℕ)) → IsOverInputs table → HasWidth table.cover.width table.cover.rows
-      → ((written : Table) → length written.inputs ≡ table.cover.width → rows_of written ≡ table.cover.rows → MatchOption found (IsDone rule written) (λ parting. IsDue rule written (told f parting)))
-      → found ≡ Some parting → inputs ≡ table.inputs → IsDueOf rule f (named name table) (record { inputs = inputs; phase = table.phase; parting = parting })
+  pub found_due : (table : CoverTable R) (found : Option (Parting R)) (name : List ℕ) (parting : Parting R) (inputs : List (List ℕ)) → IsOverInputs table → HasWidth table.cover.width table.cover.rows
+      → ((written : Table) → length written.inputs ≡ table.cover.width → rows_of written ≡ table.cover.rows → MatchOption found (IsDone rule written) (λ parting. IsDecomposable rule written (told f parting)))
+      → found ≡ Some parting → inputs ≡ table.inputs → IsDecomposableOf rule f (named name table) (record { inputs = inputs; phase = table.phase; parting = parting })
   unfolding named
   found_due table found name parting inputs over wide is some copied = record {
     inputs = sym copied;
     phase = refl;
-    is_due = subst (λ (o : Option (Parted R)). MatchOption o (IsDone rule (named name table)) (λ parting. IsDue rule (named name table) (told f parting))) some (at_named table found name over is);
+    is_due = subst (λ (o : Option (Parting R)). MatchOption o (IsDone rule (named name table)) (λ parting. IsDecomposable rule (named name table) (told f parting))) some (at_named table found name over is);
     wide = subst (λ (n : ℕ). HasWidth n (rows_of (named name table))) over (subst (HasWidth table.cover.width) (sym (all_places_back table.cover.rows)) wide);
   }
 
   -- the same of the table at a place
   pub placed_due : (slots : List (Option Table)) (place : ℕ) (entry : Entry R) (found : Option (Due R)) → Some (written_of entry) ≡ table_at slots place
-      → MatchOption found (IsDone rule (named entry.output entry.table)) (IsDueOf rule f (named entry.output entry.table))
-      → MatchOption found ((table : Table) → table_at slots place ≡ Some table → IsDone rule table) (IsDueAt rule f slots place)
+      → MatchOption found (IsDone rule (named entry.output entry.table)) (IsDecomposableOf rule f (named entry.output entry.table))
+      → MatchOption found ((table : Table) → table_at slots place ≡ Some table → IsDone rule table) (IsDecomposableAt rule f slots place)
   placed_due slots place entry None there done = λ table at. subst (IsDone rule) (same_Some (written_of entry) table (there ∙ at)) done
   placed_due slots place entry (Some due) there told_of = record { table = written_of entry; there = sym there; told_of = told_of }
 
@@ -62,12 +62,12 @@ module _ {R : Type 0} (f : R → List (Option Bool)) (rule : Rule) where
   none_due slots place none table at = absurd (none-some table (none ∙ at))
 
   -- the widths of its parts, and of what it becomes
-  pub due_parts_wide : (slots : List (Option Table)) (place : ℕ) (due : Due R) → IsDueAt rule f slots place due → AllByRecursion (HasWidth (length due.inputs)) (map (λ part. map f part.items) due.parting.parts.items)
+  pub due_parts_wide : (slots : List (Option Table)) (place : ℕ) (due : Due R) → IsDecomposableAt rule f slots place due → AllByRecursion (HasWidth (length due.inputs)) (map (λ part. map f part.items) due.parting.parts.items)
   due_parts_wide slots place due is =
       subst (λ (list : List (List ℕ)). AllByRecursion (HasWidth (length list)) (told f due.parting).parts) is.told_of.inputs
       (due_keeps rule is.table (told f due.parting) is.told_of.wide is.told_of.is_due).parts
 
-  pub due_rows_wide : (slots : List (Option Table)) (place : ℕ) (due : Due R) (names joined : List (List ℕ)) (before now : Placed) → IsDueAt rule f slots place due
+  pub due_rows_wide : (slots : List (Option Table)) (place : ℕ) (due : Due R) (names joined : List (List ℕ)) (before now : Placed) → IsDecomposableAt rule f slots place due
       → ArePut due.inputs (map (λ part. map f part.items) due.parting.parts.items) names before now → joined ≡ due.inputs ++ names → HasWidth (length joined) (map f due.parting.rows.items)
   due_rows_wide slots place due names joined before now is put behind =
       let many : length names ≡ length (told f due.parting).parts = put_names due.inputs (told f due.parting).parts names before now put in
@@ -84,7 +84,7 @@ module _ {R : Type 0} (f : R → List (Option Bool)) (rule : Rule) where
       ∙ ap (λ (bit : Bool). tidied (record { inputs = table.inputs ++ names; output = table.output; rows = map characters_of rows; phase = bit })) (sym turned)
 
   -- the table is set at its place
-  pub due_turned : (place : ℕ) (due : Due R) (made : Covered R) (names joined : List (List ℕ)) (before between now : Placed) → IsDueAt rule f before.slots place due
+  pub due_turned : (place : ℕ) (due : Due R) (made : CoverTable R) (names joined : List (List ℕ)) (before between now : Placed) → IsDecomposableAt rule f before.slots place due
       → ArePut due.inputs (map (λ part. map f part.items) due.parting.parts.items) names before between → joined ≡ due.inputs ++ names
       → ((name : List ℕ) → named name made ≡ tidied (record { inputs = joined; output = name; rows = map characters_of (map f due.parting.rows.items); phase = due.phase }))
       → ((name : List ℕ) → IsBounded (named name made))
@@ -106,12 +106,12 @@ module _ {R : Type 0} (f : R → List (Option Bool)) (rule : Rule) where
         bounded = subst IsBounded parted (small table.output);
       }
 
-  pub some_due : (slots : List (Option Table)) (place : ℕ) (found : Option (Due R)) (due : Due R) → MatchOption found ((table : Table) → table_at slots place ≡ Some table → IsDone rule table) (IsDueAt rule f slots place)
-      → found ≡ Some due → IsDueAt rule f slots place due
-  some_due slots place found due is some = subst (λ (o : Option (Due R)). MatchOption o ((table : Table) → table_at slots place ≡ Some table → IsDone rule table) (IsDueAt rule f slots place)) some is
+  pub some_due : (slots : List (Option Table)) (place : ℕ) (found : Option (Due R)) (due : Due R) → MatchOption found ((table : Table) → table_at slots place ≡ Some table → IsDone rule table) (IsDecomposableAt rule f slots place)
+      → found ≡ Some due → IsDecomposableAt rule f slots place due
+  some_due slots place found due is some = subst (λ (o : Option (Due R)). MatchOption o ((table : Table) → table_at slots place ≡ Some table → IsDone rule table) (IsDecomposableAt rule f slots place)) some is
 
   -- there is room for its parts
-  pub due_parted : (place : ℕ) (due : Due R) (before now : Placed) (nodes more : ℕ) → IsDueAt rule f before.slots place due → IsSound (circuit_of before)
+  pub due_parted : (place : ℕ) (due : Due R) (before now : Placed) (nodes more : ℕ) → IsDecomposableAt rule f before.slots place due → IsSound (circuit_of before)
       → nodes ≡ node_count (circuit_of before) → length due.parting.parts.items ≡ more → HasRoomFor nodes more
       → ((table : Table) → table_at before.slots place ≡ Some table → IsTurned table (told f due.parting) place before now)
       → IsPartedAt rule place before now × (nodes + more ≡ node_count (circuit_of now))
@@ -122,7 +122,7 @@ module _ {R : Type 0} (f : R → List (Option Bool)) (rule : Rule) where
       (all.0, omega (arith, all.1, many, counted))
 
   -- there is no room for its parts
-  pub due_over : (place : ℕ) (due : Due R) (before : Placed) → IsDueAt rule f before.slots place due → (HasRoomFor (node_count (circuit_of before)) (length due.parting.parts.items) → ⊥) → IsOverAt rule place before
+  pub due_over : (place : ℕ) (due : Due R) (before : Placed) → IsDecomposableAt rule f before.slots place due → (HasRoomFor (node_count (circuit_of before)) (length due.parting.parts.items) → ⊥) → IsOverAt rule place before
   due_over place due before is over =
       let many : length (told f due.parting).parts ≡ length due.parting.parts.items = length-map due.parting.parts.items (λ part. map f part.items) in
       record {

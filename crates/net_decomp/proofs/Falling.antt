@@ -5,7 +5,7 @@ use Rattle.std.proofs.lemmas.Bool.{false≢true, eqb-true, le-leb}
 use Rattle.circuit_model.specs.declared.circuit.Table.{Table}
 use Rattle.cube_cover.specs.Literals.{row_literals, all_dashes, some_dashes}
 use Rattle.net_decomp.specs.Partings.{Parting, rows_of}
-use Rattle.net_decomp.specs.Rules.{is_long, is_gate, literal_parting, rows_parting, sum_parting, product_parting, gate_parting, IsDue}
+use Rattle.net_decomp.specs.Rules.{is_long, is_gate, literal_parting, rows_parting, sum_parting, product_parting, gate_parting, IsDecomposable}
 use Rattle.net_decomp.specs.declared.rule.Rule.{Rule}
 use Rattle.net_decomp.specs.declared.rule.Rule.TheVariants.{Shared, Gates}
 use Rattle.net_decomp.proofs.Counted.{none_dashes}
@@ -81,7 +81,7 @@ gate_falls products sums width rows no_gate none = dashes (some_dashes rows) ref
     dashes true e h = record { several = several_rows products sums rows e no_gate; one = refl }
     dashes false e h = longs (ltb 1 (length rows) && list_any is_long rows) refl h
 
-pub due_falls : (rule : Rule) (table : Table) (parting : Parting) → IsDue rule table parting → parting.parts ≡ [] → IsFalling (rows_of table) parting
+pub due_falls : (rule : Rule) (table : Table) (parting : Parting) → IsDecomposable rule table parting → parting.parts ≡ [] → IsFalling (rows_of table) parting
 unfolding literal_parting
 due_falls Shared table parting (place, bit, chosen, is) none =
     absurd (some_not_none _ [] (sym (ap (λ (p : Parting). p.parts) is) ∙ none))

@@ -19,14 +19,13 @@ use Rattle.circuit_laws.proofs.Paths.{replaced_acyclic, reached_apart, beside_ap
 use Rattle.circuit_laws.proofs.Sound.{sound_settled, sound_replaced}
 use Rattle.circuit_laws.proofs.Tables.{obeying_turned}
 use Rattle.circuit_laws.specs.Changes.{IsExtended}
-use Rattle.circuit_laws.proofs.Chains.{follows_kept}
-use Rattle.circuit_laws.proofs.Changes.{each_extended, extended_itself, extended_through, changed_refines}
+use Rattle.circuit_laws.proofs.Changes.{each_extended, extended_through, reached_extended as steps_extended, end_refines}
 use Rattle.circuit_laws.proofs.Mapped.{outputs_different, live_reads}
 use Rattle.net_core.specs.Tables.{characters_of, HasCharacters}
 use Rattle.net_core.proofs.Rows.{all_places_back, width_of_characters}
 use Rattle.circuit_tables.proofs.Tidied.{tidied_value, tidied_output, tidied_reads, tidied_once, tidied_shaped}
 use Rattle.net_decomp.specs.Partings.{Parting, rows_of, part_table, parted_table}
-use Rattle.net_decomp.specs.Decomposed.{IsNext, IsStep, IsReached, IsDecomposed}
+use Rattle.net_decomp.specs.Decomposed.{IsNext, IsStep, IsReached, AllDone, IsDecomposed}
 use Rattle.net_decomp.specs.declared.rule.Rule.{Rule}
 use Rattle.net_decomp.proofs.Values.{KeepsRows, due_keeps}
 use Rattle.net_decomp.proofs.Adding.{driver_among, characters_wide, part_reads, AreFound, HoldsParts, parts_hold, found_many, found_at, found_bits}
@@ -133,15 +132,15 @@ module _ (circuit : Circuit) (table : Table) (parting : Parting) (names : List (
 -- the table that is next
 pub next_at : (rule : Rule) (circuit : Circuit) (table : Table) (parting : Parting) → IsSound circuit → IsNext rule circuit table parting → driver circuit.tables table.output ≡ Some table
 next_at rule circuit table parting sound next =
-    subst (λ (tables : List Table). driver tables table.output ≡ Some table) (sym next.tables)
-    (driver_among next.before next.after table (subst (λ (tables : List Table). all_different (outputs_of tables) ≡ true) next.tables (outputs_different circuit sound)))
+    subst (λ (tables : List Table). driver tables table.output ≡ Some table) (sym next.is)
+    (driver_among next.before next.after table (subst (λ (tables : List Table). all_different (outputs_of tables) ≡ true) next.is (outputs_different circuit sound)))
 
 pub next_wide : (rule : Rule) (circuit : Circuit) (table : Table) (parting : Parting) → IsSound circuit → IsNext rule circuit table parting → HasWidth (length table.inputs) (rows_of table)
 next_wide rule circuit table parting sound next =
     width_of_characters (length table.inputs) table.rows (driver_all IsShaped circuit.tables sound.shaped table.output table (next_at rule circuit table parting sound next)).0
 
 pub next_keeps : (rule : Rule) (circuit : Circuit) (table : Table) (parting : Parting) → IsSound circuit → IsNext rule circuit table parting → KeepsRows (length table.inputs) (rows_of table) parting
-next_keeps rule circuit table parting sound next = due_keeps rule table parting (next_wide rule circuit table parting sound next) next.due
+next_keeps rule circuit table parting sound next = due_keeps rule table parting (next_wide rule circuit table parting sound next) next.fails
 
 -- a step, and steps that follow one another
 pub step_extended : (rule : Rule) (circuit new : Circuit) → IsSound circuit → IsStep rule circuit new → IsExtended circuit new
@@ -162,10 +161,7 @@ step_extended rule circuit new sound step =
     (parted_extended step.parted.between step.table step.parting step.parted.names over))
 
 pub reached_extended : (rule : Rule) (circuit new : Circuit) → IsSound circuit → IsReached rule circuit new → IsExtended circuit new
-reached_extended rule circuit new sound reached =
-    (follows_kept IsSound IsExtended (IsStep rule) extended_itself extended_through
-    (λ one other good step. let extended = step_extended rule one other good step in (extended.change.sound, extended))
-    reached.between circuit new sound reached.steps).1
+reached_extended rule = steps_extended (IsStep rule) (step_extended rule)
 
 pub decomposed_refines : (rule : Rule) (circuit new : Circuit) → IsSound circuit → IsDecomposed rule circuit new → Refines circuit new
-decomposed_refines rule circuit new sound decomposed = changed_refines circuit new sound (reached_extended rule circuit new sound decomposed.reached).change
+decomposed_refines rule = end_refines (IsStep rule) (AllDone rule) (step_extended rule)

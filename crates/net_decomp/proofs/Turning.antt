@@ -16,7 +16,7 @@ use Rattle.net_core.specs.Fresh.{node_count}
 use Rattle.net_core.specs.Reads.{IsBounded}
 use Rattle.net_core.specs.Tables.{places_of}
 use Rattle.net_decomp.specs.Partings.{Parting, rows_of, parted_table, ArePartsAdded, IsOverfull}
-use Rattle.net_decomp.specs.Rules.{IsDue}
+use Rattle.net_decomp.specs.Rules.{IsDecomposable}
 use Rattle.net_decomp.specs.declared.rule.Rule.{Rule}
 use Rattle.net_decomp.proofs.Values.{due_keeps}
 use Rattle.net_decomp.proofs.Adding.{driver_among, parts_hold}
@@ -44,13 +44,13 @@ put_at inputs parts names place table before now put there =
     ∙ table_before before.slots (map Some put.more) place (table_within before.slots place table there) ∙ there
 
 put_sound : (rule : Rule) (table : Table) (parting : Parting) (place : ℕ) (before now : Placed) → (turned : IsTurned table parting place before now) → IsSound (circuit_of before)
-    → table_at before.slots place ≡ Some table → HasWidth (length table.inputs) (rows_of table) → IsDue rule table parting → IsSound (circuit_of turned.between)
+    → table_at before.slots place ≡ Some table → HasWidth (length table.inputs) (rows_of table) → IsDecomposable rule table parting → IsSound (circuit_of turned.between)
 put_sound rule table parting place before now turned sound there wide due =
     (parts_hold table parting.parts (circuit_of before) turned.names (circuit_of turned.between) sound (placed_drives before place table sound there)
     (due_keeps rule table parting wide due).parts (turned.put.added table refl)).extended.change.sound
 
 turned_circuit : (rule : Rule) (table : Table) (parting : Parting) (place : ℕ) (before now : Placed) → (turned : IsTurned table parting place before now) → IsSound (circuit_of before)
-    → table_at before.slots place ≡ Some table → HasWidth (length table.inputs) (rows_of table) → IsDue rule table parting
+    → table_at before.slots place ≡ Some table → HasWidth (length table.inputs) (rows_of table) → IsDecomposable rule table parting
     → circuit_of now ≡ with_replaced (circuit_of turned.between) (parted_table table turned.names parting.rows)
 unfolding with_replaced
 turned_circuit rule table parting place before now turned sound there wide due =
@@ -61,7 +61,7 @@ turned_circuit rule table parting place before now turned sound there wide due =
     (put_at table.inputs parting.parts turned.names place table before turned.between turned.put there) (parted_output table turned.names parting.rows))
 
 turned_nodes : (rule : Rule) (table : Table) (parting : Parting) (place : ℕ) (before now : Placed) → IsTurned table parting place before now → IsSound (circuit_of before)
-    → table_at before.slots place ≡ Some table → HasWidth (length table.inputs) (rows_of table) → IsDue rule table parting
+    → table_at before.slots place ≡ Some table → HasWidth (length table.inputs) (rows_of table) → IsDecomposable rule table parting
     → node_count (circuit_of now) ≡ node_count (circuit_of before) + length parting.parts
 turned_nodes rule table parting place before now turned sound there wide due =
     ap (λ (c : Circuit). node_count c) (turned_circuit rule table parting place before now turned sound there wide due)
@@ -75,7 +75,7 @@ turned_at table parting place before now turned there =
     ∙ table_set turned.between.slots place table (parted_table table turned.names parting.rows) (put_at table.inputs parting.parts turned.names place table before turned.between turned.put there)
 
 -- without parts the table has one row then
-one_row : (rule : Rule) (table : Table) (parting : Parting) (names : List (List ℕ)) → IsDue rule table parting → HasWidth (length table.inputs) (rows_of table) → parting.parts ≡ [] → names ≡ []
+one_row : (rule : Rule) (table : Table) (parting : Parting) (names : List (List ℕ)) → IsDecomposable rule table parting → HasWidth (length table.inputs) (rows_of table) → parting.parts ≡ [] → names ≡ []
     → length (parted_table table names parting.rows).rows ≤ 1
 one_row rule table parting names due wide none no_names =
     let one : length parting.rows ≡ 1 = (due_falls rule table parting due none).one in
@@ -95,7 +95,7 @@ falls_by_room : (nodes more : ℕ) (before now : Bool) → 1 ≤ more → nodes 
 falls_by_room nodes more before now some room = omega (arith, some, room, bit_bound now)
 
 pub turned_falls : (rule : Rule) (table : Table) (parting : Parting) (place : ℕ) (before now : Placed) → IsTurned table parting place before now → IsSound (circuit_of before)
-    → table_at before.slots place ≡ Some table → HasWidth (length table.inputs) (rows_of table) → IsDue rule table parting
+    → table_at before.slots place ≡ Some table → HasWidth (length table.inputs) (rows_of table) → IsDecomposable rule table parting
     → HasRoomFor (node_count (circuit_of before)) (length parting.parts) → weight place now < weight place before
 unfolding weight
 turned_falls rule table parting place before now turned sound there wide due room = cases parting.parts refl (turned.put.added table refl)
@@ -140,7 +140,7 @@ over_full circuit parting over = (
 )
 
 pub turned_parted : (rule : Rule) (table : Table) (parting : Parting) (place : ℕ) (before now : Placed) → IsTurned table parting place before now → IsSound (circuit_of before)
-    → table_at before.slots place ≡ Some table → HasWidth (length table.inputs) (rows_of table) → IsDue rule table parting
+    → table_at before.slots place ≡ Some table → HasWidth (length table.inputs) (rows_of table) → IsDecomposable rule table parting
     → HasRoomFor (node_count (circuit_of before)) (length parting.parts)
     → IsPartedAt rule place before now × (node_count (circuit_of now) ≡ node_count (circuit_of before) + length parting.parts)
 turned_parted rule table parting place before now turned sound there wide due room = (

@@ -3,6 +3,7 @@ use Rattle.std.proofs.Common.{◌≡◌, ℕ, ◌+◌, ◌<◌, ◌≤◌, zero,
 use Rattle.std.specs.List.{AllByRecursion, list_any}
 use Rattle.std.proofs.lemmas.Bool.{ltb-false}
 use Rattle.std.proofs.lemmas.List.{length-append, length-map, length-replicate, length-set, take-append-drop}
+use Rattle.std.proofs.Math.Bool.{and_comm, or-false, or_comm}
 use Rattle.sis_base.specs.Rows.{agrees, matches, some_matches, HasWidth}
 use Rattle.cube_cover.specs.Literals.{has_literal, some_dashes}
 use Rattle.cube_cover.proofs.Points.{value-append, HasWidth-push}
@@ -12,7 +13,7 @@ use Rattle.alg_factor.proofs.Choosing.{chosen-below}
 use Rattle.alg_factor.proofs.Laws.{literal_is, HasWidth-with, HasWidth-no}
 use Rattle.circuit_model.specs.declared.circuit.Table.{Table}
 use Rattle.net_decomp.specs.Partings.{Parting, rows_of}
-use Rattle.net_decomp.specs.Rules.{padded, signal_row, literal_parting, is_long, with_signals, rows_parting, first_literals, later_literals, product_parting, sum_parting, gate_parting, IsDue}
+use Rattle.net_decomp.specs.Rules.{padded, signal_row, literal_parting, is_long, with_signals, rows_parting, first_literals, later_literals, product_parting, sum_parting, gate_parting, IsDecomposable}
 use Rattle.net_decomp.specs.declared.rule.Rule.{Rule}
 use Rattle.net_decomp.specs.declared.rule.Rule.TheVariants.{Shared, Gates}
 
@@ -30,22 +31,6 @@ pub record KeepsRows (width : ℕ) (rows : List (List (Option Bool))) (parting :
 pub and_or : (x y z : Bool) → (x && (y || z)) ≡ ((x && y) || (x && z))
 and_or true y z = refl
 and_or false y z = refl
-
-pub or_nothing : (x : Bool) → (x || false) ≡ x
-or_nothing true = refl
-or_nothing false = refl
-
-pub or_turned : (x y : Bool) → (x || y) ≡ (y || x)
-or_turned true true = refl
-or_turned true false = refl
-or_turned false true = refl
-or_turned false false = refl
-
-pub and_turned : (x y : Bool) → (x && y) ≡ (y && x)
-and_turned true true = refl
-and_turned true false = refl
-and_turned false true = refl
-and_turned false false = refl
 
 pub or_joined : (x y z : Bool) → (x || (y || z)) ≡ ((x || y) || z)
 or_joined true y z = refl
@@ -77,7 +62,7 @@ matches_dashes (suc count) (bit ∷ point) = matches_dashes count point
 pub padded_matches : (added : ℕ) (row : List (Option Bool)) (point bits : List Bool) → length point ≡ length row → matches (padded added row) (point ++ bits) ≡ matches row point
 padded_matches added row point bits e =
     matches_append row (replicate added None) point bits e
-    ∙ (ap (λ (b : Bool). matches row point && b) (matches_dashes added bits) ∙ and_turned (matches row point) true)
+    ∙ (ap (λ (b : Bool). matches row point && b) (matches_dashes added bits) ∙ and_comm (matches row point) true)
 
 pub padded_value : (added : ℕ) (rows : List (List (Option Bool))) (point bits : List Bool) → HasWidth (length point) rows → some_matches (map (padded added) rows) (point ++ bits) ≡ some_matches rows point
 unfolding some_matches HasWidth
@@ -98,7 +83,7 @@ pub number_matches : (added number : ℕ) (bits : List Bool) → length bits ≡
 unfolding matches
 number_matches zero number bits e below = absurd (omega arith)
 number_matches (suc added) number [] e below = absurd (omega arith)
-number_matches (suc added) zero (bit ∷ bits) e below = ap (λ (b : Bool). bit && b) (matches_dashes added bits) ∙ and_turned bit true
+number_matches (suc added) zero (bit ∷ bits) e below = ap (λ (b : Bool). bit && b) (matches_dashes added bits) ∙ and_comm bit true
 number_matches (suc added) (suc number) (bit ∷ bits) e below = number_matches added number bits (omega arith) (omega arith)
 
 pub signal_matches : (width added number : ℕ) (point bits : List Bool) → length point ≡ width → length bits ≡ added → number < added
@@ -239,7 +224,7 @@ signals_value width added number (row ∷ rows) point bits front e wide is at al
 pub single_bits : (rows : List (List (Option Bool))) (point : List Bool) → part_bits (map (λ row. row ∷ []) rows) point ≡ map (λ row. matches row point) rows
 unfolding some_matches
 single_bits [] point = refl
-single_bits (row ∷ rows) point = ap₂ (λ (bit : Bool) (bits : List Bool). bit ∷ bits) (or_nothing (matches row point)) (single_bits rows point)
+single_bits (row ∷ rows) point = ap₂ (λ (bit : Bool) (bits : List Bool). bit ∷ bits) (or-false (matches row point)) (single_bits rows point)
 
 pub HasWidth-singles : (width : ℕ) (rows : List (List (Option Bool))) → HasWidth width rows → AllByRecursion (HasWidth width) (map (λ row. row ∷ []) rows)
 unfolding HasWidth
@@ -339,7 +324,7 @@ HasWidth-drop width (suc most) (row ∷ rows) wide = HasWidth-drop width most ro
 
 pub signal_value : (width : ℕ) (point : List Bool) (bit : Bool) → length point ≡ width → some_matches (signal_row width 1 0 ∷ []) (point ++ bit ∷ []) ≡ bit
 unfolding some_matches
-signal_value width point bit e = or_nothing (matches (signal_row width 1 0) (point ++ bit ∷ [])) ∙ signal_matches width 1 0 point (bit ∷ []) e refl (omega arith)
+signal_value width point bit e = or-false (matches (signal_row width 1 0) (point ++ bit ∷ [])) ∙ signal_matches width 1 0 point (bit ∷ []) e refl (omega arith)
 
 pub sum_keeps : (width most : ℕ) (rows : List (List (Option Bool))) → HasWidth width rows → KeepsRows width rows (sum_parting width most rows)
 unfolding sum_parting
@@ -356,7 +341,7 @@ sum_keeps width most rows wide = record {
         ∙ (ap₂ (λ (x y : Bool). x || y)
         (padded_value 1 (drop most rows) point (some_matches (take most rows) point ∷ []) (subst (λ (n : ℕ). HasWidth n (drop most rows)) (sym e) (HasWidth-drop width most rows wide)))
         (signal_value width point (some_matches (take most rows) point) e)
-        ∙ (or_turned (some_matches (drop most rows) point) (some_matches (take most rows) point)
+        ∙ (or_comm (some_matches (drop most rows) point) (some_matches (take most rows) point)
         ∙ (sym (value-append (take most rows) (drop most rows) point) ∙ ap (λ (list : List (List (Option Bool))). some_matches list point) (take-append-drop most rows))))
 
 -- a row without literals alone
@@ -389,7 +374,7 @@ gate_keeps products sums width rows wide = dashes (some_dashes rows) refl
     dashes false h = long (ltb 1 (length rows) && list_any is_long rows)
 
 -- how a table is parted keeps what its rows say
-pub due_keeps : (rule : Rule) (table : Table) (parting : Parting) → HasWidth (length table.inputs) (rows_of table) → IsDue rule table parting → KeepsRows (length table.inputs) (rows_of table) parting
+pub due_keeps : (rule : Rule) (table : Table) (parting : Parting) → HasWidth (length table.inputs) (rows_of table) → IsDecomposable rule table parting → KeepsRows (length table.inputs) (rows_of table) parting
 due_keeps Shared table parting wide (place, bit, chosen, is) =
     subst (KeepsRows (length table.inputs) (rows_of table)) (sym is) (literal_keeps (length table.inputs) place bit (rows_of table) (chosen-below (length table.inputs) place bit (rows_of table) wide chosen) wide)
 due_keeps (Gates products sums) table parting wide (open_gate, is) =

@@ -8,7 +8,8 @@ use Rattle.net_decomp.specs.declared.rule.Rule.{Rule}
 use Rattle.net_core.specs.declared.adding.AddFault.{AddFault}
 use Rattle.net_core.specs.declared.adding.AddFault.TheVariants.{NodeLimit, Memory}
 
--- a network is decomposed; or its steps come to one that has no room for what is next; want of memory is free
+-- a network is decomposed; or its steps lead to one that has no room for what is next; want of
+-- memory needs no cause
 abbrev pub HasDecomposed : Rule → Circuit → Result Circuit AddFault → Type 0
 HasDecomposed rule old (Ok new) = IsDecomposed rule old new
 HasDecomposed rule old (Err NodeLimit) = IsFull rule old

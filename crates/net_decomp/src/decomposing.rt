@@ -1,4 +1,10 @@
-//! All tables, from the first place on, are parted until they are done.
+//! Decomposition: each table in the order of indices is decomposed until it is done.
+//!
+//! Source: the SIS report (UCB/ERL M92/41), `decomp` and `tech_decomp`; De Micheli, "Synthesis and
+//! Optimization of Digital Circuits", chapter 8. Tables added meanwhile come last and have their
+//! turn, too. Invariant (`IsAlong`): steps lead to the current network, and the tables below the
+//! index are done. Callers rely on the end of the chain of steps, or on `NodeLimit` only where a
+//! step has no room.
 
 ghost use Rattle.std.specs.Prelude.{◌≡◌, ◌+◌, IfOk, IfErr, OnOk};
 ghost use Rattle.circuit_model.specs.Soundness.{IsSound};
@@ -14,13 +20,13 @@ use crate::Rule;
 use crate::stepping::part_once;
 use cube_cover::Row;
 use net_core::{AddFault, Network};
-use net_work::Work;
+use net_work::WorkingNetwork;
 use std::alloc::Global;
 
-// The table at a place is parted until it is done; answers how many nodes there are then.
+// Decomposes the table at an index until it is done; returns the number of nodes then.
 fn part_until_done<R: Row>(
     alloc: Global,
-    work: &mut Work<R>,
+    work: &mut WorkingNetwork<R>,
     nodes: u128,
     place: usize,
     rule: Rule,
@@ -39,11 +45,11 @@ fn part_until_done<R: Row>(
     Ok(count)
 }
 
-// The tables at all places are parted until they are done, those with them that are added
+// Decomposes the tables at all indices until they are done, those included that are added
 // meanwhile.
 fn part_all<R: Row>(
     alloc: Global,
-    work: &mut Work<R>,
+    work: &mut WorkingNetwork<R>,
     nodes: u128,
     rule: Rule,
 ) -> Result<(), AddFault>
@@ -65,7 +71,7 @@ fn part_all<R: Row>(
     Ok(())
 }
 
-// How many tables and latches a network has, the tables of the don't-care part with them.
+// The number of tables and latches of a network, the tables of the don't-care part included.
 fn nodes_of<R: Row>(network: &Network<R>) -> u128
     ensures { result ≡ node_count network.now }
 {
@@ -73,12 +79,11 @@ fn nodes_of<R: Row>(network: &Network<R>) -> u128
     sizes.tables as u128 + sizes.latches as u128 + sizes.dont_cares as u128
 }
 
-/// A network after decomposition, beside the one that stays. Tables are parted by a rule until all
-/// are done, always the earliest one that is not; parts become tables that stand last, under the
-/// least free names. `NodeLimit` exactly where a step has parts and with them there would be more
-/// than `MAX_NODES` tables and latches, those of the don't-care part counted. `Memory` stands also
-/// for a
-/// tidy table of 2^30 inputs or 2^29 rows that would be made.
+/// A new network, decomposed; the given one stays. Tables are decomposed by a rule until all are
+/// done, always the earliest one that is not; parts become tables, which are last, under the least
+/// free names. `NodeLimit` exactly if a step has parts and with them there would be more than
+/// `MAX_NODES` tables and latches, those of the don't-care part included. `Memory` also if a table
+/// in its normal form would have 2^30 inputs or 2^29 rows.
 pub fn decompose<R: Row>(
     alloc: Global,
     network: &Network<R>,
@@ -88,7 +93,7 @@ pub fn decompose<R: Row>(
     ensures bounds { HasBounds network.now → IfOk result HasBounds }
 {
     let nodes = nodes_of(network);
-    let mut work = Work::of(alloc, network)?;
+    let mut work = WorkingNetwork::of(alloc, network)?;
     part_all(alloc, &mut work, nodes, rule)?;
     Ok(work.into_network())
 }

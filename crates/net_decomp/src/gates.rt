@@ -1,31 +1,35 @@
-//! Products and sums: which rows are one, and what stands in rows.
+//! Counts of literals in rows, and whether rows are a single product or a single sum.
+//!
+//! Source: the SIS report (UCB/ERL M92/41), `tech_decomp`. A row is long if it has two literals or
+//! more. Rows are a gate if they are at most one product, or a sum of single literals, within given
+//! sizes; callers rely on `is_gate` exactly.
 
 ghost use Rattle.std.specs.Prelude.{◌≡◌, ℕ, leb, eqb, Bool, Option, List, map};
 ghost use Rattle.std.specs.List.{list_all, list_any};
-ghost use Rattle.cube_cover.specs.Literals.{row_literals as literals_in, all_dashes, some_dashes};
+ghost use Rattle.cube_cover.specs.Literals.{row_literals, all_dashes, some_dashes};
 ghost use Rattle.net_decomp.specs.Rules.{is_long, is_gate};
 
 use cube_cover::Row;
 use net_core::row_literals;
 
-// How many literals a row has.
+// The number of literals of a row.
 #[tactic(auto, using(crate::proofs::Counted::literals_same))]
 fn literal_count<R: Row>(row: &R) -> usize
-    ensures { result ≡ literals_in (R.literals row.now) }
+    ensures { result ≡ row_literals (R.literals row.now) }
 {
     row_literals(row)
 }
 
-// Whether a row has so many literals at most.
+// Whether a row has at most so many literals.
 fn is_within<R: Row>(row: &R, most: usize) -> bool
-    ensures { result ≡ leb (literals_in (R.literals row.now)) most }
+    ensures { result ≡ leb (row_literals (R.literals row.now)) most }
 {
     literal_count(row) <= most
 }
 
 // Whether a row has one literal.
 fn is_single<R: Row>(row: &R) -> bool
-    ensures { result ≡ eqb (literals_in (R.literals row.now)) 1 }
+    ensures { result ≡ eqb (row_literals (R.literals row.now)) 1 }
 {
     literal_count(row) == 1
 }
@@ -45,9 +49,9 @@ pub(crate) fn is_long_row<R: Row>(row: &R) -> bool
     1 < literal_count(row)
 }
 
-// Whether each row has so many literals at most.
+// Whether each row has at most so many literals.
 fn all_within<R: Row>(rows: &[R], most: usize) -> bool
-    ensures { result ≡ list_all (λ row. leb (literals_in row) most) (map R.literals rows.now) }
+    ensures { result ≡ list_all (λ row. leb (row_literals row) most) (map R.literals rows.now) }
 {
     for row in rows {
         if !is_within(row, most) {
@@ -59,7 +63,7 @@ fn all_within<R: Row>(rows: &[R], most: usize) -> bool
 
 // Whether each row has one literal.
 fn all_single<R: Row>(rows: &[R]) -> bool
-    ensures { result ≡ list_all (λ row. eqb (literals_in row) 1) (map R.literals rows.now) }
+    ensures { result ≡ list_all (λ row. eqb (row_literals row) 1) (map R.literals rows.now) }
 {
     for row in rows {
         if !is_single(row) {
@@ -94,7 +98,8 @@ pub(crate) fn some_empty<R: Row>(rows: &[R]) -> bool
     false
 }
 
-/// Whether rows are one product of so many literals at most, or a sum of so many rows of one literal each.
+/// Whether rows are one product of at most so many literals, or a sum of at most so many rows of
+/// one literal each.
 #[tactic(auto, unfolding(crate::specs::Rules::is_gate))]
 pub(crate) fn are_gate<R: Row>(rows: &[R], products: usize, sums: usize) -> bool
     ensures { result ≡ is_gate products sums (map R.literals rows.now) }

@@ -1,4 +1,8 @@
-//! Rows of a parted table and of its parts: over its inputs, and over these with the signals of parts behind them.
+//! Rows over the inputs of a table, and over these followed by the signals of new tables.
+//!
+//! A row is padded with dashes for new inputs, or is a single positive literal of one of them, or
+//! is split into its first literals and those after them. Callers rely on the lists of
+//! `specs/Rules.antt` exactly.
 
 ghost use Rattle.std.specs.Prelude.{◌≡◌, ℕ, ◌-◌, ◌<◌, eqb, Bool, true, if◌then◌else◌, Option, Some, None, List, [], ◌∷◌, ◌++◌, map, replicate, IfOk, OnOk};
 ghost use Rattle.cube_cover.specs.Literals.{literal_number};
@@ -8,7 +12,7 @@ use alg_div::{literals_of, row_of};
 use cube_cover::Row;
 use std::alloc::{AllocError, Global};
 
-// Dashes, as many as a number says.
+// So many dashes.
 fn dashes(alloc: Global, count: usize) -> Result<Vec<Option<bool>>, AllocError>
     ensures { IfOk result (λ made. made.items ≡ replicate count None) }
 {
@@ -19,7 +23,7 @@ fn dashes(alloc: Global, count: usize) -> Result<Vec<Option<bool>>, AllocError>
     Ok(made)
 }
 
-/// A row with dashes for new inputs; an error only for want of memory.
+/// A row with dashes for new inputs.
 pub(crate) fn padded_row<R: Row>(alloc: Global, row: &R, added: usize) -> Result<R, AllocError>
     ensures { IfOk result (λ made. R.literals made ≡ padded added (R.literals row.now)) }
 {
@@ -29,7 +33,7 @@ pub(crate) fn padded_row<R: Row>(alloc: Global, row: &R, added: usize) -> Result
     row_of(alloc, literals.as_slice())
 }
 
-/// A row of dashes and of new inputs, of which that of a number has the positive literal; an error only for want of memory.
+/// A row of dashes, over inputs and then new inputs, of which one has the positive literal.
 pub(crate) fn signal_row_of<R: Row>(
     alloc: Global,
     width: usize,
@@ -46,7 +50,7 @@ pub(crate) fn signal_row_of<R: Row>(
     row_of(alloc, literals.as_slice())
 }
 
-// How many literals are left behind one place.
+// How many literals are left after one column.
 fn left_behind(literal: Option<bool>, left: usize) -> usize
     ensures { result ≡ left - literal_number literal }
 {
@@ -56,21 +60,21 @@ fn left_behind(literal: Option<bool>, left: usize) -> usize
     }
 }
 
-// The literal where some are left, else a dash.
+// The literal if some are left, else a dash.
 fn while_left(literal: Option<bool>, left: usize) -> Option<bool>
     ensures { result ≡ (if eqb left 0 then None else literal) }
 {
     if left == 0 { None } else { literal }
 }
 
-// The literal where none are left, else a dash.
+// The literal if none are left, else a dash.
 fn past_left(literal: Option<bool>, left: usize) -> Option<bool>
     ensures { result ≡ (if eqb left 0 then literal else None) }
 {
     if left == 0 { literal } else { None }
 }
 
-// The first literals, as many as a number says.
+// The first literals, so many.
 fn first_of(
     alloc: Global,
     literals: &[Option<bool>],
@@ -87,7 +91,7 @@ fn first_of(
     Ok(made)
 }
 
-// The literals behind the first ones.
+// The literals after the first ones.
 fn later_of(
     alloc: Global,
     literals: &[Option<bool>],
@@ -104,7 +108,7 @@ fn later_of(
     Ok(made)
 }
 
-/// The row of the first literals of a row, as many as a number says; an error only for want of memory.
+/// The row of the first literals of a row, so many.
 pub(crate) fn first_row<R: Row>(alloc: Global, row: &R, most: usize) -> Result<R, AllocError>
     ensures { IfOk result (λ made. R.literals made ≡ first_literals most (R.literals row.now)) }
 {
@@ -113,9 +117,10 @@ pub(crate) fn first_row<R: Row>(alloc: Global, row: &R, most: usize) -> Result<R
     row_of(alloc, first.as_slice())
 }
 
-/// The row of the literals behind the first ones, and of the positive literal of a new input; an error only for want of memory.
+/// The row of the literals after the first ones, and of the positive literal of a new input.
 pub(crate) fn later_row<R: Row>(alloc: Global, row: &R, most: usize) -> Result<R, AllocError>
-    ensures { IfOk result (λ made. R.literals made ≡ later_literals most (R.literals row.now) ++ Some true ∷ []) }
+    ensures { IfOk result (λ made. R.literals made ≡ later_literals most
+        (R.literals row.now) ++ Some true ∷ []) }
 {
     let literals = literals_of(alloc, row)?;
     let mut later = later_of(alloc, literals.as_slice(), most)?;
@@ -123,14 +128,15 @@ pub(crate) fn later_row<R: Row>(alloc: Global, row: &R, most: usize) -> Result<R
     row_of(alloc, later.as_slice())
 }
 
-/// Puts copies of rows with dashes for new inputs behind the last; an error only for want of memory.
+/// Appends copies of rows, with dashes for new inputs.
 pub(crate) fn push_padded<R: Row>(
     alloc: Global,
     made: &mut Vec<R>,
     rows: &[R],
     added: usize,
 ) -> Result<(), AllocError>
-    ensures { OnOk result (map R.literals made.new.items ≡ map R.literals made.old.items ++ map (padded added) (map R.literals rows.now)) }
+    ensures { OnOk result (map R.literals made.new.items ≡ map R.literals made.old.items ++ map
+        (padded added) (map R.literals rows.now)) }
 {
     for row in rows {
         made.push(padded_row(alloc, row, added)?)?;

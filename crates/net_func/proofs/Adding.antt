@@ -1,7 +1,7 @@
 -- Numbers that come: one at a name, that of a table, and some after some others.
 use Rattle.std.proofs.Common.{◌≡◌, ℕ, zero, suc, ◌+◌, ◌<◌, Bool, true, false, ◌||◌, if◌then◌else◌, Option, Some, None, is_some, List, [], ◌∷◌, length, take, drop, get_or, map, bytes_eq, refl, sym, ap, ap₂, ◌∙◌, subst, inl, inr, ◌⊎◌}
 use Rattle.std.specs.List.{AllByRecursion, list_all}
-use Rattle.std.proofs.Math.Bool.{or_assoc}
+use Rattle.std.proofs.Math.Bool.{or_assoc, or-false, or-true}
 use Rattle.std.proofs.Math.Path.{fun_ext}
 use Rattle.std.proofs.lemmas.Bool.{false≢true, or_parts, or_left, or_right}
 use Rattle.std.proofs.lemmas.Option.{same_Some}
@@ -33,14 +33,6 @@ heads {A = A} x y xs ys e = ap (λ (l : List A). get_or l zero x) e
 
 tails : {A : Type 0} (x y : A) (xs ys : List A) → x ∷ xs ≡ y ∷ ys → xs ≡ ys
 tails {A = A} x y xs ys e = ap (λ (l : List A). drop (suc zero) l) e
-
-or_true : (b : Bool) → (b || true) ≡ true
-or_true true = refl
-or_true false = refl
-
-or_false : (b : Bool) → (b || false) ≡ b
-or_false true = refl
-or_false false = refl
 
 -- rows of a shaped table have its width
 pub wide_rows : (rows : List (List Tri)) (width : ℕ)
@@ -173,11 +165,11 @@ module _ {S : Type 0} (holds : S → ℕ → Type 0) (tree : S → ℕ → Tree)
           ≡ (has_number old other || bytes_eq other name)
       known other (inl same) =
           ap (λ (b : Bool). is_some (if b then Some made else old other)) (name_is name other same)
-          ∙ sym (or_true (has_number old other))
+          ∙ sym (or-true (has_number old other))
           ∙ ap (λ (b : Bool). has_number old other || b) (sym (name_is other name (sym same)))
       known other (inr apart) =
           ap (λ (b : Bool). is_some (if b then Some made else old other)) apart
-          ∙ sym (or_false (has_number old other))
+          ∙ sym (or-false (has_number old other))
           ∙ ap (λ (b : Bool). has_number old other || b) (sym (name_turned name other apart))
 
       stands : (other : List ℕ) (f : Func) (b : Bool) → (if b then Some made else old other) ≡ Some

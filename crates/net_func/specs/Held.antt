@@ -31,7 +31,8 @@ pub record KeepsNone (kept : KeptFunctions) : Type 0 where
   pub own : (name : List ℕ) → number_in kept.own name ≡ None
   pub free : (name : List ℕ) → number_in kept.free name ≡ None
 
--- some of some numbers, each of a name whose function stays, as it stays whether there is one
+-- a part of some numbers: each name kept has the same function as before, and the same names are
+-- signals
 pub record AreLess (test later_test : List ℕ → Bool) (value later : List ℕ → BooleanFunction)
     (number some : List ℕ → Option Func) : Type 0 where
   pub tests : (name : List ℕ) → later_test name ≡ test name
@@ -39,7 +40,7 @@ pub record AreLess (test later_test : List ℕ → Bool) (value later : List ℕ
   pub stays : (name : List ℕ) (f : Func) → some name ≡ Some f
       → (point : ℕ → Bool) → later name point ≡ value name point
 
--- some of the numbers are kept, each of a signal whose function stays
+-- some of the numbers are kept, each of a signal whose function is the same as before
 pub record KeepsSome (before after : KeptFunctions) : Type 0 where
   pub own : AreLess (is_signal (circuit_of before)) (is_signal (circuit_of after))
       (own_function (circuit_of before)) (own_function (circuit_of after))

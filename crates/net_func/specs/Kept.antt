@@ -1,5 +1,5 @@
--- A circuit in order, and numbers of functions that stay where one of its tables changes or its
--- signal is fixed.
+-- A circuit in order, and numbers of functions that stay if one of its tables changes or its signal
+-- is fixed.
 -- Source: De Micheli, "Synthesis and Optimization of Digital Circuits", chapter 8 (logic networks:
 -- the transitive fanout of a vertex, and transformations that change one vertex).
 use Rattle.std.specs.Prelude.{◌≡◌, ℕ, Bool, true, ◌||◌, Option, Some, None, List}
@@ -29,8 +29,8 @@ pub record IsInOrder (ordered : OrderedCircuit) : Type 0 where
   pub tables : IsOrderOf ordered.circuit.tables ordered.tables
   pub dont_care : IsOrderOf ordered.circuit.dont_care ordered.dont_care
 
--- some of some numbers, none that of a signal, and with that of a table's signal those of all that
--- the table reads: the signals that have them are not reached by the signal
+-- a part of some numbers, without that of one signal, and closed under fanin: only signals outside
+-- the transitive fanout of that signal have one
 pub record IsUnreached (tables : List Table) (name : List ℕ) (number some : List ℕ → Option Func)
     : Type 0 where
   pub same : (signal : List ℕ) (f : Func) → some signal ≡ Some f → number signal ≡ Some f

@@ -9,7 +9,7 @@ use Rattle.circuit_model.specs.Values.{literal_of}
 use Rattle.circuit_model.specs.declared.circuit.Table.{Table}
 use Rattle.func_core.specs.Numbers.{IsBig}
 
--- what a table says of its output: its inputs, its rows by places, and its phase
+-- what a table says of its output: its inputs, its rows as literals by columns, and its phase
 pub record LocalFunction : Type 0 where
   pub inputs : List (List ℕ)
   pub rows : List (List (Option Bool))
@@ -27,7 +27,7 @@ local_of table = record {
 abbrev pub local_value : LocalFunction → List Bool → Bool
 local_value local bits = value_by_phase local.phase local.rows bits
 
--- over functions that give the bits of its inputs at each valuation, the product of the first
+-- over functions that give the bits of its inputs at each valuation: the product of the first
 -- literals of one of its rows is too big, or the sum of its first rows is (a complement is as big
 -- as its function)
 abbrev pub HasBigPart : ℕ → LocalFunction → ((ℕ → Bool) → List Bool) → Type 0

@@ -19,7 +19,7 @@ use Rattle.net_func.specs.Signals.{IsBigAt}
 use Rattle.net_func.specs.declared.building.TableOrder.{TableOrder}
 use Rattle.net_func.specs.declared.numbers.Numbers.{Numbers}
 
--- the number that stands at a name
+-- the number of a name, if it has one
 abbrev pub number_in : Numbers → List ℕ → Option Func
 number_in numbers = get bytes_eq numbers.by_name
 
@@ -27,7 +27,7 @@ number_in numbers = get bytes_eq numbers.by_name
 abbrev pub has_number : (List ℕ → Option Func) → List ℕ → Bool
 has_number number name = is_some (number name)
 
--- each number stands
+-- all numbers are valid
 abbrev pub NumbersStand : {S : Type 0} → (S → ℕ → Type 0) → S → (List ℕ → Option Func) → Type 0
 NumbersStand holds state number =
     (name : List ℕ) (f : Func) → number name ≡ Some f → holds state f.0
@@ -50,14 +50,14 @@ SolvesRest tables number value =
     (name : List ℕ) (table : Table) → driver tables name ≡ Some table → number name ≡ None
     → Solves value name table
 
--- all that tables read is driven by one of them or has a number
+-- each input of the tables is driven by one of them or has a number
 abbrev pub AreClosed : List Table → (List ℕ → Option Func) → Type 0
 AreClosed tables number =
     (input : List ℕ) → has (table_inputs tables) input ≡ true
     → (has (outputs_of tables) input || has_number number input) ≡ true
 
--- some names have got numbers, and no other ones; all numbers stand; and for any functions of names
--- that the numbers of before meant, and that fit, each number means the function of its name
+-- exactly the names of a test got numbers; all numbers are valid; and for any functions of names
+-- that the earlier numbers meant, and that fit, each number means the function of its name
 pub record Adds {S : Type 0} (holds : S → ℕ → Type 0) (tree : S → ℕ → Tree) (limit : S → ℕ)
     (before after : S) (old new : List ℕ → Option Func) (test : List ℕ → Bool)
     (Fits : (List ℕ → BooleanFunction) → Type 0) : Type 0 where
@@ -66,18 +66,19 @@ pub record Adds {S : Type 0} (holds : S → ℕ → Type 0) (tree : S → ℕ �
   pub right : (value : List ℕ → BooleanFunction) → AreRight holds tree limit before old value
       → Fits value → AreRight holds tree limit after new value
 
--- what is asked of tables: no two have one output, none leads back to itself, and all are shaped
+-- what is required of tables: no two have one output, they have no cycle, and all are shaped
 pub record AreSettled (tables : List Table) : Type 0 where
   pub once : all_different (outputs_of tables) ≡ true
   pub acyclic : IsAcyclic tables
   pub shaped : AllByRecursion IsShaped tables
 
--- where tables stand, and an order in which each stands behind what it reads
+-- the index of each table by its output, and a topological order of the outputs
 pub record IsOrderOf (tables : List Table) (order : TableOrder) : Type 0 where
   pub places : IsIndex tables (get bytes_eq order.places)
   pub names : IsOrdered tables order.names
 
--- the bits that a valuation gives leaves, by their places from one on
+-- the bits that a valuation gives leaves: that of each is the variable of its index, from a first
+-- index on
 unfoldable pub leaf_bits : ℕ → List (List ℕ) → (ℕ → Bool) → Leaves
 leaf_bits place [] point name = None
 leaf_bits place (first ∷ names) point name =
@@ -101,7 +102,7 @@ pub record FitsOver (leaves : List (List ℕ)) (tables : List Table) (number : L
       → (point : ℕ → Bool) → leaf_bits 0 leaves point name ≡ Some (value name point)
   pub rest : SolvesRest tables number value
 
--- all that tables read is driven by one of them or is a leaf
+-- each input of the tables is driven by one of them or is a leaf
 abbrev pub AreOver : List (List ℕ) → List Table → Type 0
 AreOver leaves tables =
     (input : List ℕ) → has (table_inputs tables) input ≡ true
@@ -111,14 +112,14 @@ AreOver leaves tables =
 abbrev pub no_numbers : List ℕ → Option Func
 no_numbers name = None
 
--- exactly the names of a test have numbers, each that of its function
+-- exactly the names that pass a test have numbers, each that of its function
 pub record AreAll {S : Type 0} (holds : S → ℕ → Type 0) (tree : S → ℕ → Tree) (limit : S → ℕ)
     (state : S) (test : List ℕ → Bool) (value : List ℕ → BooleanFunction)
     (number : List ℕ → Option Func) : Type 0 where
   pub known : (name : List ℕ) → has_number number name ≡ test name
   pub right : AreRight holds tree limit state number value
 
--- names of a test have numbers, and no other ones, each that of its function
+-- only names that pass a test have numbers, each that of its function
 pub record AreSome {S : Type 0} (holds : S → ℕ → Type 0) (tree : S → ℕ → Tree) (limit : S → ℕ)
     (state : S) (test : List ℕ → Bool) (value : List ℕ → BooleanFunction)
     (number : List ℕ → Option Func) : Type 0 where
@@ -134,7 +135,7 @@ pub record IsBlamed {S : Type 0} (holds : S → ℕ → Type 0) (tree : S → �
   pub big : (value : List ℕ → BooleanFunction) → AreRight holds tree limit state number value
       → Fits value → IsBigAt (limit state) tables value blamed
 
--- names, in order, each with the number that stands at it
+-- names, in order, each with its number
 pub record IsListing (number : List ℕ → Option Func) (names : List (List ℕ))
     (list : List (List ℕ × Func)) : Type 0 where
   pub names_are : map (λ (pair : List ℕ × Func). pair.0) list ≡ names

@@ -1,5 +1,5 @@
 -- The functions of the signals of a circuit over its leaves: its own, those with one signal fixed,
--- and where a signal is seen from outside.
+-- and where a signal is observable.
 -- Source: De Micheli, "Synthesis and Optimization of Digital Circuits", chapter 8 (logic networks,
 -- observability don't-cares); BLIF appendix of the SIS report (UCB/ERL M92/41), `.exdc`.
 use Rattle.std.specs.Prelude.{◌≡◌, ℕ, zero, suc, Bool, true, false, not, ◌&&◌, Some, List, [], ◌∷◌, ◌++◌, ◌⊎◌, length, map, take, bytes_eq, if◌then◌else◌}
@@ -17,7 +17,7 @@ use Rattle.net_func.specs.declared.fault.NetFuncFault.{NetFuncFault}
 use Rattle.net_func.specs.declared.fault.NetFuncFault.TheVariants.{TooBig, Memory}
 use Rattle.net_func.specs.Locals.{local_of, HasBigPart}
 
--- so many bits of a valuation, from a place on
+-- so many bits of a valuation, from an index on
 unfoldable pub bits_from : ℕ → ℕ → (ℕ → Bool) → List Bool
 bits_from place zero point = []
 bits_from place (suc count) point = point place ∷ bits_from (suc place) count point
@@ -47,17 +47,17 @@ free_function circuit =
 unfoldable pub fixed : List ℕ → Bool → Leaves → Leaves
 fixed name bit leaves signal = if bytes_eq signal name then Some bit else leaves signal
 
--- the function of a signal where one signal has a bit in place of its table's value
+-- the function of a signal in a circuit where one signal is fixed at a bit
 abbrev pub forced_function : Circuit → List ℕ → Bool → List ℕ → BooleanFunction
 forced_function circuit name bit =
     function_over circuit.tables (λ point. fixed name bit (leaves_at circuit point))
 
--- the function of a signal where one signal has the other bit than its own
+-- the function of a signal where one signal is complemented
 abbrev pub turned_function : Circuit → List ℕ → List ℕ → BooleanFunction
 turned_function circuit name signal = λ point.
     forced_function circuit name (not (own_function circuit name point)) signal point
 
--- turning a signal over changes another one
+-- complementing a signal changes another one
 abbrev pub is_changed : Circuit → List ℕ → List ℕ → BooleanFunction
 is_changed circuit name signal = λ point.
     differ (own_function circuit signal point) (turned_function circuit name signal point)
@@ -68,22 +68,21 @@ is_shown circuit name output = λ point.
     not (is_free_under circuit.dont_care (leaves_at circuit point) output)
     && is_changed circuit name output point
 
--- the changes that are seen from outside: those of latch inputs, then those shown by outputs, in
--- order
+-- the changes that can be observed: those of latch inputs, then those of outputs, in order
 abbrev pub changes : Circuit → List ℕ → List BooleanFunction
 changes circuit name =
     map (is_changed circuit name) (latch_inputs circuit)
     ++ map (is_shown circuit name) circuit.outputs
 
--- some of some changes is there
+-- one of some changes occurs
 abbrev pub seen_among : List BooleanFunction → BooleanFunction
 seen_among some = λ point. list_any (λ (change : BooleanFunction). change point) some
 
--- where turning the signal over is seen from outside
+-- where complementing the signal is observed
 abbrev pub is_seen : Circuit → List ℕ → BooleanFunction
 is_seen circuit name = seen_among (changes circuit name)
 
--- names with numbers: just these names in order, each with the number of its function
+-- names with numbers: exactly these names in order, each with the number of its function
 pub record AreNumbered {S : Type 0} (holds : S → ℕ → Type 0) (tree : S → ℕ → Tree)
     (limit : S → ℕ) (state : S) (names : List (List ℕ)) (value : List ℕ → BooleanFunction)
     (numbered : List (List ℕ × Func)) : Type 0 where
@@ -110,7 +109,7 @@ AreWithin limit circuit =
     (signal : List ℕ) → has (outputs_of circuit.tables) signal ≡ true
     → IsBig limit (own_function circuit signal) → ⊥
 
--- a fault that blames a signal has a cause there; want of memory has none
+-- a fault that blames a signal has a cause there; want of memory has no cause
 abbrev pub Blames : NetFuncFault → (List ℕ → Type 0) → Type 0
 Blames (TooBig name) Cause = Cause name
 Blames Memory Cause = Unit {0}
@@ -121,8 +120,8 @@ IsBigForced limit circuit name bit =
     (other : List ℕ) × (bytes_eq other name ≡ false)
     × IsBigAt limit circuit.tables (forced_function circuit name bit) other
 
--- why the function of where a signal is seen is refused: a part of a table of the don't-care part,
--- of another table at either bit of the signal, or of the sum of changes
+-- why the function of where a signal is observable is refused: a part is too big of a table of the
+-- don't-care part, of another table at either bit of the signal, or of the sum of changes
 abbrev pub IsBigSeen : ℕ → Circuit → List ℕ → Type 0
 IsBigSeen limit circuit name =
     ((part : List ℕ) × IsBigAt limit circuit.dont_care (free_function circuit) part)

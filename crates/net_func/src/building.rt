@@ -1,4 +1,11 @@
-//! The functions of tables, made one after the other, each from those of what the table reads.
+//! Functions of tables, made one after the other from the functions of what each table reads.
+//!
+//! `TableOrder` lists the outputs of tables topologically, with the index of each table by its
+//! output; `add_all` makes the functions in that order, and skips a signal that has a number
+//! already. Invariant: every number holds in the object, and each number that was there before is
+//! kept. Callers rely on `Adds`: for any values of the signals that the earlier numbers mean and
+//! that solve the equations of the remaining tables, each number means the value of its signal. A
+//! signal is blamed only if a part of its table is too big.
 
 ghost use Rattle.std.specs.Prelude.{◌≡◌, ℕ, true, Some, None, Err, List, map, bytes_eq, if◌then◌else◌, IfOk, IfErr, OnOk};
 ghost use Rattle.std.specs.List.{list_all};
@@ -6,7 +13,7 @@ ghost use Rattle.indexmap.specs.IndexMap.{get};
 ghost use Rattle.circuit_model.specs.Names.{has, all_different};
 ghost use Rattle.circuit_model.specs.Values.{driver};
 ghost use Rattle.circuit_model.specs.Soundness.{outputs_of, IsShaped};
-ghost use Rattle.circuit_model.specs.declared.circuit.Table.{Table as TheTable};
+ghost use Rattle.circuit_model.specs.declared.circuit.Table.{Table};
 ghost use Rattle.circuit_order.specs.Order.{IsOrdered};
 ghost use Rattle.circuit_order.specs.Places.{IsIndex};
 ghost use Rattle.func_core.specs.Trees.{BooleanFunction};
@@ -25,17 +32,17 @@ use indexmap::IndexMap;
 use sis_base::Copied;
 use std::alloc::{AllocError, Global};
 
-/// The places of tables by their outputs.
+/// The index of each table, by its output.
 pub(crate) type Places = IndexMap<Name, usize>;
 
-/// Where tables stand by their outputs, and these outputs in an order in which each stands behind
-/// what its table reads.
+/// The index of each table by its output, and the outputs in topological order: each after what its
+/// table reads.
 pub(crate) struct TableOrder {
     pub places: Places,
     pub names: Names,
 }
 
-// By hand, so that letting an order go is one call in the functions that own one.
+// Written by hand, so that a function that owns an order drops it in one call.
 impl Drop for TableOrder {
     fn drop(self) {
         let TableOrder {
@@ -45,7 +52,7 @@ impl Drop for TableOrder {
     }
 }
 
-// Notes the place of a name; an error only for want of memory.
+// Sets the index of a name.
 fn note_place(places: &mut Places, name: Name, place: usize) -> Result<(), AllocError>
     ensures { OnOk result ((other : List ℕ) → get bytes_eq places.new other
         ≡ (if bytes_eq name other then Some place else get bytes_eq places.old other)) }
@@ -54,7 +61,7 @@ fn note_place(places: &mut Places, name: Name, place: usize) -> Result<(), Alloc
     Ok(())
 }
 
-/// The place of each table by its output; an error only for want of memory.
+/// The index of each table, by its output.
 pub(crate) fn places_of(alloc: Global, tables: &[Table]) -> Result<Places, AllocError>
     requires { all_different (outputs_of tables.now) ≡ true }
     ensures { IfOk result (λ places. IsIndex tables.now (get bytes_eq places)) }
@@ -66,8 +73,7 @@ pub(crate) fn places_of(alloc: Global, tables: &[Table]) -> Result<Places, Alloc
     Ok(places)
 }
 
-/// Where tables stand, and in which order their functions can be made; an error only for want of
-/// memory.
+/// The topological order of tables, with their indices.
 pub(crate) fn table_order(alloc: Global, tables: &[Table]) -> Result<TableOrder, AllocError>
     requires { AreSettled tables.now }
     ensures { IfOk result (IsOrderOf tables.now) }
@@ -77,7 +83,7 @@ pub(crate) fn table_order(alloc: Global, tables: &[Table]) -> Result<TableOrder,
     Ok(TableOrder { places, names })
 }
 
-/// The place of a name, if there is one.
+/// The index of a name, if it has one.
 pub(crate) fn place_at(places: &Places, name: &Name) -> Option<usize>
     ensures { result ≡ get bytes_eq places.now name.now }
 {
@@ -122,7 +128,7 @@ fn add_table<F: Functions>(
     Ok(())
 }
 
-// Makes the function of a signal, if it has no number yet, by the table that drives it.
+// Makes the function of a signal from the table that drives it, unless it has a number.
 fn add_named<F: Functions>(
     alloc: Global,
     functions: &mut F,
@@ -135,7 +141,7 @@ fn add_named<F: Functions>(
     requires places { IsIndex tables.now (get bytes_eq places.now) }
     requires driven { has (outputs_of tables.now) name.now ≡ true }
     requires stand { NumbersStand F.holds functions.old (number_in numbers.old) }
-    requires known { (table : TheTable) → driver tables.now name.now ≡ Some table
+    requires known { (table : Table) → driver tables.now name.now ≡ Some table
         → list_all (has_number (number_in numbers.old)) table.inputs ≡ true }
     ensures ok { OnOk result (Adds F.holds F.tree F.limit functions.old functions.new
         (number_in numbers.old) (number_in numbers.new) (λ other. bytes_eq other name.now)
@@ -153,7 +159,7 @@ fn add_named<F: Functions>(
     }
 }
 
-// Makes the functions of signals in the order of their tables.
+// Makes the functions of signals in topological order.
 fn add_in_order<F: Functions>(
     alloc: Global,
     functions: &mut F,

@@ -1,4 +1,7 @@
-//! Why no functions of signals were given.
+//! Why the functions of signals were not made: a function is too big, or memory ran out.
+//!
+//! A fault of `func_core` names no signal; `fault_at` and `renamed` give it the name of the signal
+//! for which the function was made.
 
 ghost use Rattle.std.specs.Prelude.{◌≡◌, ℕ, List};
 ghost use Rattle.net_func.specs.Signals.{Blames};
@@ -11,7 +14,7 @@ use std::alloc::{AllocError, Global};
 /// Why no functions were given.
 #[derive(Debug, PartialEq, Drop)]
 pub enum NetFuncFault {
-    /// A part of a function is above the object's limit; the signal is told.
+    /// A part of a function is above the object's limit; the name is that of its signal.
     TooBig(Name),
     /// There is not enough memory.
     Memory,
@@ -28,7 +31,7 @@ impl From<AllocError> for NetFuncFault {
     }
 }
 
-/// A fault of a function, told of a signal.
+/// A fault of a function, with the name of its signal.
 pub(crate) fn fault_at(alloc: Global, fault: FuncFault, name: &Name) -> NetFuncFault
     ensures { Blames result (λ blamed. (blamed ≡ name.now) × (fault ≡ FuncFault.TooBig)) }
 {
@@ -41,7 +44,7 @@ pub(crate) fn fault_at(alloc: Global, fault: FuncFault, name: &Name) -> NetFuncF
     }
 }
 
-/// A fault of any signal, told of another one.
+/// A fault of any signal, blamed on another one instead.
 pub(crate) fn renamed(alloc: Global, fault: NetFuncFault, name: &Name) -> NetFuncFault
     ensures { Blames result (λ blamed. (blamed ≡ name.now)
         × ((part : List ℕ) × (fault ≡ NetFuncFault.TooBig part))) }

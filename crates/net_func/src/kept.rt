@@ -1,10 +1,18 @@
-//! Functions of a circuit that are kept from the turn of one table to that of the next.
+//! Functions of the signals of a circuit, kept from one table to the next while the tables change.
+//!
+//! Source: De Micheli, "Synthesis and Optimization of Digital Circuits", chapter 8 (the transitive
+//! fanout of a vertex, and transformations that change one vertex). Invariant (`IsReady`,
+//! `AreKept`): the circuit is sound and in order, and each number kept means the function of its
+//! signal in the circuit as it is now. `replace` drops the numbers of signals in the transitive
+//! fanout of a table that changes; what it keeps stays right (`KeepsSome`), how much it keeps no
+//! clause says. Callers rely on `turn` for exactly the functions of the current circuit. After an
+//! error of `turn` no numbers are kept.
 
 ghost use Rattle.std.specs.Prelude.{◌≡◌, ℕ, true, ◌⊎◌, Some, List, IfOk, IfErr, OnOk, OnErr};
 ghost use Rattle.circuit_model.specs.Names.{has};
 ghost use Rattle.circuit_model.specs.Values.{driver};
 ghost use Rattle.circuit_model.specs.Soundness.{outputs_of, IsAcyclic};
-ghost use Rattle.circuit_model.specs.declared.circuit.Table.{Table as TheTable};
+ghost use Rattle.circuit_model.specs.declared.circuit.Table.{Table};
 ghost use Rattle.circuit_laws.specs.Edits.{replaced, with_replaced};
 ghost use Rattle.circuit_laws.specs.Fitting.{IsFitting};
 ghost use Rattle.func_core.specs.Numbers.{Means, Stays};
@@ -24,16 +32,16 @@ use net_core::Network;
 use sis_base::Whole;
 use std::alloc::{AllocError, Global};
 
-/// A circuit, and numbers of functions of its signals and of its don't-care part, all of one
-/// object. What a turn makes stays for the next ones: a table that gives place to another one takes
-/// only the numbers of the signals that it reaches.
+/// A circuit, with numbers of functions of its signals and of its don't-care part, all in one
+/// object. Functions made for one table are kept for the next. A table that is replaced drops only
+/// the numbers of signals in its transitive fanout.
 pub struct KeptFunctions {
     ordered: OrderedCircuit,
     own: Numbers,
     free: Numbers,
 }
 
-// By hand, so that letting kept functions go is one call in the functions that own them.
+// Written by hand, so that a function that owns kept functions drops them in one call.
 impl Drop for KeptFunctions {
     fn drop(self) {
         let KeptFunctions {
@@ -45,14 +53,14 @@ impl Drop for KeptFunctions {
 }
 
 impl KeptFunctions {
-    /// The circuit of a network, and no numbers; an error only for want of memory.
+    /// The circuit of a network, and no numbers.
     pub fn new<R: Row>(alloc: Global, net: &Network<R>) -> Result<KeptFunctions, AllocError>
         ensures ready { IfOk result IsReady }
         ensures same { IfOk result (λ kept. circuit_of kept ≡ net.now) }
         ensures none { IfOk result KeepsNone }
     {
         net.sound();
-        // A whole, so that letting it go is one call.
+        // A `Whole`, so that it is dropped in one call.
         let circuit = Whole {
             it: net.to_circuit(alloc)?,
         };
@@ -64,7 +72,7 @@ impl KeptFunctions {
         })
     }
 
-    /// Lets all numbers go, as it has to be where the object has taken them back; takes no memory.
+    /// Drops all numbers, as is needed where the object has taken them back; takes no memory.
     pub fn forget(&mut self)
         ensures ready { IsReady self.old → IsReady self.new }
         ensures same { circuit_of self.new ≡ circuit_of self.old }
@@ -74,10 +82,10 @@ impl KeptFunctions {
         self.free.clear();
     }
 
-    /// The functions that the turn of a table needs: those of its inputs and of its own signal over
-    /// the leaves, and that of where its signal is seen from outside, as `care` gives it. They are
-    /// refused wherever the function of some table's signal is too big. The name told is the
-    /// table's. An error lets all numbers go.
+    /// The functions needed to simplify a table: those of its inputs and of its output over the
+    /// leaves, and that of where its output is observable, as `care` gives it. They are refused if
+    /// the function of any table's signal is too big; the fault names this table. After an error no
+    /// numbers are kept.
     pub fn turn<F: Functions>(
         &mut self,
         alloc: Global,
@@ -87,7 +95,7 @@ impl KeptFunctions {
         requires ready { IsReady self.old }
         requires kept { AreKept F.holds F.tree F.limit functions.old self.old }
         requires driven { has (outputs_of (circuit_of self.old).tables) name.now ≡ true }
-        ensures inputs { IfOk result (λ turn. (table : TheTable)
+        ensures inputs { IfOk result (λ turn. (table : Table)
             → driver (circuit_of self.old).tables name.now ≡ Some table
             → AreMeant F.holds F.tree F.limit functions.new table.inputs
             (own_function (circuit_of self.old)) turn.inputs.items) }
@@ -116,15 +124,15 @@ impl KeptFunctions {
         }
     }
 
-    /// Puts another table, which reads no more, in the place of the table of its signal. The
-    /// numbers go of the signals that it reaches; none where it is the table that stands there. An
-    /// error, which comes only for want of memory, changes nothing.
+    /// Replaces the table of a signal by one whose inputs are among the old ones. Numbers of
+    /// signals in its transitive fanout are dropped, unless the table is the same. An error changes
+    /// nothing.
     pub fn replace(&mut self, alloc: Global, table: Table) -> Result<(), AllocError>
         requires ready { IsReady self.old }
         requires driven { has (outputs_of (circuit_of self.old).tables) table.output ≡ true }
         requires fitting { IsFitting (circuit_of self.old) table }
         requires acyclic { IsAcyclic (replaced (circuit_of self.old).tables table) }
-        requires reads { (old : TheTable)
+        requires reads { (old : Table)
             → driver (circuit_of self.old).tables table.output ≡ Some old → (input : List ℕ)
             → has table.inputs input ≡ true → has old.inputs input ≡ true }
         ensures ready { IsReady self.new }

@@ -1,9 +1,15 @@
-//! The functions of leaves, and of all signals over leaves.
+//! Functions of the leaves of a circuit, and of tables over them.
+//!
+//! The leaves are the inputs and then the latch outputs; the function of the leaf at index i is
+//! variable i. If a table drives the name of a leaf, the table gives its function, not the
+//! variable. `add_ordered` makes the functions of leaves and tables in an order that the caller
+//! has, `add_over` computes the order first. Names that have a number keep it, so a caller fixes a
+//! signal by adding a constant for it before (`add_constant`).
 
-ghost use Rattle.std.specs.Prelude.{◌≡◌, ℕ, Bool, true, not, ◌&&◌, ◌||◌, None, ◌++◌, map, bytes_eq, is_some, IfOk, IfErr, OnOk};
+ghost use Rattle.std.specs.Prelude.{◌≡◌, ℕ, Bool, true, not, ◌&&◌, ◌||◌, None, ◌++◌, bytes_eq, is_some, IfOk, IfErr, OnOk};
 ghost use Rattle.indexmap.specs.IndexMap.{get};
 ghost use Rattle.circuit_model.specs.Names.{has, all_different};
-ghost use Rattle.circuit_model.specs.Soundness.{outputs_of, leaf_names as leaves_of};
+ghost use Rattle.circuit_model.specs.Soundness.{outputs_of, leaf_names};
 ghost use Rattle.func_core.specs.Numbers.{Stays};
 ghost use Rattle.net_func.specs.Numbering.{number_in, no_numbers, NumbersStand, AreSettled, IsOrderOf, AreOver, Adds, IsBlamed, is_free_leaf, FitsLeaves, FitsOver};
 ghost use Rattle.net_func.specs.Signals.{Blames};
@@ -11,12 +17,12 @@ ghost use Rattle.net_func.specs.Signals.{Blames};
 use crate::building::{Places, TableOrder, add_all, place_at, table_order};
 use crate::fault::NetFuncFault;
 use crate::numbers::Numbers;
-use circuit_model::{Circuit, Latch, Name, Names, Table};
+use circuit_model::{Circuit, Name, Names, Table, add_latches};
 use func_core::Functions;
 use sis_base::{Copied, Sequence};
 use std::alloc::{AllocError, Global};
 
-/// Puts copies of names behind the last; an error only for want of memory.
+/// Appends copies of names.
 pub(crate) fn add_names(
     alloc: Global,
     names: &mut Vec<Name>,
@@ -30,41 +36,30 @@ pub(crate) fn add_names(
     Ok(())
 }
 
-// Puts the latches' outputs behind the last name; an error only for want of memory.
-fn add_latches(alloc: Global, names: &mut Vec<Name>, latches: &[Latch]) -> Result<(), AllocError>
-    ensures { OnOk result (names.new.items
-        ≡ names.old.items ++ map (λ latch. latch.output) latches.now) }
-{
-    for latch in latches {
-        names.push(latch.output.copy(alloc)?)?;
-    }
-    Ok(())
-}
-
-/// Puts the leaves behind the last name; an error only for want of memory.
+/// Puts the leaves behind the last name.
 #[tactic(auto, using(std::proofs::lemmas::Grind::common_steps))]
 pub(crate) fn add_leaf_names(
     alloc: Global,
     names: &mut Vec<Name>,
     circuit: &Circuit,
 ) -> Result<(), AllocError>
-    ensures { OnOk result (names.new.items ≡ names.old.items ++ leaves_of circuit.now) }
+    ensures { OnOk result (names.new.items ≡ names.old.items ++ leaf_names circuit.now) }
 {
     add_names(alloc, names, circuit.inputs.as_slice())?;
     add_latches(alloc, names, circuit.latches.as_slice())
 }
 
-/// The leaves: the inputs, then the latches' outputs; an error only for want of memory.
+/// The leaves: the inputs, then the latches' outputs.
 pub(crate) fn leaf_names(alloc: Global, circuit: &Circuit) -> Result<Names, AllocError>
-    ensures { IfOk result (λ names. names ≡ leaves_of circuit.now) }
+    ensures { IfOk result (λ names. names ≡ leaf_names circuit.now) }
 {
     let mut names = Vec::new(alloc);
     add_leaf_names(alloc, &mut names, circuit)?;
     Ok(Sequence::from_vec(names))
 }
 
-// Makes the function of a leaf, the bit of the variable at a place, unless a table drives its name
-// or it has a number.
+// Makes the function of a leaf, the variable of its index, unless a table drives its name or it has
+// a number.
 fn add_leaf<F: Functions>(
     alloc: Global,
     functions: &mut F,
@@ -115,7 +110,7 @@ fn add_leaves<F: Functions>(
     Ok(())
 }
 
-/// Makes a function that is one bit everywhere, for a name; an error only for want of memory.
+/// Adds a constant function for a name.
 pub(crate) fn add_constant<F: Functions>(
     alloc: Global,
     functions: &mut F,
@@ -135,8 +130,7 @@ pub(crate) fn add_constant<F: Functions>(
     }
 }
 
-/// The number of a function that is one bit everywhere, at a name; an error only for want of
-/// memory.
+/// The number of a constant function, for one name.
 pub(crate) fn constant_at<F: Functions>(
     alloc: Global,
     functions: &mut F,
@@ -153,8 +147,8 @@ pub(crate) fn constant_at<F: Functions>(
     Ok(numbers)
 }
 
-/// Makes the functions of leaves and tables: where a table drives the name of a leaf its function
-/// stands there, but where a number stood before.
+/// Makes the functions of leaves and tables. If a table drives the name of a leaf, its function is
+/// used for the leaf, unless the name had a number before.
 pub(crate) fn add_ordered<F: Functions>(
     alloc: Global,
     functions: &mut F,
@@ -181,7 +175,7 @@ pub(crate) fn add_ordered<F: Functions>(
     add_all(alloc, functions, numbers, tables, order)
 }
 
-/// The same, where no order of the tables is at hand.
+/// The same, for tables whose order is not known.
 pub(crate) fn add_over<F: Functions>(
     alloc: Global,
     functions: &mut F,

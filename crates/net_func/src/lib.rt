@@ -5,11 +5,11 @@
 //! Manipulation", IEEE Transactions on Computers C-35 (1986). For any object of func_core's trait
 //! `Functions`: `table_function` makes the function of a table over functions of its inputs,
 //! `signal_functions` those of all signals of a network and of its don't-care part, `forced` those
-//! with one signal fixed, `care` that of where a signal is seen from outside, and `KeptFunctions`
-//! all that the turn of one table needs: it keeps what is made from turn to turn, and where a table
-//! changes only what it reaches is made anew. Promised: each number means exactly its function
-//! (`specs/Signals.antt`, `specs/Locals.antt`), one is refused only where a part that is built for
-//! it is too big, and earlier numbers and the limit stay, whatever the answer.
+//! with one signal fixed, `care` that of where a signal is observable, and `KeptFunctions` all that
+//! are needed to simplify one table: it keeps functions from one table to the next, and if a table
+//! changes only its transitive fanout is computed again. Promised: each number means exactly its
+//! function (`specs/Signals.antt`, `specs/Locals.antt`), one is refused only if a part that is
+//! built for it is too big, and earlier numbers and the limit stay, whatever the answer.
 #![tactic(auto)]
 
 mod building;

@@ -1,8 +1,13 @@
-//! Functions of signals, listed in order.
+//! Functions of signals, listed by name in a fixed order.
+//!
+//! The signals of a circuit are listed as its leaves and then its tables in topological order;
+//! those of its don't-care part as its tables alone, in their topological order. Callers rely on
+//! `AreNumbered`: exactly these names, each with the number of its function. An error names a
+//! signal only if a part of its table is too big.
 
 ghost use Rattle.std.specs.Prelude.{◌≡◌, ℕ, true, false, ◌||◌, List, ◌++◌, bytes_eq, IfOk, IfErr};
 ghost use Rattle.circuit_model.specs.Names.{has};
-ghost use Rattle.circuit_model.specs.Soundness.{outputs_of, leaf_names as leaves_of, IsSound};
+ghost use Rattle.circuit_model.specs.Soundness.{outputs_of, leaf_names, IsSound};
 ghost use Rattle.circuit_order.specs.Order.{order_of};
 ghost use Rattle.func_core.specs.Numbers.{Stays};
 ghost use Rattle.net_func.specs.Numbering.{number_in, has_number, IsListing};
@@ -18,10 +23,10 @@ use func_core::Functions;
 use sis_base::Sequence;
 use std::alloc::{AllocError, Global};
 
-// The leaves, then the tables in order.
+// The leaves, then the outputs of tables in topological order.
 fn signal_names(alloc: Global, circuit: &Circuit) -> Result<Names, AllocError>
     requires sound { IsSound circuit.now }
-    ensures { IfOk result (λ names. names ≡ leaves_of circuit.now ++ order_of circuit.now.tables) }
+    ensures { IfOk result (λ names. names ≡ leaf_names circuit.now ++ order_of circuit.now.tables) }
 {
     let mut names = Vec::new(alloc);
     add_leaf_names(alloc, &mut names, circuit)?;
@@ -38,9 +43,9 @@ fn listed_signals(
 ) -> Result<Numbered, AllocError>
     requires sound { IsSound circuit.now }
     requires known { (name : List ℕ) → has_number (number_in numbers.now) name
-        ≡ (has (leaves_of circuit.now) name || has (outputs_of circuit.now.tables) name) }
+        ≡ (has (leaf_names circuit.now) name || has (outputs_of circuit.now.tables) name) }
     ensures { IfOk result (λ list. IsListing (number_in numbers.now)
-        (leaves_of circuit.now ++ order_of circuit.now.tables) list) }
+        (leaf_names circuit.now ++ order_of circuit.now.tables) list) }
 {
     let names = signal_names(alloc, circuit)?;
     numbers.listed(alloc, names.as_slice())
@@ -54,7 +59,7 @@ pub(crate) fn own_listed<F: Functions>(
 ) -> Result<Numbered, NetFuncFault>
     requires sound { IsSound circuit.now }
     ensures ok { IfOk result (λ list. AreNumbered F.holds F.tree F.limit functions.new
-        (leaves_of circuit.now ++ order_of circuit.now.tables) (own_function circuit.now) list) }
+        (leaf_names circuit.now ++ order_of circuit.now.tables) (own_function circuit.now) list) }
     ensures big { IfErr result (λ fault. Blames fault
         (IsBigAt (F.limit functions.old) circuit.now.tables (own_function circuit.now))) }
     ensures stays { Stays F.holds F.tree F.limit functions.old functions.new }
@@ -74,7 +79,7 @@ pub(crate) fn forced_listed<F: Functions>(
     requires sound { IsSound circuit.now }
     requires driven { has (outputs_of circuit.now.tables) name.now ≡ true }
     ensures ok { IfOk result (λ list. AreNumbered F.holds F.tree F.limit functions.new
-        (leaves_of circuit.now ++ order_of circuit.now.tables)
+        (leaf_names circuit.now ++ order_of circuit.now.tables)
         (forced_function circuit.now name.now bit) list) }
     ensures big { IfErr result (λ fault. Blames fault (λ blamed. (bytes_eq blamed name.now ≡ false)
         × IsBigAt (F.limit functions.old) circuit.now.tables
@@ -85,7 +90,7 @@ pub(crate) fn forced_listed<F: Functions>(
     Ok(listed_signals(alloc, circuit, &numbers)?)
 }
 
-/// The functions of the don't-care tables of a circuit, in their order.
+/// The functions of the don't-care tables of a circuit, in topological order.
 pub(crate) fn free_listed<F: Functions>(
     alloc: Global,
     functions: &mut F,

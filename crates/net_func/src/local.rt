@@ -1,12 +1,15 @@
-//! Tables that are read place by place, a network's own and those of a don't-care part.
+//! Tables read literal by literal: the trait `Local`.
+//!
+//! `table_function` needs no more of a table than this trait gives: inputs, rows of literals, and
+//! phase. It is implemented here for the tables of `circuit_model`, which hold characters.
 
 ghost use Rattle.std.specs.Prelude.{◌≡◌, ◌<◌, None, [], length, map, slice_index_or};
 ghost use Rattle.circuit_model.specs.Values.{literal_of};
 ghost use Rattle.net_func.specs.Locals.{LocalFunction};
 
-use circuit_model::{Name, Table as Written, Tri};
+use circuit_model::{Name, Table, Tri};
 
-/// A table that is read place by place.
+/// A table that is read literal by literal.
 pub trait Local {
     ghost local: { Self → LocalFunction };
 
@@ -14,23 +17,23 @@ pub trait Local {
     fn inputs(&self) -> &[Name]
         ensures { result.now ≡ (local self.now).inputs };
 
-    /// How many rows there are.
+    /// The number of rows.
     fn row_count(&self) -> usize
         ensures { result ≡ length (local self.now).rows };
 
-    /// What stands at a place of a row, both counted from 0: a literal's bit, or none for a dash.
+    /// The literal of a row in a column, both counted from 0: its bit, or `None` for a dash.
     fn literal(&self, row: usize, place: usize) -> Option<bool>
         requires row { row < length (local self.now).rows }
         requires place { place < length (slice_index_or (local self.now).rows row []) }
         ensures { result
             ≡ slice_index_or (slice_index_or (local self.now).rows row []) place None };
 
-    /// The value where some row matches.
+    /// The value of the table where some row matches.
     fn phase(&self) -> bool
         ensures { result ≡ (local self.now).phase };
 }
 
-/// What a character of a row stands for.
+/// The literal of a character.
 fn literal_from(character: Tri) -> Option<bool>
     ensures { result ≡ literal_of character }
 {
@@ -41,7 +44,7 @@ fn literal_from(character: Tri) -> Option<bool>
     }
 }
 
-/// What stands at a place of a row of characters.
+/// The literal in a column of a row of characters.
 #[tactic(auto, using(crate::proofs::RowParts::read_literal))]
 fn literal_at(characters: &[Tri], place: usize) -> Option<bool>
     requires { place < length characters.now }
@@ -50,7 +53,7 @@ fn literal_at(characters: &[Tri], place: usize) -> Option<bool>
     literal_from(characters[place])
 }
 
-impl Local for Written {
+impl Local for Table {
     ghost use Rattle.net_func.specs.Locals.{local_of};
 
     ghost local = { local_of };

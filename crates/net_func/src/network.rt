@@ -1,8 +1,16 @@
-//! The functions of all signals of a network.
+//! Functions of all signals of a network, with or without one signal fixed, and the observability
+//! of a signal.
+//!
+//! Source: De Micheli, "Synthesis and Optimization of Digital Circuits", chapter 8 (observability
+//! don't-cares). These are the public calls that keep nothing: each converts the network to a
+//! circuit and makes all functions anew over its leaves. Callers rely on each number to mean
+//! exactly its function, and on earlier numbers and the limit to stay, whatever the answer. An
+//! error of `signal_functions` names a table a part of which is too big; `forced` and `care` always
+//! name the signal they were asked for.
 
 ghost use Rattle.std.specs.Prelude.{◌≡◌, ℕ, true, ◌⊎◌, List, ◌++◌, IfOk, IfErr};
 ghost use Rattle.circuit_model.specs.Names.{has};
-ghost use Rattle.circuit_model.specs.Soundness.{outputs_of, leaf_names as leaves_of, IsSound};
+ghost use Rattle.circuit_model.specs.Soundness.{outputs_of, leaf_names, IsSound};
 ghost use Rattle.circuit_order.specs.Order.{order_of};
 ghost use Rattle.func_core.specs.Numbers.{Means, Stays};
 ghost use Rattle.net_func.specs.Signals.{own_function, free_function, forced_function, is_seen, AreNumbered, IsBigAt, IsBigForced, IsBigSeen, Blames};
@@ -18,8 +26,8 @@ use net_core::Network;
 use sis_base::Whole;
 use std::alloc::Global;
 
-/// Functions by the names of their signals: the leaves, then the tables in order; and the tables of
-/// the don't-care part in their order.
+/// Functions by the names of their signals: in `own` the leaves and then the tables, in `free` the
+/// tables of the don't-care part, both in topological order.
 #[derive(Drop)]
 pub struct Signals {
     pub own: Numbered,
@@ -34,7 +42,7 @@ fn signals_of<F: Functions>(
 ) -> Result<Signals, NetFuncFault>
     requires sound { IsSound circuit.now }
     ensures own { IfOk result (λ signals. AreNumbered F.holds F.tree F.limit functions.new
-        (leaves_of circuit.now ++ order_of circuit.now.tables) (own_function circuit.now)
+        (leaf_names circuit.now ++ order_of circuit.now.tables) (own_function circuit.now)
         signals.own) }
     ensures free { IfOk result (λ signals. AreNumbered F.holds F.tree F.limit functions.new
         (order_of circuit.now.dont_care) (free_function circuit.now) signals.free) }
@@ -56,7 +64,7 @@ pub fn signal_functions<R: Row, F: Functions>(
     functions: &mut F,
 ) -> Result<Signals, NetFuncFault>
     ensures own { IfOk result (λ signals. AreNumbered F.holds F.tree F.limit functions.new
-        (leaves_of net.now ++ order_of net.now.tables) (own_function net.now) signals.own) }
+        (leaf_names net.now ++ order_of net.now.tables) (own_function net.now) signals.own) }
     ensures free { IfOk result (λ signals. AreNumbered F.holds F.tree F.limit functions.new
         (order_of net.now.dont_care) (free_function net.now) signals.free) }
     ensures big { IfErr result (λ fault. Blames fault (λ blamed.
@@ -65,15 +73,15 @@ pub fn signal_functions<R: Row, F: Functions>(
     ensures stays { Stays F.holds F.tree F.limit functions.old functions.new }
 {
     net.sound();
-    // A whole, so that letting it go is one call.
+    // A `Whole`, so that it is dropped in one call.
     let circuit = Whole {
         it: net.to_circuit(alloc)?,
     };
     signals_of(alloc, functions, &circuit.it)
 }
 
-// The functions of all signals of a circuit where one signal has a bit in place of its table's
-// value.
+// The functions of all signals of a circuit in which one signal is fixed at a bit, whatever its
+// table gives.
 fn forced_signals_of<F: Functions>(
     alloc: Global,
     functions: &mut F,
@@ -84,7 +92,7 @@ fn forced_signals_of<F: Functions>(
     requires sound { IsSound circuit.now }
     requires driven { has (outputs_of circuit.now.tables) name.now ≡ true }
     ensures own { IfOk result (λ signals. AreNumbered F.holds F.tree F.limit functions.new
-        (leaves_of circuit.now ++ order_of circuit.now.tables)
+        (leaf_names circuit.now ++ order_of circuit.now.tables)
         (forced_function circuit.now name.now value) signals.own) }
     ensures free { IfOk result (λ signals. AreNumbered F.holds F.tree F.limit functions.new
         (order_of circuit.now.dont_care) (free_function circuit.now) signals.free) }
@@ -99,8 +107,8 @@ fn forced_signals_of<F: Functions>(
     Ok(Signals { own, free })
 }
 
-/// The functions of all signals of a network over its leaves where the signal of a table has a bit
-/// in place of its table's value, and those of the don't-care tables.
+/// The functions over its leaves of all signals of a network in which the signal of a table is
+/// fixed at a bit, whatever the table gives; and those of the don't-care tables.
 pub fn forced<R: Row, F: Functions>(
     alloc: Global,
     net: &Network<R>,
@@ -110,7 +118,7 @@ pub fn forced<R: Row, F: Functions>(
 ) -> Result<Signals, NetFuncFault>
     requires driven { has (outputs_of net.now.tables) name.now ≡ true }
     ensures own { IfOk result (λ signals. AreNumbered F.holds F.tree F.limit functions.new
-        (leaves_of net.now ++ order_of net.now.tables) (forced_function net.now name.now value)
+        (leaf_names net.now ++ order_of net.now.tables) (forced_function net.now name.now value)
         signals.own) }
     ensures free { IfOk result (λ signals. AreNumbered F.holds F.tree F.limit functions.new
         (order_of net.now.dont_care) (free_function net.now) signals.free) }
@@ -121,7 +129,7 @@ pub fn forced<R: Row, F: Functions>(
     ensures stays { Stays F.holds F.tree F.limit functions.old functions.new }
 {
     net.sound();
-    // A whole, so that letting it go is one call.
+    // A `Whole`, so that it is dropped in one call.
     let circuit = Whole {
         it: net.to_circuit(alloc)?,
     };
@@ -131,8 +139,8 @@ pub fn forced<R: Row, F: Functions>(
     }
 }
 
-/// The function of where the signal of a table is seen from outside: where turning it over changes
-/// a latch input, or an output that the don't-care part does not leave open.
+/// The function of where the signal of a table is observable: where complementing it changes a
+/// latch input, or an output that the don't-care part does not leave open.
 pub fn care<R: Row, F: Functions>(
     alloc: Global,
     net: &Network<R>,
@@ -147,7 +155,7 @@ pub fn care<R: Row, F: Functions>(
     ensures stays { Stays F.holds F.tree F.limit functions.old functions.new }
 {
     net.sound();
-    // A whole, so that letting it go is one call.
+    // A `Whole`, so that it is dropped in one call.
     let circuit = Whole {
         it: net.to_circuit(alloc)?,
     };

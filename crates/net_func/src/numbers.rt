@@ -1,4 +1,8 @@
-//! Numbers of functions by the names of their signals.
+//! A map from the names of signals to the numbers of their functions.
+//!
+//! `Numbers` itself says nothing of what a number means: that is in `specs/Numbering.antt`
+//! (`AreRight`, `AreAll`, `AreSome`), for an object whose numbers they are. A later insertion at a
+//! name replaces the earlier one. `new` and `clear` take no memory.
 
 ghost use Rattle.std.specs.Prelude.{◌≡◌, ℕ, true, Some, None, List, map, bytes_eq, if◌then◌else◌, IfOk, OnOk};
 ghost use Rattle.std.specs.List.{list_all};
@@ -13,12 +17,12 @@ use std::alloc::{AllocError, Global};
 /// Names, each with the number of its function.
 pub type Numbered = Sequence<(Name, Func)>;
 
-/// Numbers of functions by the names of their signals.
+/// The numbers of functions, by the names of their signals.
 pub(crate) struct Numbers {
     by_name: IndexMap<Name, Func>,
 }
 
-// By hand, so that letting numbers go is one call in the functions that own them.
+// Written by hand, so that a function that owns numbers drops them in one call.
 impl Drop for Numbers {
     fn drop(self) {
         let Numbers { by_name: _by_name } = self;
@@ -35,14 +39,14 @@ impl Numbers {
         }
     }
 
-    /// The number that stands at a name, if there is one.
+    /// The number of a name, if it has one.
     pub(crate) fn get(&self, name: &Name) -> Option<Func>
         ensures { result ≡ number_in self.now name.now }
     {
         self.by_name.get(name).copied()
     }
 
-    /// Puts a number at a name; an error only for want of memory.
+    /// Sets the number of a name.
     pub(crate) fn insert(
         &mut self,
         alloc: Global,
@@ -56,14 +60,14 @@ impl Numbers {
         Ok(())
     }
 
-    /// Takes all numbers away; takes no memory.
+    /// Removes all numbers; takes no memory.
     pub(crate) fn clear(&mut self)
         ensures { (name : List ℕ) → number_in self.new name ≡ None }
     {
         self.by_name.clear();
     }
 
-    /// The number that stands at a name.
+    /// The number of a name that has one.
     pub(crate) fn known(&self, name: &Name) -> Func
         requires { has_number (number_in self.now) name.now ≡ true }
         ensures { number_in self.now name.now ≡ Some result }
@@ -74,14 +78,14 @@ impl Numbers {
         }
     }
 
-    /// Whether numbers stand at all of some names.
+    /// Whether all names have numbers.
     pub(crate) fn know(&self, names: &[Name]) -> bool
         ensures { result ≡ list_all (has_number (number_in self.now)) names.now }
     {
         names.iter().all(|name| self.get(name).is_some())
     }
 
-    /// The numbers that stand at names; an error only for want of memory.
+    /// The numbers of names that all have one.
     pub(crate) fn all_known(&self, alloc: Global, names: &[Name]) -> Result<Vec<Func>, AllocError>
         requires { list_all (has_number (number_in self.now)) names.now ≡ true }
         ensures { IfOk result (λ numbers. map Some numbers.items
@@ -94,7 +98,7 @@ impl Numbers {
         Ok(numbers)
     }
 
-    /// Names with the numbers that stand at them, in order; an error only for want of memory.
+    /// Names with their numbers, in order.
     pub(crate) fn listed(&self, alloc: Global, names: &[Name]) -> Result<Numbered, AllocError>
         requires { list_all (has_number (number_in self.now)) names.now ≡ true }
         ensures { IfOk result (λ list. IsListing (number_in self.now) names.now list) }

@@ -1,10 +1,17 @@
-//! A circuit in order, and the functions of its signals that have no number yet.
+//! A circuit with its leaves and topological orders, and the functions of its signals that are
+//! missing.
+//!
+//! Invariant (`IsInOrder`): the circuit is sound, `leaves` are its leaves, and both orders are
+//! those of its tables and of its don't-care tables. `put_table` keeps the orders, as the new table
+//! reads nothing that the old one did not read. The calls `add_own`, `add_free` and `forced_beside`
+//! complete partial numbers: callers rely on `AreAll`, where exactly the signals have numbers, each
+//! that of its function.
 
 ghost use Rattle.std.specs.Prelude.{◌≡◌, ◌<◌, ℕ, List, Some, length, slice_set, true, false, bytes_eq, IfOk, IfErr, OnOk};
 ghost use Rattle.circuit_model.specs.Names.{has};
 ghost use Rattle.circuit_model.specs.Soundness.{outputs_of, IsSound, IsAcyclic};
 ghost use Rattle.circuit_model.specs.Values.{driver};
-ghost use Rattle.circuit_model.specs.declared.circuit.Table.{Table as TheTable};
+ghost use Rattle.circuit_model.specs.declared.circuit.Table.{Table};
 ghost use Rattle.circuit_laws.specs.Edits.{replaced, with_replaced};
 ghost use Rattle.circuit_laws.specs.Fitting.{IsFitting};
 ghost use Rattle.func_core.specs.Numbers.{Stays};
@@ -23,7 +30,7 @@ use sis_base::{Sequence, Whole};
 use std::alloc::{AllocError, Global};
 use std::mem;
 
-/// A circuit with its leaves, and with orders of its tables and of those of its don't-care part.
+/// A circuit with its leaves, and topological orders of its tables and of its don't-care tables.
 pub(crate) struct OrderedCircuit {
     pub circuit: Circuit,
     pub leaves: Names,
@@ -31,7 +38,7 @@ pub(crate) struct OrderedCircuit {
     pub dont_care: TableOrder,
 }
 
-// By hand, so that letting a circuit go is one call in the functions that own one.
+// Written by hand, so that a function that owns a circuit drops it in one call.
 impl Drop for OrderedCircuit {
     fn drop(self) {
         let OrderedCircuit {
@@ -43,7 +50,7 @@ impl Drop for OrderedCircuit {
     }
 }
 
-/// A circuit in order; an error only for want of memory.
+/// A circuit with its leaves and its orders.
 pub(crate) fn in_order(alloc: Global, circuit: Whole<Circuit>) -> Result<OrderedCircuit, AllocError>
     requires { IsSound circuit.it }
     ensures ready { IfOk result IsInOrder }
@@ -60,7 +67,7 @@ pub(crate) fn in_order(alloc: Global, circuit: Whole<Circuit>) -> Result<Ordered
     })
 }
 
-// Whether two tables of one signal are the same.
+// Whether two tables of one signal are the same; a clause says so of true alone.
 fn is_same(one: &Table, other: &Table) -> bool
     requires { one.now.output ≡ other.now.output }
     ensures { result ≡ true → one.now ≡ other.now }
@@ -74,7 +81,7 @@ fn is_same(one: &Table, other: &Table) -> bool
     false
 }
 
-/// Whether a table is that of its signal already.
+/// Whether a table is already that of its signal; a clause says so of true alone.
 pub(crate) fn stands(ordered: &OrderedCircuit, table: &Table) -> bool
     requires ready { IsInOrder ordered.now }
     requires driven { has (outputs_of ordered.now.circuit.tables) table.now.output ≡ true }
@@ -86,7 +93,7 @@ pub(crate) fn stands(ordered: &OrderedCircuit, table: &Table) -> bool
     is_same(old, table)
 }
 
-// Puts a table at a place.
+// Sets the table at an index.
 fn set_table(alloc: Global, tables: &mut Tables, place: usize, table: Table)
     requires { place < length tables.old }
     ensures { tables.new ≡ slice_set tables.old place table }
@@ -96,13 +103,13 @@ fn set_table(alloc: Global, tables: &mut Tables, place: usize, table: Table)
     *tables = Sequence::from_vec(items);
 }
 
-/// Puts a table, which reads no more, in the place of the table of its signal; takes no memory.
+/// Replaces the table of a signal by one whose inputs are among the old ones; takes no memory.
 pub(crate) fn put_table(alloc: Global, ordered: &mut OrderedCircuit, table: Table)
     requires ready { IsInOrder ordered.old }
     requires driven { has (outputs_of ordered.old.circuit.tables) table.output ≡ true }
     requires fitting { IsFitting ordered.old.circuit table }
     requires acyclic { IsAcyclic (replaced ordered.old.circuit.tables table) }
-    requires reads { (old : TheTable)
+    requires reads { (old : Table)
         → driver ordered.old.circuit.tables table.output ≡ Some old → (input : List ℕ)
         → has table.inputs input ≡ true → has old.inputs input ≡ true }
     ensures ready { IsInOrder ordered.new }
@@ -136,8 +143,7 @@ pub(crate) fn add_own<F: Functions>(
     add_ordered(alloc, functions, numbers, leaves, tables, &ordered.tables)
 }
 
-/// Makes the functions of the leaves and of the tables of the don't-care part that have no number
-/// yet.
+/// Makes the functions of the leaves and of the don't-care tables that have no number yet.
 pub(crate) fn add_free<F: Functions>(
     alloc: Global,
     functions: &mut F,
@@ -167,8 +173,8 @@ pub(crate) fn add_free<F: Functions>(
     )
 }
 
-// Makes the functions of all signals that have no number yet, where one signal, whose number
-// stands, has a bit in place of its table's value.
+// Makes the functions of all signals that have no number yet, where one signal, which has a number,
+// is fixed at a bit.
 fn add_forced<F: Functions>(
     alloc: Global,
     functions: &mut F,
@@ -195,8 +201,8 @@ fn add_forced<F: Functions>(
     add_ordered(alloc, functions, numbers, leaves, tables, &ordered.tables)
 }
 
-/// The numbers of the functions of all signals where one signal, which a table drives, has a bit in
-/// place of its table's value. Those of signals that it does not reach are their own.
+/// The numbers of the functions of all signals where one signal, which a table drives, is fixed at
+/// a bit. Signals that it does not reach keep their own numbers.
 pub(crate) fn forced_beside<F: Functions>(
     alloc: Global,
     functions: &mut F,

@@ -1,4 +1,9 @@
-//! The function of a table over functions of its inputs.
+//! The function of a table over functions of its inputs: a sum of products, or its complement.
+//!
+//! Each row is multiplied literal by literal in the order of columns, and the products are added
+//! row by row; in phase 0 the sum is complemented. `TooBig` is returned only if one of these
+//! partial products or sums is above the limit (`HasBigPart`). Callers rely on the exact function,
+//! and on earlier numbers to stay.
 
 ghost use Rattle.std.specs.Prelude.{◌≡◌, ℕ, ◌<◌, true, false, ◌&&◌, Err, [], length, take, slice_index_or, IfOk};
 ghost use Rattle.sis_base.specs.Rows.{agrees, matches, HasWidth};
@@ -9,8 +14,7 @@ ghost use Rattle.net_func.specs.Numbered.{computed, bits_of, AllStand};
 use crate::local::Local;
 use func_core::{Func, FuncFault, Functions};
 
-/// The product of a function and a literal of another one; the function alone where there is a
-/// dash.
+/// The product of a function and a literal of another one; the function itself for a dash.
 fn and_literal<F: Functions>(
     functions: &mut F,
     product: Func,

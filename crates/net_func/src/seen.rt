@@ -1,5 +1,12 @@
-//! Where a signal is seen from outside: where turning it over changes a latch input, or an output
-//! that the don't-care part does not leave open.
+//! Observability of a signal: where complementing it changes a latch input or an output that is not
+//! don't-care.
+//!
+//! Source: De Micheli, "Synthesis and Optimization of Digital Circuits", chapter 8 (the Boolean
+//! difference of a function with regard to a signal, and observability don't-cares). The functions
+//! of all signals are made with the signal fixed at 0 and at 1. Where both have one number nothing
+//! changes; else their exclusive or, outside the don't-cares of an output, is added to the sum.
+//! Callers rely on `is_seen` exactly, and on a refusal only if a function made on the way is above
+//! the limit (`IsBigSeen`).
 
 ghost use Rattle.std.specs.Prelude.{◌≡◌, true, false, not, ◌&&◌, ◌||◌, Option, Some, None, Err, ◌⊎◌, map, bytes_eq, IfOk, IfErr};
 ghost use Rattle.std.specs.List.{list_all};
@@ -24,8 +31,8 @@ use func_core::{Func, FuncFault, Functions};
 use sis_base::Whole;
 use std::alloc::{AllocError, Global};
 
-/// The functions by which a signal changes where another one is turned over: with the other one at
-/// 0, with it at 1, and where the change is not seen, if there is such a function.
+/// How a signal changes if another one is complemented: its functions with the other one at 0 and
+/// at 1, and where the change is don't-care, if there is such a function.
 #[derive(Clone, Copy)]
 pub(crate) struct Change {
     pub low: Func,
@@ -33,7 +40,7 @@ pub(crate) struct Change {
     pub free: Option<Func>,
 }
 
-// A change where it is not free.
+// A change outside its don't-cares.
 fn outside<F: Functions>(
     functions: &mut F,
     change: Func,
@@ -58,7 +65,7 @@ fn outside<F: Functions>(
     }
 }
 
-// What is seen already, or a change where it is not free.
+// The sum of what is observed already and a change outside its don't-cares.
 fn add_change<F: Functions>(
     functions: &mut F,
     seen: Func,
@@ -76,7 +83,7 @@ fn add_change<F: Functions>(
         || shown_by F.tree functions.old change point)) }
     ensures stays { Stays F.holds F.tree F.limit functions.old functions.new }
 {
-    // One number is one function: nothing changes.
+    // Equal numbers are equal functions: nothing changes.
     if change.low.0 == change.high.0 {
         return Ok(seen);
     }
@@ -85,7 +92,7 @@ fn add_change<F: Functions>(
     functions.or(seen, shown)
 }
 
-// Where one of some changes is seen.
+// Where one of some changes is observed.
 fn any_change<F: Functions>(functions: &mut F, changes: &[Change]) -> Result<Func, FuncFault>
     requires stand { ChangesStand F.holds functions.old changes.now }
     ensures ok { IfOk result (λ seen. Means F.holds F.tree F.limit functions.new seen.0
@@ -116,7 +123,7 @@ fn change_at(low: &Numbers, high: &Numbers, root: &Name, free: Option<Func>) -> 
     }
 }
 
-// The changes of what latches take.
+// The changes of latch inputs.
 fn latch_changes(
     alloc: Global,
     latches: &[Latch],
@@ -137,7 +144,7 @@ fn latch_changes(
     Ok(changes)
 }
 
-// Where an output is free, if a table of the don't-care part drives its name.
+// The don't-cares of an output, if a table of the don't-care part drives its name.
 fn free_at(free: &Numbers, places: &Places, output: &Name) -> Option<Func>
     ensures { result ≡ free_in (number_in free.now) (get bytes_eq places.now) output.now }
 {
@@ -168,7 +175,7 @@ fn output_changes(
     Ok(changes)
 }
 
-// All changes: those of what latches take, then those of outputs, in order.
+// All changes: those of latch inputs, then those of outputs, in order.
 fn changes_of(
     alloc: Global,
     circuit: &Circuit,
@@ -193,8 +200,8 @@ fn changes_of(
     Ok(changes)
 }
 
-// Where a signal is seen, by the functions of all signals with it at 0 and with it at 1, and by
-// those of the don't-care part.
+// Where a signal is observable, by the functions of all signals with it at 0 and with it at 1, and
+// by those of the don't-care part.
 fn seen_by<F: Functions>(
     alloc: Global,
     functions: &mut F,
@@ -226,7 +233,7 @@ fn seen_by<F: Functions>(
     }
 }
 
-// Where a signal is seen, by the functions of all signals with it at 0 and with it at 1.
+// Where a signal is observable, by the functions of all signals with it at 0 and with it at 1.
 fn seen_between<F: Functions>(
     alloc: Global,
     functions: &mut F,
@@ -247,7 +254,7 @@ fn seen_between<F: Functions>(
     ensures stays { Stays F.holds F.tree F.limit functions.old functions.new }
 {
     let free = free_numbers(alloc, functions, circuit)?;
-    // A whole, so that letting it go is one call.
+    // A `Whole`, so that it is dropped in one call.
     let places = Whole {
         it: places_of(alloc, circuit.dont_care.as_slice())?,
     };
@@ -256,7 +263,7 @@ fn seen_between<F: Functions>(
     )
 }
 
-/// Where a signal that a table drives is seen from outside.
+/// Where a signal that a table drives is observable.
 pub(crate) fn seen_function<F: Functions>(
     alloc: Global,
     functions: &mut F,
@@ -276,7 +283,7 @@ pub(crate) fn seen_function<F: Functions>(
     seen_between(alloc, functions, circuit, name, &low, &high)
 }
 
-/// The same, by the functions that signals have already and those of the don't-care part.
+/// The same, by the functions that signals and the don't-care part have already.
 pub(crate) fn seen_beside<F: Functions>(
     alloc: Global,
     functions: &mut F,

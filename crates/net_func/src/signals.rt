@@ -1,8 +1,13 @@
-//! The numbers of the functions of all signals of a circuit.
+//! Numbers of the functions of all signals of a circuit, made anew over its leaves.
+//!
+//! `own_numbers` gives those of the signals, `free_numbers` those of the don't-care part, and
+//! `forced_numbers` those of the signals with one of them fixed at a bit: its constant is added
+//! first, so its table is not used. Callers rely on `AreAll`: exactly the signals have numbers,
+//! each that of its function.
 
 ghost use Rattle.std.specs.Prelude.{◌≡◌, true, false, ◌||◌, bytes_eq, IfOk, IfErr};
 ghost use Rattle.circuit_model.specs.Names.{has, all_different};
-ghost use Rattle.circuit_model.specs.Soundness.{outputs_of, leaf_names as leaves_of, IsSound};
+ghost use Rattle.circuit_model.specs.Soundness.{outputs_of, leaf_names, IsSound};
 ghost use Rattle.func_core.specs.Numbers.{Stays};
 ghost use Rattle.net_func.specs.Numbering.{number_in, no_numbers, AreSettled, AreOver, AreAll, Adds, IsBlamed, FitsOver};
 ghost use Rattle.net_func.specs.Signals.{own_function, free_function, forced_function, IsBigAt, Blames};
@@ -21,15 +26,15 @@ fn numbers_over<F: Functions>(
     circuit: &Circuit,
     tables: &[Table],
 ) -> Result<Numbers, NetFuncFault>
-    requires once { all_different (leaves_of circuit.now) ≡ true }
+    requires once { all_different (leaf_names circuit.now) ≡ true }
     requires tables { AreSettled tables.now }
-    requires over { AreOver (leaves_of circuit.now) tables.now }
+    requires over { AreOver (leaf_names circuit.now) tables.now }
     ensures ok { IfOk result (λ numbers. Adds F.holds F.tree F.limit functions.old functions.new
         no_numbers (number_in numbers)
-        (λ name. has (leaves_of circuit.now) name || has (outputs_of tables.now) name)
-        (FitsOver (leaves_of circuit.now) tables.now no_numbers)) }
+        (λ name. has (leaf_names circuit.now) name || has (outputs_of tables.now) name)
+        (FitsOver (leaf_names circuit.now) tables.now no_numbers)) }
     ensures big { IfErr result (λ fault. Blames fault (IsBlamed F.holds F.tree F.limit functions.old
-        tables.now no_numbers (FitsOver (leaves_of circuit.now) tables.now no_numbers))) }
+        tables.now no_numbers (FitsOver (leaf_names circuit.now) tables.now no_numbers))) }
     ensures stays { Stays F.holds F.tree F.limit functions.old functions.new }
 {
     let leaves = leaf_names(alloc, circuit)?;
@@ -46,7 +51,7 @@ pub(crate) fn own_numbers<F: Functions>(
 ) -> Result<Numbers, NetFuncFault>
     requires sound { IsSound circuit.now }
     ensures ok { IfOk result (λ numbers. AreAll F.holds F.tree F.limit functions.new
-        (λ name. has (leaves_of circuit.now) name || has (outputs_of circuit.now.tables) name)
+        (λ name. has (leaf_names circuit.now) name || has (outputs_of circuit.now.tables) name)
         (own_function circuit.now) (number_in numbers)) }
     ensures big { IfErr result (λ fault. Blames fault
         (IsBigAt (F.limit functions.old) circuit.now.tables (own_function circuit.now))) }
@@ -63,7 +68,7 @@ pub(crate) fn free_numbers<F: Functions>(
 ) -> Result<Numbers, NetFuncFault>
     requires sound { IsSound circuit.now }
     ensures ok { IfOk result (λ numbers. AreAll F.holds F.tree F.limit functions.new
-        (λ name. has (leaves_of circuit.now) name || has (outputs_of circuit.now.dont_care) name)
+        (λ name. has (leaf_names circuit.now) name || has (outputs_of circuit.now.dont_care) name)
         (free_function circuit.now) (number_in numbers)) }
     ensures big { IfErr result (λ fault. Blames fault
         (IsBigAt (F.limit functions.old) circuit.now.dont_care (free_function circuit.now))) }
@@ -73,7 +78,7 @@ pub(crate) fn free_numbers<F: Functions>(
 }
 
 /// The numbers of the functions of all signals of a circuit where one signal, which a table drives,
-/// has a bit in place of its table's value.
+/// is fixed at a bit.
 pub(crate) fn forced_numbers<F: Functions>(
     alloc: Global,
     functions: &mut F,
@@ -84,7 +89,7 @@ pub(crate) fn forced_numbers<F: Functions>(
     requires sound { IsSound circuit.now }
     requires driven { has (outputs_of circuit.now.tables) name.now ≡ true }
     ensures ok { IfOk result (λ numbers. AreAll F.holds F.tree F.limit functions.new
-        (λ other. has (leaves_of circuit.now) other || has (outputs_of circuit.now.tables) other)
+        (λ other. has (leaf_names circuit.now) other || has (outputs_of circuit.now.tables) other)
         (forced_function circuit.now name.now bit) (number_in numbers)) }
     ensures big { IfErr result (λ fault. Blames fault (λ blamed. (bytes_eq blamed name.now ≡ false)
         × IsBigAt (F.limit functions.old) circuit.now.tables

@@ -1,10 +1,15 @@
-//! The functions that the turn of one table needs, in one object.
+//! The functions needed to simplify one table: its inputs, its output, and where the output is
+//! observable.
+//!
+//! `turn_of` completes the numbers that the caller keeps and reads the answer from them. Callers
+//! rely on `AreSome` for the completed numbers, and on `fits`: an answer means that no function of
+//! a table's signal is above the limit.
 
 ghost use Rattle.std.specs.Prelude.{◌≡◌, ℕ, true, ◌⊎◌, Some, List, map, IfOk, IfErr, OnOk};
 ghost use Rattle.circuit_model.specs.Names.{has};
 ghost use Rattle.circuit_model.specs.Values.{driver};
 ghost use Rattle.circuit_model.specs.Soundness.{outputs_of};
-ghost use Rattle.circuit_model.specs.declared.circuit.Table.{Table as TheTable};
+ghost use Rattle.circuit_model.specs.declared.circuit.Table.{Table};
 ghost use Rattle.func_core.specs.Numbers.{Means, Stays};
 ghost use Rattle.net_func.specs.Numbering.{number_in, has_number, AreSome};
 ghost use Rattle.net_func.specs.Signals.{own_function, free_function, is_seen, AreMeant, AreWithin};
@@ -20,8 +25,8 @@ use circuit_model::Name;
 use func_core::{Func, Functions};
 use std::alloc::{AllocError, Global};
 
-/// The functions of the inputs of a table, in order, that of its own signal, and that of where its
-/// signal is seen from outside.
+/// The functions of a table's inputs in order, that of its output, and that of where its output is
+/// observable.
 #[derive(Drop)]
 pub struct TurnFunctions {
     pub inputs: Vec<Func>,
@@ -40,7 +45,7 @@ fn input_numbers(
     requires driven { has (outputs_of ordered.now.circuit.tables) name.now ≡ true }
     requires known { (signal : List ℕ) → has_number (number_in numbers.now) signal
         ≡ is_signal ordered.now.circuit signal }
-    ensures { IfOk result (λ inputs. (table : TheTable)
+    ensures { IfOk result (λ inputs. (table : Table)
         → driver ordered.now.circuit.tables name.now ≡ Some table
         → map Some inputs.items ≡ map (number_in numbers.now) table.inputs) }
 {
@@ -49,9 +54,9 @@ fn input_numbers(
     numbers.all_known(alloc, table.inputs.as_slice())
 }
 
-/// The functions that the turn of a table of a circuit needs: those of its inputs and of its own
-/// signal over the leaves, and that of where its signal is seen from outside. Own functions and
-/// those of the don't-care part are made where they have no number yet.
+/// The functions needed to simplify a table of a circuit: those of its inputs and of its output
+/// over the leaves, and that of where its output is observable. Functions of signals and of the
+/// don't-care part are made where they have no number yet.
 pub(crate) fn turn_of<F: Functions>(
     alloc: Global,
     functions: &mut F,
@@ -67,7 +72,7 @@ pub(crate) fn turn_of<F: Functions>(
     requires free { AreSome F.holds F.tree F.limit functions.old
         (is_free_signal ordered.now.circuit) (free_function ordered.now.circuit)
         (number_in free.old) }
-    ensures inputs { IfOk result (λ turn. (table : TheTable)
+    ensures inputs { IfOk result (λ turn. (table : Table)
         → driver ordered.now.circuit.tables name.now ≡ Some table
         → AreMeant F.holds F.tree F.limit functions.new table.inputs
         (own_function ordered.now.circuit) turn.inputs.items) }

@@ -1,5 +1,10 @@
-//! The numbers of the signals that a signal does not reach: their functions stay where its table
-//! changes, or where it is fixed.
+//! The numbers of signals outside the transitive fanout of a signal: these functions stay if its
+//! table changes or it is fixed.
+//!
+//! Source: De Micheli, "Synthesis and Optimization of Digital Circuits", chapter 8 (the transitive
+//! fanout of a vertex). Leaves and then tables are visited in topological order; a number is copied
+//! if all inputs of the signal's table were copied. Callers rely on `IsUnreached`: some of the
+//! numbers, not that of the signal, closed under fanin. How many are copied no clause says.
 
 ghost use Rattle.std.specs.Prelude.{◌≡◌, true, None, Some, bytes_eq, IfOk, OnOk};
 ghost use Rattle.std.specs.List.{list_all};
@@ -7,7 +12,7 @@ ghost use Rattle.indexmap.specs.IndexMap.{get};
 ghost use Rattle.circuit_model.specs.Names.{all_different};
 ghost use Rattle.circuit_model.specs.Values.{driver};
 ghost use Rattle.circuit_model.specs.Soundness.{outputs_of};
-ghost use Rattle.circuit_model.specs.declared.circuit.Table.{Table as TheTable};
+ghost use Rattle.circuit_model.specs.declared.circuit.Table.{Table};
 ghost use Rattle.circuit_order.specs.Places.{IsIndex};
 ghost use Rattle.net_func.specs.Numbering.{number_in, has_number};
 ghost use Rattle.net_func.specs.Kept.{IsInOrder, IsUnreached};
@@ -18,11 +23,11 @@ use crate::ordered::OrderedCircuit;
 use circuit_model::{Name, Table};
 use std::alloc::{AllocError, Global};
 
-// Whether all that the table of a signal reads has numbers; so it is where no table drives it.
+// Whether all inputs of a signal's table have numbers; true if no table drives the signal.
 fn reads_known(tables: &[Table], places: &Places, numbers: &Numbers, signal: &Name) -> bool
     requires once { all_different (outputs_of tables.now) ≡ true }
     requires places { IsIndex tables.now (get bytes_eq places.now) }
-    ensures { result ≡ true → (table : TheTable) → driver tables.now signal.now ≡ Some table
+    ensures { result ≡ true → (table : Table) → driver tables.now signal.now ≡ Some table
         → list_all (has_number (number_in numbers.now)) table.inputs ≡ true }
 {
     match place_at(places, signal) {
@@ -31,8 +36,7 @@ fn reads_known(tables: &[Table], places: &Places, numbers: &Numbers, signal: &Na
     }
 }
 
-// Takes over the number of a signal, if it is another one, and all that its table reads has been
-// taken over.
+// Copies the number of a signal, if it is another one and all inputs of its table were copied.
 fn take_over(
     alloc: Global,
     unreached: &mut Numbers,
@@ -61,8 +65,8 @@ fn take_over(
     }
 }
 
-// Takes over the numbers of signals that a signal does not reach; what their tables read has to
-// stand before them.
+// Copies the numbers of signals that a signal does not reach; inputs of their tables must come
+// before them.
 fn take_all_over(
     alloc: Global,
     unreached: &mut Numbers,
@@ -85,8 +89,7 @@ fn take_all_over(
     Ok(())
 }
 
-/// The numbers of the signals that a signal does not reach, among the numbers of all; an error only
-/// for want of memory.
+/// The numbers, among those of all, of the signals that a signal does not reach.
 pub(crate) fn unreached_numbers(
     alloc: Global,
     numbers: &Numbers,

@@ -1,4 +1,4 @@
--- Places that are told for names, one name after the other, and what a set tells.
+-- Indices that are listed for names, one name after the other, and what a set says.
 use Rattle.std.proofs.Common.{◌≡◌, ℕ, suc, ◌+◌, ◌<◌, ◌≤◌, ◌==◌, Bool, true, false, not, ◌&&◌, ◌||◌, if◌then◌else◌, Option, Some, None, List, [], ◌∷◌, take, length, get_or, set, bytes_eq, inl, inr, refl, sym, ap, ◌∙◌, subst, arith}
 use Rattle.std.specs.Prelude.{Result, OnOk, MatchBool}
 use Rattle.std.specs.declared.result.Result.TheVariants.{Ok, Err}
@@ -11,13 +11,13 @@ use Rattle.std.proofs.lemmas.List.{take_all}
 use Rattle.std.proofs.lemmas.List.Folds.{list_any_more}
 use Rattle.circuit_model.specs.Names.{has}
 use Rattle.circuit_laws.proofs.Names.{name_is, name_turned, name_cases}
-use Rattle.net_readers.specs.Readers.{Inputs, in_set, is_in, with_inputs, AreReaders, HasUntold}
+use Rattle.net_readers.specs.Fanouts.{Inputs, in_set, is_in, with_inputs, AreReaders, HasUntold}
 
--- a place is told for each of some names
+-- an index is listed for each of some names
 abbrev pub HasTold : List (List ℕ) → ℕ → (List ℕ → ℕ → Bool) → (List ℕ → ℕ → Bool) → Type 0
 HasTold names place before after = (name : List ℕ) (at : ℕ) → after name at ≡ ((has names name && place == at) || before name at)
 
-name_swapped : (x y : List ℕ) → bytes_eq x y ≡ bytes_eq y x
+pub name_swapped : (x y : List ℕ) → bytes_eq x y ≡ bytes_eq y x
 name_swapped x y =
     elim (name_cases x y) as (λ _. bytes_eq x y ≡ bytes_eq y x) [
       | inl same ↦ name_is x y same ∙ sym (name_is y x (sym same))
@@ -46,7 +46,7 @@ told_more names i place d input before now after lt is h more name at =
     by false false true b = refl
     by false false false b = refl
 
--- names that were read at a place and are read there no more are told no more
+-- names that were read at an index and are no longer read there are no longer listed
 
 pub untold_none : (now : List (List ℕ)) (place : ℕ) (before : List ℕ → ℕ → Bool) → HasUntold [] now place before before
 untold_none now place before = record { others = λ name at apart. refl; gone = λ name h apart. absurd (false≢true h); fewer = λ name h. h }
@@ -88,7 +88,7 @@ untold_more names now i place d input moved before mid after lt is h stays less 
 pub untold_all : (names now : List (List ℕ)) (i place : ℕ) (before after : List ℕ → ℕ → Bool) → length names ≤ i → HasUntold (take i names) now place before after → HasUntold names now place before after
 untold_all names now i place before after le h = subst (λ (ns : List (List ℕ)). HasUntold ns now place before after) (take_all i names le) h
 
--- the inputs of a place give place to others
+-- the inputs at an index are replaced by others
 pub readers_changed : (inputs : Inputs) (place : ℕ) (names now : List (List ℕ)) (before mid after : List ℕ → ℕ → Bool) → HasUntold names now place before mid → HasTold now place mid after
     → AreReaders before inputs → inputs place ≡ names → AreReaders after (with_inputs inputs place now)
 readers_changed inputs place names now before mid after less more all here name at = more name at ∙ by (place == at) refl
@@ -119,7 +119,7 @@ readers_changed inputs place names now before mid after less more all here name 
         ∙ (less.others name at e
         ∙ (all name at ∙ ap (λ (b : Bool). has (if b then now else inputs at) name) (sym e))))
 
--- what a set tells
+-- what a set says
 
 same_any : (place : ℕ) (keys : List ℕ) → list_any (eq_by_cmp nat_cmp place) keys ≡ list_any (λ other. other == place) keys
 same_any place [] = refl
@@ -139,7 +139,7 @@ same_any place (key ∷ keys) = rw (unsigned_tied place key, turned place key, s
 pub set_lists : (set : BTreeSet ℕ) (place : ℕ) → contains nat_cmp set place ≡ is_in set.keys place
 set_lists set place = same_any place set.keys
 
--- whether a set is empty tells whether a place is told
+-- whether a set is empty says whether an index is listed
 pub some_told : (told : ℕ → Bool) (set : BTreeSet ℕ) (empty : Bool) → ((place : ℕ) → told place ≡ contains nat_cmp set place)
     → (empty ≡ true → length set.keys ≡ 0) → (length set.keys ≡ 0 → empty ≡ true) → MatchBool (not empty) ((place : ℕ) × (told place ≡ true)) ((place : ℕ) → told place ≡ false)
 some_told told set empty is there back = by set.keys refl empty refl
@@ -153,11 +153,11 @@ some_told told set empty is there back = by set.keys refl empty refl
     by (key ∷ keys) e true f = absurd (let z : suc (length keys) ≡ 0 = ap length (sym e) ∙ there f in omega (arith, z))
     by (key ∷ keys) e false f = (key, from_keys (key ∷ keys) e key ∙ ap (λ (b : Bool). b || is_in keys key) (eq-eqb key key refl))
 
--- the keys of a set as places
+-- the keys of a set as indices
 pub keys_listed : (set : BTreeSet ℕ) (places : List ℕ) → places ≡ set.keys → (place : ℕ) → is_in places place ≡ contains nat_cmp set place
 keys_listed set places same place = ap (λ (ps : List ℕ). is_in ps place) same ∙ sym (set_lists set place)
 
--- what an option of a set tells
+-- what an optional set says
 pub told_none_at : (o : Option (BTreeSet ℕ)) → o ≡ None → (place : ℕ) → in_set o place ≡ false
 told_none_at o e place = ap (λ (x : Option (BTreeSet ℕ)). in_set x place) e
 

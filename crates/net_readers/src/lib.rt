@@ -1,12 +1,11 @@
-//! Readers of names: for each name the exact set of places at which it is among the inputs, kept
-//! while the inputs of one place after the other change.
+//! The fanouts of names: for each name the exact set of indices at which it is among the inputs,
+//! maintained while the inputs at one index after another change.
 //!
 //! Source: Brayton, Rudell, Sangiovanni-Vincentelli and Wang, "MIS: A Multiple-Level Logic
-//! Optimization System" (1987), the fanout of a node. What stands at the places is the caller's: a
-//! table, an expression. Promised: what is told is what is read, no more and no less
-//! (`specs/Readers.antt`, `AreReaders`). A change goes over the names before and behind it, and
-//! over nothing else; no clause says so. Each error is want of memory; behind it what is told
-//! counts for nothing.
+//! Optimization System" (1987), the fanout of a node. What is stored at an index is up to the
+//! caller: a table, an expression. Promised: the indices listed for a name are exactly those at
+//! which it is read (`specs/Fanouts.antt`, `AreReaders`). A change visits the old and the new
+//! inputs and nothing else; no clause says so. After an error the fanouts have no meaning.
 #![tactic(auto)]
 
 ghost use Rattle.std.specs.Prelude.{◌≡◌, ◌==◌, ◌&&◌, ◌||◌, ◌<◌, ℕ, not, Bool, true, false, Some, None, List, [], ◌∷◌, bytes_eq, if◌then◌else◌, MatchBool, IfOk, OnOk};
@@ -15,7 +14,7 @@ ghost use Rattle.std.specs.Ordering.{nat_cmp};
 ghost use Rattle.std.specs.BTreeSet.{contains};
 ghost use Rattle.indexmap.specs.IndexMap.{get};
 ghost use Rattle.circuit_model.specs.Names.{has};
-ghost use Rattle.net_readers.specs.Readers.{Inputs, in_set, told, is_in, with_inputs, AreReaders, HasUntold};
+ghost use Rattle.net_readers.specs.Fanouts.{Inputs, in_set, told, is_in, with_inputs, AreReaders, HasUntold};
 
 use circuit_model::Name;
 use indexmap::IndexMap;
@@ -23,22 +22,22 @@ use sis_base::{Copied, Sequence};
 use std::alloc::{AllocError, Global};
 use std::collections::BTreeSet;
 
-/// Places, by number.
+/// Indices of nodes.
 pub type Places = Sequence<usize>;
 
-/// For each name the places at which it is read.
-pub struct Readers {
+/// For each name the indices at which it is read.
+pub struct Fanouts {
     pub(crate) sets: IndexMap<Name, BTreeSet<usize>>,
 }
 
-// By hand, so that letting readers go is one call in the functions that own them.
-impl Drop for Readers {
+// By hand, so that functions that own fanouts drop them in one call.
+impl Drop for Fanouts {
     fn drop(self) {
-        let Readers { sets: _sets } = self;
+        let Fanouts { sets: _sets } = self;
     }
 }
 
-// Takes the set of a name out; one without readers has the empty set.
+// Removes and returns the set of a name; an empty set if there is none.
 fn take_set(
     alloc: Global,
     sets: &mut IndexMap<Name, BTreeSet<usize>>,
@@ -55,7 +54,7 @@ fn take_set(
     }
 }
 
-// Puts the set of a name in.
+// Sets the set of a name.
 fn put_set(
     sets: &mut IndexMap<Name, BTreeSet<usize>>,
     name: Name,
@@ -69,7 +68,7 @@ fn put_set(
     Ok(())
 }
 
-// Whether a place is told for a name.
+// Whether an index is listed for a name.
 fn is_told(sets: &IndexMap<Name, BTreeSet<usize>>, name: &Name, place: usize) -> bool
     ensures { result ≡ in_set (get bytes_eq sets.now name.now) place }
 {
@@ -79,7 +78,7 @@ fn is_told(sets: &IndexMap<Name, BTreeSet<usize>>, name: &Name, place: usize) ->
     }
 }
 
-// Tells a place for a name.
+// Lists an index for a name.
 fn tell(
     alloc: Global,
     sets: &mut IndexMap<Name, BTreeSet<usize>>,
@@ -99,7 +98,7 @@ fn tell(
     put_set(sets, key, set)
 }
 
-// Tells a place no more for a name.
+// Removes an index from those of a name.
 fn untell(
     alloc: Global,
     sets: &mut IndexMap<Name, BTreeSet<usize>>,
@@ -117,7 +116,7 @@ fn untell(
     put_set(sets, key, set)
 }
 
-// Tells a place for each of some names.
+// Lists an index for each of some names.
 fn tell_all(
     alloc: Global,
     sets: &mut IndexMap<Name, BTreeSet<usize>>,
@@ -134,7 +133,7 @@ fn tell_all(
     Ok(())
 }
 
-// Whether a name stands at a place of a list.
+// Whether a list has the name at an index.
 fn is_at(names: &[Name], place: usize, name: &Name) -> bool
     ensures { result ≡ true → has names.now name.now ≡ true }
 {
@@ -144,8 +143,8 @@ fn is_at(names: &[Name], place: usize, name: &Name) -> bool
     }
 }
 
-// A name that was read before, and that does not stand at the same place of its inputs now, is told
-// no more.
+// Removes the index from those of a name that was read before, if the name is no longer the same
+// input.
 fn untell_moved(
     alloc: Global,
     sets: &mut IndexMap<Name, BTreeSet<usize>>,
@@ -164,8 +163,8 @@ fn untell_moved(
     Ok(())
 }
 
-// The names that were read before are told no more, but those that stand at the same places of its
-// inputs now.
+// Removes the index from those of the names that were read before, except the names that are still
+// the same input.
 fn untell_changed(
     alloc: Global,
     sets: &mut IndexMap<Name, BTreeSet<usize>>,
@@ -184,7 +183,7 @@ fn untell_changed(
     Ok(())
 }
 
-// The places of a set, in rising order.
+// The indices of a set, in increasing order.
 fn places_in(alloc: Global, set: &BTreeSet<usize>) -> Result<Places, AllocError>
     ensures keys { IfOk result (λ places. places ≡ set.now.keys) }
     ensures rising { IsStrictlyIncreasing set.now.keys }
@@ -196,17 +195,17 @@ fn places_in(alloc: Global, set: &BTreeSet<usize>) -> Result<Places, AllocError>
     Ok(places)
 }
 
-impl Readers {
-    /// The readers where nothing is read; takes no memory.
-    pub fn of_none(alloc: Global) -> Readers
+impl Fanouts {
+    /// The fanouts if nothing is read; allocates nothing.
+    pub fn of_none(alloc: Global) -> Fanouts
         ensures { AreReaders (told result) (λ place. []) }
     {
-        Readers {
+        Fanouts {
             sets: IndexMap::new(alloc),
         }
     }
 
-    /// Whether a name is read at some place.
+    /// Whether a name has a fanout.
     pub fn has_readers(&self, name: &Name) -> bool
         ensures { MatchBool result ((place : ℕ) × (told self.now name.now place ≡ true))
             ((place : ℕ) → told self.now name.now place ≡ false) }
@@ -217,8 +216,7 @@ impl Readers {
         }
     }
 
-    /// The places at which a name is read, each once, in rising order; an error only for want of
-    /// memory.
+    /// The indices at which a name is read, each once, in increasing order.
     pub fn places(&self, alloc: Global, name: &Name) -> Result<Places, AllocError>
         ensures exact { IfOk result (λ places. (place : ℕ)
             → is_in places place ≡ told self.now name.now place) }
@@ -230,8 +228,8 @@ impl Readers {
         }
     }
 
-    /// How many places read a name, which no clause says: it serves to choose between ways, for
-    /// speed alone.
+    /// The number of a name's fanouts. No clause says so: it serves to choose between equivalent
+    /// methods, for speed alone.
     pub fn count(&self, name: &Name) -> usize {
         match self.sets.get(name) {
             None => 0,
@@ -239,8 +237,8 @@ impl Readers {
         }
     }
 
-    /// At a place the names that were read there give place to others, to none where what stood
-    /// there goes; an error only for want of memory.
+    /// Replaces the names that are read at an index by others, or by none if the node there is
+    /// removed.
     pub fn change(
         &mut self,
         alloc: Global,
@@ -256,7 +254,7 @@ impl Readers {
         tell_all(alloc, &mut self.sets, now, place)
     }
 
-    /// At a place where nothing is read some names are read; an error only for want of memory.
+    /// Adds the names that are read at an index at which nothing was read.
     pub fn add(&mut self, alloc: Global, place: usize, names: &[Name]) -> Result<(), AllocError>
         ensures { OnOk result ((inputs : Inputs) → AreReaders (told self.old) inputs
             → inputs place ≡ [] → AreReaders (told self.new) (with_inputs inputs place names.now)) }

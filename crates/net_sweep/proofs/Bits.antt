@@ -1,6 +1,7 @@
 -- Tables that have one bit at every point.
-use Rattle.std.proofs.Common.{◌≡◌, ℕ, zero, suc, Bool, true, false, not, ◌&&◌, eqb, if◌then◌else◌, Some, None, List, [], ◌∷◌, length, map, refl, sym, ap, ◌∙◌, subst, arith, inl, inr, ◌⊎◌}
+use Rattle.std.proofs.Common.{◌≡◌, ℕ, zero, suc, Bool, true, false, not, eqb, if◌then◌else◌, Some, None, List, [], ◌∷◌, length, map, refl, sym, ap, ◌∙◌, subst, arith, inl, inr, ◌⊎◌}
 use Rattle.std.proofs.lemmas.Bool.Decides.{nat_tests}
+use Rattle.std.proofs.lemmas.Bool.{and_from, and_parts}
 use Rattle.sis_base.specs.Rows.{matches, some_matches, value_by_phase, phase_value}
 use Rattle.circuit_model.specs.Values.{literal_of, table_value}
 use Rattle.circuit_model.specs.declared.circuit.Tri.{Tri}
@@ -10,19 +11,12 @@ use Rattle.cube_cover.specs.Covers.{IsTautology}
 use Rattle.net_core.specs.Tables.{HasCharacters, places_of}
 use Rattle.net_wires.specs.Points.{every_point, constant_bit}
 
-and_true : (a b : Bool) → a ≡ true → b ≡ true → (a && b) ≡ true
-and_true a b h k = rw (h, k) refl
-
-and_parts : (a b : Bool) → (a && b) ≡ true → (a ≡ true) × (b ≡ true)
-and_parts true b h = (refl, h)
-and_parts false b h = let z : false ≡ true = h in absurd cc
-
 -- a test that holds at every point, and at each one
 pub every_holds : (width : ℕ) (test : List Bool → Bool) → ((point : List Bool) → length point ≡ width → test point ≡ true) → every_point width test ≡ true
 unfolding every_point
 every_holds zero test h = h [] refl
 every_holds (suc width) test h =
-    and_true (every_point width (λ point. test (false ∷ point))) (every_point width (λ point. test (true ∷ point)))
+    and_from (every_point width (λ point. test (false ∷ point))) (every_point width (λ point. test (true ∷ point)))
     (every_holds width (λ point. test (false ∷ point)) (λ p e. h (false ∷ p) (omega (arith, e))))
     (every_holds width (λ point. test (true ∷ point)) (λ p e. h (true ∷ p) (omega (arith, e))))
 

@@ -6,6 +6,7 @@ use Rattle.circuit_model.specs.Soundness.{IsSound, outputs_of}
 use Rattle.circuit_model.specs.declared.circuit.Table.{Table}
 use Rattle.circuit_model.specs.declared.circuit.Circuit.{Circuit}
 use Rattle.circuit_laws.specs.Chains.{Chain}
+use Rattle.circuit_laws.proofs.Chains.{chain_none, chain_before}
 use Rattle.circuit_laws.specs.Edits.{constant_table}
 use Rattle.circuit_laws.proofs.Drivers.{output_driver}
 use Rattle.std.proofs.lemmas.Bool.{false≢true}
@@ -38,7 +39,7 @@ move_sound from to sound turn =
 move_ends : (from to end : Circuit) → IsSound from → IsMove from to → Chain sweep_step to end → Chain sweep_step from end
 move_ends from to end sound turn chain =
     elim turn as (λ _. Chain sweep_step from end) [
-      | inl step ↦ record { between = to ∷ chain.between; leads = (step, chain.leads); finished = chain.finished }
+      | inl step ↦ chain_before sweep_step from to end step chain
       | inr emptied ↦ (let (name, idle, is) = emptied in emptied_ends from end name sound idle (subst (λ (c : Circuit). Chain sweep_step c end) is chain))
     ]
 
@@ -65,7 +66,7 @@ pub led_through : (from to end : Circuit) → HasLed from to → HasLed to end �
 led_through from to end h k = record { between = h.between ++ k.between; goes = goes_through h.between k.between from to end h.goes k.goes; sound = k.sound }
 
 pub at_end : (from to : Circuit) → IsSound from → HasLed from to → sweep_step to ≡ None → Chain sweep_step from to
-at_end from to sound h e = goes_ends h.between from to to sound h.goes (record { between = []; leads = refl; finished = e })
+at_end from to sound h e = goes_ends h.between from to to sound h.goes (chain_none sweep_step to e)
 
 -- a step of the rules that change tables is a step; where they do not apply the other rules decide
 pub table_step_is : (circuit next : Circuit) → table_step circuit ≡ Some next → sweep_step circuit ≡ Some next

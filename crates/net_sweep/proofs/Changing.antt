@@ -1,4 +1,4 @@
--- What rules change: tables at some places, and nothing that no table read before is read after.
+-- What rules change: the tables at some indices; nothing is read after that no table read before.
 use Rattle.std.proofs.Common.{◌≡◌, ℕ, zero, suc, ◌+◌, ◌<◌, ◌≤◌, ◌==◌, Bool, true, false, not, ◌||◌, if◌then◌else◌, Option, Some, None, is_some, List, [], ◌∷◌, take, length, map, set, get_or, find, slice_get, bytes_eq, inl, inr, ◌⊎◌, refl, sym, ap, ◌∙◌, subst, arith}
 use Rattle.std.specs.Prelude.{Result, OnOk}
 use Rattle.std.specs.declared.result.Result.TheVariants.{Ok, Err}
@@ -32,7 +32,7 @@ use Rattle.net_sweep.specs.declared.applying.Change.TheVariants.{Bit, Input}
 use Rattle.circuit_tables.specs.Tidy.{IsWide}
 use Rattle.net_sweep.specs.Settled.{IsFirst}
 use Rattle.net_sweep.specs.Settled.{passes, rule_applied, table_step, IsNext, changed_by, is_apart, may_apply_to_written, AreWaiting, AreCandidates, IsAlike, IsAlikeThere, AreAlikeBut, AreSound}
-use Rattle.net_readers.specs.Readers.{is_in}
+use Rattle.net_readers.specs.Fanouts.{is_in}
 use Rattle.net_wires.specs.Aliases.{inputs_at}
 use Rattle.net_wires.proofs.Reading.{inputs_here}
 use Rattle.net_sweep.proofs.Marking.{read_by, reads_at}
@@ -124,7 +124,7 @@ marked_for_each marked tables a b c d CollapseSingleInput = d
 
 -- tables of which the rules find the same
 
--- tables are the same but at some places
+-- tables are the same except at some indices
 abbrev AreSameBut : List ℕ → List Table → List Table → Type 0
 AreSameBut places old new = (place : ℕ) → is_in places place ≡ false → slice_get new place ≡ slice_get old place
 
@@ -135,7 +135,7 @@ alike_itself (Some table) = record { output = refl; tidy = refl; unwritten = ref
 same_alike : (places : List ℕ) (old new : List Table) → AreSameBut places old new → AreAlikeBut places old new
 same_alike places old new same place none = subst (IsAlikeThere (slice_get old place)) (sym (same place none)) (alike_itself (slice_get old place))
 
--- where a table stands now, a table of which the rules find the same stood before
+-- if there is a table now, there was one before that is alike for the rules
 pub alike_before : (places : List ℕ) (old new : List Table) (place : ℕ) (table : Table) → AreAlikeBut places old new → is_in places place ≡ false → slice_get new place ≡ Some table
     → (before : Table) × (slice_get old place ≡ Some before) × IsAlike before table
 alike_before places old new place table alike none at = by (slice_get old place) refl (subst (IsAlikeThere (slice_get old place)) at (alike place none))
@@ -144,7 +144,7 @@ alike_before places old new place table alike none at = by (slice_get old place)
     by None e never = absurd never
     by (Some before) e like = (before, e, like)
 
--- a table gives place to one that reads no more
+-- a table is replaced by one that reads no more
 
 pub there : {X : Type 0} (items : List X) (place : ℕ) → place < length items → (item : X) × (slice_get items place ≡ Some item)
 there [] place lt = absurd (omega (arith, lt))
@@ -158,7 +158,7 @@ same_but_one tables place made i none = cases (place == i) refl none
     cases true e h = absurd (false≢true (sym h))
     cases false e h = get_set_other tables place i made (λ same. eqb-false place i e (sym same))
 
--- the table at a place of the new list: the new one, or the old one there
+-- the table at an index of the new list: the new one, or the old one there
 pub at_set : (P : Table → Type 0) (tables : List Table) (place : ℕ) (old made : Table) (i : ℕ) (table : Table) → slice_get tables place ≡ Some old → slice_get (set tables place made) i ≡ Some table
     → (i ≡ place → P made) → (slice_get tables i ≡ Some table → P table) → P table
 at_set P tables place old made i table at here new same = cases (place == i) refl
@@ -176,7 +176,7 @@ set_reads tables place old made at less name h =
     at_set (λ (t : Table). has t.inputs name ≡ true → has (table_inputs tables) name ≡ true) tables place old made i table at here
     (λ z k. reads_at tables place old name at (less name k)) (λ there k. reads_at tables i table name there k) reads
 
--- a table in which a signal has a bit or gives place to another one
+-- a table in which a signal is replaced by a bit or by another signal
 
 apart_names : (name to : List ℕ) → not (bytes_eq name to) ≡ true → bytes_eq name to ≡ false
 apart_names name to h = by (bytes_eq name to) h
@@ -200,7 +200,7 @@ changed_shaped name (Input to inverts) table shaped = rewired_shaped name to inv
 changed_again : (name : List ℕ) (change : Change) (table : Table) → is_apart name change ≡ true → all_different table.inputs ≡ true → changed_by name change (changed_by name change table) ≡ changed_by name change table
 changed_again name change table apart once = unread_same name change (changed_by name change table) (changed_without name change table apart once)
 
--- the signal that comes in the place of another one
+-- the signal that replaces another one
 abbrev pub IsComing : Change → List ℕ → Type 0
 IsComing (Bit bit) name = ⊥
 IsComing (Input to inverts) name = name ≡ to
@@ -209,7 +209,7 @@ changed_reads : (name : List ℕ) (change : Change) (table : Table) (x : List �
 changed_reads name (Bit bit) table x h = inl (at_reads name bit table x h)
 changed_reads name (Input to inverts) table x h = rewired_reads name to inverts table x h
 
--- items at places
+-- items by index
 
 pub unmapped : {X Y : Type 0} (f : X → Y) (items : List X) (place : ℕ) (y : Y) → slice_get (map f items) place ≡ Some y → (x : X) × (slice_get items place ≡ Some x) × (f x ≡ y)
 unmapped f [] place y at = let z : None ≡ Some y = at in absurd cc
@@ -267,7 +267,7 @@ map_reads name change tables coming x h =
       | inr new ↦ coming x new.0
     ]
 
--- some places are changed already
+-- some indices are changed already
 pub record IsPartly (turn : Table → Table) (done : List ℕ) (old new : Circuit) : Type 0 where
   pub same : new ≡ with_tables old new.tables
   pub each : (place : ℕ) → slice_get new.tables place ≡ (if is_in done place then option_map turn (slice_get old.tables place) else slice_get old.tables place)
@@ -489,7 +489,7 @@ written_asks WriteConstant tables table tidy h = refl
 written_asks PropagateConstant tables table tidy h = refl
 written_asks CollapseSingleInput tables table tidy h = refl
 
--- what rules write is tidy: a table that is not stood there before
+-- what rules write is tidy: a table that is not was there before
 abbrev pub Tidies : List Table → List Table → Type 0
 Tidies old new = (place : ℕ) (table : Table) → slice_get new place ≡ Some table → is_tidy table ≡ false → slice_get old place ≡ Some table
 
@@ -643,7 +643,7 @@ applied_candidates rule circuit new place places now before after sound lt all t
     (λ name h. applied_reads rule circuit place table sound at name (subst (λ (c : Circuit). has (table_inputs c.tables) name ≡ true) (turned table at) h))
     (λ r i asks h. put r i asks (subst (λ (ps : List ℕ). is_in ps i ≡ true) (sym same) h)) kept
 
--- the table at one place is changed
+-- the table at one index is changed
 pub set_changed : (turn : Table → Table) (circuit new : Circuit) (place : ℕ) (here made : Table) → slice_get circuit.tables place ≡ Some here → made ≡ turn here → new ≡ with_tables circuit (set circuit.tables place made)
     → (other : ℕ) → slice_get new.tables other ≡ (if place == other then option_map turn (slice_get circuit.tables other) else slice_get circuit.tables other)
 set_changed turn circuit new place here made at is n other =

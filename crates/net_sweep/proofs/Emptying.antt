@@ -1,4 +1,4 @@
--- A table that nothing takes is emptied.
+-- A table without fanout is emptied.
 use Rattle.std.proofs.Common.{◌≡◌, ℕ, suc, Bool, true, false, not, ◌&&◌, ◌||◌, Option, Some, None, is_some, List, [], ◌∷◌, map, set, slice_get, bytes_eq, refl, sym, ap, ◌∙◌, subst}
 use Rattle.std.proofs.lemmas.Bool.{false≢true}
 use Rattle.circuit_model.specs.Names.{has, all_different}
@@ -19,13 +19,13 @@ use Rattle.net_wires.specs.Rules.{unwritten_bit}
 use Rattle.net_sweep.specs.declared.queues.Rule.{Rule}
 use Rattle.net_sweep.specs.declared.queues.Rule.TheVariants.{TidyTable, WriteConstant, PropagateConstant, CollapseSingleInput}
 use Rattle.net_sweep.specs.Settled.{passes, listed, AreWaiting, AreCandidates, AreSound, HasLed}
-use Rattle.net_readers.specs.Readers.{is_in}
+use Rattle.net_readers.specs.Fanouts.{is_in}
 use Rattle.net_sweep.specs.Latches.{left_at, with_latches, is_fixed, AreInFanout, IsPlaced, IsBeside}
 use Rattle.net_sweep.proofs.Changing.{set_reads, set_names, at_set, still_passes}
 use Rattle.net_sweep.proofs.Latching.{sound_tables, fixed_same}
 use Rattle.net_sweep.proofs.Chaining.{one_emptied}
 
--- a signal that is told for nothing is taken by nothing
+-- a signal that is listed for nothing is read by nothing
 
 left_input : (slots : List (Option Latch)) (name : List ℕ) → has (map (λ (latch : Latch). latch.input) (left_at slots)) name ≡ true → (place : ℕ) × (latch : Latch) × (slice_get slots place ≡ Some (Some latch)) × (bytes_eq name latch.input ≡ true)
 unfolding left_at
@@ -61,7 +61,7 @@ unfolding is_read dont_care_reads
 untaken_read circuit slots fanout places read marked name h tables cares =
     ap (λ (b : Bool). b || (not (has (outputs_of circuit.dont_care) name) && has (table_inputs circuit.dont_care) name)) tables ∙ (sym (h.read name) ∙ cares)
 
--- the constant is put at the place
+-- the constant is set at the index
 pub emptied_set : (circuit new : Circuit) (place : ℕ) (name : List ℕ) (made : Table) → made ≡ constant_table name false → new ≡ with_tables circuit (set circuit.tables place made)
     → new ≡ with_tables circuit (set circuit.tables place (constant_table name false))
 emptied_set circuit new place name made is n = n ∙ ap (λ (table : Table). with_tables circuit (set circuit.tables place table)) is
@@ -113,7 +113,7 @@ emptied_marked circuit new place table at unread is marks all = subst (λ (c : C
         (has_not (table_inputs (set circuit.tables place (constant_table table.output false))) table.output (λ h. false≢true (sym unread ∙ less table.output h)))) ∙ k)))
         (λ old k. all rule i other old (still_passes rule circuit.tables (set circuit.tables place (constant_table table.output false)) other less k)) passed
 
--- what stands beside the circuit tells of the new one
+-- what is maintained beside the circuit is right for the new one
 pub emptied_beside : (circuit new : Circuit) (slots : List (Option Latch)) (fanout : List ℕ → Option (List ℕ)) (places : List ℕ → Option ℕ) (read : List (List ℕ)) (marked : ℕ → Bool) (place : ℕ) (table : Table)
     → AreSound circuit.tables → IsBeside slots fanout places read marked circuit → slice_get circuit.tables place ≡ Some table → fanout table.output ≡ None
     → new ≡ with_tables circuit (set circuit.tables place (constant_table table.output false)) → IsBeside slots fanout places read marked new

@@ -1,4 +1,5 @@
--- Places that wait, latches that are listed under their inputs, and tables that are placed, one after the other.
+-- Indices that wait, latches that are listed under their inputs, and tables that are indexed, one
+-- after the other.
 use Rattle.std.proofs.Common.{◌≡◌, ℕ, zero, suc, ◌+◌, ◌<◌, ◌≤◌, ◌==◌, Bool, true, false, ◌||◌, if◌then◌else◌, Option, Some, None, is_some, List, [], ◌∷◌, ◌++◌, take, length, map, get_or, slice_get, bytes_eq, inl, inr, refl, sym, ap, ◌∙◌, subst, arith}
 use Rattle.std.proofs.lemmas.List.{take_all, take_more}
 use Rattle.std.proofs.lemmas.Bool.{false≢true, eqb-true}
@@ -13,13 +14,13 @@ use Rattle.circuit_laws.proofs.Names.{same_name, has_head, different_head, diffe
 use Rattle.net_wires.specs.Points.{written_bit}
 use Rattle.net_wires.specs.Needed.{dont_care_reads}
 use Rattle.net_sweep.specs.Settled.{listed, AreWaiting}
-use Rattle.net_readers.specs.Readers.{is_in}
+use Rattle.net_readers.specs.Fanouts.{is_in}
 use Rattle.net_sweep.specs.Latches.{left_at, is_fixed, IsPlaced, AreInFanout, IsBeside}
 use Rattle.net_sweep.proofs.Marking.{has_more, taken_cases, listed_none, listed_more, listed_kept}
 use Rattle.net_sweep.proofs.Changing.{unmapped}
 use Rattle.net_sweep.proofs.Latching.{placed_more}
 
--- places are put in one by one
+-- indices are added one by one
 pub record HasPut (places : List ℕ) (before after : ℕ → Bool) : Type 0 where
   pub put : (place : ℕ) → is_in places place ≡ true → after place ≡ true
   pub kept : (place : ℕ) → before place ≡ true → after place ≡ true
@@ -126,7 +127,7 @@ under_slots lists latches h place latch at =
     let (found, there, is) = unmapped Some latches place (Some latch) at in
     h place latch (there ∙ is)
 
--- a place for each latch
+-- a slot for each latch
 pub left_all : (latches : List Latch) → left_at (map Some latches) ≡ latches
 unfolding left_at
 left_all [] = refl
@@ -154,7 +155,7 @@ pub left_more : (slots : List (Option Latch)) (i : ℕ) (slot : Option Latch) �
 left_more slots i slot lt is =
     ap left_at (take_more slots i slot lt) ∙ (left_append (take i slots) (get_or slots i slot ∷ []) ∙ ap (λ (s : Option Latch). left_at (take i slots) ++ left_at (s ∷ [])) (sym is))
 
--- tables are placed one by one
+-- tables are indexed one by one
 pub placed_next : (places after : List ℕ → Option ℕ) (tables : List Table) (i : ℕ) (table : Table) (key : List ℕ) → all_different (outputs_of tables) ≡ true → i < length tables → table ≡ get_or tables i table → key ≡ table.output
     → IsPlaced places (outputs_of (take i tables)) → ((other : List ℕ) → after other ≡ (if bytes_eq key other then Some i else places other)) → IsPlaced after (outputs_of (take (i + 1) tables))
 placed_next places after tables i table key differ lt is k h put =
@@ -199,7 +200,7 @@ placed_next places after tables i table key differ lt is k h put =
 pub all_placed : (places : List ℕ → Option ℕ) (tables : List Table) (i : ℕ) → length tables ≤ i → IsPlaced places (outputs_of (take i tables)) → IsPlaced places (outputs_of tables)
 all_placed places tables i le h = subst (λ (ts : List Table). IsPlaced places (outputs_of ts)) (take_all i tables le) h
 
--- what stands beside a circuit at first
+-- what is maintained beside a circuit at first
 pub begun_beside : (circuit : Circuit) (latches : List Latch) (tables : List Table) (slots : List (Option Latch)) (fanout : List ℕ → Option (List ℕ)) (places : List ℕ → Option ℕ) (read : List (List ℕ)) (marked : ℕ → Bool) (count : ℕ)
     → tables ≡ circuit.tables → count ≡ length latches → slots ≡ map Some latches → AreUnder fanout latches → HasNoted fanout circuit.outputs → IsPlaced places (outputs_of tables) → ((name : List ℕ) → has read name ≡ dont_care_reads circuit name)
     → ((place : ℕ) → place < count → marked place ≡ true) → IsBeside slots fanout places read marked circuit

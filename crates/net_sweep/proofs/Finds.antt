@@ -1,4 +1,4 @@
--- Items by their places, and the widths of the tables of a sound circuit.
+-- Items by index, and the widths of the tables of a sound circuit.
 use Rattle.std.proofs.Common.{◌≡◌, ℕ, Bool, ◌∙◌, zero, suc, ◌<◌, Some, None, List, [], ◌∷◌, length, sym, ap, arith}
 use Rattle.std.specs.List.{slice_get, count_by, AllByRecursion}
 use Rattle.std.proofs.lemmas.List.Elements.{filter_agree}

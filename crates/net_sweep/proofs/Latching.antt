@@ -1,4 +1,5 @@
--- Latches at places: where the tables stand, which latches always have one bit, and what the step does that fixes one.
+-- Latches in slots: the indices of the tables, which latches always hold one bit, and the step that
+-- fixes one.
 use Rattle.std.proofs.Common.{◌≡◌, ℕ, zero, suc, ◌<◌, ◌≤◌, Bool, true, false, not, ◌&&◌, ◌||◌, ◌==◌, cond, if◌then◌else◌, Option, Some, None, is_some, List, [], ◌∷◌, ◌++◌, length, map, set, find, slice_get, bytes_eq, inl, inr, refl, sym, ap, ◌∙◌, subst, arith}
 use Rattle.std.specs.Option.{option_map_or}
 use Rattle.std.proofs.lemmas.Bool.{false≢true, eqb-true, eqb-false}
@@ -23,7 +24,7 @@ use Rattle.net_wires.specs.Needed.{dont_care_reads}
 use Rattle.net_wires.specs.Rules.{fixed_bit, bit_from_start, starts_at}
 use Rattle.net_sweep.specs.declared.queues.Rule.{Rule}
 use Rattle.net_sweep.specs.Settled.{rule_applied, listed, may_apply_to_written, AreWaiting, AreCandidates, AreAlikeBut, AreSound}
-use Rattle.net_readers.specs.Readers.{is_in}
+use Rattle.net_readers.specs.Fanouts.{is_in}
 use Rattle.net_sweep.specs.Latches.{left_at, slot_bit, is_fixed, IsFirstFixed, IsPlaced, AreInFanout, IsBeside}
 use Rattle.net_sweep.proofs.Marking.{least_first, read_by, reads_at}
 use Rattle.net_sweep.proofs.Changing.{there, alike_before, still_passes, constant_tidy, written_asks, applied_names, applied_cares, applied_outputs}
@@ -32,7 +33,7 @@ use Rattle.net_sweep.proofs.Changing.{there, alike_before, still_passes, constan
 pub sound_tables : (circuit : Circuit) → IsSound circuit → AreSound circuit.tables
 sound_tables circuit h = record { differ = tables_differ circuit h; shaped = h.shaped; table_inputs_once = h.table_inputs_once; acyclic = h.acyclic }
 
--- names and their places
+-- names and their indices
 
 has_at : (names : List (List ℕ)) (name : List ℕ) → has names name ≡ true → (place : ℕ) × (slice_get names place ≡ Some name)
 has_at [] name h = absurd (false≢true h)
@@ -57,7 +58,7 @@ named_at [] place name at = let z : None ≡ Some name = at in absurd cc
 named_at (first ∷ tables) zero name at = (first, refl, same_Some first.output name at)
 named_at (first ∷ tables) (suc place) name at = named_at tables place name at
 
--- places of names lead to tables
+-- the indices of names lead to tables
 pub placed_leads : (places : List ℕ → Option ℕ) (tables : List Table) → all_different (outputs_of tables) ≡ true → IsPlaced places (outputs_of tables) → LeadsToTables places tables
 placed_leads places tables differ h signal = cases (places signal) refl
   where
@@ -71,7 +72,7 @@ placed_leads places tables differ h signal = cases (places signal) refl
         let (table, at, is) = named_at tables i signal (h.only signal i e) in
         at ∙ sym (subst (λ (n : List ℕ). driver tables n ≡ Some table) is (placed_driver tables i table differ at))
 
--- one more name is placed, last
+-- one more name is indexed, last
 pub placed_more : (before after : List ℕ → Option ℕ) (names : List (List ℕ)) (name : List ℕ) → IsPlaced before names → has names name ≡ false
     → ((other : List ℕ) → after other ≡ (if bytes_eq name other then Some (length names) else before other)) → IsPlaced after (names ++ name ∷ [])
 placed_more before after names name h new put = record { placed = placed; only = λ other place e. only other place (bytes_eq name other) refl (sym (put other) ∙ e) }
@@ -132,8 +133,8 @@ fixed_written circuit latch h = by (driver circuit.tables latch.input) refl h
     by None e k = absurd (false≢true k)
     by (Some table) e k = (table, e, written (written_bit table) k)
 
--- after some tables have changed, the latches wait that have one bit: those that had one before, and those that read a
--- changed table which is a constant now
+-- after some tables have changed, the latches wait that have one bit: those that had one before,
+-- and those that read a changed table which is a constant now
 pub waiting_applied : (slots : List (Option Latch)) (lists : List ℕ → Option (List ℕ)) (places : List ℕ → Option ℕ) (old new : Circuit) (changed : List ℕ) (before after : ℕ → Bool)
     → all_different (outputs_of old.tables) ≡ true → IsPlaced places (outputs_of old.tables) → outputs_of new.tables ≡ outputs_of old.tables → new.dont_care ≡ old.dont_care
     → AreAlikeBut changed old.tables new.tables → AreInFanout lists slots → AreWaiting (is_fixed old) before slots
@@ -195,7 +196,7 @@ added_cares : (circuit : Circuit) (table : Table) (name : List ℕ) → dont_car
 unfolding with_added
 added_cares circuit table name = cares_same circuit (record circuit { tables = circuit.tables ++ table ∷ [] }) name refl
 
--- a latch's place is cleared
+-- a latch's slot is cleared
 
 cleared : (slots : List (Option Latch)) (place other : ℕ) (here latch : Latch) → slice_get slots place ≡ Some (Some here) → slice_get (set slots place None) other ≡ Some (Some latch) → slice_get slots other ≡ Some (Some latch)
 cleared slots place other here latch there at = cases (other == place) refl
@@ -285,7 +286,7 @@ none_left circuit (Some first ∷ slots) h = cases (is_some (fixed_bit circuit f
     cases true k rest = let z : Some (Some first) ≡ None = k in absurd cc
     cases false k rest = rest k
 
--- the latches that are left when one goes
+-- the remaining latches after one is removed
 
 pub left_has : (slots : List (Option Latch)) (place : ℕ) (latch : Latch) → slice_get slots place ≡ Some (Some latch) → has (map (λ (l : Latch). l.output) (left_at slots)) latch.output ≡ true
 unfolding left_at
@@ -316,7 +317,7 @@ left_cleared (Some first ∷ slots) (suc place) latch differ at =
     ap (λ (b : Bool). cond (not b) (first ∷ latches_kept (is_other latch.output) (left_at slots)) (latches_kept (is_other latch.output) (left_at slots))) apart
     ∙ ap (λ (ls : List Latch). first ∷ ls) (left_cleared slots place latch (different_tail first.output (map (λ (x : Latch). x.output) (left_at slots)) differ) at)
 
--- what stands beside the circuit afterwards
+-- what is maintained beside the circuit afterwards
 
 pub applied_beside : (rule : Rule) (circuit new : Circuit) (place : ℕ) (slots : List (Option Latch)) (fanout : List ℕ → Option (List ℕ)) (places : List ℕ → Option ℕ) (read : List (List ℕ)) (before after : ℕ → Bool) (changed now : List ℕ)
     → AreSound circuit.tables → place < length circuit.tables → IsBeside slots fanout places read before circuit

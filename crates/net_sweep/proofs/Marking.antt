@@ -1,4 +1,4 @@
--- Places that are marked, and readers that are listed.
+-- Indices that are marked, and fanouts that are listed.
 use Rattle.std.proofs.Common.{◌≡◌, ℕ, zero, suc, ◌+◌, ◌<◌, ◌≤◌, ◌==◌, Bool, true, false, not, ◌&&◌, ◌||◌, cond, if◌then◌else◌, Option, Some, None, List, [], ◌∷◌, ◌++◌, take, length, get_or, find, slice_get, bytes_eq, inl, inr, ◌⊎◌, refl, sym, ap, ◌∙◌, subst, arith}
 use Rattle.std.specs.Option.{option_map_or}
 use Rattle.std.specs.Prelude.{IfNone}
@@ -12,7 +12,7 @@ use Rattle.circuit_laws.proofs.Names.{has_either, has_front, has_back, name_itse
 use Rattle.net_sweep.specs.Settled.{IsFirst}
 use Rattle.net_sweep.specs.declared.queues.Rule.{Rule}
 use Rattle.net_sweep.specs.Settled.{listed, may_apply_to_written, AreWaiting}
-use Rattle.net_readers.specs.Readers.{is_in}
+use Rattle.net_readers.specs.Fanouts.{is_in}
 use Rattle.net_sweep.proofs.Finds.{within}
 
 -- the search for the first item that passes a test
@@ -35,12 +35,12 @@ not_true : (b : Bool) → (b ≡ true → ⊥) → b ≡ false
 not_true true h = absurd (h refl)
 not_true false h = refl
 
--- the item at a place passes
+-- the item at an index passes
 passing : {X : Type 0} (test : X → Bool) (o : Option X) → option_map_or test o false ≡ true → (x : X) × (o ≡ Some x) × (test x ≡ true)
 passing test None h = absurd (false≢true h)
 passing test (Some x) h = (x, refl, h)
 
--- the least of the marked places is the first where the test is passed
+-- the least marked index is the first at which the test passes
 pub least_first : {X : Type 0} (test : X → Bool) (marked : ℕ → Bool) (items : List X) (place : ℕ) → AreWaiting test marked items → ((i : ℕ) → marked i ≡ true → place ≤ i)
     → option_map_or test (slice_get items place) false ≡ true → IsFirst test items (Some place)
 least_first test marked items place all least passes =
@@ -63,7 +63,7 @@ none_marked_from test marked other items o all is none place item at passes =
     let nowhere : (i : ℕ) → marked i ≡ false = subst (λ (p : Option ℕ). IfNone p ((i : ℕ) → marked i ≡ false)) is none in
     absurd (false≢true (sym (nowhere place) ∙ all place item at passes))
 
--- a place where the test fails need not be marked
+-- an index at which the test fails need not be marked
 pub marked_less : {X : Type 0} (test : X → Bool) (marked rest : ℕ → Bool) (items : List X) (place : ℕ) → AreWaiting test marked items
     → ((i : ℕ) → rest i ≡ (not (place == i) && marked i)) → option_map_or test (slice_get items place) false ≡ false → AreWaiting test rest items
 marked_less {X} test marked rest items place all less fails i item at passes = cases (place == i) refl
@@ -73,7 +73,7 @@ marked_less {X} test marked rest items place all less fails i item at passes = c
         absurd (false≢true (sym fails ∙ (ap (λ (o : Option X). option_map_or test o false) (subst (λ (n : ℕ). slice_get items n ≡ Some item) (sym (eqb-true place i e)) at) ∙ passes)))
     cases false e = less i ∙ (ap (λ (b : Bool). not b && marked i) e ∙ all i item at passes)
 
--- a place that is put back is marked again
+-- an index that is added again is marked again
 pub marked_back : {X : Type 0} (test : X → Bool) (marked rest new : ℕ → Bool) (items : List X) (place : ℕ) → AreWaiting test marked items
     → ((i : ℕ) → rest i ≡ (not (place == i) && marked i)) → ((i : ℕ) → new i ≡ (place == i || rest i)) → AreWaiting test new items
 marked_back test marked rest new items place all less more i item at passes = cases (place == i) refl
@@ -82,7 +82,7 @@ marked_back test marked rest new items place all less more i item at passes = ca
     cases true e = more i ∙ ap (λ (b : Bool). b || rest i) e
     cases false e = more i ∙ (ap (λ (b : Bool). b || rest i) e ∙ (less i ∙ (ap (λ (b : Bool). not b && marked i) e ∙ all i item at passes)))
 
--- what tables read, place by place
+-- what tables read, by index
 pub read_by : (tables : List Table) (name : List ℕ) → has (table_inputs tables) name ≡ true → (place : ℕ) × (table : Table) × (slice_get tables place ≡ Some table) × (has table.inputs name ≡ true)
 read_by [] name h = absurd (false≢true h)
 read_by (first ∷ tables) name h =
@@ -97,7 +97,7 @@ reads_at (first ∷ tables) zero table name at h =
     has_front first.inputs (table_inputs tables) name (subst (λ (t : Table). has t.inputs name ≡ true) (sym (same_Some first table at)) h)
 reads_at (first ∷ tables) (suc place) table name at h = has_back first.inputs (table_inputs tables) name (reads_at tables place table name at h)
 
--- places are marked one by one
+-- indices are marked one by one
 pub record HasMarked (places : List ℕ) (before after : Rule → ℕ → Bool) : Type 0 where
   pub put : (rule : Rule) (place : ℕ) → may_apply_to_written rule ≡ true → is_in places place ≡ true → after rule place ≡ true
   pub kept : (rule : Rule) (place : ℕ) → before rule place ≡ true → after rule place ≡ true
@@ -125,7 +125,7 @@ marked_more places i put d before now after lt is h more = record {
     by rule place asks false e true f k = more rule place ∙ (ap (λ (c : Bool). (c && put == place) || now rule place) asks ∙ ap (λ (c : Bool). c || now rule place) f)
     by rule place asks false e false f k = absurd (false≢true k)
 
--- a place is listed for one signal after the other
+-- an index is listed for one signal after the other
 pub record HasListed (reader : ℕ) (inputs : List (List ℕ)) (before after : List ℕ → Option (List ℕ)) : Type 0 where
   pub put : (name : List ℕ) → has inputs name ≡ true → is_in (listed (after name)) reader ≡ true
   pub kept : (name : List ℕ) (place : ℕ) → is_in (listed (before name)) place ≡ true → is_in (listed (after name)) place ≡ true

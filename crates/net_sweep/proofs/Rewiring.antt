@@ -1,4 +1,5 @@
--- Each table that reads a signal reads another one in its place, by way of an exchange of the two in all tables.
+-- Each table that reads a signal comes to read another one instead, by an exchange of the two in
+-- all tables.
 use Rattle.std.proofs.Common.{◌≡◌, ℕ, zero, suc, ◌+◌, ◌<◌, ◌≤◌, ◌==◌, Bool, true, false, not, ◌||◌, Option, Some, None, List, [], ◌∷◌, ◌++◌, take, length, map, set, get_or, find, slice_get, refl, sym, ap, ◌∙◌, subst, arith}
 use Rattle.std.specs.List.{AllByRecursion}
 use Rattle.std.specs.Option.{option_map, option_map_or}
@@ -14,7 +15,7 @@ use Rattle.net_core.proofs.Lookups.{get_set_same, get_set_other}
 use Rattle.circuit_tables.specs.Tidy.{is_tidy, IsWide}
 use Rattle.net_wires.specs.Rules.{rewired}
 use Rattle.circuit_laws.proofs.Found.{find_none}
-use Rattle.net_readers.specs.Readers.{is_in}
+use Rattle.net_readers.specs.Fanouts.{is_in}
 use Rattle.net_wires.specs.Aliases.{inputs_at, exchanged}
 use Rattle.net_wires.proofs.Reading.{inputs_here}
 use Rattle.net_wires.proofs.Exchanging.{exchanged_output, exchanged_tidy, exchanged_unwritten, exchanged_written, exchanged_single, rewired_exchanged}
@@ -24,7 +25,7 @@ use Rattle.net_sweep.specs.Settled.{passes, changed_by, IsAlike, IsAlikeThere, A
 use Rattle.net_sweep.proofs.Finds.{all_wide}
 use Rattle.net_sweep.proofs.Changing.{all_at, there, same_by_places}
 
--- the place that is next, and that it is listed
+-- the next index, and that it is listed
 place_at : (places : List ℕ) (i place d : ℕ) → i < length places → place ≡ get_or places i d → slice_get places i ≡ Some place
 place_at [] i place d lt is = absurd (omega (arith, lt))
 place_at (first ∷ places) zero place d lt is = ap Some (sym is)
@@ -39,7 +40,7 @@ next_in (first ∷ places) (suc i) place d lt is = ap (λ (b : Bool). (first == 
     or_true true = refl
     or_true false = refl
 
--- tables are made place by place
+-- tables are made for one index after the other
 pub made_more : (turn : ℕ → Option Table) (places : List ℕ) (i place d : ℕ) (made items : List Table) (table : Table) → i < length places → place ≡ get_or places i d → map Some made ≡ map turn (take i places)
     → turn place ≡ Some table → items ≡ made ++ table ∷ [] → map Some items ≡ map turn (take (i + 1) places)
 made_more turn places i place d made items table lt is h here more =
@@ -58,7 +59,7 @@ made_here turn tables place old made at is = ap (option_map turn) at ∙ ap Some
 pub wide_at : (tables : List Table) (place : ℕ) (table : Table) → AllByRecursion IsWide tables → slice_get tables place ≡ Some table → IsWide table
 wide_at tables place table wide at = all_at IsWide tables place table wide at
 
--- tables are put at places one by one
+-- tables are set one by one
 pub record HasSet (places done : List ℕ) (tables : List Table) (old new : Circuit) : Type 0 where
   pub same : new ≡ with_tables old new.tables
   pub long : length new.tables ≡ length old.tables
@@ -103,13 +104,13 @@ set_more places tables old now new i place d table h lt is within at n = subst (
 pub all_set : (places : List ℕ) (i : ℕ) (tables : List Table) (old new : Circuit) → length places ≤ i → HasSet places (take i places) tables old new → HasSet places places tables old new
 all_set places i tables old new le h = subst (λ (done : List ℕ). HasSet places done tables old new) (take_all i places le) h
 
--- an exchange of two signals, behind which the readers of one are written as they are to be
+-- an exchange of two signals, after which the fanouts of one are rewritten
 
 not_false : (b : Bool) → not b ≡ false → b ≡ true
 not_false true h = refl
 not_false false h = absurd (false≢true (sym h))
 
--- the place of a reader is one of a table
+-- the index of a fanout is one of a table
 pub reader_within : (tables : List Table) (name : List ℕ) (places : List ℕ) → ((place : ℕ) → is_in places place ≡ has (inputs_at tables place) name) → (place : ℕ) → is_in places place ≡ true → place < length tables
 reader_within tables name places readers place h = by (slice_get tables place) refl (sym (readers place) ∙ h)
   where
@@ -117,7 +118,7 @@ reader_within tables name places readers place h = by (slice_get tables place) r
     by None e k = absurd (false≢true k)
     by (Some table) e k = slice_get_within tables place table e
 
--- for each place there is a table
+-- there is a table for each index
 pub each_made : (turn : ℕ → Option Table) (places : List ℕ) (tables : List Table) → map Some tables ≡ map turn places → length tables ≡ length places
 each_made turn [] [] h = refl
 each_made turn [] (table ∷ tables) h = let z : Some table ∷ map Some tables ≡ [] = h in absurd cc
@@ -129,7 +130,7 @@ each_made turn (place ∷ places) (table ∷ tables) h =
     tails : (x y : Option Table) (xs ys : List (Option Table)) → x ∷ xs ≡ y ∷ ys → xs ≡ ys
     tails x y xs ys e = cc
 
--- the table that was made for a place
+-- the table that was made for an index
 made_at : (turn : ℕ → Option Table) (places : List ℕ) (tables : List Table) → map Some tables ≡ map turn places → (i place : ℕ) → slice_get places i ≡ Some place → slice_get tables i ≡ turn place
 made_at turn places tables h i place at =
     flat (slice_get tables i) (turn place) (sym (slice_get-map Some tables i) ∙ (ap (λ (os : List (Option Table)). slice_get os i) h ∙ (slice_get-map turn places i ∙ ap (option_map turn) at)))

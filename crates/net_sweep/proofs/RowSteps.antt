@@ -1,4 +1,4 @@
--- Rows in which a signal has a bit or is turned over, by marked places.
+-- Rows in which a signal has a bit or is complemented, by marked columns.
 use Rattle.std.proofs.Common.{◌≡◌, ℕ, ◌+◌, ◌<◌, ◌≤◌, Bool, true, false, not, ◌&&◌, if◌then◌else◌, Option, Some, None, List, [], ◌∷◌, ◌++◌, length, get_or, drop, map, bytes_eq, refl, sym, ap, ◌∙◌, subst, arith}
 use Rattle.std.specs.List.{list_any, filter_map}
 use Rattle.std.specs.Option.{option_map, option_map_or}
@@ -15,11 +15,11 @@ use Rattle.net_core.specs.Tables.{HasCharacters}
 use Rattle.net_wires.specs.Aliases.{row_over}
 use Rattle.net_sweep.specs.Columns.{opens_at_one, row_at_marks}
 
--- the character of a place in a row where a signal has a bit
+-- the character of a column in a row in which a signal has a bit
 abbrev pub place_for : Bool → Bool → Tri → Option Tri
 place_for is_signal bit place = if is_signal then (if asks_against bit place then None else Some Free) else Some place
 
--- a row behind some characters
+-- a row after some characters
 abbrev pub behind : List Tri → Option (List Tri) → Option (List Tri)
 behind made rest = option_map (λ (row : List Tri). made ++ row) rest
 
@@ -86,7 +86,7 @@ all_turned_marked name inputs marks rows e = ap (λ (ms : List Bool). map (row_o
     by [] = refl
     by (row ∷ rows) = rw (turned_marked name inputs row, by rows) refl
 
--- a table in which the signal at the marked places has a bit
+-- a table in which the signal of the marked columns has a bit
 pub at_marked : (name : List ℕ) (bit : Bool) (table : Table) (marks : List Bool) (inputs : List (List ℕ)) (output : List ℕ) (rows : List (List Tri)) → has table.inputs name ≡ true → marks ≡ map (bytes_eq name) table.inputs
     → inputs ≡ table.inputs → output ≡ table.output → rows ≡ filter_map (row_at_marks bit marks) table.rows → tidied (record { inputs = inputs; output = output; rows = rows; phase = table.phase }) ≡ at_bit name bit table
 unfolding at_bit

@@ -1,4 +1,4 @@
--- Steps of the first five rules, seen at the circuit with the latches that are left.
+-- Steps of the first five rules, on the circuit with the remaining latches.
 use Rattle.std.proofs.Common.{◌≡◌, ℕ, ◌<◌, ◌≤◌, Bool, true, false, Option, Some, None, is_some, List, [], ◌∷◌, ◌++◌, length, map, set, find, slice_get, refl, sym, ap, ◌∙◌, subst, arith}
 use Rattle.std.specs.Option.{option_map, option_map_or, option_or}
 use Rattle.std.proofs.lemmas.Option.{slice_get_within}
@@ -124,7 +124,7 @@ whole_find : (circuit : Circuit) (latches among : List Latch) → find (λ (l : 
 whole_find circuit latches [] = refl
 whole_find circuit latches (first ∷ among) = rw (whole_bit circuit latches first, whole_find circuit latches among) refl
 
--- the step that is taken next
+-- the next step
 
 pub applied_stepped : (circuit new : Circuit) (slots after : List (Option Latch)) (rule : Rule) (place : ℕ) → IsNext circuit (Some (rule, place))
     → ((table : Table) → slice_get circuit.tables place ≡ Some table → new ≡ rule_applied rule circuit table) → after ≡ slots
@@ -181,7 +181,7 @@ whole_again circuit sound = ap (λ (timing : Option Timing). record circuit { ti
 pub begun : (circuit : Circuit) (slots : List (Option Latch)) → IsSound circuit → left_at slots ≡ circuit.latches → HasLed circuit (with_latches circuit (left_at slots))
 begun circuit slots sound left = subst (HasLed circuit) (sym (ap (with_latches circuit) left ∙ whole_again circuit sound)) (not_yet circuit sound)
 
--- each place of a table waits for each rule
+-- each index of a table waits for each rule
 pub all_marked : (tables : List Table) (count : ℕ) (marks : Rule → ℕ → Bool) → count ≡ length tables → ((rule : Rule) (place : ℕ) → place < count → marks rule place ≡ true) → AreCandidates marks tables
 all_marked tables count marks long every rule place table at passed = every rule place (subst (λ (n : ℕ). place < n) (sym long) (slice_get_within tables place table at))
 
@@ -189,11 +189,11 @@ pub settling_itself : (circuit : Circuit) (tracked : TrackedLatches) (marks : Ru
     → IsSettling (with_latches circuit (left_at tracked.slots.items)) circuit tracked marks
 settling_itself circuit tracked marks sound marked ready = record { led = not_yet (with_latches circuit (left_at tracked.slots.items)) sound; marked = marked; ready = ready }
 
--- what is left of the latches may be told by slots that equal them
+-- the remaining latches may be given by slots that equal them
 pub led_on : (from to : Circuit) (slots mid : List (Option Latch)) → HasLed from (with_latches to (left_at slots)) → mid ≡ slots → HasLed from (with_latches to (left_at mid))
 led_on from to slots mid led same = subst (λ (ss : List (Option Latch)). HasLed from (with_latches to (left_at ss))) (sym same) led
 
--- a step, and then the table at which it was taken is emptied where nothing takes it
+-- a step, after which the table at which it was taken is emptied if it has no fanout
 pub settling_more : (from to mid_circuit new : Circuit) (tracked mid after : TrackedLatches) (marks marks_after : Rule → ℕ → Bool) → IsSettling from to tracked marks
     → mid.slots.items ≡ tracked.slots.items → sweep_step (with_latches to (left_at mid.slots.items)) ≡ Some (with_latches mid_circuit (left_at after.slots.items))
     → HasLed (with_latches mid_circuit (left_at after.slots.items)) (with_latches new (left_at after.slots.items))
@@ -212,7 +212,7 @@ stepped_sound from to mid_circuit slots mid after led same step =
     one_more from (with_latches to (left_at slots)) (with_latches mid_circuit (left_at after)) led
     (subst (λ (ss : List (Option Latch)). sweep_step (with_latches to (left_at ss)) ≡ Some (with_latches mid_circuit (left_at after))) same step)
 
--- the circuit behind a step is sound
+-- the circuit after a step is sound
 pub behind_sound : (from to mid_circuit : Circuit) (slots mid after : List (Option Latch)) → HasLed from (with_latches to (left_at slots)) → mid ≡ slots → sweep_step (with_latches to (left_at mid)) ≡ Some (with_latches mid_circuit (left_at after))
     → IsSound (with_latches mid_circuit (left_at after))
 behind_sound from to mid_circuit slots mid after led same step = (stepped_sound from to mid_circuit slots mid after led same step).sound
@@ -227,14 +227,14 @@ settling_falls from to mid_circuit new slots mid after led same step emptied =
     no_heavier (with_latches mid_circuit (left_at after)) (with_latches new (left_at after)) (behind_sound from to mid_circuit slots mid after led same step) emptied in
     omega (arith, one, rest)
 
--- the step that comes next, once more for the latches as they are handed on
+-- the next step, once more for the latches as they are passed on
 pub still_next : (circuit : Circuit) (slots mid : List (Option Latch)) (o : Option Step) (step : Step) → IsNextStep circuit slots o → o ≡ Some step → mid ≡ slots → IsNextStep circuit mid (Some step)
 still_next circuit slots mid o step next is same = subst (λ (ss : List (Option Latch)). IsNextStep circuit ss (Some step)) (sym same) (subst (IsNextStep circuit slots) is next)
 
 pub still_sound : (circuit : Circuit) (slots mid : List (Option Latch)) → IsSound (with_latches circuit (left_at slots)) → mid ≡ slots → IsSound (with_latches circuit (left_at mid))
 still_sound circuit slots mid sound same = subst (λ (ss : List (Option Latch)). IsSound (with_latches circuit (left_at ss))) (sym same) sound
 
--- the first circuit may be told by one that equals it, and the last one too
+-- the first circuit may be given by one that equals it, and so may the last
 pub led_between : (first from to last : Circuit) (slots after : List (Option Latch)) → HasLed (with_latches first (left_at slots)) (with_latches to (left_at after)) → first ≡ from → last ≡ to
     → HasLed (with_latches from (left_at slots)) (with_latches last (left_at after))
 led_between first from to last slots after led f l =

@@ -1,4 +1,4 @@
--- Rows of tables that read a constant, where it is told for each column whether it is that of the signal.
+-- Rows of tables that read a constant, where marks say which columns are those of the signal.
 -- Source: the SIS manual (UCB/ERL M92/41), `sweep`.
 use Rattle.std.specs.Prelude.{Bool, true, false, Option, Some, None, List, [], ◌∷◌, if◌then◌else◌}
 use Rattle.std.specs.Option.{option_map}
@@ -6,7 +6,8 @@ use Rattle.circuit_model.specs.declared.circuit.Tri.{Tri}
 use Rattle.circuit_model.specs.declared.circuit.Tri.TheVariants.{Zero, Free}
 use Rattle.net_wires.specs.Rules.{asks_against}
 
--- a row in which the signal at the marked places has a bit: its literals go, and so does the row where one contradicts
+-- a row in which the signal of the marked columns has a bit: its literals are removed, or the row
+-- is, if one contradicts
 unfoldable pub row_at_marks : Bool → List Bool → List Tri → Option (List Tri)
 row_at_marks bit [] row = Some row
 row_at_marks bit (mark ∷ marks) [] = Some []

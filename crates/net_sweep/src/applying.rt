@@ -1,4 +1,11 @@
-//! Where a rule that changes tables applies next, and what it changes.
+//! The rules of sweep that change tables: where one applies next, and the change it makes.
+//!
+//! Source: the SIS manual (UCB/ERL M92/41), `sweep`. `next_rule` takes the least index from the
+//! worklist of each rule in turn, until the rule applies there; it finds exactly the next step of
+//! `table_step`. `apply_rule` makes the change and returns the indices of the tables that it
+//! rewrote; all other tables stay alike in what a rule depends on, so only these are added to the
+//! worklists. A table of one input is collapsed by exchanging aliases if its input has no more
+//! fanouts than it has, so that smaller sets of fanouts are merged into larger ones.
 
 ghost use Rattle.std.specs.Prelude.{◌≡◌, ℕ, ◌<◌, ◌==◌, Bool, true, false, Option, Some, None, List, [], ◌∷◌, ◌++◌, length, map, find, slice_get, slice_set, bytes_eq, if◌then◌else◌, IfOk, OnOk};
 ghost use Rattle.std.specs.Ordering.{nat_cmp};
@@ -7,17 +14,17 @@ ghost use Rattle.std.specs.List.{AllByRecursion};
 ghost use Rattle.std.specs.Option.{option_map, option_map_or};
 ghost use Rattle.circuit_model.specs.Names.{has};
 ghost use Rattle.circuit_model.specs.Soundness.{outputs_of, table_inputs};
-ghost use Rattle.circuit_model.specs.declared.circuit.Table.{Table as TheTable};
-ghost use Rattle.circuit_laws.specs.Edits.{with_tables as tables_in};
+ghost use Rattle.circuit_model.specs.declared.circuit.Table.{Table};
+ghost use Rattle.circuit_laws.specs.Edits.{with_tables};
 ghost use Rattle.net_core.specs.Tables.{HasCharacters};
-ghost use Rattle.net_sweep.specs.declared.queues.Rule.{Rule as TheRule};
+ghost use Rattle.net_sweep.specs.declared.queues.Rule.{Rule};
 ghost use Rattle.net_sweep.specs.declared.queues.Rule.TheVariants.{TidyTable, WriteConstant, PropagateConstant, CollapseSingleInput};
 ghost use Rattle.net_sweep.specs.declared.applying.Change.TheVariants.{Input};
 ghost use Rattle.circuit_tables.specs.Tidy.{IsWide};
-ghost use Rattle.net_wires.specs.Rules.{only_input as input_alone, rewired as table_rewired};
+ghost use Rattle.net_wires.specs.Rules.{only_input, rewired};
 ghost use Rattle.net_sweep.specs.Settled.{IsFirst};
 ghost use Rattle.net_sweep.specs.Settled.{passes, rule_applied, IsNext, changed_by, is_apart, is_candidate, AreWaiting, AreCandidates, AreAlikeBut, AreSound};
-ghost use Rattle.net_readers.specs.Readers.{is_in};
+ghost use Rattle.net_readers.specs.Fanouts.{is_in};
 ghost use Rattle.net_wires.specs.Aliases.{inputs_at};
 
 use crate::constants::{constant_written, unwritten_bit};
@@ -32,16 +39,16 @@ use sis_base::{Copied, Sequence};
 use std::alloc::{AllocError, Global};
 use std::collections::BTreeSet;
 
-/// What readers of a signal take in its place: a bit, or another signal, turned over or not.
+/// What the fanouts of a signal read instead of it: a bit, or another signal, complemented or not.
 #[derive(Drop)]
 pub(crate) enum Change {
     Bit(bool),
     Input(Name, bool),
 }
 
-// The one input of a table, where it has just one.
+// The only input of a table, if it has exactly one.
 fn only_input(alloc: Global, inputs: &[Name]) -> Result<Option<Name>, AllocError>
-    ensures { IfOk result (λ name. name ≡ input_alone inputs.now) }
+    ensures { IfOk result (λ name. name ≡ only_input inputs.now) }
 {
     if inputs.len() != 1 {
         return Ok(None);
@@ -80,10 +87,12 @@ fn applies_to<R: Row>(
     }
 }
 
-// Whether it is seen without a copy of the table at a place that a rule does not apply to it: to propagate a constant, the
-// table must be written as one; to be collapsed, it must have one input.
+// Whether a rule evidently does not apply to the table at an index, decided without copying the
+// table: to propagate a constant, the table must be written as one; to be collapsed, it must have
+// one input.
 fn is_ruled_out(rule: Rule, aliased: &AliasedTables, place: usize) -> bool
-    ensures { result ≡ true → option_map_or (passes rule aliased.now.tables) (slice_get aliased.now.tables place) false ≡ false }
+    ensures { result ≡ true → option_map_or (passes rule aliased.now.tables)
+        (slice_get aliased.now.tables place) false ≡ false }
 {
     match rule {
         Rule::TidyTable | Rule::WriteConstant => false,
@@ -92,7 +101,7 @@ fn is_ruled_out(rule: Rule, aliased: &AliasedTables, place: usize) -> bool
     }
 }
 
-// Whether a rule applies to the table at a place, if there is one.
+// Whether a rule applies to the table at an index, if there is one.
 fn applies_at<R: Row>(
     alloc: Global,
     rule: Rule,
@@ -100,7 +109,8 @@ fn applies_at<R: Row>(
     place: usize,
 ) -> Result<bool, AllocError>
     requires { AllByRecursion IsWide aliased.now.tables }
-    ensures { IfOk result (λ answer. answer ≡ option_map_or (passes rule aliased.now.tables) (slice_get aliased.now.tables place) false) }
+    ensures { IfOk result (λ answer. answer ≡ option_map_or (passes rule aliased.now.tables)
+        (slice_get aliased.now.tables place) false) }
 {
     if is_ruled_out(rule, aliased, place) {
         return Ok(false);
@@ -111,7 +121,7 @@ fn applies_at<R: Row>(
     }
 }
 
-// The first place where a rule applies, which goes on waiting.
+// The first index at which a rule applies; it stays in the worklist.
 fn first_place<R: Row>(
     alloc: Global,
     rule: Rule,
@@ -119,9 +129,12 @@ fn first_place<R: Row>(
     waiting: &mut BTreeSet<usize>,
 ) -> Result<Option<usize>, AllocError>
     requires sound { AreSound aliased.now.tables }
-    requires candidates { AreWaiting (passes rule aliased.now.tables) (contains nat_cmp waiting.old) aliased.now.tables }
-    ensures first { IfOk result (λ place. IsFirst (passes rule aliased.now.tables) aliased.now.tables place) }
-    ensures candidates { OnOk result (AreWaiting (passes rule aliased.now.tables) (contains nat_cmp waiting.new) aliased.now.tables) }
+    requires candidates { AreWaiting (passes rule aliased.now.tables)
+        (contains nat_cmp waiting.old) aliased.now.tables }
+    ensures first { IfOk result (λ place. IsFirst (passes rule aliased.now.tables)
+        aliased.now.tables place) }
+    ensures candidates { OnOk result (AreWaiting (passes rule aliased.now.tables)
+        (contains nat_cmp waiting.new) aliased.now.tables) }
 {
     while let Some(place) = pop_least(waiting) {
         if applies_at::<R>(alloc, rule, aliased, place)? {
@@ -132,7 +145,7 @@ fn first_place<R: Row>(
     Ok(None)
 }
 
-// The rule and the place of the next step, if there is one.
+// The rule and the index of the next step, if there is one.
 pub(crate) fn next_rule<R: Row>(
     alloc: Global,
     aliased: &AliasedTables,
@@ -141,7 +154,8 @@ pub(crate) fn next_rule<R: Row>(
     requires sound { AreSound aliased.now.tables }
     requires candidates { AreCandidates (is_candidate candidates.old) aliased.now.tables }
     ensures next { IfOk result (λ next. IsNext aliased.now next) }
-    ensures candidates { OnOk result (AreCandidates (is_candidate candidates.new) aliased.now.tables) }
+    ensures candidates { OnOk result (AreCandidates
+        (is_candidate candidates.new) aliased.now.tables) }
 {
     if let Some(place) = first_place::<R>(
         alloc,
@@ -178,7 +192,7 @@ pub(crate) fn next_rule<R: Row>(
     Ok(None)
 }
 
-// The list of one place.
+// The list of one index.
 fn one_place(alloc: Global, place: usize) -> Result<Places, AllocError>
     ensures { IfOk result (λ places. places ≡ place ∷ []) }
 {
@@ -187,7 +201,7 @@ fn one_place(alloc: Global, place: usize) -> Result<Places, AllocError>
     Ok(places)
 }
 
-// A copy of the table at a place.
+// A copy of the table at an index, which must have one.
 fn table_at(alloc: Global, aliased: &AliasedTables, place: usize) -> Result<Table, AllocError>
     requires { place < length aliased.now.tables }
     ensures { IfOk result (λ table. slice_get aliased.now.tables place ≡ Some table) }
@@ -198,12 +212,14 @@ fn table_at(alloc: Global, aliased: &AliasedTables, place: usize) -> Result<Tabl
     }
 }
 
-// Tidies the table at a place.
+// Tidies the table at an index.
 fn tidy_at(alloc: Global, aliased: &mut AliasedTables, place: usize) -> Result<Places, AllocError>
     requires sound { AreSound aliased.old.tables }
     requires within { place < length aliased.old.tables }
-    ensures applied { OnOk result ((table : TheTable) → slice_get aliased.old.tables place ≡ Some table → aliased.new ≡ rule_applied TidyTable aliased.old table) }
-    ensures others { IfOk result (λ places. AreAlikeBut places aliased.old.tables aliased.new.tables) }
+    ensures applied { OnOk result ((table : Table) → slice_get aliased.old.tables place
+        ≡ Some table → aliased.new ≡ rule_applied TidyTable aliased.old table) }
+    ensures others { IfOk result (λ places. AreAlikeBut places aliased.old.tables
+        aliased.new.tables) }
 {
     let places = one_place(alloc, place)?;
     let table = table_at(alloc, aliased, place)?;
@@ -212,7 +228,7 @@ fn tidy_at(alloc: Global, aliased: &mut AliasedTables, place: usize) -> Result<P
     Ok(places)
 }
 
-// Writes the table at a place as a constant.
+// Writes the table at an index as a constant.
 fn write_at<R: Row>(
     alloc: Global,
     aliased: &mut AliasedTables,
@@ -220,8 +236,10 @@ fn write_at<R: Row>(
 ) -> Result<Places, AllocError>
     requires sound { AreSound aliased.old.tables }
     requires within { place < length aliased.old.tables }
-    ensures applied { OnOk result ((table : TheTable) → slice_get aliased.old.tables place ≡ Some table → aliased.new ≡ rule_applied WriteConstant aliased.old table) }
-    ensures others { IfOk result (λ places. AreAlikeBut places aliased.old.tables aliased.new.tables) }
+    ensures applied { OnOk result ((table : Table) → slice_get aliased.old.tables place
+        ≡ Some table → aliased.new ≡ rule_applied WriteConstant aliased.old table) }
+    ensures others { IfOk result (λ places. AreAlikeBut places aliased.old.tables
+        aliased.new.tables) }
 {
     let places = one_place(alloc, place)?;
     let table = table_at(alloc, aliased, place)?;
@@ -234,7 +252,7 @@ fn write_at<R: Row>(
     }
 }
 
-// The table in which a signal has a bit or gives place to another one.
+// The table with a signal replaced by a bit or by another signal.
 fn changed(alloc: Global, table: &Table, name: &Name, change: &Change) -> Result<Table, AllocError>
     requires { HasCharacters (length table.now.inputs) table.now.rows }
     ensures { IfOk result (λ made. made ≡ changed_by name.now change.now table.now) }
@@ -245,7 +263,7 @@ fn changed(alloc: Global, table: &Table, name: &Name, change: &Change) -> Result
     }
 }
 
-// Changes the table at a place, if there is one.
+// Changes the table at an index, if there is one.
 fn change_at(
     alloc: Global,
     aliased: &mut AliasedTables,
@@ -254,8 +272,10 @@ fn change_at(
     change: &Change,
 ) -> Result<(), AllocError>
     requires { AllByRecursion IsWide aliased.old.tables }
-    ensures same { OnOk result (aliased.new ≡ tables_in aliased.old aliased.new.tables) }
-    ensures changed { OnOk result ((other : ℕ) → slice_get aliased.new.tables other ≡ (if place == other then option_map (changed_by name.now change.now) (slice_get aliased.old.tables other) else slice_get aliased.old.tables other)) }
+    ensures same { OnOk result (aliased.new ≡ with_tables aliased.old aliased.new.tables) }
+    ensures changed { OnOk result ((other : ℕ) → slice_get aliased.new.tables other
+        ≡ (if place == other then option_map (changed_by name.now change.now)
+        (slice_get aliased.old.tables other) else slice_get aliased.old.tables other)) }
 {
     match aliased.table(alloc, place)? {
         None => Ok(()),
@@ -266,7 +286,7 @@ fn change_at(
     }
 }
 
-// Changes the tables at some places, all that read a signal among them.
+// Changes the tables at some indices, which must include all that read the signal.
 fn change_all(
     alloc: Global,
     aliased: &mut AliasedTables,
@@ -276,8 +296,10 @@ fn change_all(
 ) -> Result<(), AllocError>
     requires sound { AreSound aliased.old.tables }
     requires apart { is_apart name.now change.now ≡ true }
-    requires all { (place : ℕ) → has (inputs_at aliased.old.tables place) name.now ≡ true → is_in places.now place ≡ true }
-    ensures { OnOk result (aliased.new ≡ tables_in aliased.old (map (changed_by name.now change.now) aliased.old.tables)) }
+    requires all { (place : ℕ) → has (inputs_at aliased.old.tables place) name.now ≡ true
+        → is_in places.now place ≡ true }
+    ensures { OnOk result (aliased.new ≡ with_tables aliased.old
+        (map (changed_by name.now change.now) aliased.old.tables)) }
 {
     for place in places {
         change_at(alloc, aliased, *place, name, change)?;
@@ -285,7 +307,7 @@ fn change_all(
     Ok(())
 }
 
-// Changes each table that reads a signal, and tells their places.
+// Changes each table that reads a signal, and returns their indices.
 fn change_readers(
     alloc: Global,
     aliased: &mut AliasedTables,
@@ -294,15 +316,17 @@ fn change_readers(
 ) -> Result<Places, AllocError>
     requires sound { AreSound aliased.old.tables }
     requires apart { is_apart name.now change.now ≡ true }
-    ensures changed { OnOk result (aliased.new ≡ tables_in aliased.old (map (changed_by name.now change.now) aliased.old.tables)) }
-    ensures others { IfOk result (λ places. AreAlikeBut places aliased.old.tables aliased.new.tables) }
+    ensures changed { OnOk result (aliased.new ≡ with_tables aliased.old
+        (map (changed_by name.now change.now) aliased.old.tables)) }
+    ensures others { IfOk result (λ places. AreAlikeBut places aliased.old.tables
+        aliased.new.tables) }
 {
     let places = aliased.places(alloc, name)?;
     change_all(alloc, aliased, places.as_slice(), name, change)?;
     Ok(places)
 }
 
-// Propagates the constant at a place into the tables that read it.
+// Propagates the constant at an index into the tables that read it.
 fn propagate_at(
     alloc: Global,
     aliased: &mut AliasedTables,
@@ -310,8 +334,10 @@ fn propagate_at(
 ) -> Result<Places, AllocError>
     requires sound { AreSound aliased.old.tables }
     requires within { place < length aliased.old.tables }
-    ensures applied { OnOk result ((table : TheTable) → slice_get aliased.old.tables place ≡ Some table → aliased.new ≡ rule_applied PropagateConstant aliased.old table) }
-    ensures others { IfOk result (λ places. AreAlikeBut places aliased.old.tables aliased.new.tables) }
+    ensures applied { OnOk result ((table : Table) → slice_get aliased.old.tables place
+        ≡ Some table → aliased.new ≡ rule_applied PropagateConstant aliased.old table) }
+    ensures others { IfOk result (λ places. AreAlikeBut places aliased.old.tables
+        aliased.new.tables) }
 {
     let table = table_at(alloc, aliased, place)?;
     match written_bit(&table) {
@@ -320,7 +346,7 @@ fn propagate_at(
     }
 }
 
-// The tables at some places, each with one signal read in place of another one.
+// The tables at some indices, each rewritten to read one signal instead of another.
 fn rewired_tables(
     alloc: Global,
     aliased: &AliasedTables,
@@ -330,8 +356,11 @@ fn rewired_tables(
     inverts: bool,
 ) -> Result<Vec<Table>, AllocError>
     requires wide { AllByRecursion IsWide aliased.now.tables }
-    requires within { (place : ℕ) → is_in places.now place ≡ true → place < length aliased.now.tables }
-    ensures { IfOk result (λ made. map Some made.items ≡ map (λ place. option_map (table_rewired from.now to.now inverts) (slice_get aliased.now.tables place)) places.now) }
+    requires within { (place : ℕ) → is_in places.now place ≡ true
+        → place < length aliased.now.tables }
+    ensures { IfOk result (λ made. map Some made.items ≡ map
+        (λ place. option_map (rewired from.now to.now inverts)
+        (slice_get aliased.now.tables place)) places.now) }
 {
     let mut made = Vec::with_capacity(alloc, places.len())?;
     for place in places {
@@ -341,7 +370,7 @@ fn rewired_tables(
     Ok(made)
 }
 
-// Puts tables at some places, each at its own.
+// Sets the tables at some indices.
 fn set_tables(
     alloc: Global,
     aliased: &mut AliasedTables,
@@ -349,10 +378,14 @@ fn set_tables(
     tables: &[Table],
 ) -> Result<(), AllocError>
     requires each { length tables.now ≡ length places.now }
-    requires within { (place : ℕ) → is_in places.now place ≡ true → place < length aliased.old.tables }
-    ensures same { OnOk result (aliased.new ≡ tables_in aliased.old aliased.new.tables) }
-    ensures set { OnOk result ((place : ℕ) → is_in places.now place ≡ true → (i : ℕ) × (slice_get places.now i ≡ Some place) × (slice_get aliased.new.tables place ≡ slice_get tables.now i)) }
-    ensures others { OnOk result ((place : ℕ) → is_in places.now place ≡ false → slice_get aliased.new.tables place ≡ slice_get aliased.old.tables place) }
+    requires within { (place : ℕ) → is_in places.now place ≡ true
+        → place < length aliased.old.tables }
+    ensures same { OnOk result (aliased.new ≡ with_tables aliased.old aliased.new.tables) }
+    ensures set { OnOk result ((place : ℕ) → is_in places.now place ≡ true → (i : ℕ)
+        × (slice_get places.now i ≡ Some place) × (slice_get aliased.new.tables place
+        ≡ slice_get tables.now i)) }
+    ensures others { OnOk result ((place : ℕ) → is_in places.now place ≡ false
+        → slice_get aliased.new.tables place ≡ slice_get aliased.old.tables place) }
 {
     for (i, place) in places.iter().enumerate() {
         aliased.set(alloc, *place, tables[i].copy(alloc)?)?;
@@ -360,8 +393,8 @@ fn set_tables(
     Ok(())
 }
 
-// Each table that reads a signal reads another one in its place, turned over or not: the two change places everywhere, and
-// then the tables that read the other one before are written as they are to be.
+// Makes each table that reads a signal read another one instead, complemented if asked: exchanges
+// the two everywhere, and then rewrites the tables that read the other one before.
 fn rewire_by_exchange(
     alloc: Global,
     aliased: &mut AliasedTables,
@@ -372,8 +405,10 @@ fn rewire_by_exchange(
     requires sound { AreSound aliased.old.tables }
     requires tidy { find (passes TidyTable aliased.old.tables) aliased.old.tables ≡ None }
     requires apart { bytes_eq from.now to.now ≡ false }
-    ensures changed { OnOk result (aliased.new ≡ tables_in aliased.old (map (changed_by from.now (Input to.now inverts)) aliased.old.tables)) }
-    ensures others { IfOk result (λ places. AreAlikeBut places aliased.old.tables aliased.new.tables) }
+    ensures changed { OnOk result (aliased.new ≡ with_tables aliased.old
+        (map (changed_by from.now (Input to.now inverts)) aliased.old.tables)) }
+    ensures others { IfOk result (λ places. AreAlikeBut places aliased.old.tables
+        aliased.new.tables) }
 {
     let places = aliased.places(alloc, to)?;
     let tables = rewired_tables(alloc, aliased, places.as_slice(), from, to, inverts)?;
@@ -382,9 +417,9 @@ fn rewire_by_exchange(
     Ok(places)
 }
 
-// Each table that reads a signal reads another one in its place, turned over or not. The readers of the signal with fewer are
-// written anew; where as many read the one as the other, those of the second. So sets of readers are joined, the smaller to
-// the larger.
+// Makes each table that reads a signal read another one instead, complemented if asked. The fanouts
+// of the signal that has fewer are rewritten, those of the second if both have as many, so that the
+// smaller set of fanouts is merged into the larger one.
 fn rewire(
     alloc: Global,
     aliased: &mut AliasedTables,
@@ -395,8 +430,10 @@ fn rewire(
     requires sound { AreSound aliased.old.tables }
     requires tidy { find (passes TidyTable aliased.old.tables) aliased.old.tables ≡ None }
     requires apart { bytes_eq from.now to ≡ false }
-    ensures changed { OnOk result (aliased.new ≡ tables_in aliased.old (map (changed_by from.now (Input to inverts)) aliased.old.tables)) }
-    ensures others { IfOk result (λ places. AreAlikeBut places aliased.old.tables aliased.new.tables) }
+    ensures changed { OnOk result (aliased.new ≡ with_tables aliased.old
+        (map (changed_by from.now (Input to inverts)) aliased.old.tables)) }
+    ensures others { IfOk result (λ places. AreAlikeBut places aliased.old.tables
+        aliased.new.tables) }
 {
     if aliased.count(&to) <= aliased.count(from) {
         return rewire_by_exchange(alloc, aliased, from, &to, inverts);
@@ -404,7 +441,7 @@ fn rewire(
     change_readers(alloc, aliased, from, &Change::Input(to, inverts))
 }
 
-// Readers of the table of one input at a place read that input in its place.
+// Makes the fanouts of the table of one input at an index read that input instead.
 fn collapse_at(
     alloc: Global,
     aliased: &mut AliasedTables,
@@ -413,8 +450,10 @@ fn collapse_at(
     requires sound { AreSound aliased.old.tables }
     requires within { place < length aliased.old.tables }
     requires tidy { find (passes TidyTable aliased.old.tables) aliased.old.tables ≡ None }
-    ensures applied { OnOk result ((table : TheTable) → slice_get aliased.old.tables place ≡ Some table → aliased.new ≡ rule_applied CollapseSingleInput aliased.old table) }
-    ensures others { IfOk result (λ places. AreAlikeBut places aliased.old.tables aliased.new.tables) }
+    ensures applied { OnOk result ((table : Table) → slice_get aliased.old.tables place
+        ≡ Some table → aliased.new ≡ rule_applied CollapseSingleInput aliased.old table) }
+    ensures others { IfOk result (λ places. AreAlikeBut places aliased.old.tables
+        aliased.new.tables) }
 {
     let table = table_at(alloc, aliased, place)?;
     match only_input(alloc, table.inputs.as_slice())? {
@@ -426,7 +465,7 @@ fn collapse_at(
     }
 }
 
-// Applies a rule at a place, and tells the places of the tables that it wrote anew.
+// Applies a rule at an index, and returns the indices of the tables that it rewrote.
 fn apply<R: Row>(
     alloc: Global,
     rule: Rule,
@@ -435,9 +474,12 @@ fn apply<R: Row>(
 ) -> Result<Places, AllocError>
     requires sound { AreSound aliased.old.tables }
     requires within { place < length aliased.old.tables }
-    requires tidy { rule ≡ CollapseSingleInput → find (passes TidyTable aliased.old.tables) aliased.old.tables ≡ None }
-    ensures applied { OnOk result ((table : TheTable) → slice_get aliased.old.tables place ≡ Some table → aliased.new ≡ rule_applied rule aliased.old table) }
-    ensures others { IfOk result (λ places. AreAlikeBut places aliased.old.tables aliased.new.tables) }
+    requires tidy { rule ≡ CollapseSingleInput → find
+        (passes TidyTable aliased.old.tables) aliased.old.tables ≡ None }
+    ensures applied { OnOk result ((table : Table) → slice_get aliased.old.tables place
+        ≡ Some table → aliased.new ≡ rule_applied rule aliased.old table) }
+    ensures others { IfOk result (λ places. AreAlikeBut places aliased.old.tables
+        aliased.new.tables) }
 {
     match rule {
         Rule::TidyTable => tidy_at(alloc, aliased, place),
@@ -447,7 +489,8 @@ fn apply<R: Row>(
     }
 }
 
-// Applies a rule at a place, marks the tables that it wrote anew, and tells their places.
+// Applies a rule at an index, adds the tables that it rewrote to the worklists, and returns their
+// indices.
 pub(crate) fn apply_rule<R: Row>(
     alloc: Global,
     rule: Rule,
@@ -457,11 +500,15 @@ pub(crate) fn apply_rule<R: Row>(
 ) -> Result<Places, AllocError>
     requires sound { AreSound aliased.old.tables }
     requires within { place < length aliased.old.tables }
-    requires tidy { rule ≡ CollapseSingleInput → find (passes TidyTable aliased.old.tables) aliased.old.tables ≡ None }
+    requires tidy { rule ≡ CollapseSingleInput → find
+        (passes TidyTable aliased.old.tables) aliased.old.tables ≡ None }
     requires candidates { AreCandidates (is_candidate candidates.old) aliased.old.tables }
-    ensures applied { OnOk result ((table : TheTable) → slice_get aliased.old.tables place ≡ Some table → aliased.new ≡ rule_applied rule aliased.old table) }
-    ensures others { IfOk result (λ places. AreAlikeBut places aliased.old.tables aliased.new.tables) }
-    ensures candidates { OnOk result (AreCandidates (is_candidate candidates.new) aliased.new.tables) }
+    ensures applied { OnOk result ((table : Table) → slice_get aliased.old.tables place
+        ≡ Some table → aliased.new ≡ rule_applied rule aliased.old table) }
+    ensures others { IfOk result (λ places. AreAlikeBut places aliased.old.tables
+        aliased.new.tables) }
+    ensures candidates { OnOk result (AreCandidates
+        (is_candidate candidates.new) aliased.new.tables) }
 {
     let places = apply::<R>(alloc, rule, aliased, place)?;
     add_candidates(candidates, places.as_slice())?;

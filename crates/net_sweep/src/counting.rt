@@ -1,4 +1,5 @@
-//! How many tables and latches a sweep took away.
+//! The number of tables that a sweep removed: signals of the old tables that no table drives any
+//! more.
 
 ghost use Rattle.std.specs.Prelude.{◌≡◌, ℕ, not, List, count_by, IfOk};
 ghost use Rattle.circuit_model.specs.Names.{has};
@@ -21,14 +22,14 @@ pub(crate) fn outputs(alloc: Global, tables: &[Table]) -> Result<Vec<Name>, Allo
     Ok(made)
 }
 
-// Whether a name is not among the driven ones.
+// Whether a name is not driven.
 fn is_undriven(driven: &IndexSet<Name>, name: &Name) -> bool
     ensures { result ≡ not (has driven.now.keys name.now) }
 {
     !is_among(driven, name)
 }
 
-// How many of the names are not among the driven ones.
+// The number of names that are not driven.
 fn count_others(driven: &IndexSet<Name>, names: &[Name]) -> usize
     ensures { result ≡ count_by (λ name. not (has driven.now.keys name)) names.now }
 {
@@ -38,13 +39,14 @@ fn count_others(driven: &IndexSet<Name>, names: &[Name]) -> usize
         .count()
 }
 
-// How many of the names no table drives.
+// The number of names that no table drives.
 pub(crate) fn count_undriven(
     alloc: Global,
     names: &[Name],
     tables: &[Table],
 ) -> Result<usize, AllocError>
-    ensures { IfOk result (λ count. count ≡ count_by (λ name. not (has (outputs_of tables.now) name)) names.now) }
+    ensures { IfOk result (λ count. count ≡ count_by
+        (λ name. not (has (outputs_of tables.now) name)) names.now) }
 {
     let driven = driven_names(alloc, tables)?;
     let count = count_others(&driven, names);

@@ -1,14 +1,15 @@
-//! The table at which a step was taken is emptied where nothing takes it any more, so that no later step has to change it
-//! again and again.
+//! Empties the table at which a step was taken if it has no fanout any more, so that no later step
+//! has to change it again and again.
 //!
-//! Source: the SIS manual (UCB/ERL M92/41), `sweep`: nodes that do not fan out go. That it changes no chain's end is a law
-//! of net_wires; the last rule drops what is left of such a table.
+//! Source: the SIS manual (UCB/ERL M92/41), `sweep`: nodes that do not fan out are removed. A law
+//! of net_wires says that this changes no chain's end; the last rule removes what is left of such a
+//! table.
 
 ghost use Rattle.std.specs.Prelude.{◌≡◌, ℕ, Bool, true, false, None, bytes_eq, OnOk};
 ghost use Rattle.indexmap.specs.IndexMap.{get};
 ghost use Rattle.circuit_model.specs.Names.{has};
 ghost use Rattle.circuit_model.specs.Soundness.{table_inputs, IsSound};
-ghost use Rattle.net_sweep.specs.declared.queues.Rule.{Rule as TheRule};
+ghost use Rattle.net_sweep.specs.declared.queues.Rule.{Rule};
 ghost use Rattle.net_sweep.specs.Settled.{AreCandidates, HasLed};
 ghost use Rattle.net_sweep.specs.Latches.{left_at, with_latches, IsReady};
 
@@ -17,8 +18,8 @@ use circuit_model::Name;
 use net_wires::{AliasedTables, constant_table, is_among};
 use std::alloc::{AllocError, Global};
 
-// Whether it is seen that nothing takes a signal: no table and not the don't-care part reads it, and it is no output and
-// was no latch's input at the start (a latch that has gone still counts).
+// Whether a signal evidently has no fanout: no table and not the don't-care part reads it, and it
+// is no output and was no latch's input at the start. A latch that was removed since still counts.
 fn is_untaken(aliased: &AliasedTables, tracked: &TrackedLatches, name: &Name) -> bool
     ensures unread { result ≡ true → has (table_inputs aliased.now.tables) name.now ≡ false }
     ensures no_fanout { result ≡ true → get bytes_eq tracked.now.fanout name.now ≡ None }
@@ -33,8 +34,8 @@ fn is_untaken(aliased: &AliasedTables, tracked: &TrackedLatches, name: &Name) ->
     !is_among(&tracked.leaves_read, name)
 }
 
-// The table at a place becomes the constant 0 where it is seen that nothing takes its signal.
-pub(crate) fn empty_untaken(
+// Replaces the table at an index by the constant 0 if its signal evidently has no fanout.
+pub(crate) fn clear_fanout_free(
     alloc: Global,
     place: usize,
     aliased: &mut AliasedTables,
@@ -42,8 +43,10 @@ pub(crate) fn empty_untaken(
 ) -> Result<(), AllocError>
     requires sound { IsSound (with_latches aliased.old (left_at tracked.now.slots.items)) }
     requires ready { IsReady tracked.now aliased.old }
-    ensures led { OnOk result (HasLed (with_latches aliased.old (left_at tracked.now.slots.items)) (with_latches aliased.new (left_at tracked.now.slots.items))) }
-    ensures candidates { OnOk result ((marks : TheRule → ℕ → Bool) → AreCandidates marks aliased.old.tables → AreCandidates marks aliased.new.tables) }
+    ensures led { OnOk result (HasLed (with_latches aliased.old (left_at tracked.now.slots.items))
+        (with_latches aliased.new (left_at tracked.now.slots.items))) }
+    ensures candidates { OnOk result ((marks : Rule → ℕ → Bool)
+        → AreCandidates marks aliased.old.tables → AreCandidates marks aliased.new.tables) }
     ensures ready { OnOk result (IsReady tracked.now aliased.new) }
 {
     match aliased.table(alloc, place)? {

@@ -1,7 +1,8 @@
-//! Latches at places that stay, and which of them always has one bit.
+//! Latches in slots that stay, and which of them always holds one bit.
 //!
-//! Source: De Micheli, "Synthesis and Optimization of Digital Circuits", chapter 9 (removal of registers that hold a
-//! constant); the SIS manual (UCB/ERL M92/41), `sweep`.
+//! Source: De Micheli, "Synthesis and Optimization of Digital Circuits", chapter 9 (removal of
+//! registers that hold a constant); the SIS manual (UCB/ERL M92/41), `sweep`. Invariant: every
+//! latch that always holds one bit is in the worklist, so `next_fixed` finds exactly the first one.
 
 ghost use Rattle.std.specs.Prelude.{◌≡◌, ℕ, true, None, List, slice_get, bytes_eq, IfOk, OnOk};
 ghost use Rattle.std.specs.Option.{option_map_or};
@@ -12,11 +13,11 @@ ghost use Rattle.circuit_model.specs.Names.{has, all_different};
 ghost use Rattle.circuit_model.specs.Soundness.{outputs_of};
 ghost use Rattle.circuit_model.specs.Values.{driver};
 ghost use Rattle.net_wires.specs.Places.{LeadsToTables};
-ghost use Rattle.net_wires.specs.Points.{written_bit as bit_written};
+ghost use Rattle.net_wires.specs.Points.{written_bit};
 ghost use Rattle.net_wires.specs.Needed.{dont_care_reads};
-ghost use Rattle.net_wires.specs.Rules.{starts_at as may_start_at, fixed_bit as bit_fixed};
+ghost use Rattle.net_wires.specs.Rules.{starts_at, fixed_bit};
 ghost use Rattle.net_sweep.specs.Settled.{AreWaiting};
-ghost use Rattle.net_sweep.specs.Latches.{slot_bit as bit_of_slot, is_fixed, IsFirstFixed, IsReady};
+ghost use Rattle.net_sweep.specs.Latches.{slot_bit, is_fixed, IsFirstFixed, IsReady};
 
 use crate::queues::{pop_least, put_place};
 use circuit_model::{Latch, Name};
@@ -26,21 +27,24 @@ use net_wires::{AliasedTables, is_among};
 use std::alloc::AllocError;
 use std::collections::BTreeSet;
 
-/// Latches at the places where they began, and what tells soon which of them always has one bit.
+/// Latches in the slots in which they started, and what is maintained to find those that always
+/// hold one bit.
 pub(crate) struct TrackedLatches {
-    // the latches that are left, each at its place
+    // the remaining latches, each in its slot
     pub(crate) slots: Vec<Option<Latch>>,
-    // the places of the latches that read each signal, those that have gone among them; an output has a list too, be it empty
+    // the indices of the latches that read each signal, removed ones included; each output has a
+    // list, which may be empty
     pub(crate) fanout: IndexMap<Name, Places>,
-    // where the table of each signal stands
+    // the index of the table of each signal
     pub(crate) table_places: IndexMap<Name, usize>,
     // the leaves that the don't-care part reads
     pub(crate) leaves_read: IndexSet<Name>,
-    // the places of the latches that wait to be tried
+    // the worklist: the indices of the latches to be tried
     pub(crate) waiting: BTreeSet<usize>,
 }
 
-// By hand, so that letting the latches go is one call in the function that owns them beside aliased tables and candidates.
+// By hand, so that the function that owns the latches beside aliased tables and candidates drops
+// them in one call.
 impl Drop for TrackedLatches {
     fn drop(self) {
         let TrackedLatches {
@@ -53,10 +57,10 @@ impl Drop for TrackedLatches {
     }
 }
 
-// The constant that the table of a signal is written as.
+// The constant as which the table of a signal is written.
 fn driven_bit(aliased: &AliasedTables, places: &IndexMap<Name, usize>, name: &Name) -> Option<bool>
     requires { LeadsToTables (get bytes_eq places.now) aliased.now.tables }
-    ensures { result ≡ option_map_or bit_written (driver aliased.now.tables name.now) None }
+    ensures { result ≡ option_map_or written_bit (driver aliased.now.tables name.now) None }
 {
     match places.get(name) {
         None => None,
@@ -64,9 +68,9 @@ fn driven_bit(aliased: &AliasedTables, places: &IndexMap<Name, usize>, name: &Na
     }
 }
 
-// Whether a latch of this init may be taken to start at a bit.
+// Whether a latch of this initial value may be taken to start at a bit.
 fn starts_at(init: u8, bit: bool) -> bool
-    ensures { result ≡ may_start_at init bit }
+    ensures { result ≡ starts_at init bit }
 {
     if bit {
         return init == 1 || init == 2;
@@ -74,7 +78,7 @@ fn starts_at(init: u8, bit: bool) -> bool
     init == 0 || init == 2
 }
 
-// The bit that a latch always has.
+// The bit that a latch always holds, if there is one.
 #[tactic(auto, unfolding(net_wires::specs::Rules::fixed_bit))]
 fn fixed_bit(
     aliased: &AliasedTables,
@@ -84,7 +88,7 @@ fn fixed_bit(
 ) -> Option<bool>
     requires placed { LeadsToTables (get bytes_eq places.now) aliased.now.tables }
     requires read { (name : List ℕ) → has read.now.keys name ≡ dont_care_reads aliased.now name }
-    ensures { result ≡ bit_fixed aliased.now latch.now }
+    ensures { result ≡ fixed_bit aliased.now latch.now }
 {
     let is_read_by_dont_care = is_among(read, &latch.output);
     match driven_bit(aliased, places, &latch.input) {
@@ -99,7 +103,7 @@ fn fixed_bit(
     }
 }
 
-// The bit that the latch at a place always has, if one is left there.
+// The bit that the latch of a slot always holds, if there is one.
 fn slot_bit(
     aliased: &AliasedTables,
     places: &IndexMap<Name, usize>,
@@ -108,7 +112,7 @@ fn slot_bit(
 ) -> Option<bool>
     requires placed { LeadsToTables (get bytes_eq places.now) aliased.now.tables }
     requires read { (name : List ℕ) → has read.now.keys name ≡ dont_care_reads aliased.now name }
-    ensures { result ≡ bit_of_slot aliased.now slot.now }
+    ensures { result ≡ slot_bit aliased.now slot.now }
 {
     match slot {
         None => None,
@@ -116,7 +120,7 @@ fn slot_bit(
     }
 }
 
-// The bit that the latch at a place always has, if the place is one and a latch is left there.
+// The bit that the latch at an index always holds, if there is one.
 fn bit_at(
     aliased: &AliasedTables,
     places: &IndexMap<Name, usize>,
@@ -126,7 +130,7 @@ fn bit_at(
 ) -> Option<bool>
     requires placed { LeadsToTables (get bytes_eq places.now) aliased.now.tables }
     requires read { (name : List ℕ) → has read.now.keys name ≡ dont_care_reads aliased.now name }
-    ensures { result ≡ option_map_or (bit_of_slot aliased.now) (slice_get slots.now place) None }
+    ensures { result ≡ option_map_or (slot_bit aliased.now) (slice_get slots.now place) None }
 {
     match slots.get(place) {
         None => None,
@@ -134,7 +138,8 @@ fn bit_at(
     }
 }
 
-// The place of the first latch that always has one bit, with the bit; the place stays among those that wait.
+// The index of the first latch that always holds one bit, with the bit; the index stays in the
+// worklist.
 fn first_fixed(
     aliased: &AliasedTables,
     places: &IndexMap<Name, usize>,
@@ -146,7 +151,8 @@ fn first_fixed(
     requires read { (name : List ℕ) → has read.now.keys name ≡ dont_care_reads aliased.now name }
     requires waiting { AreWaiting (is_fixed aliased.now) (contains nat_cmp waiting.old) slots.now }
     ensures first { IfOk result (λ first. IsFirstFixed aliased.now slots.now first) }
-    ensures waiting { OnOk result (AreWaiting (is_fixed aliased.now) (contains nat_cmp waiting.new) slots.now) }
+    ensures waiting { OnOk result (AreWaiting (is_fixed aliased.now)
+        (contains nat_cmp waiting.new) slots.now) }
 {
     while let Some(place) = pop_least(waiting) {
         if let Some(bit) = bit_at(aliased, places, read, slots, place) {
@@ -157,7 +163,7 @@ fn first_fixed(
     Ok(None)
 }
 
-// The place of the first latch that always has one bit, with the bit.
+// The index of the first latch that always holds one bit, with the bit.
 pub(crate) fn next_fixed(
     aliased: &AliasedTables,
     tracked: &mut TrackedLatches,

@@ -1,30 +1,29 @@
-//! Tables that read a constant, and tables that read one signal in place of another one.
+//! Tables simplified by a constant input, and tables that read one signal instead of another.
+//!
+//! Source: the SIS manual (UCB/ERL M92/41), `sweep`. In `at_bit` a literal of the constant signal
+//! is removed, or its row is if the literal contradicts the bit; in `rewired` one input replaces
+//! another, with its column complemented if asked. Both tidy the result, and copy a table that does
+//! not read the signal. Rows must have a character for each input.
 
-ghost use Rattle.std.specs.Prelude.{◌≡◌, Bool, true, false, Option, Some, None, List, [], ◌∷◌, ◌++◌, length, map, bytes_eq, option_to_list, if◌then◌else◌, IfOk, OnOk};
+ghost use Rattle.std.specs.Prelude.{◌≡◌, Bool, true, false, Option, Some, None, List, [], ◌∷◌, length, map, bytes_eq, if◌then◌else◌, IfOk};
 ghost use Rattle.std.specs.List.{filter_map, list_any};
-ghost use Rattle.circuit_model.specs.Names.{has};
 ghost use Rattle.circuit_model.specs.Values.{table_value};
 ghost use Rattle.circuit_model.specs.declared.circuit.Tri.TheVariants.{Free};
 ghost use Rattle.net_core.specs.Tables.{HasCharacters};
 ghost use Rattle.net_sweep.specs.Columns.{opens_at_one, row_at_marks};
-ghost use Rattle.net_wires.specs.Rules.{asks_against, at_bit as table_at_bit, renamed as name_for, row_turned as turned_row, rewired as table_rewired, is_inverter as inverts_input};
+ghost use Rattle.net_wires.specs.Rules.{asks_against, at_bit, renamed, row_turned, rewired, is_inverter};
 
-use circuit_model::{Name, Names, Row, Rows, Table, Tri};
-use circuit_tables::tidied_table;
+use circuit_model::{Name, Names, Row, Rows, Table, Tri, has_name};
+use circuit_tables::{add_row, tidied_table};
 use net_wires::rows_over;
 use sis_base::{Copied, Sequence};
 use std::alloc::{AllocError, Global};
 
-// Whether a name is among names.
-pub(crate) fn is_among(names: &Names, name: &Name) -> bool
-    ensures { result ≡ has names.now name.now }
-{
-    names.as_slice().iter().any(|other| *name == *other)
-}
-
-// The character of a place in a row where a signal has a bit: none is left where the row asks for the other one.
+// The character of a place in a row where a signal has a bit: none is left where the row asks for
+// the other one.
 fn place_at_bit(is_signal: bool, bit: bool, place: Tri) -> Option<Tri>
-    ensures { result ≡ (if is_signal then (if asks_against bit place then None else Some Free) else Some place) }
+    ensures { result ≡ (if is_signal then (if asks_against bit place then None else Some Free) else
+        Some place) }
 {
     if !is_signal {
         return Some(place);
@@ -46,7 +45,7 @@ fn columns_of(alloc: Global, name: &Name, inputs: &[Name]) -> Result<Vec<bool>, 
     Ok(marks)
 }
 
-// A row in which the signal at the marked places has a bit, if it is left.
+// A row in which the signal of the marked columns has a bit, unless the row is removed.
 fn row_at_bit(
     alloc: Global,
     bit: bool,
@@ -66,16 +65,6 @@ fn row_at_bit(
     Ok(Some(made))
 }
 
-// Puts a row, where there is one, behind the last.
-fn add_row(rows: &mut Rows, row: Option<Row>) -> Result<(), AllocError>
-    ensures { OnOk result (rows.new ≡ rows.old ++ option_to_list row) }
-{
-    if let Some(row) = row {
-        rows.push(row)?;
-    }
-    Ok(())
-}
-
 // The rows that are left where the signal at the marked places has a bit.
 fn rows_at_bit(alloc: Global, bit: bool, marks: &[bool], rows: &[Row]) -> Result<Rows, AllocError>
     requires { HasCharacters (length marks.now) rows.now }
@@ -89,7 +78,8 @@ fn rows_at_bit(alloc: Global, bit: bool, marks: &[bool], rows: &[Row]) -> Result
     Ok(made)
 }
 
-// The table that reads a signal which has a bit, tidied; another table stays.
+// A table that reads a signal of the given bit, simplified by it and tidied; another table is
+// copied.
 #[tactic(auto, unfolding(net_wires::specs::Rules::at_bit))]
 pub(crate) fn at_bit(
     alloc: Global,
@@ -98,9 +88,9 @@ pub(crate) fn at_bit(
     bit: bool,
 ) -> Result<Table, AllocError>
     requires { HasCharacters (length table.now.inputs) table.now.rows }
-    ensures { IfOk result (λ made. made ≡ table_at_bit name.now bit table.now) }
+    ensures { IfOk result (λ made. made ≡ at_bit name.now bit table.now) }
 {
-    if !is_among(&table.inputs, name) {
+    if !has_name(table.inputs.as_slice(), name) {
         return table.copy(alloc);
     }
     let marks = columns_of(alloc, name, table.inputs.as_slice())?;
@@ -114,7 +104,7 @@ pub(crate) fn at_bit(
     tidied_table(alloc, put)
 }
 
-// The rows of a table that reads a signal through an inverter or directly.
+// The rows of a table, with the columns of a signal complemented if it is read through an inverter.
 fn rows_rewired(
     alloc: Global,
     table: &Table,
@@ -122,7 +112,8 @@ fn rows_rewired(
     inverts: bool,
 ) -> Result<Rows, AllocError>
     requires { HasCharacters (length table.now.inputs) table.now.rows }
-    ensures { IfOk result (λ made. made ≡ (if inverts then map (turned_row name.now table.now.inputs) table.now.rows else table.now.rows)) }
+    ensures { IfOk result (λ made. made ≡ (if inverts then map
+        (row_turned name.now table.now.inputs) table.now.rows else table.now.rows)) }
 {
     if !inverts {
         return table.rows.copy(alloc);
@@ -131,9 +122,9 @@ fn rows_rewired(
     rows_over(alloc, marks.as_slice(), table.rows.as_slice())
 }
 
-// A name, or the one that takes its place.
+// A name, or the one that replaces it.
 fn renamed(alloc: Global, from: &Name, to: &Name, name: &Name) -> Result<Name, AllocError>
-    ensures { IfOk result (λ made. made ≡ name_for from.now to.now name.now) }
+    ensures { IfOk result (λ made. made ≡ renamed from.now to.now name.now) }
 {
     if *from == *name {
         return to.copy(alloc);
@@ -141,9 +132,9 @@ fn renamed(alloc: Global, from: &Name, to: &Name, name: &Name) -> Result<Name, A
     name.copy(alloc)
 }
 
-// Names with one in place of another.
+// Names with one replaced by another.
 fn names_renamed(alloc: Global, from: &Name, to: &Name, names: &[Name]) -> Result<Names, AllocError>
-    ensures { IfOk result (λ made. made ≡ map (name_for from.now to.now) names.now) }
+    ensures { IfOk result (λ made. made ≡ map (renamed from.now to.now) names.now) }
 {
     let mut made = Vec::with_capacity(alloc, names.len())?;
     for name in names {
@@ -152,7 +143,8 @@ fn names_renamed(alloc: Global, from: &Name, to: &Name, names: &[Name]) -> Resul
     Ok(Sequence::from_vec(made))
 }
 
-// The table that reads one signal in place of another one, turned over or not, tidied; a table that doesn't read it stays.
+// A table that reads one signal instead of another, complemented if asked, tidied; a table that
+// does not read it is copied.
 #[tactic(auto, unfolding(net_wires::specs::Rules::rewired))]
 pub(crate) fn rewired(
     alloc: Global,
@@ -162,9 +154,9 @@ pub(crate) fn rewired(
     inverts: bool,
 ) -> Result<Table, AllocError>
     requires { HasCharacters (length table.now.inputs) table.now.rows }
-    ensures { IfOk result (λ made. made ≡ table_rewired from.now to.now inverts table.now) }
+    ensures { IfOk result (λ made. made ≡ rewired from.now to.now inverts table.now) }
 {
-    if !is_among(&table.inputs, from) {
+    if !has_name(table.inputs.as_slice(), from) {
         return table.copy(alloc);
     }
     let rows = rows_rewired(alloc, table, from, inverts)?;
@@ -194,10 +186,10 @@ fn are_open_at_one(rows: &[Row]) -> bool
     rows.iter().any(|row| is_open_at_one(row))
 }
 
-// Whether a table of one input is 0 where that is 1.
+// Whether a table of one input is 0 if that input is 1.
 #[tactic(auto, using(crate::proofs::RowSteps::inverts_positive, crate::proofs::RowSteps::inverts_negative))]
 pub(crate) fn is_inverter(table: &Table) -> bool
-    ensures { result ≡ inverts_input table.now }
+    ensures { result ≡ is_inverter table.now }
 {
     let is_matched = are_open_at_one(table.rows.as_slice());
     if table.phase {

@@ -1,24 +1,29 @@
-//! The steps of the first five rules: the rules that change tables, and then the one that makes a latch a table.
+//! The steps of the first five rules: the rules that change tables, and then the one that makes a
+//! latch a table.
+//!
+//! `next_step` finds the next step of `sweep_step` among these rules; `take_step` takes it, keeps
+//! the worklists complete, and its clause says that the result is exactly that step's circuit.
+//! `empty_at_step` may empty the table at which the step was taken, which changes no chain's end.
 
 ghost use Rattle.std.specs.Prelude.{◌≡◌, ℕ, Bool, ◌<◌, Some, None, find, slice_get, length, IfOk, OnOk};
 ghost use Rattle.circuit_model.specs.Soundness.{IsSound};
-ghost use Rattle.circuit_model.specs.declared.circuit.Table.{Table as TheTable};
+ghost use Rattle.circuit_model.specs.declared.circuit.Table.{Table};
 ghost use Rattle.net_wires.specs.Rules.{sweep_step};
-ghost use Rattle.net_sweep.specs.declared.queues.Rule.{Rule as TheRule};
+ghost use Rattle.net_sweep.specs.declared.queues.Rule.{Rule};
 ghost use Rattle.net_sweep.specs.declared.queues.Rule.TheVariants.{TidyTable, CollapseSingleInput};
 ghost use Rattle.net_sweep.specs.Settled.{passes, rule_applied, is_candidate, AreCandidates, AreSound, HasLed};
 ghost use Rattle.net_sweep.specs.Latches.{left_at, with_latches, IsReady, IsNextStep};
 
 use crate::applying::{apply_rule, next_rule};
 use crate::fixing::{enqueue_all, fix};
-use crate::idle::empty_untaken;
+use crate::idle::clear_fanout_free;
 use crate::latches::{TrackedLatches, next_fixed};
 use crate::queues::{Candidates, Rule};
 use cube_cover::Row;
 use net_wires::AliasedTables;
 use std::alloc::{AllocError, Global};
 
-/// A step: a rule is applied at the place of a table, or the latch at a place is fixed at a bit.
+/// A step: a rule is applied to the table at an index, or the latch at an index is fixed at a bit.
 #[derive(Clone, Copy)]
 pub(crate) enum Step {
     Apply(Rule, usize),
@@ -36,7 +41,8 @@ pub(crate) fn next_step<R: Row>(
     requires candidates { AreCandidates (is_candidate candidates.old) aliased.now.tables }
     requires ready { IsReady tracked.old aliased.now }
     ensures next { IfOk result (λ step. IsNextStep aliased.now tracked.old.slots.items step) }
-    ensures candidates { OnOk result (AreCandidates (is_candidate candidates.new) aliased.now.tables) }
+    ensures candidates { OnOk result (AreCandidates
+        (is_candidate candidates.new) aliased.now.tables) }
     ensures slots { OnOk result (tracked.new.slots.items ≡ tracked.old.slots.items) }
     ensures ready { OnOk result (IsReady tracked.new aliased.now) }
 {
@@ -49,7 +55,8 @@ pub(crate) fn next_step<R: Row>(
     }
 }
 
-// Applies a rule at the place of a table; latches whose input has become a constant wait.
+// Applies a rule to the table at an index, and adds the latches whose input has become a constant
+// to the worklist.
 fn apply_to_tables<R: Row>(
     alloc: Global,
     rule: Rule,
@@ -60,11 +67,14 @@ fn apply_to_tables<R: Row>(
 ) -> Result<(), AllocError>
     requires sound { AreSound aliased.old.tables }
     requires within { place < length aliased.old.tables }
-    requires tidy { rule ≡ CollapseSingleInput → find (passes TidyTable aliased.old.tables) aliased.old.tables ≡ None }
+    requires tidy { rule ≡ CollapseSingleInput → find
+        (passes TidyTable aliased.old.tables) aliased.old.tables ≡ None }
     requires candidates { AreCandidates (is_candidate candidates.old) aliased.old.tables }
     requires ready { IsReady tracked.old aliased.old }
-    ensures applied { OnOk result ((table : TheTable) → slice_get aliased.old.tables place ≡ Some table → aliased.new ≡ rule_applied rule aliased.old table) }
-    ensures candidates { OnOk result (AreCandidates (is_candidate candidates.new) aliased.new.tables) }
+    ensures applied { OnOk result ((table : Table) → slice_get aliased.old.tables place
+        ≡ Some table → aliased.new ≡ rule_applied rule aliased.old table) }
+    ensures candidates { OnOk result (AreCandidates
+        (is_candidate candidates.new) aliased.new.tables) }
     ensures slots { OnOk result (tracked.new.slots.items ≡ tracked.old.slots.items) }
     ensures ready { OnOk result (IsReady tracked.new aliased.new) }
 {
@@ -90,8 +100,11 @@ pub(crate) fn take_step<R: Row>(
     requires candidates { AreCandidates (is_candidate candidates.old) aliased.old.tables }
     requires ready { IsReady tracked.old aliased.old }
     requires next { IsNextStep aliased.old tracked.old.slots.items (Some step) }
-    ensures stepped { OnOk result (sweep_step (with_latches aliased.old (left_at tracked.old.slots.items)) ≡ Some (with_latches aliased.new (left_at tracked.new.slots.items))) }
-    ensures candidates { OnOk result (AreCandidates (is_candidate candidates.new) aliased.new.tables) }
+    ensures stepped { OnOk result (sweep_step (with_latches aliased.old
+        (left_at tracked.old.slots.items)) ≡ Some (with_latches aliased.new
+        (left_at tracked.new.slots.items))) }
+    ensures candidates { OnOk result (AreCandidates
+        (is_candidate candidates.new) aliased.new.tables) }
     ensures ready { OnOk result (IsReady tracked.new aliased.new) }
 {
     match step {
@@ -102,7 +115,7 @@ pub(crate) fn take_step<R: Row>(
     }
 }
 
-// The table at which the step was taken is emptied where nothing takes its signal any more.
+// Empties the table at which the step was taken if its signal has no fanout any more.
 pub(crate) fn empty_at_step(
     alloc: Global,
     step: Step,
@@ -111,12 +124,14 @@ pub(crate) fn empty_at_step(
 ) -> Result<(), AllocError>
     requires sound { IsSound (with_latches aliased.old (left_at tracked.now.slots.items)) }
     requires ready { IsReady tracked.now aliased.old }
-    ensures led { OnOk result (HasLed (with_latches aliased.old (left_at tracked.now.slots.items)) (with_latches aliased.new (left_at tracked.now.slots.items))) }
-    ensures candidates { OnOk result ((marks : TheRule → ℕ → Bool) → AreCandidates marks aliased.old.tables → AreCandidates marks aliased.new.tables) }
+    ensures led { OnOk result (HasLed (with_latches aliased.old (left_at tracked.now.slots.items))
+        (with_latches aliased.new (left_at tracked.now.slots.items))) }
+    ensures candidates { OnOk result ((marks : Rule → ℕ → Bool)
+        → AreCandidates marks aliased.old.tables → AreCandidates marks aliased.new.tables) }
     ensures ready { OnOk result (IsReady tracked.now aliased.new) }
 {
     match step {
-        Step::Apply(_, place) => empty_untaken(alloc, place, aliased, tracked),
+        Step::Apply(_, place) => clear_fanout_free(alloc, place, aliased, tracked),
         Step::Fix(_, _) => Ok(()),
     }
 }

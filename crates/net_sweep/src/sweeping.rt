@@ -1,4 +1,10 @@
 //! Sweep of a network.
+//!
+//! Source: the SIS manual (UCB/ERL M92/41), `sweep`. The first five rules run until none applies;
+//! then `dangling_step` removes what is not needed, and they run again, until nothing is removed.
+//! `sweep` promises the end of a chain of `sweep_step`, so that the new network is sound, refines
+//! the old one and has the finished form; it keeps within the bounds of the old network. The
+//! network given stays as it is.
 
 ghost use Rattle.std.specs.Prelude.{◌≡◌, ◌-◌, not, None, count_by, length, IfOk, OnOk};
 ghost use Rattle.circuit_model.specs.Names.{has};
@@ -24,20 +30,20 @@ use net_wires::{AliasedTables, dangling_step};
 use sis_base::Whole;
 use std::alloc::{AllocError, Global};
 
-/// How many tables and latches a sweep took away; a latch that became a table counts as a latch
-/// alone.
+/// The numbers of tables and latches that a sweep removed; a latch that became a table counts as a
+/// latch alone.
 #[derive(Clone, Copy, Debug, PartialEq, Eq)]
 pub struct Swept {
-    /// How many of the tables' signals no table drives any more.
+    /// The number of the tables' signals that no table drives any more.
     pub tables: usize,
-    /// How many fewer latches there are.
+    /// The difference in the number of latches.
     pub latches: usize,
 }
 
-/// Why a sweep gave no answer.
+/// Why a sweep failed.
 #[derive(Clone, Copy, Debug, PartialEq, Eq, Drop)]
 pub enum SweepFault {
-    /// Memory was wanting.
+    /// There was not enough memory.
     Memory,
 }
 
@@ -70,7 +76,7 @@ fn take_steps<R: Row>(
     Ok(())
 }
 
-// Takes steps of the first five rules until none applies, to begin with at any table.
+// Takes steps of the first five rules until none applies, starting with every table as a candidate.
 fn settle<R: Row>(
     alloc: Global,
     aliased: &mut AliasedTables,
@@ -86,8 +92,8 @@ fn settle<R: Row>(
     take_steps::<R>(alloc, aliased, &mut candidates, tracked)
 }
 
-// The circuit where none of the first five rules applies any more, whose latches are told beside
-// it.
+// The circuit to which none of the first five rules applies any more, with its latches in
+// `tracked`.
 fn settled_beside<R: Row>(
     alloc: Global,
     circuit: Circuit,
@@ -105,7 +111,7 @@ fn settled_beside<R: Row>(
     aliased.into_circuit(alloc)
 }
 
-// The circuit where none of the first five rules applies any more.
+// The circuit to which none of the first five rules applies any more.
 fn settled<R: Row>(alloc: Global, circuit: Circuit) -> Result<Circuit, AllocError>
     requires { IsSound circuit }
     ensures led { IfOk result (λ end. HasLed circuit end) }
@@ -117,14 +123,14 @@ fn settled<R: Row>(alloc: Global, circuit: Circuit) -> Result<Circuit, AllocErro
     with_tracked_latches(alloc, end, &tracked)
 }
 
-// The circuit where no step applies any more.
+// The circuit to which no step applies any more.
 fn finished<R: Row>(alloc: Global, circuit: Circuit) -> Result<Circuit, AllocError>
     requires { IsSound circuit }
     ensures chain { IfOk result (λ end. Chain sweep_step circuit end) }
     ensures sound { IfOk result (λ end. IsSound end) }
 {
     let begun = settled::<R>(alloc, circuit)?;
-    // A whole, so that letting it go is one call.
+    // A whole, so that one call drops it.
     let mut end = Whole { it: begun };
     while let Some(next) = dangling_step(alloc, &end.it)? {
         let further = settled::<R>(alloc, next)?;
@@ -133,7 +139,8 @@ fn finished<R: Row>(alloc: Global, circuit: Circuit) -> Result<Circuit, AllocErr
     Ok(end.into_it())
 }
 
-// How many of the named tables, and of so many latches, a circuit has no more.
+// The numbers of the named tables, and of the given number of latches, that a circuit no longer
+// has.
 fn gone(alloc: Global, tables: &[Name], latches: usize, end: &Circuit) -> Result<Swept, AllocError>
     ensures tables { IfOk result (λ swept. swept.tables
         ≡ count_by (λ name. not (has (outputs_of end.now.tables) name)) tables.now) }
@@ -146,8 +153,8 @@ fn gone(alloc: Global, tables: &[Name], latches: usize, end: &Circuit) -> Result
     })
 }
 
-/// A network after sweep, beside the one that stays: the end of the chain of steps, and how many
-/// tables and latches went. An error only for want of memory.
+/// The network after sweep, beside the given one, which stays: the end of the chain of steps, and
+/// the numbers of removed tables and latches.
 pub fn sweep<R: Row>(alloc: Global, network: &Network<R>) -> Result<(Network<R>, Swept), SweepFault>
     ensures chain { IfOk result (λ made. Chain sweep_step network.now made.0) }
     ensures kept { IfOk result (λ made. IsKept network.now made.0) }
@@ -157,7 +164,7 @@ pub fn sweep<R: Row>(alloc: Global, network: &Network<R>) -> Result<(Network<R>,
     ensures bounds { HasBounds network.now → IfOk result (λ made. HasBounds made.0) }
 {
     network.sound();
-    // Wholes, so that letting one go is one call.
+    // Wholes, so that one call drops each.
     let circuit = network.to_circuit(alloc)?;
     let begun = Whole { it: circuit };
     let tables = outputs(alloc, begun.it.tables.as_slice())?;

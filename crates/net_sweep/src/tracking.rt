@@ -1,14 +1,18 @@
-//! Latches are copied out of a circuit, each to a place of its own, and those that are left are put back; until then the
-//! circuit's own list counts for nothing.
+//! Latches copied out of a circuit, each to a slot of its own, and the remaining ones put back.
+//!
+//! While the latches are in slots the circuit's own list is ignored. `tracked_latches` also builds
+//! what `latches` and `fixing` rely on: the latches that read each signal, the index of each table,
+//! and the leaves that the don't-care part reads. `with_tracked_latches` drops the timing if no
+//! latch is left.
 
 ghost use Rattle.std.specs.Prelude.{◌≡◌, ℕ, ◌<◌, true, Some, is_some, List, [], ◌∷◌, ◌++◌, length, map, slice_get, bytes_eq, IfOk, OnOk};
 ghost use Rattle.indexmap.specs.IndexMap.{get};
 ghost use Rattle.circuit_model.specs.Names.{has, all_different};
 ghost use Rattle.circuit_model.specs.Soundness.{outputs_of};
-ghost use Rattle.circuit_model.specs.declared.circuit.Latch.{Latch as TheLatch};
+ghost use Rattle.circuit_model.specs.declared.circuit.Latch.{Latch};
 ghost use Rattle.circuit_laws.specs.Edits.{timing_with};
 ghost use Rattle.net_sweep.specs.Settled.{listed};
-ghost use Rattle.net_readers.specs.Readers.{is_in};
+ghost use Rattle.net_readers.specs.Fanouts.{is_in};
 ghost use Rattle.net_sweep.specs.Latches.{left_at, with_latches, IsPlaced, IsReady};
 
 use crate::latches::TrackedLatches;
@@ -20,7 +24,7 @@ use net_wires::{leaves_read, note_place};
 use sis_base::{Copied, Sequence};
 use std::alloc::{AllocError, Global};
 
-// A place for each latch.
+// A slot for each latch.
 fn slots_of(alloc: Global, latches: &[Latch]) -> Result<Vec<Option<Latch>>, AllocError>
     ensures { IfOk result (λ slots. slots.items ≡ map Some latches.now) }
 {
@@ -31,9 +35,10 @@ fn slots_of(alloc: Global, latches: &[Latch]) -> Result<Vec<Option<Latch>>, Allo
     Ok(slots)
 }
 
-// The places of the latches that read each signal at the start.
+// The indices of the latches that read each signal at the start.
 fn latch_fanout(alloc: Global, latches: &[Latch]) -> Result<IndexMap<Name, Places>, AllocError>
-    ensures { IfOk result (λ lists. (place : ℕ) (latch : TheLatch) → slice_get latches.now place ≡ Some latch → is_in (listed (get bytes_eq lists latch.input)) place ≡ true) }
+    ensures { IfOk result (λ lists. (place : ℕ) (latch : Latch) → slice_get latches.now place
+        ≡ Some latch → is_in (listed (get bytes_eq lists latch.input)) place ≡ true) }
 {
     let mut lists = IndexMap::new(alloc);
     for (place, latch) in latches.iter().enumerate() {
@@ -42,15 +47,17 @@ fn latch_fanout(alloc: Global, latches: &[Latch]) -> Result<IndexMap<Name, Place
     Ok(lists)
 }
 
-// An output has a list, an empty one where no latch reads it.
+// Gives an output a list, an empty one if no latch reads it.
 fn note_output(
     alloc: Global,
     lists: &mut IndexMap<Name, Places>,
     output: &Name,
 ) -> Result<(), AllocError>
     ensures noted { OnOk result (is_some (get bytes_eq lists.new output.now) ≡ true) }
-    ensures listed { OnOk result ((name : List ℕ) → listed (get bytes_eq lists.new name) ≡ listed (get bytes_eq lists.old name)) }
-    ensures kept { OnOk result ((name : List ℕ) → is_some (get bytes_eq lists.old name) ≡ true → is_some (get bytes_eq lists.new name) ≡ true) }
+    ensures listed { OnOk result ((name : List ℕ) → listed (get bytes_eq lists.new name) ≡ listed
+        (get bytes_eq lists.old name)) }
+    ensures kept { OnOk result ((name : List ℕ) → is_some (get bytes_eq lists.old name) ≡ true
+        → is_some (get bytes_eq lists.new name) ≡ true) }
 {
     if lists.get(output).is_some() {
         return Ok(());
@@ -58,14 +65,17 @@ fn note_output(
     put_list(lists, output.copy(alloc)?, Sequence::new(alloc))
 }
 
-// The places of the latches that read each signal; each output has a list.
+// The indices of the latches that read each signal; each output has a list.
 fn fanout_of(
     alloc: Global,
     latches: &[Latch],
     outputs: &[Name],
 ) -> Result<IndexMap<Name, Places>, AllocError>
-    ensures latches { IfOk result (λ lists. (place : ℕ) (latch : TheLatch) → slice_get latches.now place ≡ Some latch → is_in (listed (get bytes_eq lists latch.input)) place ≡ true) }
-    ensures outputs { IfOk result (λ lists. (name : List ℕ) → has outputs.now name ≡ true → is_some (get bytes_eq lists name) ≡ true) }
+    ensures latches { IfOk result (λ lists. (place : ℕ) (latch : Latch)
+        → slice_get latches.now place ≡ Some latch → is_in
+        (listed (get bytes_eq lists latch.input)) place ≡ true) }
+    ensures outputs { IfOk result (λ lists. (name : List ℕ) → has outputs.now name ≡ true → is_some
+        (get bytes_eq lists name) ≡ true) }
 {
     let mut lists = latch_fanout(alloc, latches)?;
     for output in outputs {
@@ -74,7 +84,7 @@ fn fanout_of(
     Ok(lists)
 }
 
-// Where the tables of signals stand.
+// The index of the table of each signal.
 fn table_places(alloc: Global, tables: &[Table]) -> Result<IndexMap<Name, usize>, AllocError>
     requires { all_different (outputs_of tables.now) ≡ true }
     ensures { IfOk result (λ places. IsPlaced (get bytes_eq places) (outputs_of tables.now)) }
@@ -86,7 +96,7 @@ fn table_places(alloc: Global, tables: &[Table]) -> Result<IndexMap<Name, usize>
     Ok(places)
 }
 
-// The latches of a circuit, each at its place in order.
+// The latches of a circuit, each in its slot, in order.
 pub(crate) fn tracked_latches(
     alloc: Global,
     circuit: &Circuit,
@@ -110,7 +120,7 @@ pub(crate) fn tracked_latches(
     })
 }
 
-// Puts a copy of the latch at a place, if one is left there, behind the last.
+// Appends a copy of the latch of a slot, if it has one.
 #[tactic(auto, unfolding(crate::specs::Latches::left_at))]
 fn push_left(alloc: Global, made: &mut Vec<Latch>, slot: &Option<Latch>) -> Result<(), AllocError>
     ensures { OnOk result (made.new.items ≡ made.old.items ++ left_at (slot.now ∷ [])) }
@@ -121,7 +131,7 @@ fn push_left(alloc: Global, made: &mut Vec<Latch>, slot: &Option<Latch>) -> Resu
     Ok(())
 }
 
-// The latches that are left.
+// The remaining latches.
 fn latches_left(alloc: Global, slots: &[Option<Latch>]) -> Result<Latches, AllocError>
     ensures { IfOk result (λ latches. latches ≡ left_at slots.now) }
 {
@@ -132,7 +142,7 @@ fn latches_left(alloc: Global, slots: &[Option<Latch>]) -> Result<Latches, Alloc
     Ok(Sequence::from_vec(made))
 }
 
-// The timing, where a latch stands.
+// The timing, if there is a latch.
 fn timing_for(latches: &[Latch], timing: Option<Timing>) -> Option<Timing>
     ensures { result ≡ timing_with latches.now timing }
 {
@@ -142,7 +152,7 @@ fn timing_for(latches: &[Latch], timing: Option<Timing>) -> Option<Timing>
     }
 }
 
-// The circuit with the latches that are left.
+// The circuit with the remaining latches.
 pub(crate) fn with_tracked_latches(
     alloc: Global,
     circuit: Circuit,

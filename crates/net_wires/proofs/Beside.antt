@@ -1,4 +1,4 @@
--- A rule of sweep, applied beside a table that nothing takes: it applies there in the same way once that table is
+-- A rule of sweep beside a table without fanout: it applies in the same way once that table is
 -- emptied, or it changes that table alone.
 use Rattle.std.proofs.Common.{◌≡◌, ℕ, Bool, true, false, not, ◌&&◌, Option, Some, None, is_some, List, map, find, bytes_eq, refl, sym, ap, ◌∙◌, subst, inl, inr, ◌⊎◌}
 use Rattle.std.specs.List.{AllByRecursion}
@@ -29,7 +29,8 @@ use Rattle.net_wires.proofs.Emptied.{emptied, emptied_reads, emptied_unread, fin
 abbrev pub beside : Circuit → List ℕ → Circuit
 beside circuit name = with_tables circuit (map (emptied name) circuit.tables)
 
--- a step of a rule changes the emptied table alone, or the rule takes it beside that table
+-- a step of a rule changes the emptied table alone, or the rule takes the same step beside that
+-- table
 abbrev pub Goes : (Circuit → Option Circuit) → List ℕ → Circuit → Circuit → Type 0
 Goes rule name circuit new = (beside new name ≡ beside circuit name) ⊎ (rule (beside circuit name) ≡ Some (beside new name))
 
@@ -53,7 +54,7 @@ idle_unneeded circuit name idle steps =
     false_from_ne_true (needed_within circuit steps name) (λ needed.
     false≢true (sym (own_fails name) ∙ within_least circuit (is_other name) (unread_closed circuit name idle.unread idle.unasked) steps name needed))
 
--- a table gives place to another one
+-- a table is replaced by another one
 
 replaced_goes : (rule : Circuit → Option Circuit) (name : List ℕ) (circuit : Circuit) (new : Table)
     → (bytes_eq name new.output ≡ false → rule (beside circuit name) ≡ Some (with_replaced (beside circuit name) new)) → Goes rule name circuit (with_replaced circuit new)

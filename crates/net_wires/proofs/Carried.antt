@@ -1,4 +1,5 @@
--- Who reads a signal is who reads its alias; and two signals change places where they exchange aliases.
+-- The fanouts of a signal are those of its alias; and two signals are exchanged when they exchange
+-- aliases.
 use Rattle.std.proofs.Common.{◌≡◌, ℕ, ◌<◌, length, get_or, set, Bool, true, false, not, ◌&&◌, if◌then◌else◌, Option, Some, None, List, [], ◌∷◌, ◌++◌, map, slice_get, bytes_eq, inl, inr, refl, sym, ap, ◌∙◌, subst}
 use Rattle.std.specs.Prelude.{Result, IfOk}
 use Rattle.std.specs.declared.result.Result.TheVariants.{Ok, Err}
@@ -16,13 +17,13 @@ use Rattle.circuit_laws.proofs.Names.{same_name, name_itself, name_is, name_not,
 use Rattle.net_wires.specs.Rules.{turned_over, row_turned}
 use Rattle.net_wires.specs.Points.{written_bit}
 use Rattle.net_wires.proofs.Searching.{at_place}
-use Rattle.net_readers.specs.Readers.{AreReaders}
+use Rattle.net_readers.specs.Fanouts.{AreReaders}
 use Rattle.net_wires.specs.declared.edges.Edge.{Edge}
 use Rattle.net_wires.specs.Aliases.{inputs_at, row_over, complement_marks, table_over, AreInverse, ArePaired, name_exchanged, exchanged, with_edge, turned_if, HaveExchangedAliases}
 use Rattle.net_wires.proofs.Reading.{readers_last}
 use Rattle.net_wires.proofs.Turning.{turned_twice, table_back, constant_stays, bit_stays}
 
--- a signal is among those for which aliases stand exactly where its alias is among the aliases
+-- a signal is among those for which aliases stand exactly if its alias is among the aliases
 carried_name : (signal alias : List ℕ → Edge) → ArePaired signal alias → (name input : List ℕ) → bytes_eq name (signal input).name ≡ bytes_eq (alias name).name input
 carried_name signal alias h name input =
     elim (name_cases (alias name).name input) as (λ _. bytes_eq name (signal input).name ≡ bytes_eq (alias name).name input) [
@@ -43,7 +44,7 @@ carried_read signal alias h name (table ∷ tables) =
     has_append (map (λ input. (signal input).name) table.inputs) (table_inputs (map (table_over signal) tables)) name
     ∙ (rw (carried_has signal alias h name table.inputs, carried_read signal alias h name tables) refl ∙ sym (has_append table.inputs (table_inputs tables) (alias name).name))
 
--- and so for the table at a place
+-- and so for the table at an index
 pub carried_at : (signal alias : List ℕ → Edge) → ArePaired signal alias → (name : List ℕ) (place : ℕ) (tables : List Table) → has (inputs_at (map (table_over signal) tables) place) name ≡ has (inputs_at tables place) (alias name).name
 carried_at signal alias h name place tables =
     ap (λ (o : Option Table). has (option_map_or (λ (table : Table). table.inputs) o []) name) (slice_get-map (table_over signal) tables place) ∙ by (slice_get tables place)
@@ -83,7 +84,7 @@ linked_back there back x y a b p q apart home by_a by_b name = first (bytes_eq x
     first true e = at_a ∙ ap (λ (n : List ℕ). record { name = n; is_complemented = p }) (same_name x name e)
     first false e = second e (bytes_eq y name) refl
 
--- what edges become where the signals for which two aliases stand change places
+-- the edges after the signals for which two aliases stand were exchanged
 pub record AreLinked (signal alias signal_after alias_after : List ℕ → Edge) (one other : List ℕ) (first second : Edge) (turned : Bool) : Type 0 where
   pub apart : bytes_eq one other ≡ false
   pub first_is : first ≡ alias one
@@ -149,7 +150,7 @@ linked_paired signal alias signal_after alias_after one other first second turne
     differ : bytes_eq second.name first.name ≡ false
     differ = name_not second.name first.name (λ e. name_apart one other l.apart (sym first_signal ∙ (ap (λ (n : List ℕ). (signal n).name) (sym e) ∙ second_signal)))
 
--- for what each alias stands then
+-- what each alias then stands for
 record IsMoved (before after : Edge) (one other : List ℕ) (inverts : Bool) : Type 0 where
   name : after.name ≡ name_exchanged one other before.name
   turns : after.is_complemented ≡ (if inverts && bytes_eq one before.name then not before.is_complemented else before.is_complemented)
@@ -236,7 +237,7 @@ unfolding exchanged
 table_moved before after one other true h table = rw (names_moved before after one other true h table.inputs, rows_moved before after one other h table.inputs table.rows) refl
 table_moved before after one other false h table = rw (names_moved before after one other false h table.inputs, marks_same before after one other h table.inputs) refl
 
--- the tables are those in which two signals have changed places
+-- the tables are those in which two signals were exchanged
 pub tables_moved : (signal alias signal_after alias_after : List ℕ → Edge) (one other : List ℕ) (first second : Edge) (inverts turned : Bool) → ArePaired signal alias
     → turned ≡ (if inverts then not first.is_complemented else first.is_complemented) → AreLinked signal alias signal_after alias_after one other first second turned → (tables : List Table)
     → map (table_over signal_after) tables ≡ map (exchanged one other inverts) (map (table_over signal) tables)
@@ -247,19 +248,19 @@ tables_moved signal alias signal_after alias_after one other first second invert
       tables_moved signal alias signal_after alias_after one other first second inverts turned h t l tables,
     ) refl
 
--- the table at a place
+-- the table at an index
 table_there : (circuit seen : Circuit) (edge : List ℕ → Edge) (place : ℕ) (table : Table) → seen ≡ with_tables circuit (map (table_over edge) circuit.tables) → place < length circuit.tables → table ≡ get_or circuit.tables place table
     → slice_get seen.tables place ≡ Some (table_over edge table)
 table_there circuit seen edge place table is lt here =
     ap (λ (c : Circuit). slice_get c.tables place) is ∙ (slice_get-map (table_over edge) circuit.tables place ∙ ap (option_map (table_over edge)) (at_place circuit.tables place table lt here))
 
--- the constant at a place
+-- the constant at an index
 pub bit_there : (circuit seen : Circuit) (edge : List ℕ → Edge) (place : ℕ) (table : Table) → seen ≡ with_tables circuit (map (table_over edge) circuit.tables) → place < length circuit.tables → table ≡ get_or circuit.tables place table
     → written_bit table ≡ option_map_or written_bit (slice_get seen.tables place) None
 bit_there circuit seen edge place table is lt here =
     sym (ap (λ (o : Option Table). option_map_or written_bit o None) (table_there circuit seen edge place table is lt here) ∙ bit_stays edge table)
 
--- the number of inputs at a place
+-- the number of inputs at an index
 pub width_there : (circuit seen : Circuit) (edge : List ℕ → Edge) (place : ℕ) (table : Table) → seen ≡ with_tables circuit (map (table_over edge) circuit.tables) → place < length circuit.tables → table ≡ get_or circuit.tables place table
     → length table.inputs ≡ option_map_or (λ (t : Table). length t.inputs) (slice_get seen.tables place) 0
 width_there circuit seen edge place table is lt here =
@@ -272,7 +273,7 @@ read_there circuit seen signal alias name is h = sym (ap (λ (c : Circuit). has 
 pub places_there : (circuit seen : Circuit) (signal alias : List ℕ → Edge) (name : List ℕ) (place : ℕ) → seen ≡ with_tables circuit (map (table_over signal) circuit.tables) → ArePaired signal alias → has (inputs_at circuit.tables place) (alias name).name ≡ has (inputs_at seen.tables place) name
 places_there circuit seen signal alias name place is h = sym (ap (λ (c : Circuit). has (inputs_at c.tables place) name) is ∙ carried_at signal alias h name place circuit.tables)
 
--- a table is put in over aliases
+-- a table is set over aliases
 pub table_put : (circuit seen : Circuit) (signal alias : List ℕ → Edge) (place : ℕ) (table kept : Table) (new : Circuit) → seen ≡ with_tables circuit (map (table_over signal) circuit.tables) → ArePaired signal alias → kept ≡ table_over alias table
     → new ≡ with_tables circuit (set circuit.tables place kept) → with_tables new (map (table_over signal) new.tables) ≡ with_tables seen (set seen.tables place table)
 table_put circuit seen signal alias place table kept new is h k n =
@@ -285,14 +286,14 @@ pub exchange_paired : (signal alias signal_after alias_after : List ℕ → Edge
 exchange_paired signal alias signal_after alias_after one other inverts apart p h =
     linked_paired signal alias signal_after alias_after one other (alias one) (alias other) (turned_if inverts (alias one).is_complemented) p (linked signal alias signal_after alias_after one other inverts apart h)
 
--- two signals have changed places
+-- two signals are exchanged
 pub signals_moved : (circuit seen : Circuit) (signal alias signal_after alias_after : List ℕ → Edge) (one other : List ℕ) (inverts : Bool) → seen ≡ with_tables circuit (map (table_over signal) circuit.tables)
     → bytes_eq one other ≡ false → ArePaired signal alias → HaveExchangedAliases signal alias signal_after alias_after one other inverts
     → with_tables circuit (map (table_over signal_after) circuit.tables) ≡ with_tables seen (map (exchanged one other inverts) seen.tables)
 signals_moved circuit seen signal alias signal_after alias_after one other inverts is apart p h =
     rw (is) (ap (with_tables circuit) (tables_moved signal alias signal_after alias_after one other (alias one) (alias other) inverts (turned_if inverts (alias one).is_complemented) p refl (linked signal alias signal_after alias_after one other inverts apart h) circuit.tables))
 
--- a constant stands last
+-- a constant is appended
 pub constant_last : (circuit seen : Circuit) (signal : List ℕ → Edge) (name : List ℕ) (bit : Bool) (table : Table) (new : Circuit) → seen ≡ with_tables circuit (map (table_over signal) circuit.tables) → table ≡ constant_table name bit
     → new ≡ with_added circuit table → with_tables new (map (table_over signal) new.tables) ≡ with_added seen (constant_table name bit)
 unfolding with_added

@@ -95,7 +95,7 @@ leads_kept (next ∷ rest) circuit new sound steps =
 
 -- a chain of steps keeps a sound circuit, and ends at the finished form
 pub chain_kept : (circuit new : Circuit) → IsSound circuit → Chain sweep_step circuit new → IsKept circuit new
-chain_kept circuit new sound chain = leads_kept chain.between circuit new sound chain.leads
+chain_kept circuit new sound chain = leads_kept chain.reached.between circuit new sound chain.reached.steps
 
 pub chain_swept : (circuit new : Circuit) → Chain sweep_step circuit new → IsSwept new
-chain_swept circuit new chain = swept new chain.finished
+chain_swept circuit new chain = swept new chain.done

@@ -14,7 +14,7 @@ use Rattle.circuit_laws.proofs.Drivers.{driver_mapped, driver_name}
 use Rattle.net_wires.proofs.Closing.{tables_reach}
 use Rattle.net_wires.proofs.Weight.{mapped_reads}
 
--- the constant 0 in place of the table of a signal; other tables stay
+-- the table of a signal replaced by the constant 0; other tables stay
 unfoldable pub emptied : List ℕ → Table → Table
 emptied name table = if bytes_eq name table.output then constant_table name false else table
 
@@ -75,8 +75,8 @@ fails_emptied p q name none within table fails =
       | inr other ↦ ap q other.1 ∙ false_from_ne_true (q table) (λ h. false≢true (sym fails ∙ within table h))
     ]
 
--- where the emptied table fails a test, and what passes it passes another one, the first that passes the other one is
--- the first that passes it, if it does
+-- where the emptied table fails a test, and what passes it passes another one, the first that
+-- passes the other one is the first that passes it, if it does
 pub find_emptied : (p q : Table → Bool) (name : List ℕ) → q (constant_table name false) ≡ false → ((table : Table) → q table ≡ true → p table ≡ true)
     → (tables : List Table) (table : Table) → find p tables ≡ Some table → bytes_eq name table.output ≡ false → q table ≡ true → find q (map (emptied name) tables) ≡ Some table
 find_emptied p q name none within [] table e other holds = absurd (none-some table e)
@@ -108,7 +108,7 @@ emptied_driver name tables signal other = driver_mapped (emptied name) (emptied_
     by None e = refl
     by (Some table) e = ap Some (emptied_other name table (ap (bytes_eq name) (driver_name tables signal table e) ∙ other))
 
--- the emptied table stands where the table of the signal stood
+-- the emptied table is at the position of the signal's table
 
 emptied_stays : (name : List ℕ) (tables : List Table) → has (outputs_of tables) name ≡ false → map (emptied name) tables ≡ tables
 emptied_stays name [] none = refl
@@ -188,7 +188,7 @@ emptied_turned name turn keeps still (table ∷ tables) =
     ])
     (emptied_turned name turn keeps still tables)
 
--- tables that go or are added
+-- tables are removed or added
 pub emptied_kept : (name : List ℕ) (test : List ℕ → Bool) (tables : List Table) → tables_kept test (map (emptied name) tables) ≡ map (emptied name) (tables_kept test tables)
 unfolding tables_kept
 emptied_kept name test [] = refl

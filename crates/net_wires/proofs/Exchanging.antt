@@ -1,4 +1,4 @@
--- Tables in which two signals have changed places.
+-- Tables in which two signals are exchanged.
 use Rattle.std.proofs.Common.{◌≡◌, ℕ, zero, suc, Bool, true, false, not, ◌&&◌, ◌||◌, if◌then◌else◌, is_some, List, [], ◌∷◌, length, map, bytes_eq, refl, sym, ap, ◌∙◌, subst, inl, inr}
 use Rattle.std.specs.List.{list_any}
 use Rattle.std.proofs.Math.Bool.{and_comm}
@@ -33,7 +33,7 @@ exchanged_other one other = cases (bytes_eq one other) refl
     cases true e = sym (same_name one other e)
     cases false e = rw (name_itself other) refl
 
--- names that change places twice stand where they stood
+-- names that are exchanged twice are as they were
 exchanged_twice : (one other name : List ℕ) → name_exchanged one other (name_exchanged one other name) ≡ name
 exchanged_twice one other name = cases (bytes_eq one name) refl (bytes_eq other name) refl
   where
@@ -42,7 +42,7 @@ exchanged_twice one other name = cases (bytes_eq one name) refl (bytes_eq other 
     cases false e true k = exchanged_one one other ∙ same_name other name k
     cases false e false k = rw (e, k) refl
 
--- names that have changed places are the same where they were
+-- exchanged names are equal if they were equal before
 exchanged_same : (one other a b : List ℕ) → bytes_eq (name_exchanged one other a) (name_exchanged one other b) ≡ bytes_eq a b
 exchanged_same one other a b =
     elim (name_cases a b) as (λ _. bytes_eq (name_exchanged one other a) (name_exchanged one other b) ≡ bytes_eq a b) [
@@ -51,7 +51,7 @@ exchanged_same one other a b =
           name_apart a b apart (sym (exchanged_twice one other a) ∙ ap (name_exchanged one other) e ∙ exchanged_twice one other b)) ∙ sym apart
     ]
 
--- a name is among names that have changed places where it was among them
+-- a name is among exchanged names if it was among them before
 exchanged_has : (one other : List ℕ) (names : List (List ℕ)) (name : List ℕ) → has (map (name_exchanged one other) names) (name_exchanged one other name) ≡ has names name
 exchanged_has one other [] name = refl
 exchanged_has one other (first ∷ names) name =
@@ -83,7 +83,7 @@ exchanged_none one other (name ∷ names) h k =
 
 -- rows
 
--- a row without places stays
+-- a row without columns stays
 turned_nil : (name : List ℕ) (inputs : List (List ℕ)) → row_turned name inputs [] ≡ []
 unfolding row_turned
 turned_nil name [] = refl
@@ -103,7 +103,7 @@ all_turned_none : (name : List ℕ) (inputs : List (List ℕ)) → has inputs na
 all_turned_none name inputs h [] = refl
 all_turned_none name inputs h (row ∷ rows) = rw (turned_none name inputs row h, all_turned_none name inputs h rows) refl
 
--- characters turned over are the same where they were
+-- complemented characters are equal if the characters are
 turned_same_place : (a b : Tri) → same_place (turned_over a) (turned_over b) ≡ same_place a b
 turned_same_place Zero Zero = refl
 turned_same_place Zero One = refl
@@ -115,7 +115,7 @@ turned_same_place Free Zero = refl
 turned_same_place Free One = refl
 turned_same_place Free Free = refl
 
--- rows turned over are the same where they were
+-- complemented rows are equal if the rows are
 turned_same_row : (name : List ℕ) (inputs : List (List ℕ)) (a b : List Tri) → same_row (row_turned name inputs a) (row_turned name inputs b) ≡ same_row a b
 unfolding row_turned same_row
 turned_same_row name [] a b = refl
@@ -129,19 +129,19 @@ turned_same_row name (input ∷ inputs) (x ∷ a) (y ∷ b) = cases (bytes_eq na
     cases true rest = rw (turned_same_place x y, rest) refl
     cases false rest = ap (λ (b : Bool). same_place x y && b) rest
 
--- a row stands among rows turned over where it stood among them
+-- a row is among complemented rows if it was among the rows
 turned_among : (name : List ℕ) (inputs : List (List ℕ)) (row : List Tri) (rows : List (List Tri))
     → list_any (same_row (row_turned name inputs row)) (map (row_turned name inputs) rows) ≡ list_any (same_row row) rows
 turned_among name inputs row [] = refl
 turned_among name inputs row (first ∷ rows) = rw (turned_same_row name inputs row first, turned_among name inputs row rows) refl
 
--- no row stands twice where none did
+-- no row occurs twice if none did before
 turned_differ : (name : List ℕ) (inputs : List (List ℕ)) (rows : List (List Tri)) → rows_differ (map (row_turned name inputs) rows) ≡ rows_differ rows
 unfolding rows_differ
 turned_differ name inputs [] = refl
 turned_differ name inputs (row ∷ rows) = rw (turned_among name inputs row rows, turned_differ name inputs rows) refl
 
--- the first places of rows turned over have a literal where they had one
+-- the first columns of complemented rows have a literal if they had one before
 turned_front : (name input : List ℕ) (inputs : List (List ℕ)) (rows : List (List Tri))
     → list_any (λ (row : List Tri). is_literal (front_place row)) (map (row_turned name (input ∷ inputs)) rows) ≡ list_any (λ (row : List Tri). is_literal (front_place row)) rows
 unfolding row_turned
@@ -155,7 +155,7 @@ turned_front name input inputs ((place ∷ row) ∷ rows) = rw (literal (bytes_e
     literal true Free = refl
     literal false c = refl
 
--- behind their first places rows are turned over as those rows are
+-- without their first columns, complemented rows are those rows complemented
 turned_behind : (name input : List ℕ) (inputs : List (List ℕ)) (rows : List (List Tri))
     → map behind_front (map (row_turned name (input ∷ inputs)) rows) ≡ map (row_turned name inputs) (map behind_front rows)
 unfolding row_turned
@@ -163,7 +163,7 @@ turned_behind name input inputs [] = refl
 turned_behind name input inputs ([] ∷ rows) = rw (turned_nil name inputs, turned_behind name input inputs rows) refl
 turned_behind name input inputs ((place ∷ row) ∷ rows) = ap (λ (rest : List (List Tri)). row_turned name inputs row ∷ rest) (turned_behind name input inputs rows)
 
--- rows turned over have literals at the places where they had them
+-- complemented rows have literals in the columns in which the rows have them
 turned_used : (name : List ℕ) (inputs : List (List ℕ)) (rows : List (List Tri)) → used_places inputs (map (row_turned name inputs) rows) ≡ used_places inputs rows
 unfolding used_places
 turned_used name [] rows = refl
@@ -171,7 +171,7 @@ turned_used name (input ∷ inputs) rows =
     rw (turned_front name input inputs rows, turned_behind name input inputs rows)
     (ap (λ (marks : List Bool). list_any (λ (row : List Tri). is_literal (front_place row)) rows ∷ marks) (turned_used name inputs (map behind_front rows)))
 
--- which places have a literal does not hang on the names
+-- which columns have a literal does not depend on the names
 mapped_used : (f : List ℕ → List ℕ) (inputs : List (List ℕ)) (rows : List (List Tri)) → used_places (map f inputs) rows ≡ used_places inputs rows
 unfolding used_places
 mapped_used f [] rows = refl
@@ -185,13 +185,13 @@ mapped_some f (row ∷ rows) phase = refl
 
 -- points
 
--- a point with the bits at a signal's places turned over
+-- a point with the bits in a signal's columns complemented
 point_turned : List ℕ → List (List ℕ) → List Bool → List Bool
 point_turned name [] point = point
 point_turned name (input ∷ inputs) [] = []
 point_turned name (input ∷ inputs) (bit ∷ point) = (if bytes_eq name input then not bit else bit) ∷ point_turned name inputs point
 
--- a row turned over takes in the points that the row takes in turned over
+-- a complemented row matches the points whose complements the row matches
 turned_matches : (name : List ℕ) (inputs : List (List ℕ)) (row : List Tri) (point : List Bool)
     → matches (map literal_of (row_turned name inputs row)) point ≡ matches (map literal_of row) (point_turned name inputs point)
 unfolding row_turned point_turned matches
@@ -221,7 +221,7 @@ every_same (suc width) p q h =
     ap (λ (b : Bool). b && every_point width (λ rest. p (true ∷ rest))) (every_same width (λ rest. p (false ∷ rest)) (λ rest. q (false ∷ rest)) (λ rest. h (false ∷ rest)))
     ∙ ap (λ (b : Bool). every_point width (λ rest. q (false ∷ rest)) && b) (every_same width (λ rest. p (true ∷ rest)) (λ rest. q (true ∷ rest)) (λ rest. h (true ∷ rest)))
 
--- the points turned over are all points again
+-- the complements of all points are all points
 every_turned : (name : List ℕ) (inputs : List (List ℕ)) (test : List Bool → Bool)
     → every_point (length inputs) (λ point. test (point_turned name inputs point)) ≡ every_point (length inputs) test
 unfolding every_point point_turned
@@ -301,7 +301,7 @@ exchanged_single one other inverts table = by table.inputs
     by (input ∷ []) = refl
     by (input ∷ (second ∷ inputs)) = refl
 
--- where a table does not read the other signal, the signals change places as the first is renamed
+-- if a table does not read the other signal, exchanging the signals is renaming the first
 exchanged_rewires : (one other : List ℕ) (inverts : Bool) (table : Table) → has table.inputs other ≡ false → rewires one other inverts table ≡ exchanged one other inverts table
 unfolding exchanged
 exchanged_rewires one other inverts table apart =
@@ -313,7 +313,8 @@ unfolding exchanged
 exchanged_stays one other true table none apart = rw (exchanged_none one other table.inputs none apart, all_turned_none one table.inputs none table.rows) refl
 exchanged_stays one other false table none apart = rw (exchanged_none one other table.inputs none apart) refl
 
--- in a tidy table that does not read the other signal, reading it in place of the first is a change of places
+-- in a tidy table that does not read the other signal, reading it instead of the first is an
+-- exchange
 pub rewired_exchanged : (one other : List ℕ) (inverts : Bool) (table : Table) → IsWide table → is_tidy table ≡ true → has table.inputs other ≡ false → rewired one other inverts table ≡ exchanged one other inverts table
 rewired_exchanged one other inverts table wide tidy apart =
     rewired_either (λ (made : Table). made ≡ exchanged one other inverts table) one other inverts table

@@ -1,4 +1,5 @@
--- Sweep changes the tables and the latches of a circuit alone, and the timing goes with the last latch.
+-- Sweep changes only the tables and the latches of a circuit, and the timing is removed with the
+-- last latch.
 use Rattle.std.proofs.Common.{◌≡◌, ℕ, Bool, true, false, not, ◌&&◌, if◌then◌else◌, Option, Some, None, is_some, List, [], ◌∷◌, map, find, refl, ap, ◌∙◌, subst}
 use Rattle.std.specs.Option.{option_map, option_map_or, option_or}
 use Rattle.std.proofs.lemmas.Option.{none-some, same_Some}
@@ -19,7 +20,7 @@ use Rattle.net_wires.specs.Keeping.{IsKept, KeepsFrame}
 use Rattle.net_wires.proofs.Steps.{applied}
 use Rattle.net_wires.proofs.Chaining.{step_kept, leads_kept}
 
--- in a sound circuit there is timing only where a latch stands
+-- a sound circuit has timing only if it has a latch
 timed : (latches : List Latch) (timing : Option Timing) → (latches ≡ [] → timing ≡ None) → timing ≡ timing_with latches timing
 timed [] timing untimed = untimed refl
 timed (latch ∷ latches) timing untimed = refl
@@ -114,7 +115,7 @@ step_framed circuit new sound h = first (tidy_table circuit) refl (write_constan
     first None p None q None r None s (Some x) t k = latch_framed circuit new sound (t ∙ k)
     first None p None q None r None s None t k = dangling_framed circuit new k
 
--- step after step: no latch comes back
+-- step after step: no latch returns
 
 timing_twice : (test : List ℕ → Bool) (some latches : List Latch) (timing : Option Timing) → latches ≡ latches_kept test some → timing_with latches (timing_with some timing) ≡ timing_with latches timing
 unfolding latches_kept
@@ -140,4 +141,4 @@ leads_framed (next ∷ rest) circuit new sound steps =
     framed_through circuit next new others.left.latches (step_framed circuit next sound steps.0) (leads_framed rest next new first.sound steps.1)
 
 pub chain_framed : (circuit new : Circuit) → IsSound circuit → Chain sweep_step circuit new → KeepsFrame circuit new
-chain_framed circuit new sound chain = leads_framed chain.between circuit new sound chain.leads
+chain_framed circuit new sound chain = leads_framed chain.reached.between circuit new sound chain.reached.steps

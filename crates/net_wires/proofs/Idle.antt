@@ -1,5 +1,5 @@
--- A table that nothing takes may be emptied: sweep ends at the same circuit.
-use Rattle.std.proofs.Common.{◌≡◌, ℕ, false, Some, None, List, [], ◌∷◌, refl, ap, ◌∙◌, subst, sym, inl, inr}
+-- A table without fanout may be emptied: sweep ends at the same circuit.
+use Rattle.std.proofs.Common.{◌≡◌, ℕ, false, None, List, [], ◌∷◌, refl, ap, ◌∙◌, subst, sym, inl, inr}
 use Rattle.std.proofs.lemmas.Bool.{false≢true}
 use Rattle.circuit_model.specs.Soundness.{IsSound}
 use Rattle.circuit_model.specs.declared.circuit.Circuit.{Circuit}
@@ -16,7 +16,7 @@ use Rattle.net_wires.proofs.Chaining.{step_kept}
 use Rattle.net_wires.proofs.Emptied.{emptied_is_replaced}
 use Rattle.net_wires.proofs.Beside.{beside}
 use Rattle.net_wires.proofs.Remaining.{Follows, step_follows, idle_unfinished}
-use Rattle.circuit_laws.proofs.Chains.{chain_same}
+use Rattle.circuit_laws.proofs.Chains.{chain_before, chain_same}
 use Rattle.net_wires.proofs.Ended.{sound_end}
 
 -- the circuit with the emptied table is sound
@@ -30,10 +30,6 @@ emptied_beside : (circuit : Circuit) (name : List ℕ) → IsSound circuit → w
 unfolding with_replaced
 emptied_beside circuit name sound = ap (with_tables circuit) (emptied_is_replaced name circuit.tables (outputs_different circuit sound))
 
--- a step in front of a chain
-step_before : (from next last : Circuit) → sweep_step from ≡ Some next → Chain sweep_step next last → Chain sweep_step from last
-step_before from next last step chain = record { between = next ∷ chain.between; leads = (step, chain.leads); finished = chain.finished }
-
 leads_beside : (between : List Circuit) (circuit last : Circuit) (name : List ℕ) → IsSound circuit → IsIdle circuit name → Leads sweep_step between circuit last → sweep_step last ≡ None
     → Chain sweep_step (beside circuit name) last
 leads_beside [] circuit last name sound idle same finished = absurd (idle_unfinished circuit name idle (ap sweep_step same ∙ finished))
@@ -42,15 +38,15 @@ leads_beside (next ∷ rest) circuit last name sound idle steps finished =
   where
     by : Follows name circuit next → (IsIdle next name → Chain sweep_step (beside next name) last) → Chain sweep_step (beside circuit name) last
     by (inl (still, inl same)) goes = subst (λ (from : Circuit). Chain sweep_step from last) same (goes still)
-    by (inl (still, inr step)) goes = step_before (beside circuit name) (beside next name) last step (goes still)
-    by (inr step) goes = step_before (beside circuit name) next last step (record { between = rest; leads = steps.1; finished = finished })
+    by (inl (still, inr step)) goes = chain_before sweep_step (beside circuit name) (beside next name) last step (goes still)
+    by (inr step) goes = chain_before sweep_step (beside circuit name) next last step (record { reached = record { between = rest; steps = steps.1 }; done = finished })
 
 -- where the chain of a circuit ends, the chain of the circuit with the emptied table ends
 pub ends_emptied : (circuit last : Circuit) (name : List ℕ) → IsSound circuit → IsIdle circuit name → Chain sweep_step circuit last → Chain sweep_step (with_emptied circuit name) last
 ends_emptied circuit last name sound idle chain =
-    subst (λ (from : Circuit). Chain sweep_step from last) (sym (emptied_beside circuit name sound)) (leads_beside chain.between circuit last name sound idle chain.leads chain.finished)
+    subst (λ (from : Circuit). Chain sweep_step from last) (sym (emptied_beside circuit name sound)) (leads_beside chain.reached.between circuit last name sound idle chain.reached.steps chain.done)
 
--- and the other way round
+-- and conversely
 pub emptied_ends : (circuit end : Circuit) (name : List ℕ) → IsSound circuit → IsIdle circuit name → Chain sweep_step (with_emptied circuit name) end → Chain sweep_step circuit end
 emptied_ends circuit end name sound idle chain =
     let (last, whole) = sound_end circuit sound in

@@ -1,4 +1,4 @@
--- A step of sweep beside a table that nothing takes: that table is idle after it too, or it has gone.
+-- A step of sweep beside a table without fanout: the table is idle after it too, or it is removed.
 use Rattle.std.proofs.Common.{◌≡◌, ℕ, zero, suc, ◌+◌, Bool, true, false, ◌&&◌, ◌||◌, if◌then◌else◌, Option, Some, None, is_some, List, [], ◌∷◌, ◌++◌, length, map, find, bytes_eq, refl, sym, ap, ap₂, ◌∙◌, subst}
 use Rattle.std.specs.List.{AllByRecursion, list_all}
 use Rattle.std.specs.Option.{option_map, option_map_or}
@@ -89,7 +89,7 @@ latch_none name circuit idle h =
     nothing None e = refl
     nothing (Some latch) e = absurd (none-some (with_latch_fixed circuit latch) (sym e))
 
--- what is not needed goes
+-- what is not needed is removed
 
 within_beside : (circuit : Circuit) (name : List ℕ) → IsIdle circuit name → (steps : ℕ) (signal : List ℕ) → needed_within (beside circuit name) steps signal ≡ needed_within circuit steps signal
 unfolding needed_within dont_care_reads
@@ -124,7 +124,7 @@ only_needed_beside circuit name idle =
     ap (with_kept (beside circuit name)) (needed_beside circuit name idle)
     ∙ ap (λ (tables : List Table). with_tables (with_kept circuit (is_needed circuit)) tables) (emptied_dropped name (is_needed circuit) (idle_goes circuit name idle) circuit.tables)
 
--- what is needed is the same beside the idle table, which goes
+-- what is needed is the same beside the idle table, which is removed
 pub dangling_same : (name : List ℕ) (circuit : Circuit) → IsIdle circuit name → remove_dangling (beside circuit name) ≡ remove_dangling circuit
 unfolding remove_dangling
 dangling_same name circuit idle = ap₂ (λ (all : Bool) (some : Circuit). if all then None else Some some) (all_needed_beside circuit name idle) (only_needed_beside circuit name idle)

@@ -1,4 +1,4 @@
--- Parts that are kept, place by place.
+-- Parts that are kept, one after the other.
 use Rattle.std.proofs.Common.{◌≡◌, ℕ, zero, suc, ◌+◌, ◌<◌, Bool, true, false, List, [], ◌∷◌, ◌++◌, filter, take, length, get_or, if◌then◌else◌, sym, ap, ◌∙◌, arith}
 
 kept_next : {X : Type 0} (test : X → Bool) (items : List X) (i : ℕ) (item : X) → i < length items → item ≡ get_or items i item

@@ -300,4 +300,4 @@ leads_no_larger (next ∷ rest) circuit new steps =
     }
 
 pub chain_no_larger : (circuit new : Circuit) → Chain sweep_step circuit new → IsNoLarger circuit new
-chain_no_larger circuit new chain = leads_no_larger chain.between circuit new chain.leads
+chain_no_larger circuit new chain = leads_no_larger chain.reached.between circuit new chain.reached.steps

@@ -1,4 +1,4 @@
--- What is kept where a table of a sound circuit is replaced, or each is mapped.
+-- What is kept if a table of a sound circuit is replaced, or each is mapped.
 use Rattle.std.proofs.Common.{◌≡◌, ℕ, suc, Bool, true, Some, List, [], map, sym, ap, ◌∙◌}
 use Rattle.circuit_model.specs.Names.{has, all_different}
 use Rattle.circuit_model.specs.Values.{driver, driven_value}
@@ -18,7 +18,7 @@ use Rattle.circuit_laws.proofs.Left.{each_left}
 use Rattle.circuit_laws.proofs.Mapped.{live_reads, given-turned, given-mapped, IsTurn, sound_mapped}
 use Rattle.net_wires.specs.Keeping.{IsKept}
 
--- a table gives place to one of the same value that reads no more
+-- a table is replaced by one of the same value that reads no more
 pub replaced_kept : (circuit : Circuit) (old new : Table) → IsSound circuit → driver circuit.tables old.output ≡ Some old → new.output ≡ old.output
     → ((name : List ℕ) → has new.inputs name ≡ true → has old.inputs name ≡ true) → all_different new.inputs ≡ true → IsShaped new
     → ((value : List ℕ → Bool) → driven_value (Some new) value ≡ driven_value (Some old) value) → IsKept circuit (with_replaced circuit new)

@@ -67,7 +67,7 @@ written_constant table bit h value =
 pub written_bit_constant : (table : Table) (bit : Bool) → written_bit table ≡ Some bit → constant_bit table ≡ Some bit
 written_bit_constant table bit h = ap constant_bit (written_is table bit h) ∙ constant_constant table.output bit
 
--- a constant table in place of a table that is constant as a function
+-- a table that is constant as a function replaced by a constant table
 pub constant_turned : (table : Table) (bit : Bool) → constant_bit table ≡ Some bit → (value : List ℕ → Bool)
     → driven_value (Some (constant_table table.output bit)) value ≡ driven_value (Some table) value
 constant_turned table bit h value = constant_value table.output bit ∙ sym (constant_at table bit h (map value table.inputs) (length-map table.inputs value))

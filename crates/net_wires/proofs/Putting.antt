@@ -1,7 +1,8 @@
--- Names put among names, one by one.
+-- Names added to a set, one by one.
 use Rattle.std.proofs.Common.{◌≡◌, ℕ, ◌+◌, ◌<◌, Bool, true, false, not, ◌&&◌, ◌||◌, List, [], ◌∷◌, ◌++◌, take, length, get_or, bytes_eq, if◌then◌else◌, refl, sym, ap, ◌∙◌}
 use Rattle.std.proofs.lemmas.List.{take_more, map-append}
 use Rattle.std.proofs.lemmas.Grind.{flat_map-append}
+use Rattle.std.proofs.Math.Bool.{or-false}
 use Rattle.circuit_model.specs.Names.{has}
 use Rattle.circuit_model.specs.Soundness.{outputs_of, table_inputs}
 use Rattle.circuit_model.specs.declared.circuit.Table.{Table}
@@ -11,14 +12,10 @@ use Rattle.circuit_laws.proofs.Names.{same_name, has_append}
 use Rattle.circuit_tables.specs.Listing.{names_with}
 use Rattle.circuit_tables.proofs.Once.{has-names_with}
 
-or_none : (b : Bool) → (b || false) ≡ b
-or_none true = refl
-or_none false = refl
-
 -- one name more
 one : (names : List (List ℕ)) (x q : List ℕ) → has (if has names x then names else names ++ x ∷ []) q ≡ (has names q || bytes_eq q x)
 unfolding names_with
-one names x q = has-names_with names (x ∷ []) q ∙ ap (λ (b : Bool). has names q || b) (or_none (bytes_eq q x))
+one names x q = has-names_with names (x ∷ []) q ∙ ap (λ (b : Bool). has names q || b) (or-false (bytes_eq q x))
 
 pub has_put : (known new : List (List ℕ)) (name seen : List ℕ) → seen ≡ name → new ≡ (if has known seen then known else known ++ seen ∷ [])
     → (other : List ℕ) → has new other ≡ (has known other || bytes_eq other name)
@@ -31,7 +28,7 @@ pub more_names : (names : List (List ℕ)) (i : ℕ) (name other : List ℕ) →
 more_names names i name other lt is =
     ap (λ (xs : List (List ℕ)). has xs other) (take_more names i name lt)
     ∙ (has_append (take i names) (get_or names i name ∷ []) other
-    ∙ ap (λ (b : Bool). has (take i names) other || b) (or_none (bytes_eq other (get_or names i name)) ∙ ap (bytes_eq other) (sym is)))
+    ∙ ap (λ (b : Bool). has (take i names) other || b) (or-false (bytes_eq other (get_or names i name)) ∙ ap (bytes_eq other) (sym is)))
 
 pub more_outputs : (tables : List Table) (i : ℕ) (table : Table) (other : List ℕ) → i < length tables → table ≡ get_or tables i table
     → has (outputs_of (take (i + 1) tables)) other ≡ (has (outputs_of (take i tables)) other || bytes_eq other table.output)
@@ -39,7 +36,7 @@ more_outputs tables i table other lt is =
     ap (λ (ts : List Table). has (outputs_of ts) other) (take_more tables i table lt)
     ∙ (ap (λ (xs : List (List ℕ)). has xs other) (map-append (λ (t : Table). t.output) (take i tables) (get_or tables i table ∷ []))
     ∙ (has_append (outputs_of (take i tables)) ((get_or tables i table).output ∷ []) other
-    ∙ ap (λ (b : Bool). has (outputs_of (take i tables)) other || b) (or_none (bytes_eq other (get_or tables i table).output) ∙ ap (λ (t : Table). bytes_eq other t.output) (sym is))))
+    ∙ ap (λ (b : Bool). has (outputs_of (take i tables)) other || b) (or-false (bytes_eq other (get_or tables i table).output) ∙ ap (λ (t : Table). bytes_eq other t.output) (sym is))))
 
 pub more_inputs : (tables : List Table) (i : ℕ) (table : Table) (other : List ℕ) → i < length tables → table ≡ get_or tables i table
     → has (table_inputs (take (i + 1) tables)) other ≡ (has (table_inputs (take i tables)) other || has table.inputs other)
@@ -48,7 +45,7 @@ more_inputs tables i table other lt is =
     ∙ (ap (λ (xs : List (List ℕ)). has xs other) (flat_map-append (λ (t : Table). t.inputs) (take i tables) (get_or tables i table ∷ []))
     ∙ (has_append (table_inputs (take i tables)) (table_inputs (get_or tables i table ∷ [])) other
     ∙ ap (λ (b : Bool). has (table_inputs (take i tables)) other || b)
-    (has_append (get_or tables i table).inputs [] other ∙ (or_none (has (get_or tables i table).inputs other) ∙ ap (λ (t : Table). has t.inputs other) (sym is)))))
+    (has_append (get_or tables i table).inputs [] other ∙ (or-false (has (get_or tables i table).inputs other) ∙ ap (λ (t : Table). has t.inputs other) (sym is)))))
 
 -- a name that is wanted or not, where it depends on the name alone
 pub more_wanted : (wanted : List ℕ → Bool) (before front now : Bool) (name other : List ℕ) → now ≡ ((before || (wanted other && front)) || (wanted name && bytes_eq other name))

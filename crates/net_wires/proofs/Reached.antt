@@ -1,7 +1,7 @@
--- What names lead to, name by name.
+-- The names to which names lead, one by one.
 use Rattle.std.proofs.Common.{◌≡◌, ℕ, zero, suc, ◌+◌, ◌<◌, Bool, true, false, ◌&&◌, ◌||◌, if◌then◌else◌, Some, None, List, [], ◌∷◌, ◌++◌, flat_map, length, slice_get, bytes_eq, refl, sym, ap, ◌∙◌, subst, arith, inl, inr, ◌⊎◌}
 use Rattle.std.specs.List.{list_any}
-use Rattle.std.proofs.lemmas.Bool.{false≢true}
+use Rattle.std.proofs.lemmas.Bool.{false≢true, and_parts, or_left, or_right}
 use Rattle.circuit_model.specs.Names.{has}
 use Rattle.circuit_model.specs.declared.circuit.Table.{Table}
 use Rattle.circuit_model.specs.declared.circuit.Latch.{Latch}
@@ -18,23 +18,12 @@ or_split : (a b : Bool) → (a || b) ≡ true → (a ≡ true) ⊎ (b ≡ true)
 or_split true b h = inl refl
 or_split false b h = inr h
 
-or_first : (a b : Bool) → a ≡ true → (a || b) ≡ true
-or_first a b h = rw h refl
-
-or_second : (a b : Bool) → b ≡ true → (a || b) ≡ true
-or_second true b h = refl
-or_second false b h = h
-
-and_both : (a b : Bool) → (a && b) ≡ true → (a ≡ true) × (b ≡ true)
-and_both true b h = (refl, h)
-and_both false b h = absurd (false≢true h)
-
 same_test : (a b : Bool) → (a ≡ true → b ≡ true) → (b ≡ true → a ≡ true) → a ≡ b
 same_test true b f g = sym (f refl)
 same_test false true f g = absurd (false≢true (g refl))
 same_test false false f g = refl
 
--- what is put behind names
+-- names that are appended
 pub kept_place : (names more : List (List ℕ)) (j : ℕ) (name : List ℕ) → slice_get names j ≡ Some name → slice_get (names_with names more) j ≡ Some name
 unfolding names_with
 kept_place names [] j name h = h
@@ -59,8 +48,8 @@ has_place (first ∷ names) name h = cases (bytes_eq name first) refl h (λ k. h
 
 place_has : (names : List (List ℕ)) (j : ℕ) (name : List ℕ) → slice_get names j ≡ Some name → has names name ≡ true
 place_has [] j name h = let z : None ≡ Some name = h in absurd cc
-place_has (first ∷ names) zero name h = let e : first ≡ name = cc in or_first (bytes_eq name first) (has names name) (ap (bytes_eq name) e ∙ itself name)
-place_has (first ∷ names) (suc j) name h = or_second (bytes_eq name first) (has names name) (place_has names j name h)
+place_has (first ∷ names) zero name h = let e : first ≡ name = cc in or_left (bytes_eq name first) (has names name) (ap (bytes_eq name) e ∙ itself name)
+place_has (first ∷ names) (suc j) name h = or_right (bytes_eq name first) (has names name) (place_has names j name h)
 
 -- so far: the first names have all that they read among the names
 pub record IsReaching (roots : List (List ℕ)) (tables : List Table) (latches : List Latch) (names : List (List ℕ)) (next : ℕ) : Type 0 where
@@ -111,7 +100,7 @@ reaching_more roots tables latches names new next name r at n = record {
     is other = ap (λ (ns : List (List ℕ)). has ns other) n ∙ has_both names (read_by_tables name tables) (read_by_latches name latches) other
 
     stays : (other : List ℕ) → has names other ≡ true → has new other ≡ true
-    stays other h = is other ∙ or_first (has names other) (has (read_by_tables name tables ++ read_by_latches name latches) other) h
+    stays other h = is other ∙ or_left (has names other) (has (read_by_tables name tables ++ read_by_latches name latches) other) h
 
     cases : (j : ℕ) → j < next + 1 → (j < next) ⊎ (j ≡ next)
     cases j lt = less_or_same j next lt
@@ -121,7 +110,7 @@ reaching_more roots tables latches names new next name r at n = record {
         ap (λ (ns : List (List ℕ)). slice_get ns j) n
         ∙ kept_place (names_with names (read_by_tables name tables)) (read_by_latches name latches) j other (kept_place names (read_by_tables name tables) j other h)
 
-    -- what stands at an early place stood there before
+    -- the name at an early index was there before
     same : (j : ℕ) (other : List ℕ) → j < length names → slice_get new j ≡ Some other → slice_get names j ≡ Some other
     same j other lt h = let (x, e) = placed names j lt in e ∙ (sym (kept j x e) ∙ h)
       where
@@ -143,7 +132,7 @@ reaching_more roots tables latches names new next name r at n = record {
     late j other read e there h =
         let found : slice_get new next ≡ Some other = subst (λ (i : ℕ). slice_get new i ≡ Some other) e there in
         let it : name ≡ other = some_same (sym (kept next name at) ∙ found) in
-        is read ∙ or_second (has names read) (has (read_by_tables name tables ++ read_by_latches name latches) read)
+        is read ∙ or_right (has names read) (has (read_by_tables name tables ++ read_by_latches name latches) read)
         (subst (λ (o : List ℕ). has (read_by_tables o tables ++ read_by_latches o latches) read ≡ true) (sym it) h)
       where
         some_same : {x y : List ℕ} → Some x ≡ Some y → x ≡ y
@@ -174,10 +163,10 @@ tables_any test name other t (table ∷ tables) h = cases (bytes_eq name table.o
         → (has (flat_map (λ (x : Table). if bytes_eq name x.output then x.inputs else []) tables) other ≡ true → list_any (λ (x : Table). test x.output && has x.inputs other) tables ≡ true)
         → ((test table.output && has table.inputs other) || list_any (λ (x : Table). test x.output && has x.inputs other) tables) ≡ true
     cases true e k f = elim (or_split (has table.inputs other) (has (flat_map (λ (x : Table). if bytes_eq name x.output then x.inputs else []) tables) other) (sym (has_append table.inputs (flat_map (λ (x : Table). if bytes_eq name x.output then x.inputs else []) tables) other) ∙ k)) [
-      | inl a ↦ or_first (test table.output && has table.inputs other) (list_any (λ (x : Table). test x.output && has x.inputs other) tables) (rw (← same_name name table.output e, t, a) refl)
-      | inr a ↦ or_second (test table.output && has table.inputs other) (list_any (λ (x : Table). test x.output && has x.inputs other) tables) (f a)
+      | inl a ↦ or_left (test table.output && has table.inputs other) (list_any (λ (x : Table). test x.output && has x.inputs other) tables) (rw (← same_name name table.output e, t, a) refl)
+      | inr a ↦ or_right (test table.output && has table.inputs other) (list_any (λ (x : Table). test x.output && has x.inputs other) tables) (f a)
     ]
-    cases false e k f = or_second (test table.output && has table.inputs other) (list_any (λ (x : Table). test x.output && has x.inputs other) tables) (f k)
+    cases false e k f = or_right (test table.output && has table.inputs other) (list_any (λ (x : Table). test x.output && has x.inputs other) tables) (f k)
 
 tables_from : (test : List ℕ → Bool) (other : List ℕ) (tables : List Table) → list_any (λ (table : Table). test table.output && has table.inputs other) tables ≡ true
     → (name : List ℕ) × (test name ≡ true) × (has (read_by_tables name tables) other ≡ true)
@@ -186,11 +175,11 @@ tables_from test other [] h = absurd (false≢true h)
 tables_from test other (table ∷ tables) h =
     elim (or_split (test table.output && has table.inputs other) (list_any (λ (x : Table). test x.output && has x.inputs other) tables) h) [
       | inl a ↦
-          let (t, i) = and_both (test table.output) (has table.inputs other) a in (
+          let (t, i) = and_parts (test table.output) (has table.inputs other) a in (
             table.output,
             t,
             has_append (if bytes_eq table.output table.output then table.inputs else []) (flat_map (λ (x : Table). if bytes_eq table.output x.output then x.inputs else []) tables) other
-                ∙ or_first (has (if bytes_eq table.output table.output then table.inputs else []) other) (has (flat_map (λ (x : Table). if bytes_eq table.output x.output then x.inputs else []) tables) other)
+                ∙ or_left (has (if bytes_eq table.output table.output then table.inputs else []) other) (has (flat_map (λ (x : Table). if bytes_eq table.output x.output then x.inputs else []) tables) other)
                 (ap (λ (b : Bool). has (if b then table.inputs else []) other) (itself table.output) ∙ i),
           )
       | inr a ↦
@@ -198,13 +187,9 @@ tables_from test other (table ∷ tables) h =
             name,
             t,
             has_append (if bytes_eq name table.output then table.inputs else []) (flat_map (λ (x : Table). if bytes_eq name x.output then x.inputs else []) tables) other
-                ∙ or_second (has (if bytes_eq name table.output then table.inputs else []) other) (has (flat_map (λ (x : Table). if bytes_eq name x.output then x.inputs else []) tables) other) k,
+                ∙ or_right (has (if bytes_eq name table.output then table.inputs else []) other) (has (flat_map (λ (x : Table). if bytes_eq name x.output then x.inputs else []) tables) other) k,
           )
     ]
-
-or_none : (b : Bool) → (b || false) ≡ b
-or_none true = refl
-or_none false = refl
 
 bytes_eq_turned : (a b : List ℕ) → bytes_eq a b ≡ true → bytes_eq b a ≡ true
 bytes_eq_turned a b e = ap (bytes_eq b) (same_name a b e) ∙ itself b
@@ -219,11 +204,11 @@ latches_any test name other t (latch ∷ latches) h = cases (bytes_eq name latch
         → (has (flat_map (λ (x : Latch). if bytes_eq name x.output then x.input ∷ [] else []) latches) other ≡ true → list_any (λ (x : Latch). test x.output && bytes_eq x.input other) latches ≡ true)
         → ((test latch.output && bytes_eq latch.input other) || list_any (λ (x : Latch). test x.output && bytes_eq x.input other) latches) ≡ true
     cases true e k f = elim (or_split (bytes_eq other latch.input) (has (flat_map (λ (x : Latch). if bytes_eq name x.output then x.input ∷ [] else []) latches) other) k) [
-      | inl a ↦ or_first (test latch.output && bytes_eq latch.input other) (list_any (λ (x : Latch). test x.output && bytes_eq x.input other) latches)
+      | inl a ↦ or_left (test latch.output && bytes_eq latch.input other) (list_any (λ (x : Latch). test x.output && bytes_eq x.input other) latches)
           (rw (← same_name name latch.output e, t, bytes_eq_turned other latch.input a) refl)
-      | inr a ↦ or_second (test latch.output && bytes_eq latch.input other) (list_any (λ (x : Latch). test x.output && bytes_eq x.input other) latches) (f a)
+      | inr a ↦ or_right (test latch.output && bytes_eq latch.input other) (list_any (λ (x : Latch). test x.output && bytes_eq x.input other) latches) (f a)
     ]
-    cases false e k f = or_second (test latch.output && bytes_eq latch.input other) (list_any (λ (x : Latch). test x.output && bytes_eq x.input other) latches) (f k)
+    cases false e k f = or_right (test latch.output && bytes_eq latch.input other) (list_any (λ (x : Latch). test x.output && bytes_eq x.input other) latches) (f k)
 
 latches_from : (test : List ℕ → Bool) (other : List ℕ) (latches : List Latch) → list_any (λ (latch : Latch). test latch.output && bytes_eq latch.input other) latches ≡ true
     → (name : List ℕ) × (test name ≡ true) × (has (read_by_latches name latches) other ≡ true)
@@ -232,19 +217,19 @@ latches_from test other [] h = absurd (false≢true h)
 latches_from test other (latch ∷ latches) h =
     elim (or_split (test latch.output && bytes_eq latch.input other) (list_any (λ (x : Latch). test x.output && bytes_eq x.input other) latches) h) [
       | inl a ↦
-          let (t, i) = and_both (test latch.output) (bytes_eq latch.input other) a in (
+          let (t, i) = and_parts (test latch.output) (bytes_eq latch.input other) a in (
             latch.output,
             t,
             has_append (if bytes_eq latch.output latch.output then latch.input ∷ [] else []) (flat_map (λ (x : Latch). if bytes_eq latch.output x.output then x.input ∷ [] else []) latches) other
-                ∙ or_first (has (if bytes_eq latch.output latch.output then latch.input ∷ [] else []) other) (has (flat_map (λ (x : Latch). if bytes_eq latch.output x.output then x.input ∷ [] else []) latches) other)
-                (ap (λ (b : Bool). has (if b then latch.input ∷ [] else []) other) (itself latch.output) ∙ or_first (bytes_eq other latch.input) false (bytes_eq_turned latch.input other i)),
+                ∙ or_left (has (if bytes_eq latch.output latch.output then latch.input ∷ [] else []) other) (has (flat_map (λ (x : Latch). if bytes_eq latch.output x.output then x.input ∷ [] else []) latches) other)
+                (ap (λ (b : Bool). has (if b then latch.input ∷ [] else []) other) (itself latch.output) ∙ or_left (bytes_eq other latch.input) false (bytes_eq_turned latch.input other i)),
           )
       | inr a ↦
           let (name, t, k) = latches_from test other latches a in (
             name,
             t,
             has_append (if bytes_eq name latch.output then latch.input ∷ [] else []) (flat_map (λ (x : Latch). if bytes_eq name x.output then x.input ∷ [] else []) latches) other
-                ∙ or_second (has (if bytes_eq name latch.output then latch.input ∷ [] else []) other) (has (flat_map (λ (x : Latch). if bytes_eq name x.output then x.input ∷ [] else []) latches) other) k,
+                ∙ or_right (has (if bytes_eq name latch.output then latch.input ∷ [] else []) other) (has (flat_map (λ (x : Latch). if bytes_eq name x.output then x.input ∷ [] else []) latches) other) k,
           )
     ]
 
@@ -266,11 +251,11 @@ needed_reached circuit roots tables latches names h ts ls r name =
     next n other k m =
         needed_next circuit other (elim (or_split (has (read_by_tables n circuit.tables) other) (has (read_by_latches n circuit.latches) other)
         (sym (has_append (read_by_tables n circuit.tables) (read_by_latches n circuit.latches) other) ∙ (ap (λ (xs : List Table). has (read_by_tables n xs ++ read_by_latches n circuit.latches) other) (sym ts) ∙ (ap (λ (xs : List Latch). has (read_by_tables n tables ++ read_by_latches n xs) other) (sym ls) ∙ m)))) [
-          | inl a ↦ or_first (needed_within circuit (length circuit.tables + length circuit.latches) other || list_any (λ (table : Table). needed_within circuit (length circuit.tables + length circuit.latches) table.output && has table.inputs other) circuit.tables)
+          | inl a ↦ or_left (needed_within circuit (length circuit.tables + length circuit.latches) other || list_any (λ (table : Table). needed_within circuit (length circuit.tables + length circuit.latches) table.output && has table.inputs other) circuit.tables)
               (list_any (λ (latch : Latch). needed_within circuit (length circuit.tables + length circuit.latches) latch.output && bytes_eq latch.input other) circuit.latches)
-              (or_second (needed_within circuit (length circuit.tables + length circuit.latches) other) (list_any (λ (table : Table). needed_within circuit (length circuit.tables + length circuit.latches) table.output && has table.inputs other) circuit.tables)
+              (or_right (needed_within circuit (length circuit.tables + length circuit.latches) other) (list_any (λ (table : Table). needed_within circuit (length circuit.tables + length circuit.latches) table.output && has table.inputs other) circuit.tables)
               (tables_any (needed_within circuit (length circuit.tables + length circuit.latches)) n other k circuit.tables a))
-          | inr a ↦ or_second (needed_within circuit (length circuit.tables + length circuit.latches) other || list_any (λ (table : Table). needed_within circuit (length circuit.tables + length circuit.latches) table.output && has table.inputs other) circuit.tables)
+          | inr a ↦ or_right (needed_within circuit (length circuit.tables + length circuit.latches) other || list_any (λ (table : Table). needed_within circuit (length circuit.tables + length circuit.latches) table.output && has table.inputs other) circuit.tables)
               (list_any (λ (latch : Latch). needed_within circuit (length circuit.tables + length circuit.latches) latch.output && bytes_eq latch.input other) circuit.latches)
               (latches_any (needed_within circuit (length circuit.tables + length circuit.latches)) n other k circuit.latches a)
         ])
@@ -287,9 +272,9 @@ needed_reached circuit roots tables latches names h ts ls r name =
             | inl b ↦ back steps other b
             | inr b ↦
                 let (n, t, m) = tables_from (needed_within circuit steps) other circuit.tables b in
-                r.goes_on n other (back steps n t) (read_here n other (has_append (read_by_tables n circuit.tables) (read_by_latches n circuit.latches) other ∙ or_first (has (read_by_tables n circuit.tables) other) (has (read_by_latches n circuit.latches) other) m))
+                r.goes_on n other (back steps n t) (read_here n other (has_append (read_by_tables n circuit.tables) (read_by_latches n circuit.latches) other ∙ or_left (has (read_by_tables n circuit.tables) other) (has (read_by_latches n circuit.latches) other) m))
           ]
           | inr a ↦
               let (n, t, m) = latches_from (needed_within circuit steps) other circuit.latches a in
-              r.goes_on n other (back steps n t) (read_here n other (has_append (read_by_tables n circuit.tables) (read_by_latches n circuit.latches) other ∙ or_second (has (read_by_tables n circuit.tables) other) (has (read_by_latches n circuit.latches) other) m))
+              r.goes_on n other (back steps n t) (read_here n other (has_append (read_by_tables n circuit.tables) (read_by_latches n circuit.latches) other ∙ or_right (has (read_by_tables n circuit.tables) other) (has (read_by_latches n circuit.latches) other) m))
         ]

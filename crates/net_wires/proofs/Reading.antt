@@ -1,5 +1,5 @@
--- What tables read, place by place: the inputs of tables that stand one behind the other, and of which one gives place to
--- another one; and that the readers of all places tell whether some table reads a signal.
+-- What tables read, by index: the inputs of tables in order, of which one is replaced; and that the
+-- fanouts at all indices say whether some table reads a signal.
 use Rattle.std.proofs.Common.{◌≡◌, ℕ, zero, suc, ◌+◌, ◌<◌, ◌≤◌, ◌==◌, Bool, true, false, if◌then◌else◌, Option, Some, None, List, [], ◌∷◌, ◌++◌, take, length, get_or, set, slice_get, inl, inr, refl, sym, ap, ◌∙◌, subst, arith}
 use Rattle.std.specs.Prelude.{MatchBool}
 use Rattle.std.specs.Option.{option_map_or}
@@ -12,10 +12,10 @@ use Rattle.circuit_model.specs.declared.circuit.Circuit.{Circuit}
 use Rattle.circuit_laws.specs.Edits.{with_tables}
 use Rattle.circuit_laws.proofs.Names.{has_front, has_back, has_either, has_not}
 use Rattle.net_wires.proofs.Searching.{at_place}
-use Rattle.net_readers.specs.Readers.{Inputs, with_inputs, AreReaders}
+use Rattle.net_readers.specs.Fanouts.{Inputs, with_inputs, AreReaders}
 use Rattle.net_wires.specs.Aliases.{inputs_at}
 
--- inputs that are the same at each place have the same readers
+-- inputs that are the same at each index have the same fanouts
 readers_same : (told : List ℕ → ℕ → Bool) (some others : Inputs) → ((place : ℕ) → some place ≡ others place) → AreReaders told some → AreReaders told others
 readers_same told some others same all name place = all name place ∙ ap (λ (ns : List (List ℕ)). has ns name) (same place)
 
@@ -44,7 +44,7 @@ past_end [] (suc i) = refl
 past_end (first ∷ items) zero = refl
 past_end (first ∷ items) (suc i) = past_end items i
 
--- behind the tables that were seen nothing is read
+-- after the tables that were seen nothing is read
 pub nothing_behind : (tables : List Table) (i : ℕ) → inputs_at (take i tables) i ≡ []
 nothing_behind tables i = ap (λ (o : Option Table). option_map_or (λ (table : Table). table.inputs) o []) (past_end tables i)
 
@@ -66,7 +66,7 @@ readers_more tables i table told lt is all =
 pub readers_all : (tables : List Table) (i : ℕ) (told : List ℕ → ℕ → Bool) → length tables ≤ i → AreReaders told (inputs_at (take i tables)) → AreReaders told (inputs_at tables)
 readers_all tables i told le all = subst (λ (ts : List Table). AreReaders told (inputs_at ts)) (take_all i tables le) all
 
--- a table gives place to another one
+-- a table is replaced by another one
 
 set_same : {X : Type 0} (items : List X) (place : ℕ) (old made : X) → slice_get items place ≡ Some old → slice_get (set items place made) place ≡ Some made
 set_same [] place old made here = let z : None ≡ Some old = here in absurd cc
@@ -80,7 +80,7 @@ set_other (first ∷ items) zero (suc at) made apart = refl
 set_other (first ∷ items) (suc place) zero made apart = refl
 set_other (first ∷ items) (suc place) (suc at) made apart = set_other items place at made (λ same. apart (ap suc same))
 
--- the inputs of the table at a place
+-- the inputs of the table at an index
 pub inputs_here : (tables : List Table) (place : ℕ) (table : Table) → slice_get tables place ≡ Some table → inputs_at tables place ≡ table.inputs
 inputs_here tables place table at = ap (λ (o : Option Table). option_map_or (λ (t : Table). t.inputs) o []) at
 
@@ -105,7 +105,7 @@ readers_put told circuit new place old kept before now tables same lt is b k n c
     (readers_set circuit.tables place old kept told here
     (subst (λ (names : List (List ℕ)). AreReaders told (with_inputs (inputs_at circuit.tables) place names)) k (changes (inputs_here circuit.tables place old here ∙ sym b))))
 
--- a table without inputs behind the last
+-- a table without inputs is appended
 pub readers_last : (told : List ℕ → ℕ → Bool) (tables : List Table) (last : Table) → last.inputs ≡ [] → AreReaders told (inputs_at tables) → AreReaders told (inputs_at (tables ++ last ∷ []))
 readers_last told tables last none all = readers_same told (inputs_at tables) (inputs_at (tables ++ last ∷ [])) (by tables) all
   where
@@ -115,7 +115,7 @@ readers_last told tables last none all = readers_same told (inputs_at tables) (i
     by (t ∷ ts) zero = refl
     by (t ∷ ts) (suc i) = by ts i
 
--- some table reads a signal where it is read at some place
+-- some table reads a signal if it is read at some index
 read_by : (tables : List Table) (name : List ℕ) → has (table_inputs tables) name ≡ true → (place : ℕ) × (has (inputs_at tables place) name ≡ true)
 read_by [] name h = absurd (false≢true h)
 read_by (first ∷ tables) name h =

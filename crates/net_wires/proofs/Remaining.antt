@@ -1,4 +1,5 @@
--- A table that nothing takes stays one at each step of sweep but the last rule's, beside which it may as well be emptied.
+-- A table without fanout stays one at each step of sweep but the last rule's, and may as well be
+-- emptied beside the step.
 use Rattle.std.proofs.Common.{◌≡◌, ℕ, Bool, true, false, not, ◌&&◌, if◌then◌else◌, Option, Some, None, is_some, List, [], ◌∷◌, ◌++◌, map, find, bytes_eq, refl, sym, ap, ◌∙◌, subst, inl, inr, ◌⊎◌}
 use Rattle.std.specs.Option.{option_map_or, option_or}
 use Rattle.std.proofs.lemmas.Bool.{false≢true, and_parts, and_from, or_parts, or_from, false_from_ne_true}
@@ -33,7 +34,7 @@ use Rattle.net_wires.proofs.Framed.{step_framed}
 use Rattle.net_wires.proofs.Beside.{beside, Goes, idle_unread, idle_unasked, tidy_goes, tidy_none, constant_goes, constant_none, propagate_goes, propagate_none, collapse_goes, collapse_none}
 use Rattle.net_wires.proofs.Idling.{latch_apart, latch_goes, latch_none, idle_goes, dangling_same}
 
--- a table of the signal stands, and no table and no latch takes it
+-- some table drives the signal, and no table and no latch reads it
 pub record IsUntaken (circuit : Circuit) (name : List ℕ) : Type 0 where
   pub driven : has (outputs_of circuit.tables) name ≡ true
   pub unread : has (table_inputs circuit.tables) name ≡ false

@@ -1,4 +1,4 @@
--- Items found by their names, place by place.
+-- Items found by their names, by index.
 use Rattle.std.proofs.Common.{◌≡◌, ℕ, zero, suc, ◌+◌, ◌<◌, ◌≤◌, Bool, true, false, ◌||◌, cond, Option, Some, None, List, [], ◌∷◌, ◌++◌, map, find, flat_map, drop, length, get_or, slice_get, bytes_eq, if◌then◌else◌, refl, sym, ap, ◌∙◌, arith}
 use Rattle.std.specs.Option.{option_map_or}
 use Rattle.std.proofs.lemmas.List.{drop_more, drop_all, append-nil}
@@ -17,7 +17,7 @@ at_place [] i item lt is = absurd (omega (arith, lt))
 at_place (x ∷ items) zero item lt is = ap Some (sym is)
 at_place (x ∷ items) (suc i) item lt is = at_place items i item (omega (arith, lt)) is
 
--- the search from a place on, by the item at that place
+-- the search from an index on, by the item at that index
 pub find_here : {X : Type 0} (test : X → Bool) (items : List X) (i : ℕ) (item : X) → i < length items → item ≡ get_or items i item
     → find test (drop i items) ≡ cond (test item) (Some item) (find test (drop (i + 1) items))
 find_here test items i item lt is = rw (drop_more items i item lt, ← is) refl
@@ -25,7 +25,7 @@ find_here test items i item lt is = rw (drop_more items i item lt, ← is) refl
 pub find_done : {X : Type 0} (test : X → Bool) (items : List X) (i : ℕ) → length items ≤ i → find test (drop i items) ≡ None
 find_done test items i le = rw (drop_all i items le) refl
 
--- the place of one more item is noted, from the last one on to the front
+-- the index of one more item is set, from the last item to the first
 noted : {X : Type 0} (name_of : X → List ℕ) (items : List X) (i : ℕ) (item : X) (key : List ℕ) (old new : List ℕ → Option ℕ) → i < length items → item ≡ get_or items i item
     → key ≡ name_of item → ((other : List ℕ) → new other ≡ (if bytes_eq key other then Some i else old other))
     → ((name : List ℕ) → item_at items (old name) ≡ find (λ x. bytes_eq name (name_of x)) (drop (i + 1) items))
@@ -55,7 +55,7 @@ unfolding holder
 noted_latch latches i left latch key old new e lt is k n before name =
     noted (λ (l : Latch). l.output) latches i latch key old new lt is k n (λ other. before other ∙ ap (λ (m : ℕ). find (λ (l : Latch). bytes_eq other l.output) (drop m latches)) e) name
 
--- behind the last item nothing is found
+-- after the last item nothing is found
 pub no_table : (tables : List Table) (i : ℕ) (name : List ℕ) → length tables ≤ i → None ≡ driver (drop i tables) name
 unfolding driver
 no_table tables i name le = sym (find_done (λ (t : Table). bytes_eq name t.output) tables i le)

@@ -1,4 +1,4 @@
--- How large turned tables are.
+-- The sizes of rewritten tables.
 use Rattle.std.proofs.Common.{◌≡◌, ℕ, suc, ◌+◌, ◌<◌, ◌≤◌, Bool, true, false, ◌&&◌, ◌||◌, if◌then◌else◌, Option, Some, None, option_map, List, [], ◌∷◌, length, map, bytes_eq, refl, sym, ap, ◌∙◌, subst, arith}
 use Rattle.std.specs.List.{AllByRecursion, filter_map, cons_option, list_any, list_all}
 use Rattle.std.proofs.lemmas.Bool.{false≢true, and_right, or_from, false_from_ne_true}

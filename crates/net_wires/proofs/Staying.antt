@@ -25,7 +25,7 @@ all_passing {X} P p (x ∷ xs) all = cases (p x) refl all (all_passing P p xs)
     cases true e h rest = (λ passes. h.0, rest h.1)
     cases false e h rest = (λ passes. absurd (false≢true (sym e ∙ passes)), rest h)
 
--- what each latch of a sound circuit takes is driven
+-- the input of each latch of a sound circuit is driven
 abbrev IsDriven : Circuit → List ℕ → Type 0
 IsDriven circuit name = has (given circuit) name ≡ true
 

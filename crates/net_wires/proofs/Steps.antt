@@ -1,4 +1,4 @@
--- Each rule of sweep keeps a circuit sound, refines it, and keeps the values of what is left.
+-- Each rule of sweep keeps a circuit sound, refines it, and keeps the values of what remains.
 use Rattle.std.proofs.Common.{◌≡◌, ℕ, zero, suc, Bool, true, false, not, ◌&&◌, if◌then◌else◌, Option, Some, None, option_map, is_some, List, [], ◌∷◌, map, find, bytes_eq, refl, sym, ap, ◌∙◌, subst, inl, inr, ◌⊎◌}
 use Rattle.std.specs.List.{AllByRecursion}
 use Rattle.std.specs.Option.{option_map_or}

@@ -1,4 +1,4 @@
--- What stands where no rule of sweep applies.
+-- The circuit to which no rule of sweep applies.
 use Rattle.std.proofs.Common.{◌≡◌, ℕ, Bool, true, false, not, ◌&&◌, if◌then◌else◌, Option, Some, None, is_some, List, [], ◌∷◌, length, refl, sym, ap, ◌∙◌, arith}
 use Rattle.std.specs.List.{AllByRecursion, list_all}
 use Rattle.std.specs.Option.{option_map_or, option_or}
@@ -113,7 +113,8 @@ swept_tables circuit (table ∷ tables) a b c d e = (
     several (name ∷ []) one h = none-some name (sym h)
     several (name ∷ (other ∷ names)) one h = omega arith
 
--- a latch that no rule fixes, though it may start at the constant that its input is, is read by the don't-care part
+-- a latch that no rule fixes, though it may start at the constant that its input is, is read by the
+-- don't-care part
 fixed_read : (circuit : Circuit) (latch : Latch) (bit : Bool) (table : Table) → fixed_bit circuit latch ≡ None → starts_at latch.init bit ≡ true
     → driver circuit.tables latch.input ≡ Some table → written_bit table ≡ Some bit → dont_care_reads circuit latch.output ≡ true
 unfolding fixed_bit

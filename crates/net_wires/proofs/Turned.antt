@@ -1,4 +1,4 @@
--- Tables in which a signal has a bit, and tables that read one signal in place of another one.
+-- Tables in which a signal has a bit, and tables that read one signal instead of another.
 use Rattle.std.proofs.Common.{◌≡◌, ℕ, suc, Bool, true, false, not, ◌&&◌, ◌||◌, if◌then◌else◌, Option, Some, None, option_map, List, [], ◌∷◌, length, map, bytes_eq, refl, sym, ap, ◌∙◌, inl, inr, ◌⊎◌}
 use Rattle.std.specs.List.{AllByRecursion, filter_map, cons_option}
 use Rattle.std.specs.Option.{option_map_or}
@@ -156,7 +156,7 @@ rows_at_wide name bit table wide = wide_filtered (row_at_bit name bit table.inpu
 pub at_shaped : (name : List ℕ) (bit : Bool) (table : Table) → IsShaped table → IsShaped (at_bit name bit table)
 at_shaped name bit table shaped = at_either IsShaped name bit table (λ reads. tidied_shaped (with_rows_at name bit table) (rows_at_wide name bit table shaped.0)) (λ none. shaped)
 
--- rows turned over
+-- complemented rows
 
 pub turned_agrees : (place : Tri) (bit : Bool) → agrees (literal_of (turned_over place)) bit ≡ agrees (literal_of place) (not bit)
 turned_agrees Free bit = refl
@@ -254,7 +254,7 @@ renamed_has from to (input ∷ inputs) name h = cases (bytes_eq from input) (ren
           | inr m ↦ more (rest m)
         ]
 
--- what a rewired table reads: what the table reads, or the signal in place of the one that it reads
+-- what a rewired table reads: what the table reads, or the signal that replaces another
 abbrev pub ReadsOr : List ℕ → List ℕ → Table → List ℕ → Type 0
 ReadsOr from to table name = (has table.inputs name ≡ true) ⊎ ((name ≡ to) × (has table.inputs from ≡ true))
 

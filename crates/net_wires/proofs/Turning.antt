@@ -1,4 +1,4 @@
--- Rows with marked places turned over, and tables over edges there and back.
+-- Rows with marked columns complemented, and tables over edges there and back.
 use Rattle.std.proofs.Common.{◌≡◌, ℕ, zero, suc, ◌+◌, ◌<◌, Bool, true, false, if◌then◌else◌, List, [], ◌∷◌, ◌++◌, take, length, map, get_or, slice_get, unwrap_or, refl, sym, ap, ◌∙◌, arith}
 use Rattle.std.specs.List.{list_any}
 use Rattle.std.proofs.lemmas.Bool.{false≢true}
@@ -107,7 +107,7 @@ bit_stays edge table = by table.inputs
     by [] = ap (bit_by [] table.phase) (rows_stay table.rows)
     by (input ∷ inputs) = refl
 
--- where no place is marked rows stay
+-- if no column is marked, rows stay
 unmarked_row : (marks : List Bool) (row : List Tri) → list_any (λ (mark : Bool). mark) marks ≡ false → row_over marks row ≡ row
 unfolding row_over
 unmarked_row [] row h = refl

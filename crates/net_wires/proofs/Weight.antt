@@ -1,5 +1,5 @@
--- A number that falls at each step of sweep: four for each latch, one for each table, each input and each row, and
--- one for each table that tables read.
+-- A number that falls at each step of sweep: four for each latch, one for each table, each input
+-- and each row, and one for each table that tables read.
 use Rattle.std.proofs.Common.{◌≡◌, ℕ, suc, ◌+◌, ◌*◌, ◌<◌, ◌≤◌, Bool, true, false, not, ◌&&◌, ◌||◌, cond, if◌then◌else◌, Some, List, [], ◌∷◌, ◌++◌, length, map, filter, bytes_eq, refl, sym, ap, ◌∙◌, subst, arith, inl, inr, ◌⊎◌, length-append}
 use Rattle.std.specs.List.{AllByRecursion, list_all}
 use Rattle.std.proofs.lemmas.Bool.{false≢true, and_cases}
@@ -38,7 +38,7 @@ read_count tables = counted (has (table_inputs tables)) (outputs_of tables)
 unfoldable pub weight : Circuit → ℕ
 weight circuit = 4 * length circuit.latches + length circuit.tables + sizes_of circuit.tables + read_count circuit.tables
 
--- a table gives place to a smaller one
+-- a table is replaced by a smaller one
 
 replaced_sizes : (tables : List Table) (old new : Table) → driver tables new.output ≡ Some old → sizes_of (replaced tables new) + size_of old ≡ sizes_of tables + size_of new
 unfolding driver replaced sizes_of
@@ -92,7 +92,7 @@ replaced_falls circuit old new at within less =
     let long : length (replaced circuit.tables new) ≡ length circuit.tables = replaced_long circuit.tables new in
     omega arith
 
--- a table gives place to one that is no larger
+-- a table is replaced by one that is no larger
 pub replaced_lighter : (circuit : Circuit) (old new : Table) → driver circuit.tables new.output ≡ Some old → ((name : List ℕ) → has new.inputs name ≡ true → has old.inputs name ≡ true)
     → size_of new ≤ size_of old → weight (with_replaced circuit new) ≤ weight circuit
 unfolding weight with_replaced
@@ -178,7 +178,7 @@ propagate_falls circuit name bit sound reads =
     known x (inl h) = h
     known x (inr never) = absurd never
 
--- readers of a table of one input read that input in its place
+-- the fanouts of a table of one input read that input instead
 pub collapse_falls : (circuit : Circuit) (table : Table) (input : List ℕ) (inverts : Bool) → IsSound circuit → driver circuit.tables table.output ≡ Some table → has table.inputs input ≡ true
     → tables_read circuit table.output ≡ true → weight (with_tables circuit (map (rewired table.output input inverts) circuit.tables)) < weight circuit
 unfolding weight read_count
@@ -293,7 +293,7 @@ latch_falls circuit name bit sound h =
     counted_most (has (table_inputs (circuit.tables ++ constant_table name bit ∷ []))) (has (table_inputs circuit.tables)) (constant_reads circuit.tables name bit) (outputs_of circuit.tables) in
     omega arith
 
--- tables and latches go
+-- tables and latches are removed
 
 kept_sizes : (test : List ℕ → Bool) (tables : List Table) → sizes_of (tables_kept test tables) ≤ sizes_of tables
 unfolding sizes_of tables_kept

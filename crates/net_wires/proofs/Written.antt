@@ -1,4 +1,4 @@
--- Constants as they are written.
+-- Written constants.
 use Rattle.std.proofs.Common.{◌≡◌, ℕ, suc, Bool, true, false, eqb, if◌then◌else◌, Option, Some, None, List, [], ◌∷◌, length, refl, sym, ap, ◌∙◌, arith}
 use Rattle.std.proofs.lemmas.Bool.Decides.{nat_tests}
 use Rattle.circuit_model.specs.declared.circuit.Tri.{Tri}
@@ -10,7 +10,7 @@ pub nil_of : {X : Type 0} (xs : List X) → eqb (length xs) 0 ≡ true → xs �
 nil_of [] e = refl
 nil_of (x ∷ xs) e = let z : suc (length xs) ≡ 0 = grind (arith, nat_tests) in absurd (omega (arith, z))
 
--- constants as they are written
+-- written constants
 pub not_written_inputs : (table : Table) → eqb (length table.inputs) 0 ≡ false → written_bit table ≡ None
 unfolding written_bit
 not_written_inputs table h = by_inputs table.inputs h

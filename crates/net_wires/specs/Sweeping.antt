@@ -1,5 +1,5 @@
--- What sweep makes of a circuit: the end of its chain of steps, said without steps.
--- Source: the SIS manual (UCB/ERL M92/41), `sweep`.
+-- The result of sweep: the end of its chain of steps, defined without steps. Source: the SIS manual
+-- (UCB/ERL M92/41), `sweep`.
 use Rattle.std.specs.Prelude.{◌≡◌, ℕ, ◌-◌, Bool, true, not, Some, None, length, count_by}
 use Rattle.std.specs.List.{AllByRecursion}
 use Rattle.circuit_model.specs.Names.{has}
@@ -13,8 +13,8 @@ use Rattle.net_wires.specs.Points.{constant_bit, written_bit}
 use Rattle.net_wires.specs.Rules.{tables_read, starts_at}
 use Rattle.net_wires.specs.Needed.{dont_care_reads, is_needed}
 
--- a table that sweep leaves: tidy; written as a constant where it is one; neither constant nor of one input where tables
--- read it; and needed
+-- a table of a swept circuit is tidy; is written as a constant if it is one; is neither constant
+-- nor of one input if tables read it; and is needed
 pub record IsSweptTable (circuit : Circuit) (table : Table) : Type 0 where
   pub tidy : is_tidy table ≡ true
   pub written : constant_bit table ≡ written_bit table
@@ -22,8 +22,8 @@ pub record IsSweptTable (circuit : Circuit) (table : Table) : Type 0 where
   pub not_single : tables_read circuit table.output ≡ true → length table.inputs ≡ 1 → ⊥
   pub needed : is_needed circuit table.output ≡ true
 
--- a latch that sweep leaves: where it may start at a bit and need not start at the other one, and its input is a table that
--- is this constant, the don't-care part reads it; and it is needed
+-- a latch of a swept circuit is needed; and if it may start at a bit, need not start at the other
+-- one, and its input is a table of this constant, then the don't-care part reads it
 pub record IsSweptLatch (circuit : Circuit) (latch : Latch) : Type 0 where
   pub not_fixed : (bit : Bool) (table : Table) → starts_at latch.init bit ≡ true → driver circuit.tables latch.input ≡ Some table → constant_bit table ≡ Some bit
       → dont_care_reads circuit latch.output ≡ true
@@ -34,10 +34,11 @@ pub record IsSwept (circuit : Circuit) : Type 0 where
   pub tables : AllByRecursion (IsSweptTable circuit) circuit.tables
   pub latches : AllByRecursion (IsSweptLatch circuit) circuit.latches
 
--- how many of the old tables' signals no table drives any more; a latch that became a table is none of them
+-- the number of the old tables' signals that no table drives any more; a latch that became a table
+-- is not among them
 abbrev pub tables_gone : Circuit → Circuit → ℕ
 tables_gone old new = count_by (λ name. not (has (outputs_of new.tables) name)) (outputs_of old.tables)
 
--- how many fewer latches there are
+-- the difference in the number of latches
 abbrev pub latches_gone : Circuit → Circuit → ℕ
 latches_gone old new = length old.latches - length new.latches

@@ -1,5 +1,4 @@
--- Constants as they are written.
--- Source: BLIF appendix of the SIS report (UCB/ERL M92/41), `.names`.
+-- Written constants. Source: BLIF appendix of the SIS report (UCB/ERL M92/41), `.names`.
 use Rattle.std.specs.Prelude.{Bool, true, false, List, [], ◌∷◌}
 
 -- whether there is one row, without characters

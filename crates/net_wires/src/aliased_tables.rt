@@ -1,37 +1,44 @@
-//! A circuit whose tables are kept over aliases, with exact readers of the aliases.
+//! A circuit whose tables are stored over aliases, with the exact fanouts of the aliases.
+//!
+//! Source: Cormen, Leiserson, Rivest and Stein, "Introduction to Algorithms", third edition,
+//! chapter 21; Brace, Rudell and Bryant, "Efficient Implementation of a BDD Package" (1990),
+//! complemented edges. Each alias stands for one signal or its complement, and each signal has one
+//! alias; a name without an edge stands for itself. Invariant: the two maps are inverse, and the
+//! fanouts are those of the stored tables. `exchange_aliases` changes four edges instead of all
+//! tables. Contracts see the circuit over the signals.
 
 ghost use Rattle.std.specs.Prelude.{◌≡◌, ◌<◌, ◌++◌, ℕ, Bool, false, Some, None, List, [], ◌∷◌, length, map, slice_get, slice_set, bytes_eq, IfOk, OnOk};
 ghost use Rattle.std.specs.List.Sorted.{IsStrictlyIncreasing};
 ghost use Rattle.std.specs.Option.{option_map_or};
 ghost use Rattle.circuit_model.specs.Names.{has};
 ghost use Rattle.circuit_model.specs.Soundness.{table_inputs};
-ghost use Rattle.circuit_model.specs.declared.circuit.Table.{Table as TheTable};
-ghost use Rattle.circuit_laws.specs.Edits.{with_tables, with_added, constant_table as table_of_bit};
-ghost use Rattle.net_wires.specs.Points.{written_bit as bit_written};
+ghost use Rattle.circuit_model.specs.declared.circuit.Table.{Table};
+ghost use Rattle.circuit_laws.specs.Edits.{with_tables, with_added, constant_table};
+ghost use Rattle.net_wires.specs.Points.{written_bit};
 ghost use Rattle.indexmap.specs.IndexMap.{get};
-ghost use Rattle.net_readers.specs.Readers.{told, is_in, AreReaders};
+ghost use Rattle.net_readers.specs.Fanouts.{told, is_in, AreReaders};
 ghost use Rattle.net_wires.specs.Aliases.{inputs_at, edge_of, table_over as over_edges, with_edge, turned_if, exchanged, HaveExchangedAliases};
 
 use crate::edges::{Edge, edge_from, name_of, set_edge, table_over, tables_over};
 use crate::{constant_table, written_bit};
 use circuit_model::{Circuit, Name, Table};
 use indexmap::IndexMap;
-use net_readers::{Places, Readers};
+use net_readers::{Fanouts, Places};
 use sis_base::{Copied, Sequence, Whole};
 use std::alloc::{AllocError, Global};
 use std::marker::Model;
 use std::mem;
 
-/// A circuit on which rules run: two signals change places in all tables at once, and who reads a
-/// signal is known. Contracts see it as that circuit. Behind an error, which is want of memory
-/// alone, any circuit may stand.
+/// A circuit on which the rules of sweep run: two signals are exchanged in all tables at once, and
+/// the fanouts of a signal are known. Contracts see it as that circuit. After an error the circuit
+/// may be any.
 #[derive(Drop)]
 pub struct AliasedTables {
-    // the circuit with aliases in the places of the signals that its tables read
+    // the circuit with aliases in place of the signals that its tables read
     circuit: Whole<Circuit>,
-    // the places of the tables that read each alias
-    readers: Readers,
-    // the signal for which each alias stands
+    // the fanouts of each alias: the indices of the tables that read it
+    readers: Fanouts,
+    // the signal, or its complement, for which each alias stands
     signal_of: Whole<IndexMap<Name, Edge>>,
     // the alias that stands for each signal
     alias_of: Whole<IndexMap<Name, Edge>>,
@@ -40,12 +47,12 @@ pub struct AliasedTables {
 impl Model for AliasedTables {
     ghost use Rattle.std.specs.Prelude.{map, bytes_eq};
     ghost use Rattle.indexmap.specs.IndexMap.{get};
-    ghost use Rattle.circuit_model.specs.declared.circuit.Circuit.{Circuit as TheCircuit};
+    ghost use Rattle.circuit_model.specs.declared.circuit.Circuit.{Circuit};
     ghost use Rattle.circuit_laws.specs.Edits.{with_tables};
-    ghost use Rattle.net_readers.specs.Readers.{told, AreReaders};
+    ghost use Rattle.net_readers.specs.Fanouts.{told, AreReaders};
     ghost use Rattle.net_wires.specs.Aliases.{inputs_at, edge_of, table_over, ArePaired};
 
-    ghost Value = { TheCircuit };
+    ghost Value = { Circuit };
 
     ghost view = { λ over. with_tables over.circuit.it
         (map (table_over (edge_of (get bytes_eq over.signal_of.it))) over.circuit.it.tables) };
@@ -55,18 +62,18 @@ impl Model for AliasedTables {
         (edge_of (get bytes_eq over.alias_of.it)) };
 }
 
-// The readers of each signal in tables.
-fn readers_of(alloc: Global, tables: &[Table]) -> Result<Readers, AllocError>
+// The fanouts of each signal in tables.
+fn readers_of(alloc: Global, tables: &[Table]) -> Result<Fanouts, AllocError>
     ensures { IfOk result (λ readers. AreReaders (told readers) (inputs_at tables.now)) }
 {
-    let mut readers = Readers::of_none(alloc);
+    let mut readers = Fanouts::of_none(alloc);
     for (place, table) in tables.iter().enumerate() {
         readers.add(alloc, place, table.inputs.as_slice())?;
     }
     Ok(readers)
 }
 
-// Puts another table at a place of a circuit.
+// Replaces the table at an index of a circuit.
 fn put_table(alloc: Global, circuit: &mut Circuit, place: usize, table: Table)
     requires { place < length circuit.old.tables }
     ensures { circuit.new ≡ with_tables circuit.old (slice_set circuit.old.tables place table) }
@@ -76,7 +83,7 @@ fn put_table(alloc: Global, circuit: &mut Circuit, place: usize, table: Table)
     circuit.tables = Sequence::from_vec(tables);
 }
 
-// Puts a table behind the last of a circuit.
+// Appends a table to a circuit.
 #[tactic(auto, unfolding(circuit_laws::specs::Edits::with_added))]
 fn push_table(circuit: &mut Circuit, table: Table) -> Result<(), AllocError>
     ensures { OnOk result (circuit.new ≡ with_added circuit.old table) }
@@ -85,12 +92,12 @@ fn push_table(circuit: &mut Circuit, table: Table) -> Result<(), AllocError>
     Ok(())
 }
 
-// The table at a place of a circuit gives place to another one, over aliases, and the readers are
-// those of the new tables.
+// Replaces the table at an index of a circuit by another one, rewritten over aliases, and updates
+// the fanouts.
 fn change_table(
     alloc: Global,
     circuit: &mut Circuit,
-    readers: &mut Readers,
+    readers: &mut Fanouts,
     aliases: &IndexMap<Name, Edge>,
     place: usize,
     table: Table,
@@ -109,7 +116,7 @@ fn change_table(
     Ok(())
 }
 
-// A bit, turned over or not.
+// A bit, complemented if asked.
 fn turned_bit(bit: bool, inverts: bool) -> bool
     ensures { result ≡ turned_if inverts bit }
 {
@@ -119,7 +126,7 @@ fn turned_bit(bit: bool, inverts: bool) -> bool
     bit
 }
 
-// An alias stands for a signal or its complement.
+// Makes an alias stand for a signal or its complement.
 fn pair(
     alloc: Global,
     signals: &mut IndexMap<Name, Edge>,
@@ -149,7 +156,7 @@ fn pair(
     set_edge(aliases, signal.copy(alloc)?, to_alias)
 }
 
-// Two signals, which are different, exchange aliases, and the first comes complemented or not.
+// Two different signals exchange aliases; the first is complemented if asked.
 fn exchange_edges(
     alloc: Global,
     signals: &mut IndexMap<Name, Edge>,
@@ -178,7 +185,7 @@ fn exchange_edges(
 }
 
 impl AliasedTables {
-    // A circuit without anything; takes no memory.
+    // The empty circuit; allocates nothing.
     fn empty(alloc: Global) -> AliasedTables {
         AliasedTables {
             circuit: Whole {
@@ -193,7 +200,7 @@ impl AliasedTables {
                     dont_care: Sequence::new(alloc),
                 },
             },
-            readers: Readers::of_none(alloc),
+            readers: Fanouts::of_none(alloc),
             signal_of: Whole {
                 it: IndexMap::new(alloc),
             },
@@ -203,7 +210,7 @@ impl AliasedTables {
         }
     }
 
-    /// A circuit over aliases; an error only for want of memory.
+    /// The aliased tables of a circuit, each signal its own alias.
     pub fn from_circuit(alloc: Global, circuit: Circuit) -> Result<AliasedTables, AllocError>
         ensures { IfOk result (λ made. made ≡ circuit) }
     {
@@ -220,7 +227,7 @@ impl AliasedTables {
         })
     }
 
-    /// The circuit; an error only for want of memory.
+    /// The circuit, with its tables over the signals.
     pub fn into_circuit(self, alloc: Global) -> Result<Circuit, AllocError>
         ensures { IfOk result (λ circuit. circuit ≡ self) }
     {
@@ -237,7 +244,7 @@ impl AliasedTables {
         self.circuit.it.tables.len()
     }
 
-    /// A copy of the table at a place, if there is one; an error only for want of memory.
+    /// A copy of the table at an index, if there is one.
     pub fn table(&self, alloc: Global, place: usize) -> Result<Option<Table>, AllocError>
         ensures { IfOk result (λ table. table ≡ slice_get self.now.tables place) }
     {
@@ -250,10 +257,9 @@ impl AliasedTables {
         }
     }
 
-    /// The constant that the table at a place is written as, if there is a table and it is written
-    /// so.
+    /// The constant as which the table at an index is written, if there is one.
     pub fn bit(&self, place: usize) -> Option<bool>
-        ensures { result ≡ option_map_or bit_written (slice_get self.now.tables place) None }
+        ensures { result ≡ option_map_or written_bit (slice_get self.now.tables place) None }
     {
         match self.circuit.it.tables.as_slice().get(place) {
             None => None,
@@ -261,9 +267,9 @@ impl AliasedTables {
         }
     }
 
-    /// How many inputs the table at a place has; 0 where there is no table.
+    /// The number of inputs of the table at an index; 0 if there is no table.
     pub fn width(&self, place: usize) -> usize
-        ensures { result ≡ option_map_or (λ (table : TheTable). length table.inputs)
+        ensures { result ≡ option_map_or (λ (table : Table). length table.inputs)
             (slice_get self.now.tables place) 0 }
     {
         match self.circuit.it.tables.as_slice().get(place) {
@@ -279,8 +285,8 @@ impl AliasedTables {
         self.readers.has_readers(name_of(&self.alias_of.it, name))
     }
 
-    /// The places of the tables that read a signal, each once, in rising order; an error only for
-    /// want of memory.
+    /// The fanouts of a signal: the indices of the tables that read it, each once, in increasing
+    /// order.
     pub fn places(&self, alloc: Global, name: &Name) -> Result<Places, AllocError>
         ensures exact { IfOk result (λ places. (place : ℕ)
             → is_in places place ≡ has (inputs_at self.now.tables place) name.now) }
@@ -289,14 +295,13 @@ impl AliasedTables {
         self.readers.places(alloc, name_of(&self.alias_of.it, name))
     }
 
-    /// How many tables read a signal, which no clause says: it serves to choose between ways, for
-    /// speed alone.
+    /// The number of tables that read a signal. No clause says so: it serves to choose between
+    /// equivalent methods, for speed alone.
     pub fn count(&self, name: &Name) -> usize {
         self.readers.count(name_of(&self.alias_of.it, name))
     }
 
-    /// The table at a place, which has one, gives place to another one; an error only for want of
-    /// memory.
+    /// Replaces the table at an index, which must have one.
     pub fn set(&mut self, alloc: Global, place: usize, table: Table) -> Result<(), AllocError>
         requires { place < length self.old.tables }
         ensures { OnOk result (self.new ≡ with_tables self.old
@@ -315,9 +320,8 @@ impl AliasedTables {
         Ok(())
     }
 
-    /// Two signals, which are different, change places among the inputs of all tables, the
-    /// characters of the first turned over or not; outputs, latches and the don't-care part stay.
-    /// An error only for want of memory.
+    /// Exchanges two different signals among the inputs of all tables, and complements the literals
+    /// of the first if asked; outputs, latches and the don't-care part stay.
     pub fn exchange_aliases(
         &mut self,
         alloc: Global,
@@ -342,9 +346,9 @@ impl AliasedTables {
         Ok(())
     }
 
-    /// The table that is a bit is put last under a name; an error only for want of memory.
+    /// Appends the table of a constant under a name.
     pub fn add_constant(&mut self, alloc: Global, name: Name, bit: bool) -> Result<(), AllocError>
-        ensures { OnOk result (self.new ≡ with_added self.old (table_of_bit name bit)) }
+        ensures { OnOk result (self.new ≡ with_added self.old (constant_table name bit)) }
     {
         let table = constant_table(alloc, name, bit)?;
         let mut made = mem::replace(self, AliasedTables::empty(alloc));

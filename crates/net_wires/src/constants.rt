@@ -1,10 +1,11 @@
-//! Constants as they are written: a table without inputs, of phase 1, with one row for 1 and without a row for 0.
+//! Written constants: a table without inputs, of phase 1, with one row for 1 and without a row for
+//! 0.
 //!
 //! Source: BLIF appendix of the SIS report (UCB/ERL M92/41), `.names`.
 
 ghost use Rattle.std.specs.Prelude.{◌≡◌, IfOk};
-ghost use Rattle.circuit_laws.specs.Edits.{constant_rows as rows_of_bit, constant_table as table_of_bit};
-ghost use Rattle.net_wires.specs.Points.{written_bit as bit_written};
+ghost use Rattle.circuit_laws.specs.Edits.{constant_rows, constant_table};
+ghost use Rattle.net_wires.specs.Points.{written_bit};
 ghost use Rattle.net_wires.specs.Written.{is_one_row};
 
 use circuit_model::{Name, Row, Rows, Table};
@@ -18,9 +19,9 @@ fn is_one_empty_row(rows: &[Row]) -> bool
     rows.len() == 1 && rows[0].is_empty()
 }
 
-/// The constant that a table is written as; none where it is written otherwise.
+/// The constant as which a table is written; `None` if it is written otherwise.
 pub fn written_bit(table: &Table) -> Option<bool>
-    ensures { result ≡ bit_written table.now }
+    ensures { result ≡ written_bit table.now }
 {
     if !table.inputs.is_empty() {
         return None;
@@ -39,7 +40,7 @@ pub fn written_bit(table: &Table) -> Option<bool>
 
 // The rows of a constant.
 fn constant_rows(alloc: Global, bit: bool) -> Result<Rows, AllocError>
-    ensures { IfOk result (λ rows. rows ≡ rows_of_bit bit) }
+    ensures { IfOk result (λ rows. rows ≡ constant_rows bit) }
 {
     let mut rows = Sequence::new(alloc);
     if !bit {
@@ -49,9 +50,9 @@ fn constant_rows(alloc: Global, bit: bool) -> Result<Rows, AllocError>
     Ok(rows)
 }
 
-/// The table that is a constant; an error only for want of memory.
+/// The table of a constant.
 pub fn constant_table(alloc: Global, output: Name, bit: bool) -> Result<Table, AllocError>
-    ensures { IfOk result (λ table. table ≡ table_of_bit output bit) }
+    ensures { IfOk result (λ table. table ≡ constant_table output bit) }
 {
     Ok(Table {
         inputs: Sequence::new(alloc),

@@ -1,10 +1,17 @@
-//! Edges from names to names, complemented or not, and tables over the edges of their inputs.
+//! Edges from names to names, complemented or not, and tables rewritten over the edges of their
+//! inputs.
+//!
+//! Source: Brace, Rudell and Bryant, "Efficient Implementation of a BDD Package" (1990),
+//! complemented edges. A name without an edge in the map leads to itself, not complemented.
+//! `table_over` replaces each input by the name of its edge and complements its column if the edge
+//! is complemented; output and phase stay. A table is consumed, and its rows are rewritten only if
+//! some edge is complemented.
 
 ghost use Rattle.std.specs.Prelude.{◌≡◌, ◌++◌, ℕ, Bool, Some, None, List, [], ◌∷◌, map, unwrap_or, slice_get, bytes_eq, false, if◌then◌else◌, IfOk, OnOk};
 ghost use Rattle.std.specs.List.{list_any};
 ghost use Rattle.indexmap.specs.IndexMap.{get};
 ghost use Rattle.net_wires.specs.Rules.{turned_over};
-ghost use Rattle.net_wires.specs.Aliases.{edge_of, with_edge, complement_marks, row_over as over_marks, table_over as over_edges};
+ghost use Rattle.net_wires.specs.Aliases.{edge_of, with_edge, complement_marks, row_over, table_over};
 
 use circuit_model::{Name, Names, Row, Rows, Table, Tables, Tri};
 use indexmap::IndexMap;
@@ -28,7 +35,7 @@ fn is_complemented(edges: &IndexMap<Name, Edge>, name: &Name) -> bool
     }
 }
 
-// The name to which the edge of a name leads.
+// The name to which the edge of a name leads; the name itself if it has no edge.
 pub(crate) fn name_of<'a>(edges: &'a IndexMap<Name, Edge>, name: &'a Name) -> &'a Name
     ensures { result.now ≡ (edge_of (get bytes_eq edges.now) name.now).name }
 {
@@ -38,7 +45,7 @@ pub(crate) fn name_of<'a>(edges: &'a IndexMap<Name, Edge>, name: &'a Name) -> &'
     }
 }
 
-// The edge of a name.
+// Copies the edge of a name.
 pub(crate) fn edge_from(
     alloc: Global,
     edges: &IndexMap<Name, Edge>,
@@ -52,19 +59,20 @@ pub(crate) fn edge_from(
     })
 }
 
-// Gives a name another edge.
+// Sets the edge of a name.
 pub(crate) fn set_edge(
     edges: &mut IndexMap<Name, Edge>,
     name: Name,
     to: Edge,
 ) -> Result<(), AllocError>
-    ensures { OnOk result ((other : List ℕ) → edge_of (get bytes_eq edges.new) other ≡ with_edge name to (edge_of (get bytes_eq edges.old)) other) }
+    ensures { OnOk result ((other : List ℕ) → edge_of (get bytes_eq edges.new) other
+        ≡ with_edge name to (edge_of (get bytes_eq edges.old)) other) }
 {
     let _before = edges.insert(name, to)?;
     Ok(())
 }
 
-// The name to which the edge of a name leads, in its place.
+// The name to which the edge of a name leads; consumes the name.
 fn name_over(alloc: Global, edges: &IndexMap<Name, Edge>, name: Name) -> Result<Name, AllocError>
     ensures { IfOk result (λ made. made ≡ (edge_of (get bytes_eq edges.now) name).name) }
 {
@@ -74,13 +82,14 @@ fn name_over(alloc: Global, edges: &IndexMap<Name, Edge>, name: Name) -> Result<
     }
 }
 
-// The names to which the edges of names lead, in their places.
+// The names to which the edges of names lead; consumes the names.
 fn names_over(
     alloc: Global,
     edges: &IndexMap<Name, Edge>,
     names: Names,
 ) -> Result<Names, AllocError>
-    ensures { IfOk result (λ made. made ≡ map (λ name. (edge_of (get bytes_eq edges.now) name).name) names) }
+    ensures { IfOk result (λ made. made ≡ map (λ name. (edge_of (get bytes_eq edges.now) name).name)
+        names) }
 {
     let mut made = Vec::with_capacity(alloc, names.len())?;
     for name in names.into_vec() {
@@ -95,7 +104,8 @@ fn complemented_inputs(
     edges: &IndexMap<Name, Edge>,
     inputs: &[Name],
 ) -> Result<Vec<bool>, AllocError>
-    ensures { IfOk result (λ marks. marks.items ≡ complement_marks (edge_of (get bytes_eq edges.now)) inputs.now) }
+    ensures { IfOk result (λ marks. marks.items ≡ complement_marks
+        (edge_of (get bytes_eq edges.now)) inputs.now) }
 {
     let mut marks = Vec::with_capacity(alloc, inputs.len())?;
     for input in inputs {
@@ -104,14 +114,14 @@ fn complemented_inputs(
     Ok(marks)
 }
 
-// Whether a place is marked.
+// Whether a column is marked.
 fn is_marked(marks: &[bool], place: usize) -> bool
     ensures { result ≡ unwrap_or (slice_get marks.now place) false }
 {
     marks.get(place).copied().unwrap_or(false)
 }
 
-// A character, turned over where it is marked.
+// A character, complemented if asked; a dash stays.
 fn place_over(turns: bool, place: Tri) -> Tri
     ensures { result ≡ (if turns then turned_over place else place) }
 {
@@ -125,9 +135,9 @@ fn place_over(turns: bool, place: Tri) -> Tri
     }
 }
 
-// A row with the characters at marked places turned over.
+// A row with the characters in marked columns complemented.
 fn row_over(alloc: Global, marks: &[bool], row: &[Tri]) -> Result<Row, AllocError>
-    ensures { IfOk result (λ made. made ≡ over_marks marks.now row.now) }
+    ensures { IfOk result (λ made. made ≡ row_over marks.now row.now) }
 {
     let mut made = Row::new(alloc);
     for (i, place) in row.iter().enumerate() {
@@ -136,9 +146,9 @@ fn row_over(alloc: Global, marks: &[bool], row: &[Tri]) -> Result<Row, AllocErro
     Ok(made)
 }
 
-/// Rows with the characters at marked places turned over (a place without a mark stays); an error only for want of memory.
+/// Rows with the characters in marked columns complemented; a column without a mark stays.
 pub fn rows_over(alloc: Global, marks: &[bool], rows: &[Row]) -> Result<Rows, AllocError>
-    ensures { IfOk result (λ made. made ≡ map (over_marks marks.now) rows.now) }
+    ensures { IfOk result (λ made. made ≡ map (row_over marks.now) rows.now) }
 {
     let mut made = Vec::with_capacity(alloc, rows.len())?;
     for row in rows {
@@ -147,16 +157,17 @@ pub fn rows_over(alloc: Global, marks: &[bool], rows: &[Row]) -> Result<Rows, Al
     Ok(Sequence::from_vec(made))
 }
 
-// Whether some place is marked.
+// Whether some column is marked.
 fn is_any_marked(marks: &[bool]) -> bool
     ensures { result ≡ list_any (λ mark. mark) marks.now }
 {
     marks.iter().any(|mark| *mark)
 }
 
-// The rows of a table with the characters at marked places turned over; where no place is marked, the rows themselves.
+// The rows of a table with the characters in marked columns complemented; if no column is marked,
+// the rows themselves.
 fn table_rows_over(alloc: Global, marks: &[bool], rows: Rows) -> Result<Rows, AllocError>
-    ensures { IfOk result (λ made. made ≡ map (over_marks marks.now) rows) }
+    ensures { IfOk result (λ made. made ≡ map (row_over marks.now) rows) }
 {
     if is_any_marked(marks) {
         return rows_over(alloc, marks, rows.as_slice());
@@ -164,13 +175,13 @@ fn table_rows_over(alloc: Global, marks: &[bool], rows: Rows) -> Result<Rows, Al
     Ok(rows)
 }
 
-// A table over the edges of its inputs, in its place.
+// A table rewritten over the edges of its inputs; consumes the table.
 pub(crate) fn table_over(
     alloc: Global,
     edges: &IndexMap<Name, Edge>,
     table: Table,
 ) -> Result<Table, AllocError>
-    ensures { IfOk result (λ made. made ≡ over_edges (edge_of (get bytes_eq edges.now)) table) }
+    ensures { IfOk result (λ made. made ≡ table_over (edge_of (get bytes_eq edges.now)) table) }
 {
     let Table {
         inputs,
@@ -187,13 +198,14 @@ pub(crate) fn table_over(
     })
 }
 
-// Tables over the edges of their inputs.
+// Tables rewritten over the edges of their inputs; consumes the tables.
 pub(crate) fn tables_over(
     alloc: Global,
     edges: &IndexMap<Name, Edge>,
     tables: Tables,
 ) -> Result<Tables, AllocError>
-    ensures { IfOk result (λ made. made ≡ map (over_edges (edge_of (get bytes_eq edges.now))) tables) }
+    ensures { IfOk result (λ made. made ≡ map (table_over (edge_of (get bytes_eq edges.now)))
+        tables) }
 {
     let mut made = Vec::with_capacity(alloc, tables.len())?;
     for table in tables.into_vec() {

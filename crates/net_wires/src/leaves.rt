@@ -19,14 +19,15 @@ pub fn is_among(names: &IndexSet<Name>, name: &Name) -> bool
     names.contains(name)
 }
 
-// Puts a name among names where it is one of those that are wanted.
+// Adds a name, if it is wanted.
 fn add_wanted(
     alloc: Global,
     names: &mut IndexSet<Name>,
     is_wanted: bool,
     name: &Name,
 ) -> Result<(), AllocError>
-    ensures { OnOk result ((other : List ℕ) → has names.new.keys other ≡ (has names.old.keys other || (is_wanted && bytes_eq other name.now))) }
+    ensures { OnOk result ((other : List ℕ) → has names.new.keys other
+        ≡ (has names.old.keys other || (is_wanted && bytes_eq other name.now))) }
 {
     if is_wanted {
         names.insert_full(name.copy(alloc)?)?;
@@ -34,9 +35,10 @@ fn add_wanted(
     Ok(())
 }
 
-/// The signals that tables drive; an error only for want of memory.
+/// The signals that tables drive.
 pub fn driven_names(alloc: Global, tables: &[Table]) -> Result<IndexSet<Name>, AllocError>
-    ensures { IfOk result (λ names. (name : List ℕ) → has names.keys name ≡ has (outputs_of tables.now) name) }
+    ensures { IfOk result (λ names. (name : List ℕ) → has names.keys name ≡ has
+        (outputs_of tables.now) name) }
 {
     let mut names = IndexSet::new(alloc);
     for table in tables {
@@ -45,14 +47,15 @@ pub fn driven_names(alloc: Global, tables: &[Table]) -> Result<IndexSet<Name>, A
     Ok(names)
 }
 
-// Puts what is not driven among names.
+// Adds the names that are not driven.
 fn add_undriven(
     alloc: Global,
     names: &mut IndexSet<Name>,
     driven: &IndexSet<Name>,
     more: &[Name],
 ) -> Result<(), AllocError>
-    ensures { OnOk result ((name : List ℕ) → has names.new.keys name ≡ (has names.old.keys name || (not (has driven.now.keys name) && has more.now name))) }
+    ensures { OnOk result ((name : List ℕ) → has names.new.keys name
+        ≡ (has names.old.keys name || (not (has driven.now.keys name) && has more.now name))) }
 {
     for name in more {
         add_wanted(alloc, names, !is_among(driven, name), name)?;
@@ -60,15 +63,16 @@ fn add_undriven(
     Ok(())
 }
 
-// What tables read that is not driven.
+// The names that tables read and that are not driven.
 fn undriven_inputs(
     alloc: Global,
     tables: &[Table],
     driven: &IndexSet<Name>,
 ) -> Result<IndexSet<Name>, AllocError>
-    ensures { IfOk result (λ names. (name : List ℕ) → has names.keys name ≡ (not (has driven.now.keys name) && has (table_inputs tables.now) name)) }
+    ensures { IfOk result (λ names. (name : List ℕ) → has names.keys name
+        ≡ (not (has driven.now.keys name) && has (table_inputs tables.now) name)) }
 {
-    // A whole, so that letting it go is one call.
+    // A whole, so that one call drops it.
     let mut names = Whole {
         it: IndexSet::new(alloc),
     };
@@ -78,13 +82,14 @@ fn undriven_inputs(
     Ok(names.into_it())
 }
 
-/// The leaves that the don't-care part reads; an error only for want of memory.
+/// The leaves that the don't-care part reads.
 #[tactic(auto, unfolding(crate::specs::Needed::dont_care_reads))]
 pub fn leaves_read(alloc: Global, circuit: &Circuit) -> Result<IndexSet<Name>, AllocError>
-    ensures { IfOk result (λ names. (name : List ℕ) → has names.keys name ≡ dont_care_reads circuit.now name) }
+    ensures { IfOk result (λ names. (name : List ℕ) → has names.keys name
+        ≡ dont_care_reads circuit.now name) }
 {
     let driven = driven_names(alloc, circuit.dont_care.as_slice())?;
-    // A whole, so that letting it go is one call.
+    // A whole, so that one call drops it.
     let driven = Whole { it: driven };
     let names = undriven_inputs(alloc, circuit.dont_care.as_slice(), &driven.it)?;
     Ok(names)

@@ -1,7 +1,9 @@
-//! What a circuit needs: outputs, latches that the don't-care part reads, and all that what is needed reads.
+//! What a circuit needs: the outputs, the latches that the don't-care part reads, and all that the
+//! tables and latches that are needed read.
 //!
-//! Source: the SIS manual (UCB/ERL M92/41), `sweep`: what does not lead to an output goes. The names of what is needed
-//! are walked in the order in which they are found, and each one's table and latch are looked up once.
+//! Source: the SIS manual (UCB/ERL M92/41), `sweep`: nodes that do not lead to an output are
+//! removed. The needed names are a worklist, processed in the order in which they are found; the
+//! table and the latch of each are looked up once.
 
 ghost use Rattle.std.specs.Prelude.{◌≡◌, ℕ, ◌||◌, true, List, slice_get, bytes_eq, IfOk, OnOk};
 ghost use Rattle.indexmap.specs.IndexMap.{get};
@@ -22,7 +24,7 @@ use indexmap::{IndexMap, IndexSet};
 use sis_base::{Copied, Whole};
 use std::alloc::{AllocError, Global};
 
-// Puts names among names, each behind the last where it is new.
+// Adds names, each at the end if it is new.
 fn add_names(alloc: Global, names: &mut IndexSet<Name>, more: &[Name]) -> Result<(), AllocError>
     ensures { OnOk result (names.new.keys ≡ names_with names.old.keys more.now) }
 {
@@ -32,7 +34,7 @@ fn add_names(alloc: Global, names: &mut IndexSet<Name>, more: &[Name]) -> Result
     Ok(())
 }
 
-// Puts what the table of a signal reads among names.
+// Adds the inputs of a signal's table.
 fn add_inputs(
     alloc: Global,
     names: &mut IndexSet<Name>,
@@ -42,7 +44,8 @@ fn add_inputs(
 ) -> Result<(), AllocError>
     requires differ { all_different (outputs_of tables.now) ≡ true }
     requires placed { LeadsToTables (get bytes_eq places.now) tables.now }
-    ensures { OnOk result (names.new.keys ≡ names_with names.old.keys (read_by_tables name.now tables.now)) }
+    ensures { OnOk result (names.new.keys ≡ names_with names.old.keys
+        (read_by_tables name.now tables.now)) }
 {
     match table_of(places, tables, name) {
         None => Ok(()),
@@ -50,7 +53,7 @@ fn add_inputs(
     }
 }
 
-// Puts what the latch of a signal reads among names.
+// Adds the input of a signal's latch.
 fn add_held(
     alloc: Global,
     names: &mut IndexSet<Name>,
@@ -60,7 +63,8 @@ fn add_held(
 ) -> Result<(), AllocError>
     requires differ { all_different (held_by latches.now) ≡ true }
     requires placed { LeadsToLatches (get bytes_eq places.now) latches.now }
-    ensures { OnOk result (names.new.keys ≡ names_with names.old.keys (read_by_latches name.now latches.now)) }
+    ensures { OnOk result (names.new.keys ≡ names_with names.old.keys
+        (read_by_latches name.now latches.now)) }
 {
     match latch_of(places, latches, name) {
         None => Ok(()),
@@ -71,7 +75,7 @@ fn add_held(
     }
 }
 
-// A copy of the name at a place.
+// A copy of the name at an index.
 fn name_at(alloc: Global, names: &IndexSet<Name>, place: usize) -> Result<Option<Name>, AllocError>
     ensures { IfOk result (λ name. name ≡ slice_get names.now.keys place) }
 {
@@ -81,7 +85,7 @@ fn name_at(alloc: Global, names: &IndexSet<Name>, place: usize) -> Result<Option
     }
 }
 
-// Names and all that the tables and latches read that they lead to.
+// The given names and all names to which tables and latches lead from them.
 fn reached(
     alloc: Global,
     roots: IndexSet<Name>,
@@ -97,7 +101,7 @@ fn reached(
     ensures { IfOk result (λ names. IsReached roots.keys tables.now latches.now names.keys) }
 {
     let mut names = roots;
-    // no set holds so many names, so that the loop does not come to its end
+    // no set holds so many names, so the loop never runs out
     for next in 0..usize::MAX {
         match name_at(alloc, &names, next)? {
             None => return Ok(names),
@@ -110,24 +114,26 @@ fn reached(
     Err(AllocError)
 }
 
-// What is needed at once: the outputs, and what the don't-care part reads.
+// What is needed from the start: the outputs, and what the don't-care part reads.
 fn roots(alloc: Global, circuit: &Circuit) -> Result<IndexSet<Name>, AllocError>
-    ensures { IfOk result (λ names. (name : List ℕ) → has names.keys name ≡ (has circuit.now.outputs name || dont_care_reads circuit.now name)) }
+    ensures { IfOk result (λ names. (name : List ℕ) → has names.keys name
+        ≡ (has circuit.now.outputs name || dont_care_reads circuit.now name)) }
 {
     let mut names = leaves_read(alloc, circuit)?;
     add_names(alloc, &mut names, circuit.outputs.as_slice())?;
     Ok(names)
 }
 
-// The names of what is needed.
+// The names that are needed.
 fn needed_names(alloc: Global, circuit: &Circuit) -> Result<IndexSet<Name>, AllocError>
     requires tables_differ { all_different (outputs_of circuit.now.tables) ≡ true }
     requires latches_differ { all_different (latch_outputs circuit.now) ≡ true }
-    ensures { IfOk result (λ names. (name : List ℕ) → has names.keys name ≡ is_needed circuit.now name) }
+    ensures { IfOk result (λ names. (name : List ℕ) → has names.keys name
+        ≡ is_needed circuit.now name) }
 {
     let tables = circuit.tables.as_slice();
     let latches = circuit.latches.as_slice();
-    // Wholes, so that letting one go is one call.
+    // Wholes, so that one call drops each.
     let to_tables = Whole {
         it: table_places(alloc, tables)?,
     };
@@ -139,14 +145,14 @@ fn needed_names(alloc: Global, circuit: &Circuit) -> Result<IndexSet<Name>, Allo
     Ok(names)
 }
 
-/// The circuit of what is needed, where something is not; an error only for want of memory. No two tables and no two
-/// latches may have one signal.
+/// The circuit without what is not needed; `None` if everything is needed. No two tables and no two
+/// latches may have the same signal.
 pub fn dangling_step(alloc: Global, circuit: &Circuit) -> Result<Option<Circuit>, AllocError>
     requires tables_differ { all_different (outputs_of circuit.now.tables) ≡ true }
     requires latches_differ { all_different (latch_outputs circuit.now) ≡ true }
     ensures { IfOk result (λ next. next ≡ remove_dangling circuit.now) }
 {
-    // A whole, so that letting it go is one call.
+    // A whole, so that one call drops it.
     let needed = needed_names(alloc, circuit)?;
     let needed = Whole { it: needed };
     if are_all_among(circuit, &needed.it) {

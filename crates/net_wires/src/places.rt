@@ -1,4 +1,6 @@
-//! Where the table and the latch of a signal stand: hash tables from their names, made once.
+//! The indices of the table and of the latch of a signal: hash maps from names, built once.
+//! Insertion runs from the last item to the first, so that a name leads to the first item that has
+//! it.
 
 ghost use Rattle.std.specs.Prelude.{◌≡◌, ℕ, Some, List, bytes_eq, if◌then◌else◌, IfOk, OnOk};
 ghost use Rattle.std.specs.Option.{option_copied};
@@ -11,19 +13,20 @@ use indexmap::IndexMap;
 use sis_base::Copied;
 use std::alloc::{AllocError, Global};
 
-/// Notes the place of a name, in place of one that was noted before; an error only for want of memory.
+/// Sets the index of a name; an earlier one is overwritten.
 pub fn note_place(
     places: &mut IndexMap<Name, usize>,
     name: Name,
     place: usize,
 ) -> Result<(), AllocError>
-    ensures { OnOk result ((other : List ℕ) → get bytes_eq places.new other ≡ (if bytes_eq name other then Some place else get bytes_eq places.old other)) }
+    ensures { OnOk result ((other : List ℕ) → get bytes_eq places.new other
+        ≡ (if bytes_eq name other then Some place else get bytes_eq places.old other)) }
 {
     let _place = places.insert(name, place)?;
     Ok(())
 }
 
-// Where the tables of signals stand.
+// The index of the table of each signal.
 pub(crate) fn table_places(
     alloc: Global,
     tables: &[Table],
@@ -40,7 +43,7 @@ pub(crate) fn table_places(
     Ok(places)
 }
 
-// Where the latches of signals stand.
+// The index of the latch of each signal.
 pub(crate) fn latch_places(
     alloc: Global,
     latches: &[Latch],
@@ -57,7 +60,7 @@ pub(crate) fn latch_places(
     Ok(places)
 }
 
-// The place that is noted for a name.
+// The index of a name.
 fn noted_place(places: &IndexMap<Name, usize>, name: &Name) -> Option<usize>
     ensures { result ≡ get bytes_eq places.now name.now }
 {

@@ -1,7 +1,6 @@
 pub mod Standing
 pub mod Linked
 pub mod Kept
-pub mod Noted
 pub mod Views
 pub mod Ordered
 pub mod Numbers

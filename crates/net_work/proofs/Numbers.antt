@@ -5,16 +5,10 @@ use Rattle.std.proofs.lemmas.Bool.{false≢true, lt-ltb, le-ltb, ltb-true, ltb-f
 use Rattle.circuit_model.specs.Names.{has, all_different}
 use Rattle.circuit_model.specs.declared.circuit.Tri.{Tri}
 use Rattle.circuit_model.specs.declared.circuit.Table.{Table}
-use Rattle.circuit_laws.proofs.Names.{name_is, name_turned, name_cases, different_head, different_tail, has_head, has_tail}
+use Rattle.circuit_laws.proofs.Names.{name_is, name_cases, different_head, different_tail, has_head, has_tail}
 use Rattle.net_core.specs.Reads.{rows_with, rows_at, uses_in}
 use Rattle.net_work.specs.Uses.{uses_from, AreUses, number_of}
-
-name_swapped : (x y : List ℕ) → bytes_eq x y ≡ bytes_eq y x
-name_swapped x y =
-    elim (name_cases x y) as (λ _. bytes_eq x y ≡ bytes_eq y x) [
-      | inl same ↦ name_is x y same ∙ sym (name_is y x (sym same))
-      | inr other ↦ other ∙ sym (name_turned x y other)
-    ]
+use Rattle.net_readers.proofs.Sets.{name_swapped}
 
 -- one name more
 taken_has : (names : List (List ℕ)) (i : ℕ) (d : List ℕ) → i < length names → has names (get_or names i d) ≡ true
@@ -110,7 +104,7 @@ position_next p x xs = cases (p x)
     cases true = let z : ltb 0 (suc (length xs)) ≡ true = lt-ltb 0 (suc (length xs)) (omega arith) in rw z refl
     cases false = later (ltb len (length xs)) refl
 
--- the rows with a literal at the place of a name among inputs, the first of which stands at a place
+-- the rows with a literal of a name among inputs, the first of which has the given column
 abbrev pub rows_at_from : ℕ → Option ℕ → List (List Tri) → ℕ
 rows_at_from place None rows = 0
 rows_at_from place (Some at) rows = rows_with (place + at) rows

@@ -1,10 +1,15 @@
-//! The calls that change a working network. Each lends its parts, and empties it where memory is wanting.
+//! The calls that change a working network: `set`, `remove`, `add`.
+//!
+//! Each passes borrowed parts to `changing`, whose functions own no part of the network, and
+//! empties the network if memory runs out. Otherwise it changes one slot and nothing else, and all
+//! that is maintained beside the tables stays exact (`specs/Slots.antt`). A new table takes the
+//! least free name in brackets; `number` is a lower bound on it, which a removal resets to 0.
 
 ghost use Rattle.std.specs.Prelude.{◌≡◌, ℕ, ◌<◌, ◌≤◌, ◌↔◌, true, false, ◌||◌, Option, Some, None, List, is_some, bytes_eq, IfOk, OnOk, IsTrue};
 ghost use Rattle.indexmap.specs.IndexMap.{get};
 ghost use Rattle.circuit_model.specs.Names.{has, all_different};
 ghost use Rattle.circuit_model.specs.Soundness.{outputs_of};
-ghost use Rattle.circuit_model.specs.declared.circuit.Table.{Table as TheWritten};
+ghost use Rattle.circuit_model.specs.declared.circuit.Table.{Table};
 ghost use Rattle.circuit_laws.specs.Edits.{with_tables};
 ghost use Rattle.net_core.specs.Fresh.{bracketed, used_names, node_count, IsNewName};
 ghost use Rattle.net_core.specs.Tables.{named, IsOverInputs};
@@ -13,28 +18,37 @@ ghost use Rattle.net_work.specs.Slots.{AreTaken};
 
 use crate::changing::{change_at, clear, put_behind, remove_at};
 use crate::frame::Frame;
-use crate::work::Work;
+use crate::work::WorkingNetwork;
 use circuit_model::Name;
 use cube_cover::Row;
 use indexmap::IndexMap;
-use net_core::{AddFault, Table, bracketed_name, found_place, is_full};
+use net_core::{AddFault, CoverTable, bracketed_name, found_place, is_full};
 use sis_base::limits::MAX_NODES;
 use std::alloc::{AllocError, Global};
 
 // Whether no new table may take a name.
 fn is_used(frame: &Frame, places: &IndexMap<Name, usize>, name: &Name) -> bool
-    ensures { (tables : List TheWritten) → is_some (get bytes_eq places.now name.now) ≡ has (outputs_of tables) name.now → result ≡ has (used_names (with_tables frame.now tables)) name.now }
+    ensures { (tables : List Table) → is_some (get bytes_eq places.now name.now) ≡ has
+        (outputs_of tables) name.now → result ≡ has
+        (used_names (with_tables frame.now tables)) name.now }
 {
     found_place(places, name).is_some() || frame.is_reserved(name)
 }
 
-impl<R: Row> Work<R> {
-    /// At a place that has a table another one takes its name; an error only for want of memory, and then any network may stand.
-    pub fn set(&mut self, alloc: Global, place: usize, table: Table<R>) -> Result<(), AllocError>
+impl<R: Row> WorkingNetwork<R> {
+    /// Replaces the table in a slot, which must have one; its name stays. After an error the
+    /// network may be any.
+    pub fn set(
+        &mut self,
+        alloc: Global,
+        place: usize,
+        table: CoverTable<R>,
+    ) -> Result<(), AllocError>
         requires there { is_some (table_at self.old.slots place) ≡ true }
         requires over { IsOverInputs table }
         requires once { all_different table.inputs ≡ true }
-        ensures { OnOk result ((old : TheWritten) → table_at self.old.slots place ≡ Some old → self.new ≡ with_slot self.old place (Some (named old.output table))) }
+        ensures { OnOk result ((old : Table) → table_at self.old.slots place ≡ Some old
+            → self.new ≡ with_slot self.old place (Some (named old.output table))) }
     {
         match change_at(alloc, &mut self.slots, &mut self.links, place, table) {
             Ok(()) => Ok(()),
@@ -46,7 +60,7 @@ impl<R: Row> Work<R> {
         }
     }
 
-    /// The table at a place goes; an error only for want of memory, and then any network may stand.
+    /// Removes the table of a slot. After an error the network may be any.
     pub fn remove(&mut self, alloc: Global, place: usize) -> Result<(), AllocError>
         requires { is_some (table_at self.old.slots place) ≡ true }
         ensures { OnOk result (self.new ≡ with_slot self.old place None) }
@@ -68,9 +82,10 @@ impl<R: Row> Work<R> {
         }
     }
 
-    /// A table stands behind the last under the least number in brackets that names nothing; refused where as many tables and
-    /// latches stand as may, those of the don't-care part with them. For want of memory any network may stand.
-    pub fn add(&mut self, alloc: Global, table: Table<R>) -> Result<Name, AddFault>
+    /// Adds a table after the last, under the least number in brackets that is not a name in use.
+    /// `NodeLimit` if there are `MAX_NODES` tables and latches already, those of the don't-care
+    /// part included. If memory runs out, the network may be any.
+    pub fn add(&mut self, alloc: Global, table: CoverTable<R>) -> Result<Name, AddFault>
         requires over { IsOverInputs table }
         requires once { all_different table.inputs ≡ true }
         ensures { AddsLast self.old table self.new result }
@@ -84,7 +99,7 @@ impl<R: Row> Work<R> {
         Ok(name)
     }
 
-    /// The least name in brackets that a new table may take; an error only for want of memory.
+    /// The name that the next new table will take: the least number in brackets that is not in use.
     pub fn new_name(&self, alloc: Global) -> Result<Name, AllocError>
         ensures { IfOk result (λ name. IsNewName (circuit_of self.now) name) }
     {
@@ -92,12 +107,12 @@ impl<R: Row> Work<R> {
         bracketed_name(alloc, free)
     }
 
-    // A table of a new name stands behind the last.
+    // Appends a table under a new name.
     fn extend(
         &mut self,
         alloc: Global,
         name: &Name,
-        table: Table<R>,
+        table: CoverTable<R>,
         number: u64,
     ) -> Result<(), AllocError>
         requires free { has (used_names (circuit_of self.old)) name.now ≡ false }
@@ -127,7 +142,7 @@ impl<R: Row> Work<R> {
         }
     }
 
-    // Whether no more table may stand.
+    // Whether no more table may be added.
     fn is_at_limit(&self) -> bool
         ensures { IsTrue result ↔ (MAX_NODES ≤ node_count (circuit_of self.now)) }
     {
@@ -139,10 +154,13 @@ impl<R: Row> Work<R> {
         )
     }
 
-    // The least number in brackets that is not used; no machine has memory for so many names that there is none.
+    // The least number in brackets that is not in use. No machine has memory for so many names that
+    // all numbers are.
     fn free_number(&self, alloc: Global) -> Result<u64, AllocError>
-        ensures free { IfOk result (λ number. has (used_names (circuit_of self.now)) (bracketed number) ≡ false) }
-        ensures taken { IfOk result (λ number. AreTaken self.now.frame (standing self.now.slots) number) }
+        ensures free { IfOk result (λ number. has (used_names (circuit_of self.now))
+            (bracketed number) ≡ false) }
+        ensures taken { IfOk result (λ number. AreTaken self.now.frame
+            (standing self.now.slots) number) }
     {
         for number in self.number..u64::MAX {
             let name = bracketed_name(alloc, number)?;

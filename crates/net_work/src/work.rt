@@ -1,4 +1,11 @@
-//! The working network.
+//! The working network: a network whose tables are changed by index, with its fanouts, use counts
+//! and index by name.
+//!
+//! Source: De Micheli, "Synthesis and Optimization of Digital Circuits", chapter 8; Brayton,
+//! Rudell, Sangiovanni-Vincentelli and Wang, "MIS" (1987). Invariant (`IsKeptUp`): names lead to
+//! their slots, each table lists each input once and has a cover over its inputs, fanouts and uses
+//! are exact, and all names in brackets below `number` are taken. Contracts see the interface and
+//! the tables in their slots; all queries here are exact, except `reader_count`.
 
 ghost use Rattle.std.specs.Prelude.{◌≡◌, ℕ, ◌+◌, ◌<◌, ◌≤◌, ◌↔◌, Bool, true, false, not, ◌||◌, Option, Some, None, List, [], ◌∷◌, ◌++◌, length, is_some, slice_get, slice_set, bytes_eq, IfSome, IfOk, OnOk, IsTrue};
 ghost use Rattle.std.specs.List.Sorted.{IsStrictlyIncreasing};
@@ -6,9 +13,9 @@ ghost use Rattle.std.specs.Option.{option_map};
 ghost use Rattle.indexmap.specs.IndexMap.{get};
 ghost use Rattle.circuit_model.specs.Names.{has, all_different};
 ghost use Rattle.circuit_model.specs.Soundness.{outputs_of, IsSound};
-ghost use Rattle.circuit_model.specs.declared.circuit.Table.{Table as TheWritten};
+ghost use Rattle.circuit_model.specs.declared.circuit.Table.{Table};
 ghost use Rattle.circuit_laws.specs.Edits.{with_tables, is_root};
-ghost use Rattle.net_readers.specs.Readers.{is_in};
+ghost use Rattle.net_readers.specs.Fanouts.{is_in};
 ghost use Rattle.net_core.specs.Fresh.{bracketed, used_names, node_count};
 ghost use Rattle.net_core.specs.Places.{present, written_of};
 ghost use Rattle.net_core.specs.Reads.{value_of};
@@ -28,8 +35,8 @@ use sis_base::Whole;
 use std::alloc::{AllocError, Global};
 use std::marker::Model;
 
-/// A network whose tables stand at places.
-pub struct Work<R: Row> {
+/// A network whose tables are in slots and are changed by index.
+pub struct WorkingNetwork<R: Row> {
     pub(crate) frame: Frame,
     pub(crate) slots: Vec<Option<Entry<R>>>,
     pub(crate) places: IndexMap<Name, usize>,
@@ -37,10 +44,10 @@ pub struct Work<R: Row> {
     pub(crate) number: u64,
 }
 
-// By hand, so that letting a working network go is one call in the functions that own one.
-impl<R: Row> Drop for Work<R> {
+// By hand, so that functions that own a working network drop it in one call.
+impl<R: Row> Drop for WorkingNetwork<R> {
     fn drop(self) {
-        let Work {
+        let WorkingNetwork {
             frame: _frame,
             slots: _slots,
             places: _places,
@@ -50,7 +57,7 @@ impl<R: Row> Drop for Work<R> {
     }
 }
 
-impl<R: Row> Model for Work<R> {
+impl<R: Row> Model for WorkingNetwork<R> {
     ghost use Rattle.std.specs.Prelude.{bytes_eq};
     ghost use Rattle.indexmap.specs.IndexMap.{get};
     ghost use Rattle.net_work.specs.Placed.{Placed};
@@ -65,19 +72,19 @@ impl<R: Row> Model for Work<R> {
         (get bytes_eq w.places) w.links w.number };
 }
 
-impl<R: Row> Work<R> {
-    /// The working form of a copy of a network, which stays; an error only for want of memory.
-    pub fn of(alloc: Global, network: &Network<R>) -> Result<Work<R>, AllocError>
+impl<R: Row> WorkingNetwork<R> {
+    /// The working network of a copy of a network, which stays.
+    pub fn of(alloc: Global, network: &Network<R>) -> Result<WorkingNetwork<R>, AllocError>
         ensures circuit { IfOk result (λ work. circuit_of work ≡ network.now) }
         ensures sound { IsSound network.now }
     {
         network.sound();
         let copy = network.copy(alloc)?;
-        Work::from_network(alloc, copy)
+        WorkingNetwork::from_network(alloc, copy)
     }
 
-    /// The working form of a network, whose parts move over; an error only for want of memory.
-    pub fn from_network(alloc: Global, network: Network<R>) -> Result<Work<R>, AllocError>
+    /// The working network of a network, whose parts move over.
+    pub fn from_network(alloc: Global, network: Network<R>) -> Result<WorkingNetwork<R>, AllocError>
         ensures circuit { IfOk result (λ work. circuit_of work ≡ network) }
         ensures sound { IsSound network }
     {
@@ -87,11 +94,11 @@ impl<R: Row> Work<R> {
             slots,
             places,
         } = network.into_parts(alloc);
-        // A whole, so that letting it go is one call.
+        // A whole, so that one call drops it.
         let places = Whole { it: places };
         let frame = Frame::of(alloc, frame)?;
         let links = links_of(alloc, slots.as_slice())?;
-        Ok(Work {
+        Ok(WorkingNetwork {
             frame,
             slots,
             places: places.into_it(),
@@ -100,12 +107,12 @@ impl<R: Row> Work<R> {
         })
     }
 
-    /// The network again, where its circuit is sound; takes no memory.
+    /// The network of a working network whose circuit is sound; allocates nothing.
     pub fn into_network(self) -> Network<R>
         requires { IsSound (circuit_of self) }
         ensures { result ≡ circuit_of self }
     {
-        let Work {
+        let WorkingNetwork {
             frame,
             slots,
             places,
@@ -119,8 +126,8 @@ impl<R: Row> Work<R> {
         })
     }
 
-    /// The table at a place and its name, if a table stands there. Its cover has a place for each
-    /// input, and it names each once.
+    /// The table of a slot and its name, if it has one. Its cover has a column for each input, and
+    /// it lists each input once.
     pub fn entry(&self, place: usize) -> Option<&Entry<R>>
         ensures table { option_map (λ entry. written_of entry.now) result
             ≡ table_at self.now.slots place }
@@ -133,31 +140,31 @@ impl<R: Row> Work<R> {
         }
     }
 
-    /// How many places there are, those whose tables are gone with them.
+    /// The number of slots, the empty ones included.
     pub fn len(&self) -> usize
         ensures { result ≡ length self.now.slots }
     {
         self.slots.len()
     }
 
-    /// The place of the table of a name, if there is one.
+    /// The index of the table of a name, if there is one.
     pub fn place_of(&self, name: &Name) -> Option<usize>
-        ensures some { IfSome result (λ place. (table : TheWritten)
+        ensures some { IfSome result (λ place. (table : Table)
             × (table_at self.now.slots place ≡ Some table) × (table.output ≡ name.now)) }
         ensures known { is_some result ≡ has (outputs_of (standing self.now.slots)) name.now }
     {
         found_place(&self.places, name)
     }
 
-    /// Whether a signal is no output and no latch's input.
+    /// Whether a signal is neither an output nor a latch's input.
     pub fn is_inner(&self, name: &Name) -> bool
         ensures { result ≡ not (is_root self.now.frame name.now) }
     {
         !self.frame.is_root(name)
     }
 
-    /// The places of the tables that read a signal, each once, in rising order; an error only for
-    /// want of memory.
+    /// The fanouts of a signal: the indices of the tables that read it, each once, in increasing
+    /// order.
     pub fn readers(&self, alloc: Global, name: &Name) -> Result<Places, AllocError>
         ensures exact { IfOk result (λ places. (place : ℕ)
             → is_in places place ≡ has (inputs_at self.now.slots place) name.now) }
@@ -166,16 +173,16 @@ impl<R: Row> Work<R> {
         self.links.readers.places(alloc, name)
     }
 
-    /// How many tables read a name, which no clause says: it serves to choose between ways, for
-    /// speed alone.
+    /// The number of tables that read a name. No clause says so: it serves to choose between
+    /// equivalent methods, for speed alone.
     pub fn reader_count(&self, name: &Name) -> usize {
         self.links.readers.count(name)
     }
 
-    /// What the table at a place is worth: n * l - n - l for its n uses and its l literals; an
-    /// error only for want of memory.
+    /// The elimination value of the table at an index: n * l - n - l for its n uses and its l
+    /// literals.
     pub fn value(&self, place: usize) -> Result<i128, AllocError>
-        ensures { IfOk result (λ value. (table : TheWritten)
+        ensures { IfOk result (λ value. (table : Table)
             → table_at self.now.slots place ≡ Some table
             → value ≡ value_of (standing self.now.slots) table.output) }
     {

@@ -4,6 +4,7 @@ use Rattle.std.proofs.Common.{◌≡◌, ℕ, Bool, true, false, not, ◌&&◌, 
 use Rattle.std.proofs.Common.{refl, sym, ap, ap₂, ◌∙◌, subst, inl, inr, ◌⊎◌}
 use Rattle.std.specs.List.{AllByRecursion}
 use Rattle.std.proofs.lemmas.List.{length-map}
+use Rattle.std.proofs.lemmas.Bool.{and_from}
 use Rattle.sis_base.specs.Rows.{HasWidth}
 use Rattle.circuit_model.specs.Values.{driver, table_value}
 use Rattle.circuit_model.specs.Soundness.{IsSound}
@@ -12,7 +13,7 @@ use Rattle.circuit_model.specs.declared.circuit.Circuit.{Circuit}
 use Rattle.circuit_laws.proofs.Sound.{sound_settled}
 use Rattle.circuit_laws.proofs.Tables.{driven_free}
 use Rattle.circuit_laws.proofs.Values.{obeyed}
-use Rattle.cube_cover.proofs.Points.{and_left, and_right, and_both, bool_cases}
+use Rattle.cube_cover.proofs.Points.{and_left, and_right, bool_cases}
 use Rattle.cover_min.specs.Minimum.{minimum_rows}
 use Rattle.cover_min.proofs.Minima.{minimum_same}
 use Rattle.func_core.specs.Trees.{BooleanFunction, complement, conjunction}
@@ -45,7 +46,7 @@ seen_both count inputs own care test own_looks care_looks look tells point =
         let (leaves, there, is) = seen_found count inputs (conjunction own care) point seen in
         let owns : own leaves ≡ true = and_left (own leaves) (care leaves) there in
         let cares : care leaves ≡ true = and_right (own leaves) (care leaves) there in
-        and_both (test point) (seen_at count inputs care point)
+        and_from (test point) (seen_at count inputs care point)
         (ap test (sym is) ∙ sym (tells leaves) ∙ owns)
         (ap (seen_at count inputs care)
         (sym is) ∙ seen_here count inputs care leaves care_looks look cares)
@@ -60,7 +61,7 @@ seen_both count inputs own care test own_looks care_looks look tells point =
         (seen_at count inputs care point) both in
         ap (seen_at count inputs (conjunction own care)) (sym is)
         ∙ seen_here count inputs (conjunction own care) leaves looks look
-        (and_both (own leaves) (care leaves) owns there)
+        (and_from (own leaves) (care leaves) owns there)
 
     cases : (seen_at count inputs (conjunction own care) point ≡ true)
         ⊎ (seen_at count inputs (conjunction own care) point ≡ false)

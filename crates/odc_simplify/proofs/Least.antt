@@ -25,7 +25,7 @@ use Rattle.sdc_simplify.specs.Minimized.{on_rows, meaning_of, is_list_long}
 use Rattle.sdc_simplify.specs.Simplified.{is_refused, own_refusal}
 use Rattle.sdc_simplify.specs.Simplify.{IsCause}
 use Rattle.sdc_simplify.specs.declared.fault.SimplifyFault.{SimplifyFault}
-use Rattle.sdc_simplify.specs.declared.fault.SimplifyFault.TheVariants.{CubeLimit as LongList}
+use Rattle.sdc_simplify.specs.declared.fault.SimplifyFault.TheVariants.{CubeLimit}
 use Rattle.sdc_simplify.specs.declared.fault.SimplifyFault.TheVariants.{Memory as NoMemory}
 use Rattle.sdc_simplify.proofs.Minimal.{on_wide}
 use Rattle.odc_simplify.specs.Full.{leaf_count, is_dont_care}
@@ -182,7 +182,7 @@ module _ (limit : ℕ) (circuit : Circuit) (name : List ℕ) (table : Table)
   pub list_failed : (fault : SimplifyFault) → table.output ≡ name
       → IsCause (own_refusal table) fault → IsTurnFault limit circuit name (list_fault fault)
   list_failed NoMemory is cause = tt
-  list_failed (LongList blamed) is cause = cases (is_list_long table) refl cause
+  list_failed (CubeLimit blamed) is cause = cases (is_list_long table) refl cause
     where
       cases : (long : Bool) → is_list_long table ≡ long
           → (if long then Some table.output else None) ≡ Some blamed

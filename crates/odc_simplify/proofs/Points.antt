@@ -3,10 +3,11 @@ use Rattle.std.proofs.Common.{◌≡◌, ℕ, ◌<◌, zero, suc, Bool, true, fa
 use Rattle.std.proofs.Common.{Option, Some, None, List, [], ◌∷◌, length, IsTrue, ◌↔◌}
 use Rattle.std.proofs.Common.{refl, sym, ap, ◌∙◌, ◌⊎◌, inl, inr, arith}
 use Rattle.std.specs.List.{AllByRecursion}
-use Rattle.std.proofs.lemmas.Bool.{false≢true}
+use Rattle.std.proofs.lemmas.Bool.{false≢true, and_from}
 use Rattle.std.proofs.lemmas.List.{length-map}
+use Rattle.std.proofs.Math.Bool.{and_assoc}
 use Rattle.sis_base.specs.Rows.{agrees, matches, some_matches}
-use Rattle.cube_cover.proofs.Points.{and_left, and_right, and_both, bool_cases}
+use Rattle.cube_cover.proofs.Points.{and_left, and_right, bool_cases}
 use Rattle.cover_min.specs.Points.{has_point, has_own_point}
 use Rattle.cover_min.proofs.Points.{some_point_found, some_point_at, has_point_at, no_point_of}
 use Rattle.func_core.specs.Trees.{BooleanFunction, Tree, Zero, eval, IsReduced, constant}
@@ -38,7 +39,7 @@ itself false = refl
 pub bits_are_same : (bits : List Bool) → same_bits bits bits ≡ true
 unfolding same_bits
 bits_are_same [] = refl
-bits_are_same (a ∷ bits) = and_both _ _ (itself a) (bits_are_same bits)
+bits_are_same (a ∷ bits) = and_from _ _ (itself a) (bits_are_same bits)
 
 -- the bits of the first leaves
 abbrev pub bits_of : ℕ → (ℕ → Bool) → List Bool
@@ -75,7 +76,7 @@ unfolding seen_at
 seen_here count inputs f leaves over all t =
     some_point_at count (λ bits. f (valuation bits) && same_bits (values inputs (valuation bits))
     (values inputs leaves)) (bits_of count leaves) (bits_long count leaves)
-    (and_both _ _ (over _ _ (valuation_of count leaves) ∙ t)
+    (and_from _ _ (over _ _ (valuation_of count leaves) ∙ t)
     (ap (λ (x : List Bool). same_bits x (values inputs leaves))
     (values_of count inputs leaves all) ∙ bits_are_same (values inputs leaves)))
 
@@ -87,10 +88,6 @@ seen_found count inputs f point h =
     let (bits, long, t) = some_point_found count (λ bits. f (valuation bits) && same_bits
     (values inputs (valuation bits)) point) h in
     (valuation bits, and_left _ _ t, same_bits_are _ _ (and_right (f (valuation bits)) _ t))
-
-and_assoc : (a b c : Bool) → ((a && b) && c) ≡ (a && (b && c))
-and_assoc true b c = refl
-and_assoc false b c = refl
 
 -- the bit of a product
 pub with_literal_bit : (f input : BooleanFunction) (place : Option Bool) (leaves : ℕ → Bool)
@@ -178,8 +175,8 @@ answer_is count inputs f made tree true row test also reduced is none bits tests
         (matches row) values_are ∙ within in
         let passes : also (values inputs leaves) ≡ true = ap also values_are ∙ and_right
         (seen_at count inputs f point) _ both in
-        let clash : true ≡ false = sym (bits leaves ∙ and_both _ _
-        (and_both _ _ there inside) passes) ∙ nowhere leaves in absurd cc
+        let clash : true ≡ false = sym (bits leaves ∙ and_from _ _
+        (and_from _ _ there inside) passes) ∙ nowhere leaves in absurd cc
 answer_is count inputs f made tree false row test also reduced is none bits tests wide over all =
     let (leaves, there) = true-somewhere (eval tree) tree (own-tree tree reduced) (λ e. absurd
     (false≢true (none.1 e))) in
@@ -191,7 +188,7 @@ answer_is count inputs f made tree false row test also reduced is none bits test
       wide = length-map inputs (λ (g : BooleanFunction). g leaves) ∙ sym wide;
       within = and_right (f leaves) _ both;
       holds = tests (values inputs leaves)
-          ∙ and_both _ _ (seen_here count inputs f leaves over all (and_left _ _ both)) (and_right
+          ∙ and_from _ _ (seen_here count inputs f leaves over all (and_left _ _ both)) (and_right
           (f leaves && matches row (values inputs leaves)) _ holds);
     }))
 

@@ -14,24 +14,24 @@ use Rattle.net_func.specs.Signals.{own_function, is_seen}
 use Rattle.sdc_simplify.specs.Simplified.{Freedom, with_minimum}
 use Rattle.odc_simplify.specs.Seen.{seen_at}
 
--- how many leaves a circuit has
+-- the number of leaves of a circuit
 abbrev pub leaf_count : Circuit → ℕ
 leaf_count circuit = length circuit.inputs + length circuit.latches
 
 -- whether a point of a table's inputs is a don't-care: no bits of the leaves give the inputs that
--- point and let it be seen from outside that the table's signal is turned over
+-- point and make the table's signal observable
 unfoldable pub is_dont_care : Freedom
 is_dont_care circuit table point =
     not (seen_at (leaf_count circuit) (map (own_function circuit) table.inputs)
     (is_seen circuit table.output) point)
 
--- all tables give place to their minima under their don't-cares; the order is that of the circuit
--- before the first turn
+-- all tables are replaced by their minima under their don't-cares; the order is that of the circuit
+-- before the first step
 unfoldable pub fully_simplified : Circuit → Circuit
 fully_simplified circuit = fold (with_minimum is_dont_care) circuit (order_of circuit.tables)
 
--- the new circuit is sound; all but its tables is that of the old one, and they drive the same
--- signals, each at its place; and it is the same to whoever drives and watches it
+-- the new circuit is sound; everything but its tables is that of the old one; they drive the same
+-- signals, each at its index; and it behaves the same to whoever drives and watches it
 pub record IsKept (old new : Circuit) : Type 0 where
   pub sound : IsSound new
   pub rest : new ≡ with_tables old new.tables

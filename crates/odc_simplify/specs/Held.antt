@@ -1,4 +1,4 @@
--- What an oracle over numbered functions holds, and what stays of it.
+-- The functions that an oracle over numbered functions holds, and how they stay.
 -- Source: R. E. Bryant, "Graph-Based Algorithms for Boolean Function Manipulation", IEEE
 -- Transactions on Computers C-35 (1986), where a function is named by a vertex of a graph.
 use Rattle.std.specs.Prelude.{◌≡◌, ℕ, List, map, refl}
@@ -7,7 +7,7 @@ use Rattle.std.proofs.Common.{sym, ◌∙◌, subst}
 use Rattle.cover_min.specs.Minimum.{Meaning}
 use Rattle.cover_min.specs.Refusals.{Refusals, SameRefusals}
 use Rattle.func_core.specs.Trees.{BooleanFunction, Tree, eval, complement}
-use Rattle.func_core.specs.Numbers.{Stays as NumbersStay}
+use Rattle.func_core.specs.Numbers.{Stays}
 use Rattle.func_core.specs.declared.functions.Func.{Func}
 use Rattle.odc_simplify.specs.Seen.{IsOver, meaning_of}
 use Rattle.odc_simplify.specs.Products.{refusals_of}
@@ -28,7 +28,7 @@ function_of tree f = eval (tree f.0)
 abbrev pub inputs_of : (ℕ → Tree) → List Literal → List BooleanFunction
 inputs_of tree literals = map (λ literal. function_of tree literal.positive) literals
 
--- what is held by numbers
+-- the functions of numbers
 abbrev pub held_of : (ℕ → Tree) → ℕ → Func → Func → List Literal → Held
 held_of tree leaves on off literals = record {
   leaves = leaves;
@@ -37,30 +37,30 @@ held_of tree leaves on off literals = record {
   inputs = inputs_of tree literals;
 }
 
--- what is held, as an oracle knows it
+-- the functions held, as the meaning of an oracle
 abbrev pub held_meaning : Held → Meaning
 held_meaning held = meaning_of held.leaves held.inputs held.on held.off
 
--- the tests that are refused for functions that are too big for a limit
+-- the tests that are refused because a function is above a limit
 abbrev pub held_refusals : ℕ → Held → Refusals
 held_refusals limit held = refusals_of limit held.inputs held.on held.off
 
--- a number stands for a function
+-- a number is valid, and its function is the given one
 pub record Gives (holds : ℕ → Type 0) (tree : ℕ
     → Tree) (number : Func) (f : BooleanFunction) : Type 0 where
   pub stands : holds number.0
   pub computes : function_of tree number ≡ f
 
--- both numbers of the literals of an input stand, for a function and for its complement
+-- both numbers of an input's literals are valid, for a function and for its complement
 pub record IsLiteral (holds : ℕ → Type 0) (tree : ℕ → Tree) (literal : Literal) : Type 0 where
   pub positive : holds literal.positive.0
   pub negative : Gives holds tree literal.negative (complement (function_of tree literal.positive))
 
--- the numbers of all literals stand
+-- the numbers of all literals are valid
 abbrev pub AreLiterals : (ℕ → Type 0) → (ℕ → Tree) → List Literal → Type 0
 AreLiterals holds tree literals = AllByRecursion (IsLiteral holds tree) literals
 
--- all numbers stand, for functions of the first leaves alone
+-- all numbers are valid, for functions of the first leaves alone
 pub record IsReadyBy (holds : ℕ → Type 0) (tree : ℕ → Tree) (leaves : ℕ) (on off : Func)
     (literals : List Literal) : Type 0 where
   pub on_stands : holds on.0
@@ -70,17 +70,17 @@ pub record IsReadyBy (holds : ℕ → Type 0) (tree : ℕ → Tree) (leaves : �
   pub literals_stand : AreLiterals holds tree literals
   pub inputs_over : AllByRecursion (IsOver leaves) (inputs_of tree literals)
 
--- one object is held on, whose numbers stay; the same functions are held, and what was ready is
+-- it is the same object, whose numbers stay; the same functions are held, and what was ready is
 -- ready
 pub record Keeps {N S : Type 0} (holds : S → ℕ → Type 0) (tree : S → ℕ → Tree) (limit : S → ℕ)
     (name later_name : N) (before after : S) (held later : Held)
     (Ready Later : Type 0) : Type 0 where
   pub same_name : later_name ≡ name
-  pub numbers : NumbersStay holds tree limit before after
+  pub numbers : Stays holds tree limit before after
   pub same : later ≡ held
   pub ready : Ready → Later
 
--- it keeps itself, and what it keeps of what it kept it keeps
+-- this relation is reflexive, and it is transitive
 pub keeps_itself : {N S : Type 0} (holds : S → ℕ → Type 0) (tree : S → ℕ → Tree) (limit : S → ℕ)
     (name : N) (state : S) (held : Held) (Ready : Type 0)
     → Keeps holds tree limit name name state state held held Ready Ready

@@ -1,7 +1,8 @@
--- The functions by which a table is tested in its turn, and the sizes for which it is not made
--- minimal. Source: De Micheli, "Synthesis and Optimization of Digital Circuits", chapter 8
--- (observability don't-care conditions); R. E. Bryant, "Graph-Based Algorithms for Boolean Function
--- Manipulation", IEEE Transactions on Computers C-35 (1986), for the sizes of functions.
+-- The functions by which a table is tested in its step, and the sizes for which it is not made
+-- minimal.
+-- Source: De Micheli, "Synthesis and Optimization of Digital Circuits", chapter 8 (observability
+-- don't-care conditions); R. E. Bryant, "Graph-Based Algorithms for Boolean Function Manipulation",
+-- IEEE Transactions on Computers C-35 (1986), for the sizes of functions.
 use Rattle.std.specs.Prelude.{ℕ, List, map, ◌⊎◌}
 use Rattle.circuit_model.specs.declared.circuit.Table.{Table}
 use Rattle.circuit_model.specs.declared.circuit.Circuit.{Circuit}
@@ -13,14 +14,14 @@ use Rattle.sdc_simplify.specs.Minimized.{on_rows}
 use Rattle.odc_simplify.specs.Full.{leaf_count}
 use Rattle.odc_simplify.specs.Held.{Held, held_meaning, held_refusals}
 
--- where a signal is 1 and seen, and where it is 0 and seen
+-- where a signal is 1 and observable, and where it is 0 and observable
 abbrev pub seen_on : Circuit → List ℕ → BooleanFunction
 seen_on circuit name = conjunction (own_function circuit name) (is_seen circuit name)
 
 abbrev pub seen_off : Circuit → List ℕ → BooleanFunction
 seen_off circuit name = conjunction (complement (own_function circuit name)) (is_seen circuit name)
 
--- the functions of a table in its turn: where it must be 1, where it must be 0, and those of its
+-- the functions of a table in its step: where it must be 1, where it must be 0, and those of its
 -- inputs
 abbrev pub tested : Circuit → Table → Held
 tested circuit table = record {
@@ -30,8 +31,9 @@ tested circuit table = record {
   inputs = map (own_function circuit) table.inputs;
 }
 
--- why a table is not made minimal: too big is a part of the function of a signal, or of where the
--- table's signal is seen; or where it is seen and 1, or seen and 0; or what a test builds of these
+-- why a table is not made minimal: a part is too big of the function of a signal, or of where the
+-- table's signal is observable; or where it is 1 and observable, or 0 and observable; or what a
+-- test builds of these
 abbrev pub IsTooBig : ℕ → Circuit → Table → Type 0
 IsTooBig limit circuit table =
     ((signal : List ℕ) × IsBigAt limit circuit.tables (own_function circuit) signal)

@@ -1,7 +1,8 @@
--- What is held in the turn of a table, by numbers of an object, and what the turns of an order
--- answer. Source: De Micheli, "Synthesis and Optimization of Digital Circuits", chapter 8
--- (simplification of one vertex after the other); the SIS report (UCB/ERL M92/41), `full_simplify`.
--- The limit on rows is the project's own.
+-- The functions held, as numbers of an object, in the step of a table, and the answers of the steps
+-- of an order.
+-- Source: De Micheli, "Synthesis and Optimization of Digital Circuits", chapter 8 (simplification
+-- of one vertex after the other); the SIS report (UCB/ERL M92/41), `full_simplify`. The limit on
+-- rows is the project's own.
 use Rattle.std.specs.Prelude.{◌≡◌, ℕ, true, false, Result, Ok, Err, Some, List, [], ◌∷◌, ◌⊎◌}
 use Rattle.std.specs.Prelude.{map, fold}
 use Rattle.circuit_model.specs.Names.{has}
@@ -29,13 +30,13 @@ use Rattle.odc_simplify.specs.declared.tested.Tested.{Tested}
 use Rattle.odc_simplify.specs.declared.fault.FullFault.{FullFault}
 use Rattle.odc_simplify.specs.declared.fault.FullFault.TheVariants.{CubeLimit, TooBig, Memory}
 
--- nothing that must be refused stands against the turn of the table of a signal: its on-list is not
--- too long, where it must be made, and no function of the signal of a table is too big
+-- the step of the table of a signal need not be refused: its on-list is not too long, if it must be
+-- made, and no function of the signal of a table is too big
 pub record Passes (limit : ℕ) (circuit : Circuit) (name : List ℕ) : Type 0 where
   pub short : is_refused circuit name ≡ false
   pub within : AreWithin limit circuit
 
--- why the table of a signal is not made minimal in its turn: its on-list must be made and is too
+-- why the table of a signal is not made minimal in its step: its on-list must be made and is too
 -- long; or it is not, and a function is too big
 abbrev pub IsTurnFault : ℕ → Circuit → List ℕ → FullFault → Type 0
 IsTurnFault limit circuit name (CubeLimit blamed) = (blamed ≡ name)
@@ -45,14 +46,14 @@ IsTurnFault limit circuit name (TooBig blamed) =
     × (table : Table) × (driver circuit.tables name ≡ Some table) × IsTooBig limit circuit table
 IsTurnFault limit circuit name Memory = Unit {0}
 
--- the turns of signals pass, each in the circuit that the turns before it made
+-- the steps of signals pass, each in the circuit that the steps before it made
 unfoldable pub PassAlong : ℕ → Circuit → List (List ℕ) → Type 0
 PassAlong limit circuit [] = Unit {0}
 PassAlong limit circuit (name ∷ names) =
     Passes limit circuit name × PassAlong limit (with_minimum is_dont_care circuit name) names
 
--- why tables of signals are not made minimal, turn by turn: one turn has a fault, in the circuit
--- that the turns before it made, which all passed
+-- why tables of signals are not made minimal, step by step: one step has a fault, in the circuit
+-- that the steps before it made, which all passed
 unfoldable pub IsFaultAlong : ℕ → Circuit → List (List ℕ) → FullFault → Type 0
 IsFaultAlong limit circuit [] fault = ⊥
 IsFaultAlong limit circuit (name ∷ names) fault =
@@ -66,8 +67,8 @@ IsFullFault limit circuit names (CubeLimit name) = IsFaultAlong limit circuit na
 IsFullFault limit circuit names (TooBig name) = IsFaultAlong limit circuit names (TooBig name)
 IsFullFault limit circuit names Memory = Unit {0}
 
--- what full simplification answers: the circuit fully simplified, where all turns passed, or the
--- fault of the first turn that has one
+-- what full simplification answers: the circuit fully simplified, if all steps passed, or the fault
+-- of the first step that has one
 abbrev pub HasFullySimplified : ℕ → Circuit → Result Circuit FullFault → Type 0
 HasFullySimplified limit old (Ok new) =
     PassAlong limit old (order_of old.tables) × (new ≡ fully_simplified old)
@@ -75,7 +76,7 @@ HasFullySimplified limit old (Err fault) = IsFullFault limit old (order_of old.t
 
 -- No public clause needs what follows.
 
--- what is held by the numbers of a table's own function, of where it is seen, and of its inputs
+-- the functions held by the numbers of a table's output, of its observability, and of its inputs
 abbrev pub held_by : (ℕ → Tree) → ℕ → Func → Func → List Func → Held
 held_by tree leaves own seen inputs = record {
   leaves = leaves;
@@ -84,7 +85,7 @@ held_by tree leaves own seen inputs = record {
   inputs = map (function_of tree) inputs;
 }
 
--- numbers stand for what is held
+-- the numbers are valid for the functions held
 pub record AreTests (holds : ℕ → Type 0) (tree : ℕ
     → Tree) (held : Held) (tests : Tested) : Type 0 where
   pub on : Gives holds tree tests.on held.on
@@ -92,7 +93,7 @@ pub record AreTests (holds : ℕ → Type 0) (tree : ℕ
   pub literals : AreLiterals holds tree tests.literals.items
   pub inputs : inputs_of tree tests.literals.items ≡ held.inputs
 
--- the fault for a list that was not made, and for functions of a turn that were not made
+-- the fault of a list that was not made, and of functions of a step that were not made
 abbrev pub list_fault : SimplifyFault → FullFault
 list_fault (LongList name) = CubeLimit name
 list_fault NoMemory = Memory
@@ -101,20 +102,20 @@ abbrev pub turn_fault : NetFuncFault → FullFault
 turn_fault (BigPart name) = TooBig name
 turn_fault NoRoom = Memory
 
--- functions of a circuit are kept, each number of an object right
+-- functions of a circuit are kept, each number with its meaning in the object
 pub record Serves {S : Type 0} (holds : S → ℕ → Type 0) (tree : S → ℕ → Tree) (limit : S → ℕ)
     (state : S) (circuit : Circuit) (kept : KeptFunctions) : Type 0 where
   pub ready : IsReady kept
   pub same : circuit_of kept ≡ circuit
   pub right : AreKept holds tree limit state kept
 
--- all turns were had: each passed, and each table gave place to its minimum
+-- all steps were made: each passed, and each table was replaced by its minimum
 pub record AreTurned (limit : ℕ) (circuit : Circuit) (names : List (List ℕ)) (new : Circuit)
     : Type 0 where
   pub passed : PassAlong limit circuit names
   pub made : new ≡ fold (with_minimum is_dont_care) circuit names
 
--- what is left to do of an order leads where the whole order leads, and fails where that fails
+-- what is left of an order leads where the whole order leads, and fails where that fails
 pub record IsUnderway (limit later : ℕ) (names left : List (List ℕ)) (before now : Circuit) : Type 0
   where
     pub same : later ≡ limit

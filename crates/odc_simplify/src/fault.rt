@@ -1,4 +1,5 @@
-//! Why a network is not fully simplified.
+//! Why a network is not fully simplified: a list of rows or a function is too big, or memory ran
+//! out.
 
 use circuit_model::Name;
 use std::alloc::AllocError;
@@ -6,10 +7,10 @@ use std::alloc::AllocError;
 /// Why a network is not fully simplified.
 #[derive(Debug, PartialEq, Drop)]
 pub enum FullFault {
-    /// The table of this name gives its function by the rows where it is 0, and the list of those
-    /// where it is 1 has more than `MAX_ROWS` rows.
+    /// The table of this name has phase 0, and the list of the rows where it is 1 has more than
+    /// `MAX_ROWS` rows.
     CubeLimit(Name),
-    /// In the turn of the table of this name a function is above the limit of the object of
+    /// While the table of this name was simplified, a function was above the limit of the object of
     /// functions.
     TooBig(Name),
     /// There is not enough memory.

@@ -5,12 +5,12 @@
 //! Function Manipulation", IEEE Transactions on Computers C-35 (1986), for functions by numbers.
 //! `specs/Full.antt` has the don't-cares of a table and a circuit whose tables became minimal under
 //! them, one after the other; `laws` says that it is sound and the same to whoever watches it.
-//! `full_simplify` makes exactly that circuit (`specs/Turns.antt`), or answers the fault of the
-//! first turn that has one: a list that is too long, or a function that is too big of those by
-//! which the turn is worked out (`specs/Tested.antt`), and always where the function of a table's
-//! signal is. Within, an oracle tells `cover_min` of a table by functions of leaves: where its
-//! signal must be 1, where it must be 0, and those of its inputs (`specs/Seen.antt`); it refuses
-//! just where a function that a test builds is too big (`specs/Products.antt`).
+//! `full_simplify` makes exactly that circuit (`specs/Turns.antt`), or returns the fault of the
+//! first step that has one: a list that is too long, or a function made in that step that is too
+//! big (`specs/Tested.antt`), and always if the function of a table's signal is. Within, an oracle
+//! answers `cover_min` about a table from functions of leaves: where its signal must be 1, where it
+//! must be 0, and those of its inputs (`specs/Seen.antt`). It refuses exactly if a function that a
+//! test builds is too big (`specs/Products.antt`).
 #![tactic(auto)]
 
 mod fault;

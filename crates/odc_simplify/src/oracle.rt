@@ -1,7 +1,10 @@
-//! The minimum of a table's rows by functions of leaves, named by numbers of a lent object.
+//! The minimum of a table's rows, by functions of leaves that are numbers of a borrowed object.
 //!
-//! A test multiplies a function by the literals of a row, takes other rows out of it, and asks
-//! whether it is false everywhere. The object keeps what it holds, so it can be asked on.
+//! Source: R. E. Bryant, "Graph-Based Algorithms for Boolean Function Manipulation", IEEE
+//! Transactions on Computers C-35 (1986). A test multiplies a function by the literals of a row,
+//! removes other rows from it, and asks whether it is false everywhere. The object keeps its
+//! numbers, so it can be asked again. Callers rely on `minimum_rows`, and on `Refused` exactly if a
+//! function that a test builds is above the limit.
 
 ghost use Rattle.std.specs.Prelude.{◌≡◌, length, Err, IfOk, OnOk};
 ghost use Rattle.cover_min.specs.Minimum.{minimum_rows};
@@ -15,8 +18,9 @@ use cube_cover::{Cover, Row};
 use func_core::{Func, FuncFault, Functions};
 use std::alloc::Global;
 
-// Functions of leaves, by numbers of a lent object: where a function must be 1, where it must be 0,
-// and those of the inputs. The object is lent, and the literals too, so that it owns no memory.
+// Functions of leaves, by numbers of a borrowed object: where a function must be 1, where it must
+// be 0, and those of the inputs. The object and the literals are borrowed, so this value owns no
+// memory.
 #[derive(Drop)]
 struct FunctionOracle<'a, 'b, F: Functions> {
     functions: &'a mut F,
@@ -26,7 +30,7 @@ struct FunctionOracle<'a, 'b, F: Functions> {
     literals: &'b [Literal],
 }
 
-// A function that is too big is a refusal.
+// A function that is too big is reported as a refusal.
 pub(crate) fn fault_of(fault: FuncFault) -> OracleFault
     ensures refused { result ≡ OracleFault.Refused → fault ≡ FuncFault.TooBig }
 {
@@ -94,9 +98,9 @@ impl<R: Row, F: Functions> Oracle<R> for FunctionOracle<'_, '_, F> {
         refusals_same _ _ _ _ stays.numbers.same stays.same };
 }
 
-/// The minimum of a cover, a row's places being those of the literals, where all points of the
-/// inputs are free at which neither of two functions of leaves is seen. `Refused` just where a
-/// function that a test builds is too big; `Memory` only for want of memory.
+/// The minimum of a cover whose columns are the inputs of the literals, where a point of the inputs
+/// is free if neither of two functions of leaves is seen there. `Refused` exactly if a function
+/// that a test builds is too big.
 pub(crate) fn minimise<R: Row, F: Functions>(
     alloc: Global,
     functions: &mut F,

@@ -1,11 +1,17 @@
-//! Functions that tests build: products with the literals of rows, and what is left outside rows.
+//! Products with the literals of rows, set differences with rows, and the two tests built on them.
+//!
+//! Source: De Micheli, "Synthesis and Optimization of Digital Circuits", chapter 7 (rows as
+//! products of literals). A product takes the literals of a row in the order of columns; rows are
+//! taken out of a function one after the other. `meets` and `has_own` ask whether the function that
+//! is left is zero. Callers rely on the exact answer, and on a refusal exactly if one of the
+//! functions in between is above the limit (`specs/Products.antt`); earlier numbers stay.
 
 ghost use Rattle.std.specs.Prelude.{◌≡◌, ℕ, true, length, map, Err, IfOk, OnOk};
 ghost use Rattle.std.specs.List.{AllByRecursion};
 ghost use Rattle.sis_base.specs.Rows.{HasWidth};
 ghost use Rattle.cover_min.specs.Points.{has_point, has_own_point};
 ghost use Rattle.func_core.specs.Trees.{constant, complement, conjunction};
-ghost use Rattle.func_core.specs.Numbers.{IsBig, Stays as NumbersStay};
+ghost use Rattle.func_core.specs.Numbers.{IsBig, Stays};
 ghost use Rattle.odc_simplify.specs.Seen.{IsOver, seen_at};
 ghost use Rattle.odc_simplify.specs.Products.{with_literal, product, without, outside};
 ghost use Rattle.odc_simplify.specs.Products.{IsBigWith, IsBigAlong, IsBigWithout, IsBigOutside};
@@ -22,11 +28,11 @@ pub struct Literal {
     pub negative: Func,
 }
 
-// Where both functions are true.
+// The conjunction of two functions.
 pub(crate) fn conjoin<F: Functions>(functions: &mut F, f: Func, g: Func) -> Result<Func, FuncFault>
     requires f { F.holds functions.old f.0 }
     requires g { F.holds functions.old g.0 }
-    ensures stays { NumbersStay F.holds F.tree F.limit functions.old functions.new }
+    ensures stays { Stays F.holds F.tree F.limit functions.old functions.new }
     ensures made { IfOk result (λ made. Gives (F.holds functions.new) (F.tree functions.new) made
         (conjunction (function_of (F.tree functions.old) f) (function_of
         (F.tree functions.old) g))) }
@@ -41,9 +47,9 @@ pub(crate) fn conjoin<F: Functions>(functions: &mut F, f: Func, g: Func) -> Resu
     Ok(made)
 }
 
-// The function that is true everywhere.
+// The constant function 1.
 fn everywhere<F: Functions>(functions: &mut F) -> Result<Func, FuncFault>
-    ensures stays { NumbersStay F.holds F.tree F.limit functions.old functions.new }
+    ensures stays { Stays F.holds F.tree F.limit functions.old functions.new }
     ensures made { IfOk result (λ made. Gives (F.holds functions.new) (F.tree functions.new) made
         (constant true)) }
     ensures fits { result ≡ Err FuncFault.TooBig → ⊥ }
@@ -52,10 +58,10 @@ fn everywhere<F: Functions>(functions: &mut F) -> Result<Func, FuncFault>
     Ok(made)
 }
 
-// Where a function is false.
+// The complement of a function.
 pub(crate) fn opposite<F: Functions>(functions: &mut F, f: Func) -> Result<Func, FuncFault>
     requires { F.holds functions.old f.0 }
-    ensures stays { NumbersStay F.holds F.tree F.limit functions.old functions.new }
+    ensures stays { Stays F.holds F.tree F.limit functions.old functions.new }
     ensures made { IfOk result (λ made. Gives (F.holds functions.new) (F.tree functions.new) made
         (complement (function_of (F.tree functions.old) f))) }
     ensures fits { result ≡ Err FuncFault.TooBig → ⊥ }
@@ -64,7 +70,7 @@ pub(crate) fn opposite<F: Functions>(functions: &mut F, f: Func) -> Result<Func,
     Ok(made)
 }
 
-// A function, and the literal of an input, if there is one.
+// The conjunction of a function and the literal of an input, if there is one.
 fn add_literal<F: Functions>(
     functions: &mut F,
     from: Func,
@@ -73,7 +79,7 @@ fn add_literal<F: Functions>(
 ) -> Result<Func, FuncFault>
     requires from { F.holds functions.old from.0 }
     requires literal { IsLiteral (F.holds functions.old) (F.tree functions.old) literal }
-    ensures stays { NumbersStay F.holds F.tree F.limit functions.old functions.new }
+    ensures stays { Stays F.holds F.tree F.limit functions.old functions.new }
     ensures made { IfOk result (λ made. Gives (F.holds functions.new) (F.tree functions.new) made
         (with_literal (function_of (F.tree functions.old) from)
         (function_of (F.tree functions.old) literal.positive) place)) }
@@ -91,7 +97,7 @@ fn add_literal<F: Functions>(
     }
 }
 
-// A function, and the literals of a row.
+// The conjunction of a function and the literals of a row.
 fn product_of<R: Row, F: Functions>(
     functions: &mut F,
     from: Func,
@@ -101,7 +107,7 @@ fn product_of<R: Row, F: Functions>(
     requires from { F.holds functions.old from.0 }
     requires literals { AreLiterals (F.holds functions.old) (F.tree functions.old) literals.now }
     requires width { length (R.literals row.now) ≡ length literals.now }
-    ensures stays { NumbersStay F.holds F.tree F.limit functions.old functions.new }
+    ensures stays { Stays F.holds F.tree F.limit functions.old functions.new }
     ensures made { IfOk result (λ made. Gives (F.holds functions.new) (F.tree functions.new) made
         (product (function_of (F.tree functions.old) from)
         (inputs_of (F.tree functions.old) literals.now) (R.literals row.now))) }
@@ -119,7 +125,7 @@ fn product_of<R: Row, F: Functions>(
     Ok(made)
 }
 
-// A function, but where the product of a row is true.
+// A function outside the product of a row.
 fn without_row<R: Row, F: Functions>(
     functions: &mut F,
     from: Func,
@@ -129,7 +135,7 @@ fn without_row<R: Row, F: Functions>(
     requires from { F.holds functions.old from.0 }
     requires literals { AreLiterals (F.holds functions.old) (F.tree functions.old) literals.now }
     requires width { length (R.literals row.now) ≡ length literals.now }
-    ensures stays { NumbersStay F.holds F.tree F.limit functions.old functions.new }
+    ensures stays { Stays F.holds F.tree F.limit functions.old functions.new }
     ensures made { IfOk result (λ made. Gives (F.holds functions.new) (F.tree functions.new) made
         (without (function_of (F.tree functions.old) from)
         (inputs_of (F.tree functions.old) literals.now) (R.literals row.now))) }
@@ -146,7 +152,7 @@ fn without_row<R: Row, F: Functions>(
     conjoin(functions, from, outside)
 }
 
-// A function, but where the product of one of some rows is true.
+// A function outside the products of all of some rows.
 fn without_rows<R: Row, F: Functions>(
     functions: &mut F,
     from: Func,
@@ -156,7 +162,7 @@ fn without_rows<R: Row, F: Functions>(
     requires from { F.holds functions.old from.0 }
     requires literals { AreLiterals (F.holds functions.old) (F.tree functions.old) literals.now }
     requires widths { HasWidth (length literals.now) (map R.literals rows.now) }
-    ensures stays { NumbersStay F.holds F.tree F.limit functions.old functions.new }
+    ensures stays { Stays F.holds F.tree F.limit functions.old functions.new }
     ensures made { IfOk result (λ made. Gives (F.holds functions.new) (F.tree functions.new) made
         (outside (function_of (F.tree functions.old) from)
         (inputs_of (F.tree functions.old) literals.now) (map R.literals rows.now))) }
@@ -184,7 +190,7 @@ pub(crate) fn meets<R: Row, F: Functions>(
     requires f { F.holds functions.old f.0 }
     requires literals { AreLiterals (F.holds functions.old) (F.tree functions.old) literals.now }
     requires width { length (R.literals row.now) ≡ length literals.now }
-    ensures stays { NumbersStay F.holds F.tree F.limit functions.old functions.new }
+    ensures stays { Stays F.holds F.tree F.limit functions.old functions.new }
     ensures answer { IfOk result (λ answer. (leaves : ℕ)
         → IsOver leaves (function_of (F.tree functions.old) f)
         → AllByRecursion (IsOver leaves) (inputs_of (F.tree functions.old) literals.now)
@@ -201,7 +207,7 @@ pub(crate) fn meets<R: Row, F: Functions>(
     Ok(!functions.is_zero(product))
 }
 
-/// Whether a row has a point at which a function of leaves is seen and that no other row has.
+/// Whether a row has a point at which a function of leaves is seen and which no other row covers.
 pub(crate) fn has_own<R: Row, F: Functions>(
     functions: &mut F,
     f: Func,
@@ -213,7 +219,7 @@ pub(crate) fn has_own<R: Row, F: Functions>(
     requires literals { AreLiterals (F.holds functions.old) (F.tree functions.old) literals.now }
     requires width { length (R.literals row.now) ≡ length literals.now }
     requires widths { HasWidth (length literals.now) (map R.literals others.now) }
-    ensures stays { NumbersStay F.holds F.tree F.limit functions.old functions.new }
+    ensures stays { Stays F.holds F.tree F.limit functions.old functions.new }
     ensures answer { IfOk result (λ answer. (leaves : ℕ)
         → IsOver leaves (function_of (F.tree functions.old) f)
         → AllByRecursion (IsOver leaves) (inputs_of (F.tree functions.old) literals.now)

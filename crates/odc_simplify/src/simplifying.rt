@@ -1,4 +1,9 @@
-//! Full simplification of a network.
+//! Full simplification of a network: each table in topological order becomes minimal under its
+//! don't-cares.
+//!
+//! Source: the SIS report (UCB/ERL M92/41), `full_simplify`. The order is that of the network at
+//! the start; the don't-cares of a table are those of the network at its turn. Callers rely on the
+//! result to refine the network, and on bounds and the limit to stay.
 
 ghost use Rattle.std.specs.Prelude.{◌≡◌, ℕ, true, List, IfOk, IfErr, OnOk};
 ghost use Rattle.circuit_model.specs.Names.{has};
@@ -17,7 +22,7 @@ use net_core::Network;
 use net_func::KeptFunctions;
 use std::alloc::Global;
 
-// The tables of names become minimal one after the other. Behind an error any network may stand.
+// The tables of names become minimal one after the other. After an error the network may be any.
 fn minimize_along<R: Row, F: Functions>(
     alloc: Global,
     network: &mut Network<R>,
@@ -40,13 +45,12 @@ fn minimize_along<R: Row, F: Functions>(
     Ok(())
 }
 
-/// A network after full simplification, beside the one that stays. Each table becomes minimal under
-/// its don't-cares, which are those of the network as it is in its turn, in the order in which each
-/// stands behind what it reads. `CubeLimit` with the name of the first table, in that order, that
-/// gives its function by the rows where it is 0 and whose list of those where it is 1 has more than
-/// `MAX_ROWS` rows in its turn; `TooBig` with the name of the table in whose turn a function was
-/// above the limit of the object, and always where the function of a table's signal is above it.
-/// The object keeps its limit, and what it holds, unless it is full: then it is cleared.
+/// A new network, fully simplified; the given one stays. Each table in topological order becomes
+/// minimal under its don't-cares, which are those of the network at that time. `CubeLimit` has the
+/// name of the first table, in that order, of phase 0 whose list of the rows where it is 1 then has
+/// more than `MAX_ROWS` rows. `TooBig` has the name of the table for which a function was above the
+/// object's limit, as it always is if the function of some table's signal is. The object keeps its
+/// limit. Its numbers may be gone: it is cleared when it is full.
 pub fn full_simplify<R: Row, F: Functions>(
     alloc: Global,
     network: &Network<R>,

@@ -1,12 +1,17 @@
-//! The minimum of a table's rows by its own function, by where that is seen, and by those of its
-//! inputs.
+//! The minimum of a table's rows, given the functions of its output, of its observability, and of
+//! its inputs.
+//!
+//! Source: De Micheli, "Synthesis and Optimization of Digital Circuits", chapter 8 (observability
+//! don't-care conditions). A point must be 1 where the output is 1 and observable, 0 where it is 0
+//! and observable, and is free otherwise. Callers rely on `minimum_rows` for exactly these
+//! don't-cares, and on `Refused` only if a function on the way is above the limit.
 
 ghost use Rattle.std.specs.Prelude.{◌≡◌, ◌⊎◌, length, map, Err, IfOk};
 ghost use Rattle.std.specs.List.{AllByRecursion};
 ghost use Rattle.cover_min.specs.Minimum.{minimum_rows};
 ghost use Rattle.cover_min.specs.Refusals.{RefusesMinimum};
-ghost use Rattle.func_core.specs.Numbers.{IsBig, Stays as NumbersStay};
-ghost use Rattle.func_core.specs.declared.functions.Func.{Func as TheFunc};
+ghost use Rattle.func_core.specs.Numbers.{IsBig, Stays};
+ghost use Rattle.func_core.specs.declared.functions.Func.{Func};
 ghost use Rattle.odc_simplify.specs.Seen.{IsOver};
 ghost use Rattle.odc_simplify.specs.Held.{IsLiteral, AreLiterals, function_of, inputs_of};
 ghost use Rattle.odc_simplify.specs.Held.{held_meaning, held_refusals};
@@ -27,10 +32,10 @@ struct Tested {
     literals: Vec<Literal>,
 }
 
-// The literals of an input, whose function is given; an error only for want of memory.
+// The literals of an input, whose function is given.
 fn literal_of<F: Functions>(functions: &mut F, positive: Func) -> Result<Literal, AllocError>
     requires { F.holds functions.old positive.0 }
-    ensures stays { NumbersStay F.holds F.tree F.limit functions.old functions.new }
+    ensures stays { Stays F.holds F.tree F.limit functions.old functions.new }
     ensures literal { IfOk result (λ literal.
         IsLiteral (F.holds functions.new) (F.tree functions.new) literal) }
     ensures positive { IfOk result (λ literal. literal.positive ≡ positive) }
@@ -41,14 +46,14 @@ fn literal_of<F: Functions>(functions: &mut F, positive: Func) -> Result<Literal
     }
 }
 
-// The literals of inputs, whose functions are given in order; an error only for want of memory.
+// The literals of inputs, whose functions are given in order.
 fn literals_of<F: Functions>(
     alloc: Global,
     functions: &mut F,
     inputs: &[Func],
 ) -> Result<Vec<Literal>, AllocError>
-    requires { AllByRecursion (λ (f : TheFunc). F.holds functions.old f.0) inputs.now }
-    ensures stays { NumbersStay F.holds F.tree F.limit functions.old functions.new }
+    requires { AllByRecursion (λ (f : Func). F.holds functions.old f.0) inputs.now }
+    ensures stays { Stays F.holds F.tree F.limit functions.old functions.new }
     ensures literals { IfOk result (λ literals.
         AreLiterals (F.holds functions.new) (F.tree functions.new) literals.items) }
     ensures inputs { IfOk result (λ literals. inputs_of (F.tree functions.new) literals.items
@@ -72,8 +77,8 @@ fn tests_of<F: Functions>(
 ) -> Result<Tested, FuncFault>
     requires own { F.holds functions.old own.0 }
     requires seen { F.holds functions.old seen.0 }
-    requires inputs { AllByRecursion (λ (f : TheFunc). F.holds functions.old f.0) inputs.now }
-    ensures stays { NumbersStay F.holds F.tree F.limit functions.old functions.new }
+    requires inputs { AllByRecursion (λ (f : Func). F.holds functions.old f.0) inputs.now }
+    ensures stays { Stays F.holds F.tree F.limit functions.old functions.new }
     ensures made { IfOk result (AreTests (F.holds functions.new) (F.tree functions.new)
         (held_by (F.tree functions.old) leaves own seen inputs.now)) }
     ensures refused { result ≡ Err FuncFault.TooBig
@@ -89,9 +94,9 @@ fn tests_of<F: Functions>(
     Ok(Tested { on, off, literals })
 }
 
-/// The minimum of a cover by the functions of a table and of its inputs, over some leaves: points
-/// of the inputs are free that come only where the table is not seen. `Refused` just where a
-/// function that is built is too big; `Memory` only for want of memory.
+/// The minimum of a cover by the functions of a table and of its inputs, over some leaves: a point
+/// of the inputs is free if the table is not observable wherever the point occurs. `Refused` only
+/// if a function that is built is too big.
 pub(crate) fn least_cover<R: Row, F: Functions>(
     alloc: Global,
     functions: &mut F,
@@ -104,12 +109,12 @@ pub(crate) fn least_cover<R: Row, F: Functions>(
     requires width { cover.width ≡ length inputs.now }
     requires own { F.holds functions.old own.0 }
     requires seen { F.holds functions.old seen.0 }
-    requires inputs { AllByRecursion (λ (f : TheFunc). F.holds functions.old f.0) inputs.now }
+    requires inputs { AllByRecursion (λ (f : Func). F.holds functions.old f.0) inputs.now }
     requires own_looks { IsOver leaves (function_of (F.tree functions.old) own) }
     requires seen_looks { IsOver leaves (function_of (F.tree functions.old) seen) }
     requires inputs_look { AllByRecursion (IsOver leaves)
         (map (function_of (F.tree functions.old)) inputs.now) }
-    ensures stays { NumbersStay F.holds F.tree F.limit functions.old functions.new }
+    ensures stays { Stays F.holds F.tree F.limit functions.old functions.new }
     ensures minimum { IfOk result (λ least. least ≡ record cover {
       rows = minimum_rows (held_meaning
           (held_by (F.tree functions.old) leaves own seen inputs.now)) cover.rows;

@@ -1,12 +1,20 @@
-//! The turn of one table: it becomes its minimum under its don't-cares.
+//! One step of full simplification: the table of a signal is replaced by its minimum under its
+//! don't-cares.
+//!
+//! Source: De Micheli, "Synthesis and Optimization of Digital Circuits", chapter 8 (simplification
+//! of one vertex after the other). First the rows where the table is 1 are listed, then a full
+//! object is cleared (and the kept numbers with it), then the functions of the inputs, of the
+//! output and of its observability are made, and last the rows are made prime and irredundant.
+//! Invariant (`Serves`): the kept functions are those of the network as it is now. Callers rely on
+//! `minimized` of `is_dont_care`, or on a fault with its cause (`IsTurnFault`).
 
 ghost use Rattle.std.specs.Prelude.{◌≡◌, ◌⊎◌, true, false, Some, List, length};
 ghost use Rattle.std.specs.Prelude.{IfOk, IfErr, IfSome, OnOk};
 ghost use Rattle.circuit_model.specs.Names.{has};
 ghost use Rattle.circuit_model.specs.Soundness.{outputs_of};
 ghost use Rattle.circuit_model.specs.Values.{driver};
-ghost use Rattle.circuit_model.specs.declared.circuit.Table.{Table as TheTable};
-ghost use Rattle.circuit_model.specs.declared.circuit.Circuit.{Circuit as TheCircuit};
+ghost use Rattle.circuit_model.specs.declared.circuit.Table.{Table};
+ghost use Rattle.circuit_model.specs.declared.circuit.Circuit.{Circuit};
 ghost use Rattle.circuit_laws.specs.Edits.{with_replaced};
 ghost use Rattle.cover_min.specs.Minimum.{minimum_rows};
 ghost use Rattle.func_core.specs.Numbers.{Means, Stays};
@@ -24,13 +32,13 @@ use circuit_model::Name;
 use cover_min::OracleFault;
 use cube_cover::{Cover, Row};
 use func_core::Functions;
-use net_core::{Network, Table, tidy};
+use net_core::{CoverTable, Network, tidy};
 use net_func::{KeptFunctions, NetFuncFault, TurnFunctions};
 use sdc_simplify::{SimplifyFault, on_cover};
 use sis_base::Copied;
 use std::alloc::{AllocError, Global};
 
-// The fault for a list that was not made.
+// The fault of a list that was not made.
 fn fault_of_list(fault: SimplifyFault) -> FullFault
     ensures { result ≡ list_fault fault }
 {
@@ -40,7 +48,7 @@ fn fault_of_list(fault: SimplifyFault) -> FullFault
     }
 }
 
-// The fault for functions of a turn that were not made.
+// The fault of functions of a step that were not made.
 fn fault_of_turn(fault: NetFuncFault) -> FullFault
     ensures { result ≡ turn_fault fault }
 {
@@ -50,7 +58,7 @@ fn fault_of_turn(fault: NetFuncFault) -> FullFault
     }
 }
 
-// The fault for a function that is too big in the turn of the table of a name.
+// The fault of a function that is too big, in the step of the table of a name.
 fn too_big(alloc: Global, name: &Name) -> FullFault
     ensures { (result ≡ FullFault.TooBig name.now) ⊎ (result ≡ FullFault.Memory) }
 {
@@ -60,20 +68,20 @@ fn too_big(alloc: Global, name: &Name) -> FullFault
     }
 }
 
-// How many leaves a network has, if a machine can count them.
+// The number of leaves of a network, if a machine word holds it.
 fn leaf_number<R: Row>(network: &Network<R>) -> Option<usize>
     ensures { IfSome result (λ count. count ≡ leaf_count network.now) }
 {
     network.inputs().len().checked_add(network.latches().len())
 }
 
-// The minimum of the rows of phase 1 of the table of a name, by the functions of its turn.
+// The minimum of the on-list of the table of a name, by the functions of its step.
 fn least_by<R: Row, F: Functions>(
     alloc: Global,
     network: &Network<R>,
     functions: &mut F,
     name: &Name,
-    table: &Table<R>,
+    table: &CoverTable<R>,
     cover: Cover<R>,
     turn: TurnFunctions,
 ) -> Result<Cover<R>, FullFault>
@@ -111,10 +119,10 @@ fn least_by<R: Row, F: Functions>(
     }
 }
 
-// Clears an object that asks for it; the numbers that are kept of it go with its own.
+// Clears the object if it asks for it, and the numbers kept of it.
 fn make_room<F: Functions>(functions: &mut F, kept: &mut KeptFunctions)
     ensures limit { F.limit functions.new ≡ F.limit functions.old }
-    ensures serves { (circuit : TheCircuit)
+    ensures serves { (circuit : Circuit)
         → Serves F.holds F.tree F.limit functions.old circuit kept.old
         → Serves F.holds F.tree F.limit functions.new circuit kept.new }
 {
@@ -124,14 +132,14 @@ fn make_room<F: Functions>(functions: &mut F, kept: &mut KeptFunctions)
     }
 }
 
-// The minimum of the rows of phase 1 of the table of a name under its don't-cares.
+// The minimum of the on-list of the table of a name under its don't-cares.
 fn least_rows<R: Row, F: Functions>(
     alloc: Global,
     network: &Network<R>,
     functions: &mut F,
     kept: &mut KeptFunctions,
     name: &Name,
-    table: &Table<R>,
+    table: &CoverTable<R>,
     cover: Cover<R>,
 ) -> Result<Cover<R>, FullFault>
     requires driven { driver network.now.tables name.now ≡ Some (named name.now table.now) }
@@ -160,16 +168,16 @@ fn least_rows<R: Row, F: Functions>(
     }
 }
 
-// The minimum of the table of a name under its don't-cares. Its list of rows is made first, so that
-// one that is too long is told before any function is made.
+// The minimum of the table of a name under its don't-cares. Its on-list is made first, so that one
+// that is too long is reported before any function is made.
 fn least_table<R: Row, F: Functions>(
     alloc: Global,
     network: &Network<R>,
     functions: &mut F,
     kept: &mut KeptFunctions,
     name: &Name,
-    table: &Table<R>,
-) -> Result<Table<R>, FullFault>
+    table: &CoverTable<R>,
+) -> Result<CoverTable<R>, FullFault>
     requires driven { driver network.now.tables name.now ≡ Some (named name.now table.now) }
     requires over { IsOverInputs table.now }
     requires serves { Serves F.holds F.tree F.limit functions.old network.now kept.old }
@@ -187,7 +195,7 @@ fn least_table<R: Row, F: Functions>(
         Ok(cover) => cover,
         Err(fault) => return Err(fault_of_list(fault)),
     };
-    let least = Table {
+    let least = CoverTable {
         inputs: table.inputs.copy(alloc)?,
         cover: least_rows(alloc, network, functions, kept, name, table, cover)?,
         phase: true,
@@ -195,19 +203,19 @@ fn least_table<R: Row, F: Functions>(
     Ok(tidy(alloc, &least)?)
 }
 
-// The minimum of the table of a name, which a table drives, under its don't-cares.
+// The minimum under its don't-cares of the table that drives a name.
 pub(crate) fn least_of<R: Row, F: Functions>(
     alloc: Global,
     network: &Network<R>,
     functions: &mut F,
     kept: &mut KeptFunctions,
     name: &Name,
-) -> Result<Table<R>, FullFault>
+) -> Result<CoverTable<R>, FullFault>
     requires driven { has (outputs_of network.now.tables) name.now ≡ true }
     requires serves { Serves F.holds F.tree F.limit functions.old network.now kept.old }
     ensures serves { Serves F.holds F.tree F.limit functions.new network.now kept.new }
     ensures limit { F.limit functions.new ≡ F.limit functions.old }
-    ensures minimized { IfOk result (λ made. (table : TheTable)
+    ensures minimized { IfOk result (λ made. (table : Table)
         → driver network.now.tables name.now ≡ Some table
         → named name.now made ≡ minimized table (is_dont_care network.now table)) }
     ensures over { IfOk result IsOverInputs }
@@ -221,18 +229,17 @@ pub(crate) fn least_of<R: Row, F: Functions>(
     }
 }
 
-// The circuit whose functions are kept gets the table of a name that is made in its turn; an error
-// only for want of memory.
+// Replaces the table of a name in the circuit whose functions are kept.
 fn tell<R: Row>(
     alloc: Global,
     kept: &mut KeptFunctions,
     name: &Name,
-    table: &Table<R>,
+    table: &CoverTable<R>,
 ) -> Result<(), AllocError>
     requires ready { IsReady kept.old }
     requires driven { has (outputs_of (circuit_of kept.old).tables) name.now ≡ true }
     requires over { IsOverInputs table.now }
-    requires minimized { (old : TheTable) → driver (circuit_of kept.old).tables name.now ≡ Some old
+    requires minimized { (old : Table) → driver (circuit_of kept.old).tables name.now ≡ Some old
         → named name.now table.now ≡ minimized old (is_dont_care (circuit_of kept.old) old) }
     ensures ready { IsReady kept.new }
     ensures replaced { OnOk result (circuit_of kept.new
@@ -243,8 +250,8 @@ fn tell<R: Row>(
     kept.replace(alloc, written)
 }
 
-/// The table of a name, which a table drives, becomes its minimum under its don't-cares. An error
-/// changes nothing of the network, and the limit of the object stays.
+/// Replaces the table of a name, which a table drives, by its minimum under its don't-cares. An
+/// error changes nothing of the network, which no clause says; the limit of the object stays.
 pub(crate) fn minimize<R: Row, F: Functions>(
     alloc: Global,
     network: &mut Network<R>,

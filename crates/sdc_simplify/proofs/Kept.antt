@@ -8,12 +8,12 @@ use Rattle.std.proofs.lemmas.List.Folds.{list_all-append, list_any_more}
 use Rattle.sis_base.specs.Rows.{agrees, phase_value, value_by_phase}
 use Rattle.circuit_model.specs.Names.{has, all_different}
 use Rattle.circuit_model.specs.Values.{driver, table_value}
-use Rattle.circuit_model.specs.declared.circuit.Table.{Table as Written}
+use Rattle.circuit_model.specs.declared.circuit.Table.{Table}
 use Rattle.circuit_model.specs.declared.circuit.Circuit.{Circuit}
 use Rattle.cube_cover.specs.Covers.{Shape}
-use Rattle.cover_search.specs.Ties.{Tie, keeps, keeps_all}
+use Rattle.cover_search.specs.Ties.{NodeConstraint, keeps, keeps_all}
 use Rattle.cover_search.specs.Views.{tie_of}
-use Rattle.cover_search.specs.declared.tied.Tie.{Tie as Held}
+use Rattle.cover_search.specs.declared.tied.NodeConstraint.{NodeConstraint as Held}
 use Rattle.sdc_simplify.specs.Local.{input_bit, reads_within, differs, is_local}
 use Rattle.net_core.specs.Places.{written_of}
 use Rattle.net_core.specs.Tables.{named}
@@ -33,7 +33,7 @@ not_twice true = refl
 not_twice false = refl
 
 -- a point keeps a tie where it does not differ from the inner table
-pub kept_there : (table inner : Written) (point : List Bool) (input : List ℕ) (tie : Tie) → reads_within inner table ≡ true → get_or point tie.place false ≡ input_bit table point input
+pub kept_there : (table inner : Table) (point : List Bool) (input : List ℕ) (tie : NodeConstraint) → reads_within inner table ≡ true → get_or point tie.place false ≡ input_bit table point input
     → value_by_phase tie.phase tie.rows point ≡ table_value inner (bits_at table.inputs point inner.inputs) → keeps point tie ≡ not (differs table point input inner)
 kept_there table inner point input tie within bit value =
     ap₂ (λ (a b : Bool). agrees (Some a) b) value bit
@@ -57,7 +57,7 @@ module _ {R : Type 0} where
     wide = λ before_wide. subst (AreOfWidth width) (sym is) (wide_more width before tie before_wide wide);
     kept = λ point long.
         ap (λ (ties : List (Held R)). keeps_all (seen ties) point) is
-        ∙ (ap (λ (ties : List Tie). keeps_all ties point) (map-append tie_of before (tie ∷ []))
+        ∙ (ap (λ (ties : List NodeConstraint). keeps_all ties point) (map-append tie_of before (tie ∷ []))
         ∙ (list_all-append (keeps point) (seen before) (seen (tie ∷ []))
         ∙ ap (λ (b : Bool). keeps_all (seen before) point && b) (and-true (keeps point (tie_of tie)) ∙ same point long)));
   }
@@ -107,17 +107,17 @@ module _ {R : Type 0} where
     wide = more.wide;
     kept = λ point long.
         more.kept point long
-        ∙ ap (λ (found : Option Written). keeps_all (seen before) point && not (option_map_or (differs (written_of entry) point input) found false)) (sym at);
+        ∙ ap (λ (found : Option Table). keeps_all (seen before) point && not (option_map_or (differs (written_of entry) point input) found false)) (sym at);
   }
 
   pub tied_undriven : (circuit : Circuit) (entry : Entry R) (input : List ℕ) (before now : List (Held R)) → driver circuit.tables input ≡ None → now ≡ before
       → IsTiedMore (length entry.table.inputs) before now (λ point. not (differs_there circuit (written_of entry) point input))
   tied_undriven circuit entry input before now none is =
       tied_none (length entry.table.inputs) before now (λ point. not (differs_there circuit (written_of entry) point input)) is
-      (λ point long. ap (λ (found : Option Written). not (option_map_or (differs (written_of entry) point input) found false)) none)
+      (λ point long. ap (λ (found : Option Table). not (option_map_or (differs (written_of entry) point input) found false)) none)
 
   -- one input after the other
-  pub tied_further : (circuit : Circuit) (table : Written) (inputs : List (List ℕ)) (i : ℕ) (input : List ℕ) (before now : List (Held R)) → inputs ≡ table.inputs → i < length inputs → input ≡ get_or inputs i input
+  pub tied_further : (circuit : Circuit) (table : Table) (inputs : List (List ℕ)) (i : ℕ) (input : List ℕ) (before now : List (Held R)) → inputs ≡ table.inputs → i < length inputs → input ≡ get_or inputs i input
       → AreTied circuit table (take i table.inputs) before → IsTiedMore (length table.inputs) before now (λ point. not (differs_there circuit table point input)) → AreTied circuit table (take (i + 1) table.inputs) now
   tied_further circuit table inputs i input before now same lt is tied more =
       let within : i < length table.inputs = subst (λ (names : List (List ℕ)). i < length names) same lt in
@@ -130,7 +130,7 @@ module _ {R : Type 0} where
             ∙ ap not (sym (list_any_more (differs_there circuit table point) table.inputs i [] within))));
       }
 
-  pub tied_whole : (circuit : Circuit) (table : Written) (inputs : List (List ℕ)) (i : ℕ) (ties : List (Held R)) → inputs ≡ table.inputs → length inputs ≤ i → AreTied circuit table (take i table.inputs) ties → AreLocal circuit table ties
+  pub tied_whole : (circuit : Circuit) (table : Table) (inputs : List (List ℕ)) (i : ℕ) (ties : List (Held R)) → inputs ≡ table.inputs → length inputs ≤ i → AreTied circuit table (take i table.inputs) ties → AreLocal circuit table ties
   unfolding is_local
   tied_whole circuit table inputs i ties same long tied = record {
     wide = tied.wide;

@@ -3,24 +3,24 @@ use Rattle.std.proofs.Common.{◌≡◌, ℕ, ◌<◌, ◌≤◌, Bool, true, fa
 use Rattle.std.proofs.Common.{List, map, length, refl, sym, ap, ap₂, ◌∙◌, subst, if◌then◌else◌, inl, inr}
 use Rattle.std.proofs.lemmas.Bool.{lt-ltb, le-ltb}
 use Rattle.circuit_model.specs.Names.{all_different}
-use Rattle.circuit_model.specs.declared.circuit.Table.{Table as Written}
+use Rattle.circuit_model.specs.declared.circuit.Table.{Table}
 use Rattle.circuit_model.specs.declared.circuit.Circuit.{Circuit}
 use Rattle.cube_cover.specs.Covers.{Shape}
 use Rattle.cover_ops.specs.Shannon.{list_rows}
 use Rattle.cover_ops.specs.declared.list.ListFault.{ListFault}
-use Rattle.cover_ops.specs.declared.list.ListFault.TheVariants.{CubeLimit as LongList, Memory as NoMemory}
+use Rattle.cover_ops.specs.declared.list.ListFault.TheVariants.{CubeLimit, Memory as NoMemory}
 use Rattle.cover_min.specs.Minimum.{Meaning, minimum_rows}
 use Rattle.cover_min.specs.Refusals.{RefusesMinimum, no_refusals}
 use Rattle.cover_min.proofs.Minima.{minimum_same}
 use Rattle.cover_search.specs.Ties.{meaning_of as meaning_of_tied}
-use Rattle.cover_search.specs.declared.tied.Tie.{Tie as Held}
+use Rattle.cover_search.specs.declared.tied.NodeConstraint.{NodeConstraint}
 use Rattle.sdc_simplify.specs.Local.{is_local}
 use Rattle.sdc_simplify.specs.Minimized.{on_rows, meaning_of, minimized, is_list_long}
 use Rattle.sdc_simplify.proofs.Minimal.{on_wide, on_value}
 use Rattle.net_core.specs.Places.{written_of}
 use Rattle.net_core.specs.Tables.{places_of, characters_of, named, HasCharacters, IsOverInputs}
 use Rattle.net_core.specs.declared.places.Entry.{Entry}
-use Rattle.net_core.specs.declared.table.Table.{Table}
+use Rattle.net_core.specs.declared.table.CoverTable.{CoverTable}
 use Rattle.net_core.proofs.Rows.{all_places_back}
 use Rattle.circuit_tables.specs.Tidy.{tidied}
 use Rattle.circuit_tables.proofs.Tidied.{tidied_once}
@@ -38,7 +38,7 @@ never_refused meaning rows (inl literal) = literal.refused.refused
 never_refused meaning rows (inr row) = row.refused
 
 -- the minimum where ties are kept is that where no point is a local don't-care
-pub least_same : {R : Type 0} (circuit : Circuit) (table : Written) (ties : List (Held R)) → HasCharacters (length table.inputs) table.rows → AreLocal circuit table ties
+pub least_same : {R : Type 0} (circuit : Circuit) (table : Table) (ties : List (NodeConstraint R)) → HasCharacters (length table.inputs) table.rows → AreLocal circuit table ties
     → minimum_rows (meaning_of_tied (record { width = length table.inputs; rows = on_rows table; ties = seen ties })) (on_rows table) ≡ minimum_rows (meaning_of table (is_local circuit table)) (on_rows table)
 least_same circuit table ties shaped local =
     minimum_same (meaning_of_tied (record { width = length table.inputs; rows = on_rows table; ties = seen ties })) (meaning_of table (is_local circuit table)) (on_rows table) (on_wide table shaped)
@@ -98,14 +98,14 @@ module _ {R : Type 0} where
       (sym (long_by entry over phase ∙ lt-ltb MAX_ROWS (length (list_rows entry.table.cover.width false entry.table.cover.rows)) long)) cause
 
   pub listed_fault : (entry : Entry R) (list_fault : ListFault) (fault : SimplifyFault) → IsOverInputs entry.table → entry.table.phase ≡ false
-      → (list_fault ≡ LongList → MAX_ROWS < length (list_rows entry.table.cover.width false entry.table.cover.rows)) → (list_fault ≡ LongList → IsCause (Some entry.output) fault)
+      → (list_fault ≡ CubeLimit → MAX_ROWS < length (list_rows entry.table.cover.width false entry.table.cover.rows)) → (list_fault ≡ CubeLimit → IsCause (Some entry.output) fault)
       → (list_fault ≡ NoMemory → fault ≡ Memory) → IsCause (own_refusal (written_of entry)) fault
-  listed_fault entry LongList fault over phase long cause memory = listed_cause entry fault over phase (long refl) (cause refl)
+  listed_fault entry CubeLimit fault over phase long cause memory = listed_cause entry fault over phase (long refl) (cause refl)
   listed_fault entry NoMemory fault over phase long cause memory = subst (λ (f : SimplifyFault). IsCause (own_refusal (written_of entry)) f) (sym (memory refl)) tt
 
   -- the tidy table of the minimum of rows
-  pub minimum_named : (table : Written) (is_free : List Bool → Bool) (least : Shape)
-      (inputs : List (List ℕ)) (made : Table R)
+  pub minimum_named : (table : Table) (is_free : List Bool → Bool) (least : Shape)
+      (inputs : List (List ℕ)) (made : CoverTable R)
       → least.rows ≡ minimum_rows (meaning_of table is_free) (on_rows table)
       → inputs ≡ table.inputs
       → ((name : List ℕ) → named name made ≡ tidied (named {R = R} name
@@ -128,7 +128,7 @@ module _ {R : Type 0} where
       })) rows_are)
 
   -- the table that is made
-  pub least_named : (circuit : Circuit) (entry : Entry R) (ties : List (Held R)) (cover least : Shape) (inputs : List (List ℕ)) (made : Table R) → HasCharacters (length entry.table.inputs) (written_of entry).rows
+  pub least_named : (circuit : Circuit) (entry : Entry R) (ties : List (NodeConstraint R)) (cover least : Shape) (inputs : List (List ℕ)) (made : CoverTable R) → HasCharacters (length entry.table.inputs) (written_of entry).rows
       → cover ≡ record { width = length entry.table.inputs; rows = on_rows (written_of entry) }
       → least ≡ record cover { rows = minimum_rows (meaning_of_tied (record { width = cover.width; rows = cover.rows; ties = seen ties })) cover.rows }
       → inputs ≡ entry.table.inputs → ((name : List ℕ) → named name made ≡ tidied (named {R = R} name (record { inputs = inputs; cover = least; phase = true })))
@@ -143,6 +143,6 @@ module _ {R : Type 0} where
           ∙ (ap (λ (shape : Shape). minimum_rows (meaning_of_tied (record { width = shape.width; rows = shape.rows; ties = seen ties })) shape.rows) cover_is
           ∙ least_same circuit (written_of entry) ties shaped local)
 
-  pub least_once : (least made : Table R) (name : List ℕ) → named name made ≡ tidied (named name least) → all_different made.inputs ≡ true
+  pub least_once : (least made : CoverTable R) (name : List ℕ) → named name made ≡ tidied (named name least) → all_different made.inputs ≡ true
   unfolding named
-  least_once least made name tidy = ap (λ (table : Written). all_different table.inputs) tidy ∙ tidied_once (named name least)
+  least_once least made name tidy = ap (λ (table : Table). all_different table.inputs) tidy ∙ tidied_once (named name least)

@@ -1,5 +1,5 @@
 -- The minimum of a table: it has the table's value wherever what is read is not free, and its rows are prime and irredundant.
-use Rattle.std.proofs.Common.{◌≡◌, ℕ, Bool, true, false, not, if◌then◌else◌, Option, Some, List, [], ◌∷◌, map, length, refl, ap, ◌∙◌}
+use Rattle.std.proofs.Common.{◌≡◌, ℕ, Bool, true, false, not, if◌then◌else◌, Option, Some, List, map, length, refl, ap, ◌∙◌}
 use Rattle.std.specs.List.{AllByRecursion}
 use Rattle.std.proofs.lemmas.Bool.{and_parts, and_from, not-true, not_from_false}
 use Rattle.std.proofs.lemmas.List.{length-map}
@@ -13,10 +13,11 @@ use Rattle.cover_ops.proofs.Joins.{list_value, HasWidth-list_rows}
 use Rattle.cover_min.specs.Minimum.{minimum_rows}
 use Rattle.cover_min.specs.Primes.{Agrees, IsPrime, IsIrredundant}
 use Rattle.cover_min.proofs.Minima.{HasWidth-minimum, agrees-minimum, prime-minimum, irredundant-minimum}
-use Rattle.net_core.specs.Tables.{character_of, places_of, characters_of, HasCharacters}
+use Rattle.net_core.specs.Tables.{places_of, characters_of, HasCharacters}
 use Rattle.net_core.proofs.Rows.{all_places_back, width_of_characters}
 use Rattle.circuit_tables.proofs.Tidied.{tidied_value, tidied_output, tidied_reads, tidied_once, tidied_shaped}
 use Rattle.sdc_simplify.specs.Minimized.{on_rows, meaning_of, with_minimum_rows, minimized}
+use Rattle.alg_tables.proofs.Taken.{characters_wide}
 
 -- the rows of phase 1 have the table's width and its value
 pub on_wide : (table : Table) → HasCharacters (length table.inputs) table.rows → HasWidth (length table.inputs) (on_rows table)
@@ -86,11 +87,6 @@ minimized_reads table is_free name h = tidied_reads (with_minimum_rows table is_
 pub minimized_once : (table : Table) (is_free : List Bool → Bool) → all_different (minimized table is_free).inputs ≡ true
 unfolding minimized
 minimized_once table is_free = tidied_once (with_minimum_rows table is_free)
-
-characters_wide : (width : ℕ) (rows : List (List (Option Bool))) → HasWidth width rows → HasCharacters width (map characters_of rows)
-unfolding HasWidth
-characters_wide width [] h = tt
-characters_wide width (row ∷ rows) h = (length-map row character_of ∙ h.0, characters_wide width rows h.1)
 
 pub minimum_wide : (table : Table) (is_free : List Bool → Bool) → HasCharacters (length table.inputs) table.rows → HasCharacters (length table.inputs) (with_minimum_rows table is_free).rows
 minimum_wide table is_free wide =

@@ -7,7 +7,6 @@ use Rattle.std.proofs.lemmas.List.{length-map, length-append}
 use Rattle.std.proofs.lemmas.Option.{none-some}
 use Rattle.circuit_model.specs.Soundness.{IsShaped, IsSound}
 use Rattle.circuit_model.specs.Values.{driver}
-use Rattle.circuit_model.specs.declared.circuit.Tri.{Tri}
 use Rattle.circuit_model.specs.declared.circuit.Table.{Table}
 use Rattle.circuit_model.specs.declared.circuit.Circuit.{Circuit}
 use Rattle.circuit_laws.specs.Edits.{replaced, with_replaced}
@@ -20,8 +19,8 @@ use Rattle.net_core.specs.Tables.{places_of, characters_of}
 use Rattle.circuit_tables.specs.Folding.{folded}
 use Rattle.circuit_tables.proofs.Folded.{folded_shaped, folded_input_count, folded_row_count}
 use Rattle.circuit_order.specs.Order.{order_of}
-use Rattle.circuit_tables.specs.Tidy.{IsWide, some_row_or_phase_one, used_places, rows_once, chosen, narrowed, with_rows_once, tidied}
-use Rattle.circuit_tables.proofs.Tidied.{chosen_small, once_small, phase_kept}
+use Rattle.circuit_tables.specs.Tidy.{IsWide, used_places, rows_once, chosen, narrowed, with_rows_once, tidied}
+use Rattle.circuit_tables.proofs.Tidied.{chosen_small, once_small, phase_kept, shaped_some}
 use Rattle.sdc_simplify.specs.Local.{is_local}
 use Rattle.sdc_simplify.specs.Minimized.{on_rows, meaning_of, with_minimum_rows, minimized, is_list_long}
 use Rattle.sdc_simplify.specs.Simplified.{Freedom, with_minimum, is_refused, refusal_along, simplify_refusal, simplified}
@@ -51,11 +50,6 @@ minimum_few table is_free =
     let written : length (map characters_of left) ≡ length left = length-map left characters_of in
     omega (arith, few, same, written)
 
--- what is made tidy of a shaped table has no more rows and no more inputs
-shaped_row : (rows : List (List Tri)) (phase : Bool) → (rows ≡ [] → phase ≡ true) → some_row_or_phase_one rows phase ≡ true
-shaped_row [] phase h = h refl
-shaped_row (row ∷ rows) phase h = refl
-
 narrowed_rows : (table : Table) → length (narrowed (with_rows_once table)).rows ≤ length table.rows
 unfolding narrowed
 narrowed_rows table =
@@ -70,7 +64,7 @@ narrowed_inputs table = chosen_small (used_places table.inputs (rows_once table.
 tidied_of : (table : Table) → IsShaped table → tidied table ≡ narrowed (with_rows_once (folded table))
 unfolding tidied
 tidied_of table shaped =
-    ap (λ (made : Table). narrowed (with_rows_once made)) (phase_kept (folded table) (shaped_row (folded table).rows (folded table).phase (folded_shaped table shaped).1))
+    ap (λ (made : Table). narrowed (with_rows_once made)) (phase_kept (folded table) (shaped_some (folded table).rows (folded table).phase (folded_shaped table shaped).1))
 
 tidied_bounded : (table : Table) → IsShaped table → IsBounded table → IsBounded (tidied table)
 tidied_bounded table shaped bounded =

@@ -1,7 +1,8 @@
--- Simplification: turn by turn a table gives place to its minimum, under don't-cares that the circuit of that turn has.
--- Source: the SIS report (UCB/ERL M92/41), `simplify`; De Micheli, "Synthesis and Optimization of Digital Circuits", chapter 8
--- (simplification of one vertex after the other). Turns come in the order of circuit_order, in which each table stands behind what it
--- reads.
+-- Simplification: step by step a table is replaced by its minimum, under don't-cares that the
+-- circuit has at that step.
+-- Source: the SIS report (UCB/ERL M92/41), `simplify`; De Micheli, "Synthesis and Optimization of
+-- Digital Circuits", chapter 8 (simplification of one vertex after the other). The steps are in the
+-- order of circuit_order, in which each table comes after what it reads.
 use Rattle.std.specs.Prelude.{ℕ, Bool, false, if◌then◌else◌, Option, Some, None, List, [], ◌∷◌, fold}
 use Rattle.std.specs.Option.{option_map_or}
 use Rattle.circuit_model.specs.Values.{driver}
@@ -16,7 +17,7 @@ use Rattle.sdc_simplify.specs.Minimized.{minimized, is_list_long}
 abbrev pub Freedom : Type 0
 Freedom = Circuit → Table → List Bool → Bool
 
--- the table of a signal gives place to its minimum; nothing changes where no table drives it
+-- the table of a signal is replaced by its minimum; nothing changes if no table drives it
 unfoldable pub with_minimum : Freedom → Circuit → List ℕ → Circuit
 with_minimum is_free circuit name =
     option_map_or (λ table. with_replaced circuit (minimized table (is_free circuit table))) (driver circuit.tables name) circuit
@@ -29,13 +30,15 @@ own_refusal table = if is_list_long table then Some table.output else None
 abbrev pub is_refused : Circuit → List ℕ → Bool
 is_refused circuit name = option_map_or is_list_long (driver circuit.tables name) false
 
--- the first of some signals whose table's on-list must be made and is too long, where the tables before it gave place to their minima
+-- the first of some signals whose table's on-list must be made and is too long, after the tables
+-- before it were replaced by their minima
 unfoldable pub refusal_along : Freedom → Circuit → List (List ℕ) → Option (List ℕ)
 refusal_along is_free circuit [] = None
 refusal_along is_free circuit (name ∷ names) =
     if is_refused circuit name then Some name else refusal_along is_free (with_minimum is_free circuit name) names
 
--- all tables give place to their minima under local don't-cares; the order is that of the circuit before the first turn
+-- all tables are replaced by their minima under local don't-cares; the order is that of the circuit
+-- before the first step
 unfoldable pub simplified : Circuit → Circuit
 simplified circuit = fold (with_minimum is_local) circuit (order_of circuit.tables)
 

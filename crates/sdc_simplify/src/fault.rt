@@ -1,4 +1,4 @@
-//! Why a network is not simplified.
+//! Why a network is not simplified: a list of rows is too long, or memory ran out.
 
 use circuit_model::Name;
 use std::alloc::AllocError;
@@ -6,9 +6,8 @@ use std::alloc::AllocError;
 /// Why a network is not simplified.
 #[derive(Debug, PartialEq, Drop)]
 pub enum SimplifyFault {
-    /// The table of this name gives its function by the rows where it is 0, and the list of those
-    /// where it is 1 has more than `MAX_ROWS`
-    /// rows.
+    /// The table of this name has phase 0, and the list of the rows where it is 1 has more than
+    /// `MAX_ROWS` rows.
     CubeLimit(Name),
     /// There is not enough memory.
     Memory,

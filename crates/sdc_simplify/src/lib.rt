@@ -3,10 +3,10 @@
 //! Source: the SIS report (UCB/ERL M92/41), `simplify`; De Micheli, "Synthesis and Optimization of
 //! Digital Circuits", chapters 7 and 8. `specs/Local.antt` has local don't-cares,
 //! `specs/Minimized.antt` the minimum of one table under any don't-cares, `specs/Simplified.antt`
-//! the turns and their refusal; `laws` says what each keeps. Promised (`specs/Simplify.antt`):
+//! the steps and their refusal; `laws` says what each keeps. Promised (`specs/Simplify.antt`):
 //! exactly the simplified network, or exactly the refusal with the table's name. The tables that
-//! make points impossible are found by the working network's index, one look for each input; no
-//! clause says so.
+//! make points impossible are found in the working network's index, with one look-up for each
+//! input; no clause says so.
 #![tactic(auto)]
 
 mod fault;

@@ -1,4 +1,9 @@
-//! Simplification of a network.
+//! Simplification of a network: each table in topological order becomes minimal under its local
+//! don't-cares.
+//!
+//! Source: the SIS report (UCB/ERL M92/41), `simplify`. The order is that of the network at the
+//! start, the don't-cares those of the network at the table's turn. Callers rely on exactly the
+//! simplified network, or exactly the refusal.
 
 ghost use Rattle.std.specs.Prelude.{◌≡◌, Some, None, [], map, IfOk, IfErr, OnOk};
 ghost use Rattle.circuit_model.specs.Soundness.{IsSound};
@@ -13,14 +18,14 @@ use crate::fault::SimplifyFault;
 use crate::turns::minimize_at;
 use cube_cover::Row;
 use net_core::Network;
-use net_work::Work;
+use net_work::WorkingNetwork;
 use std::alloc::Global;
 
-// The tables at places, which are in order, become minimal one after the other. Behind an error any
-// network may stand.
+// The tables at indices, which are in topological order, become minimal one after the other. After
+// an error the network may be any.
 fn minimize_along<R: Row>(
     alloc: Global,
-    work: &mut Work<R>,
+    work: &mut WorkingNetwork<R>,
     places: &[usize],
 ) -> Result<(), SimplifyFault>
     requires sound { IsSound (circuit_of work.old) }
@@ -36,8 +41,8 @@ fn minimize_along<R: Row>(
     Ok(())
 }
 
-// All tables become minimal, in order. Behind an error any network may stand.
-fn minimize_all<R: Row>(alloc: Global, work: &mut Work<R>) -> Result<(), SimplifyFault>
+// All tables become minimal, in topological order. After an error the network may be any.
+fn minimize_all<R: Row>(alloc: Global, work: &mut WorkingNetwork<R>) -> Result<(), SimplifyFault>
     requires { IsSound (circuit_of work.old) }
     ensures simplified { OnOk result (circuit_of work.new ≡ simplified (circuit_of work.old)) }
     ensures none { OnOk result (simplify_refusal (circuit_of work.old) ≡ None) }
@@ -48,15 +53,14 @@ fn minimize_all<R: Row>(alloc: Global, work: &mut Work<R>) -> Result<(), Simplif
     minimize_along(alloc, work, places.as_slice())
 }
 
-/// A network after simplification, beside the one that stays. Each table becomes minimal under its
-/// local don't-cares, in the order in which each stands behind what it reads. `CubeLimit` with the
-/// name of the first table, in that order, that gives its function by the rows where it is 0 and
-/// whose list of those where it is 1 has more than `MAX_ROWS` rows in its turn.
+/// A new network, simplified; the given one stays. Each table in topological order becomes minimal
+/// under its local don't-cares. `CubeLimit` has the name of the first table, in that order, of
+/// phase 0 whose list of the rows where it is 1 then has more than `MAX_ROWS` rows.
 pub fn simplify<R: Row>(alloc: Global, network: &Network<R>) -> Result<Network<R>, SimplifyFault>
     ensures simplified { HasSimplified network.now result }
     ensures bounds { HasBounds network.now → IfOk result HasBounds }
 {
-    let mut work = Work::of(alloc, network)?;
+    let mut work = WorkingNetwork::of(alloc, network)?;
     match minimize_all(alloc, &mut work) {
         Ok(()) => Ok(work.into_network()),
         Err(fault) => Err(fault),

@@ -1,10 +1,18 @@
-//! The turn of one table: it becomes its minimum.
+//! One step of simplification: the table at an index is replaced by its minimum under its local
+//! don't-cares.
+//!
+//! Source: De Micheli, "Synthesis and Optimization of Digital Circuits", chapters 7 and 8.
+//! `on_cover` gives the rows where the function is 1, of a table of either phase; `least_cover`
+//! makes them prime and irredundant, where the points that violate a tie are free; then the table
+//! is brought to its normal form. Callers rely on `minimized` of `specs/Minimized.antt`, and on a
+//! refusal only if the list of rows where the function is 1 must be made and has more than
+//! `MAX_ROWS` rows.
 
 ghost use Rattle.std.specs.Prelude.{◌≡◌, ℕ, true, false, Some, List, map, length, is_some, IfOk, IfErr, OnOk};
 ghost use Rattle.circuit_model.specs.Names.{all_different};
 ghost use Rattle.circuit_model.specs.Soundness.{IsSound};
-ghost use Rattle.circuit_model.specs.declared.circuit.Circuit.{Circuit as TheCircuit};
-ghost use Rattle.circuit_model.specs.declared.circuit.Table.{Table as TheWritten};
+ghost use Rattle.circuit_model.specs.declared.circuit.Circuit.{Circuit};
+ghost use Rattle.circuit_model.specs.declared.circuit.Table.{Table};
 ghost use Rattle.cover_min.specs.Minimum.{minimum_rows};
 ghost use Rattle.cover_search.specs.Ties.{meaning_of};
 ghost use Rattle.sdc_simplify.specs.Local.{is_local};
@@ -21,15 +29,15 @@ use crate::ties::ties_at;
 use circuit_model::Name;
 use cover_min::{OracleFault, prime_irredundant};
 use cover_ops::{ListFault, on_list};
-use cover_search::{Tie, TiedCover};
+use cover_search::{NodeConstraint, TiedCover};
 use cube_cover::{Cover, Row};
-use net_core::{Entry, Table, tidy};
-use net_work::Work;
+use net_core::{CoverTable, Entry, tidy};
+use net_work::WorkingNetwork;
 use sis_base::Copied;
 use sis_base::limits::MAX_ROWS;
 use std::alloc::{AllocError, Global};
 
-// The fault for a list that was not made for the table of a name.
+// The fault of a list that was not made for the table of a name.
 fn fault_of(alloc: Global, name: &Name, fault: ListFault) -> SimplifyFault
     ensures limit { fault ≡ ListFault.CubeLimit → IsCause (Some name.now) result }
     ensures memory { fault ≡ ListFault.Memory → result ≡ SimplifyFault.Memory }
@@ -43,13 +51,13 @@ fn fault_of(alloc: Global, name: &Name, fault: ListFault) -> SimplifyFault
     }
 }
 
-/// The rows whose phase is 1 for the function of the table of a name: its own rows where that is
-/// its phase, and the list of those where it is 1 where it is not. `CubeLimit` with the name where
-/// that list must be made and has more than `MAX_ROWS` rows.
+/// The rows where the table of a name is 1: its own rows if its phase is 1, and the list of the
+/// rows where it is 1 otherwise. `CubeLimit` with the name if that list must be made and has more
+/// than `MAX_ROWS` rows.
 pub fn on_cover<R: Row>(
     alloc: Global,
     name: &Name,
-    table: &Table<R>,
+    table: &CoverTable<R>,
 ) -> Result<Cover<R>, SimplifyFault>
     requires { IsOverInputs table.now }
     ensures rows { IfOk result (λ made. made ≡ record {
@@ -70,14 +78,21 @@ pub fn on_cover<R: Row>(
     }
 }
 
-// The minimum of a cover, where the points are free that break a tie.
+// The minimum of a cover, where the points that violate a tie are free.
 fn least_cover<R: Row>(
     alloc: Global,
     cover: Cover<R>,
-    ties: Vec<Tie<R>>,
+    ties: Vec<NodeConstraint<R>>,
 ) -> Result<Cover<R>, AllocError>
     requires { AreOfWidth cover.width ties.items }
-    ensures { IfOk result (λ made. made ≡ record cover { rows = minimum_rows (meaning_of (record { width = cover.width; rows = cover.rows; ties = seen ties.items })) cover.rows }) }
+    ensures { IfOk result (λ made. made ≡ record cover {
+      rows = minimum_rows (meaning_of (record {
+        width = cover.width;
+        rows = cover.rows;
+        ties =
+            seen ties.items;
+      })) cover.rows;
+    }) }
 {
     let mut oracle = TiedCover::new(cover.copy(alloc)?, ties);
     match prime_irredundant(alloc, cover, &mut oracle) {
@@ -87,23 +102,25 @@ fn least_cover<R: Row>(
     }
 }
 
-// The minimum of a table with the ties that stand for its local don't-cares.
+// The minimum of a table, given the ties that describe its local don't-cares.
 fn least_table<R: Row>(
     alloc: Global,
     entry: &Entry<R>,
-    ties: Vec<Tie<R>>,
-) -> Result<Table<R>, SimplifyFault>
+    ties: Vec<NodeConstraint<R>>,
+) -> Result<CoverTable<R>, SimplifyFault>
     requires over { IsOverInputs entry.now.table }
     requires shaped { HasCharacters (length entry.now.table.inputs) (written_of entry.now).rows }
     requires wide { AreOfWidth (length entry.now.table.inputs) ties.items }
-    ensures minimized { IfOk result (λ made. (circuit : TheCircuit) → AreLocal circuit (written_of entry.now) ties.items → named entry.now.output made ≡ minimized (written_of entry.now) (is_local circuit (written_of entry.now))) }
+    ensures minimized { IfOk result (λ made. (circuit : Circuit) → AreLocal circuit
+        (written_of entry.now) ties.items → named entry.now.output made ≡ minimized
+        (written_of entry.now) (is_local circuit (written_of entry.now))) }
     ensures over { IfOk result IsOverInputs }
     ensures once { IfOk result (λ made. all_different made.inputs ≡ true) }
     ensures within { OnOk result (is_list_long (written_of entry.now) ≡ false) }
     ensures fault { IfErr result (λ fault. IsCause (own_refusal (written_of entry.now)) fault) }
 {
     let cover = on_cover(alloc, &entry.output, &entry.table)?;
-    let least = Table {
+    let least = CoverTable {
         inputs: entry.table.inputs.copy(alloc)?,
         cover: least_cover(alloc, cover, ties)?,
         phase: true,
@@ -112,15 +129,23 @@ fn least_table<R: Row>(
     Ok(made)
 }
 
-// The minimum of the table at a place under its local don't-cares.
-fn least_at<R: Row>(alloc: Global, work: &Work<R>, place: usize) -> Result<Table<R>, SimplifyFault>
+// The minimum of the table at an index under its local don't-cares.
+fn least_at<R: Row>(
+    alloc: Global,
+    work: &WorkingNetwork<R>,
+    place: usize,
+) -> Result<CoverTable<R>, SimplifyFault>
     requires sound { IsSound (circuit_of work.now) }
     requires there { is_some (table_at work.now.slots place) ≡ true }
-    ensures minimized { IfOk result (λ made. (table : TheWritten) → table_at work.now.slots place ≡ Some table → named table.output made ≡ minimized table (is_local (circuit_of work.now) table)) }
+    ensures minimized { IfOk result (λ made. (table : Table) → table_at work.now.slots place
+        ≡ Some table → named table.output made ≡ minimized table
+        (is_local (circuit_of work.now) table)) }
     ensures over { IfOk result IsOverInputs }
     ensures once { IfOk result (λ made. all_different made.inputs ≡ true) }
-    ensures within { OnOk result ((table : TheWritten) → table_at work.now.slots place ≡ Some table → is_list_long table ≡ false) }
-    ensures fault { IfErr result (λ fault. (table : TheWritten) → table_at work.now.slots place ≡ Some table → IsCause (own_refusal table) fault) }
+    ensures within { OnOk result ((table : Table) → table_at work.now.slots place ≡ Some table
+        → is_list_long table ≡ false) }
+    ensures fault { IfErr result (λ fault. (table : Table) → table_at work.now.slots place
+        ≡ Some table → IsCause (own_refusal table) fault) }
 {
     let ties = ties_at(alloc, work, place)?;
     match work.entry(place) {
@@ -129,18 +154,22 @@ fn least_at<R: Row>(alloc: Global, work: &Work<R>, place: usize) -> Result<Table
     }
 }
 
-/// The table at a place becomes its minimum under its local don't-cares; refused where its on-list must be made and is too long. Behind
-/// an error for want of memory any network may stand.
+/// Replaces the table at an index by its minimum under its local don't-cares; refused if its
+/// on-list must be made and is too long. After an error for want of memory the network may be any.
 pub(crate) fn minimize_at<R: Row>(
     alloc: Global,
-    work: &mut Work<R>,
+    work: &mut WorkingNetwork<R>,
     place: usize,
 ) -> Result<(), SimplifyFault>
     requires sound { IsSound (circuit_of work.old) }
     requires there { is_some (table_at work.old.slots place) ≡ true }
-    ensures minimized { OnOk result ((table : TheWritten) → table_at work.old.slots place ≡ Some table → work.new ≡ with_slot work.old place (Some (minimized table (is_local (circuit_of work.old) table)))) }
-    ensures within { OnOk result ((table : TheWritten) → table_at work.old.slots place ≡ Some table → is_list_long table ≡ false) }
-    ensures fault { IfErr result (λ fault. (table : TheWritten) → table_at work.old.slots place ≡ Some table → IsCause (own_refusal table) fault) }
+    ensures minimized { OnOk result ((table : Table) → table_at work.old.slots place
+        ≡ Some table → work.new ≡ with_slot work.old place
+        (Some (minimized table (is_local (circuit_of work.old) table)))) }
+    ensures within { OnOk result ((table : Table) → table_at work.old.slots place ≡ Some table
+        → is_list_long table ≡ false) }
+    ensures fault { IfErr result (λ fault. (table : Table) → table_at work.old.slots place
+        ≡ Some table → IsCause (own_refusal table) fault) }
 {
     let table = least_at(alloc, work, place)?;
     work.set(alloc, place, table)?;

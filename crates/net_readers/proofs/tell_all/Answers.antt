@@ -1,6 +1,6 @@
 use Rattle.std.proofs.Common.{bytes_eq}
 use Rattle.indexmap.specs.IndexMap.{get}
-use Rattle.net_readers.specs.Readers.{in_set}
+use Rattle.net_readers.specs.Fanouts.{in_set}
 use Rattle.net_readers.proofs.Sets.{told_more}
 use Rattle.net_readers.proofs.tell_all.Goals as goal
 

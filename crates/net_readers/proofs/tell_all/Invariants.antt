@@ -1,6 +1,6 @@
 use Rattle.std.proofs.Common.{take, bytes_eq}
 use Rattle.indexmap.specs.IndexMap.{get}
-use Rattle.net_readers.specs.Readers.{in_set}
+use Rattle.net_readers.specs.Fanouts.{in_set}
 use Rattle.net_readers.proofs.Sets.{HasTold}
 use Rattle.net_readers.proofs.tell_all.Given as goal
 

@@ -1,6 +1,6 @@
 use Rattle.std.proofs.Common.{bytes_eq, not}
 use Rattle.indexmap.specs.IndexMap.{get}
-use Rattle.net_readers.specs.Readers.{in_set}
+use Rattle.net_readers.specs.Fanouts.{in_set}
 use Rattle.net_readers.proofs.Sets.{untold_more, not_moved}
 use Rattle.net_readers.proofs.untell_changed.Goals as goal
 

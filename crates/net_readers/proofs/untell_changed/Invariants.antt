@@ -1,6 +1,6 @@
 use Rattle.std.proofs.Common.{take, bytes_eq}
 use Rattle.indexmap.specs.IndexMap.{get}
-use Rattle.net_readers.specs.Readers.{in_set, HasUntold}
+use Rattle.net_readers.specs.Fanouts.{in_set, HasUntold}
 use Rattle.net_readers.proofs.untell_changed.Given as goal
 
 abbrev pub invariant-loop-i : goal.invariant-loop-i

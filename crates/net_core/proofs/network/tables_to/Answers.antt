@@ -1,5 +1,5 @@
 use Rattle.std.proofs.Common.{List, ap, ◌∙◌, sym, ◌++◌, ◌∷◌, []}
-use Rattle.circuit_model.specs.declared.circuit.Table.{Table as Written}
+use Rattle.circuit_model.specs.declared.circuit.Table.{Table}
 use Rattle.net_core.specs.Places.{present}
 use Rattle.net_core.proofs.Indexing.{present_more}
 use Rattle.net_core.proofs.network.tables_to.Goals as goal
@@ -11,5 +11,5 @@ loop-slot-init g c = c.in_ok-made.ensures.items
 pub loop-slot-preserved : goal.loop-slot-preserved
 loop-slot-preserved g c =
     c.in_ok-push_written.ensures
-    ∙ (ap (λ (ts : List Written). ts ++ present (c.slot-item.result ∷ [])) c.loop-slot.invariant
+    ∙ (ap (λ (ts : List Table). ts ++ present (c.slot-item.result ∷ [])) c.loop-slot.invariant
     ∙ sym (present_more c.args.slots.now c.loop-slot.slot-index c.slot-item.result c.loop-slot-test.true c.slot-item.is))

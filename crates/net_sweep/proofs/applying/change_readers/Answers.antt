@@ -1,5 +1,5 @@
 use Rattle.std.proofs.Common.{ap, ◌∙◌, List, ℕ}
-use Rattle.net_readers.specs.Readers.{is_in}
+use Rattle.net_readers.specs.Fanouts.{is_in}
 use Rattle.net_sweep.proofs.Changing.{mapped_others, reads_listed}
 use Rattle.net_sweep.proofs.applying.change_readers.Goals as goal
 

@@ -1,6 +1,6 @@
 use Rattle.std.proofs.Common.{◌∙◌, sym, ap}
 use Rattle.circuit_model.specs.declared.circuit.Table.{Table}
-use Rattle.net_readers.specs.Readers.{told}
+use Rattle.net_readers.specs.Fanouts.{told}
 use Rattle.net_wires.specs.Aliases.{inputs_at}
 use Rattle.net_wires.proofs.Reading.{readers_put}
 use Rattle.net_wires.proofs.aliased_tables.change_table.Goals as goal

@@ -1,5 +1,5 @@
 use Rattle.std.proofs.Common.{List, ℕ, take, subst}
-use Rattle.net_readers.specs.Readers.{told, with_inputs, AreReaders}
+use Rattle.net_readers.specs.Fanouts.{told, with_inputs, AreReaders}
 use Rattle.net_wires.specs.Aliases.{inputs_at}
 use Rattle.net_wires.proofs.Reading.{readers_more, nothing_behind}
 use Rattle.net_wires.proofs.aliased_tables.readers_of.Goals as goal

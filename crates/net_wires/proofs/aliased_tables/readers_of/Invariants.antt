@@ -1,5 +1,5 @@
 use Rattle.std.proofs.Common.{take}
-use Rattle.net_readers.specs.Readers.{told, AreReaders}
+use Rattle.net_readers.specs.Fanouts.{told, AreReaders}
 use Rattle.net_wires.specs.Aliases.{inputs_at}
 use Rattle.net_wires.proofs.aliased_tables.readers_of.Given as goal
 

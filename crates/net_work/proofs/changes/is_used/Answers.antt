@@ -1,7 +1,7 @@
 use Rattle.std.proofs.Common.{Bool, ◌||◌, is_some, sym, ap, ◌∙◌}
 use Rattle.circuit_model.specs.Names.{has}
-use Rattle.net_work.specs.Frames.{reserved_by}
-use Rattle.net_work.proofs.Noted.{used_split}
+use Rattle.net_core.specs.Fresh.{reserved_by}
+use Rattle.net_core.proofs.Noted.{used_split}
 use Rattle.net_work.proofs.changes.is_used.Goals as goal
 
 pub returns-then-is_some : goal.returns-then-is_some

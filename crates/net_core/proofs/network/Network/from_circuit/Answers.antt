@@ -1,13 +1,13 @@
 use Rattle.std.proofs.Common.{List, ap, ◌∙◌}
 use Rattle.circuit_model.specs.Names.{all_different}
 use Rattle.circuit_model.specs.Soundness.{outputs_of}
-use Rattle.circuit_model.specs.declared.circuit.Table.{Table as Written}
+use Rattle.circuit_model.specs.declared.circuit.Table.{Table}
 use Rattle.net_core.proofs.Removals.{tables_differ}
 use Rattle.net_core.proofs.network.Network.from_circuit.Goals as goal
 
 pub tables_from-requires-clause-distinct : goal.tables_from-requires-clause-distinct
 tables_from-requires-clause-distinct g c =
-    ap (λ (ts : List Written). all_different (outputs_of ts)) c.as_slice.ensures ∙ tables_differ c.args.circuit c.requires
+    ap (λ (ts : List Table). all_different (outputs_of ts)) c.as_slice.ensures ∙ tables_differ c.args.circuit c.requires
 
 pub with-requires : goal.with-requires
 with-requires g c =

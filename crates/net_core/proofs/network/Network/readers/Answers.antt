@@ -1,5 +1,5 @@
 use Rattle.std.proofs.Common.{ℕ, List, ap, ◌∙◌, sym, ◌++◌, ◌∷◌, [], take}
-use Rattle.circuit_model.specs.declared.circuit.Table.{Table as Written}
+use Rattle.circuit_model.specs.declared.circuit.Table.{Table}
 use Rattle.net_core.specs.Places.{present}
 use Rattle.net_core.specs.Reads.{readers_of}
 use Rattle.net_core.proofs.Counting.{readers-append}
@@ -15,4 +15,4 @@ loop-slot-preserved g c =
     c.in_ok-push_reader.ensures
     ∙ (ap (λ (names : List (List ℕ)). names ++ readers_of (present (c.slot-item.result ∷ [])) c.args.name.now) c.loop-slot.invariant
     ∙ (sym (readers-append (present (take c.loop-slot.slot-index c.slots-slot-items.result.now)) (present (c.slot-item.result ∷ [])) c.args.name.now)
-    ∙ ap (λ (ts : List Written). readers_of ts c.args.name.now) (sym (present_more c.slots-slot-items.result.now c.loop-slot.slot-index c.slot-item.result c.loop-slot-test.true c.slot-item.is))))
+    ∙ ap (λ (ts : List Table). readers_of ts c.args.name.now) (sym (present_more c.slots-slot-items.result.now c.loop-slot.slot-index c.slot-item.result c.loop-slot-test.true c.slot-item.is))))

@@ -2,7 +2,7 @@ use Rattle.std.proofs.Common.{◌≡◌, ℕ, false, List, Some, [], ◌∷◌, 
 use Rattle.indexmap.specs.IndexMap.{get}
 use Rattle.circuit_model.specs.Names.{has}
 use Rattle.circuit_model.specs.Soundness.{outputs_of}
-use Rattle.circuit_model.specs.declared.circuit.Table.{Table as Written}
+use Rattle.circuit_model.specs.declared.circuit.Table.{Table}
 use Rattle.net_core.specs.Tables.{named}
 use Rattle.net_core.specs.Places.{present}
 use Rattle.net_core.proofs.Indexing.{indexed_push, over_push, present_push}
@@ -12,7 +12,7 @@ pub invariant_of-self-2 : goal.invariant_of-self-2
 invariant_of-self-2 g c =
     let absent : has (outputs_of (present c.self.inside.slots.items)) c.in_ok-output.output ≡ false =
     ap (has (outputs_of (present c.self.inside.slots.items))) c.in_ok-output.ensures
-    ∙ (ap (λ (ts : List Written). has (outputs_of ts) c.args.name.now) c.self.view_is ∙ c.requires.new) in
+    ∙ (ap (λ (ts : List Table). has (outputs_of ts) c.args.name.now) c.self.view_is ∙ c.requires.new) in
     rw c.in_ok-put_last.ensures.slots_ok (
       indexed_push c.self.inside.slots.items (get bytes_eq c.self.inside.places) (get bytes_eq c.put_last.new.places) (record { output = c.in_ok-output.output; table = c.args.table }) c.self.invariant.0 absent
           (λ q. c.in_ok-put_last.ensures.places_ok q
@@ -25,4 +25,4 @@ returns-clause-ok g c =
     ap present c.in_ok-put_last.ensures.slots_ok
     ∙ (present_push c.self.inside.slots.items (record { output = c.in_ok-output.output; table = c.args.table })
     ∙ (ap (λ (n : List ℕ). present c.self.inside.slots.items ++ named n c.args.table ∷ []) c.in_ok-output.ensures
-    ∙ ap (λ (ts : List Written). ts ++ named c.args.name.now c.args.table ∷ []) c.self.view_is))
+    ∙ ap (λ (ts : List Table). ts ++ named c.args.name.now c.args.table ∷ []) c.self.view_is))

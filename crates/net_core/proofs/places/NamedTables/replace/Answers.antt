@@ -2,7 +2,7 @@ use Rattle.std.proofs.Common.{ℕ, List, ap, ◌∙◌, bytes_eq, refl}
 use Rattle.indexmap.specs.IndexMap.{get}
 use Rattle.circuit_model.specs.Names.{has}
 use Rattle.circuit_model.specs.Soundness.{outputs_of}
-use Rattle.circuit_model.specs.declared.circuit.Table.{Table as Written}
+use Rattle.circuit_model.specs.declared.circuit.Table.{Table}
 use Rattle.circuit_laws.specs.Edits.{replaced}
 use Rattle.net_core.specs.Tables.{named}
 use Rattle.net_core.specs.Places.{present}
@@ -11,7 +11,7 @@ use Rattle.net_core.proofs.places.NamedTables.replace.Goals as goal
 
 pub known_place-place-requires : goal.known_place-place-requires
 known_place-place-requires g c =
-    known_name c.self.inside.slots.items _ c.self.invariant.0 c.args.name.now ∙ (ap (λ (ts : List Written). has (outputs_of ts) c.args.name.now) c.self.view_is ∙ c.requires.known)
+    known_name c.self.inside.slots.items _ c.self.invariant.0 c.args.name.now ∙ (ap (λ (ts : List Table). has (outputs_of ts) c.args.name.now) c.self.view_is ∙ c.requires.known)
 
 pub invariant_of-self : goal.invariant_of-self
 invariant_of-self g c =
@@ -28,4 +28,4 @@ returns g c =
     ap present (c.set_table.ensures t a)
     ∙ (present_replaced c.self.inside.slots.items c.known_place-place.result t (record { output = t.output; table = c.args.table }) a refl one
     ∙ (ap (λ (n : List ℕ). replaced (present c.self.inside.slots.items) (named n c.args.table)) b
-    ∙ ap (λ (ts : List Written). replaced ts (named c.args.name.now c.args.table)) c.self.view_is))
+    ∙ ap (λ (ts : List Table). replaced ts (named c.args.name.now c.args.table)) c.self.view_is))

@@ -1,6 +1,6 @@
 use Rattle.std.proofs.Common.{bytes_eq, ◌∙◌, sym}
 use Rattle.indexmap.specs.IndexMap.{get}
-use Rattle.net_readers.specs.Readers.{told}
+use Rattle.net_readers.specs.Fanouts.{told}
 use Rattle.net_wires.specs.Aliases.{edge_of}
 use Rattle.net_wires.proofs.Carried.{constant_last, readers_still}
 use Rattle.net_wires.proofs.aliased_tables.AliasedTables.add_constant.Goals as goal

@@ -3,7 +3,7 @@ use Rattle.indexmap.specs.IndexMap.{get}
 use Rattle.circuit_model.specs.Names.{has}
 use Rattle.circuit_model.specs.Soundness.{table_inputs}
 use Rattle.net_wires.specs.Aliases.{edge_of}
-use Rattle.net_readers.specs.Readers.{told}
+use Rattle.net_readers.specs.Fanouts.{told}
 use Rattle.net_wires.proofs.Reading.{some_reader}
 use Rattle.net_wires.proofs.Carried.{read_there}
 use Rattle.net_wires.proofs.aliased_tables.AliasedTables.has_readers.Goals as goal

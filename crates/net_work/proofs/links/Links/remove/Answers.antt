@@ -1,6 +1,6 @@
 use Rattle.std.proofs.Common.{◌≡◌, ℕ, List, None, ◌∙◌, subst, arith}
 use Rattle.std.proofs.lemmas.Result.{on_ok_weaker}
-use Rattle.net_readers.specs.Readers.{Inputs, told, with_inputs, AreReaders}
+use Rattle.net_readers.specs.Fanouts.{Inputs, told, with_inputs, AreReaders}
 use Rattle.net_core.specs.Tables.{named}
 use Rattle.net_work.proofs.Linked.{linked_set}
 use Rattle.net_work.proofs.links.Links.remove.Goals as goal
