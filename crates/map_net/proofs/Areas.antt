@@ -7,7 +7,7 @@ use Rattle.std.proofs.lemmas.List.Sums.{sum_by-cons, sum_by-append}
 use Rattle.sis_base.specs.declared.limits.TheConstants.{MAX_NODES}
 use Rattle.circuit_model.specs.declared.circuit.Circuit.{Circuit}
 use Rattle.genlib_format.specs.Reader.{gate_named}
-use Rattle.genlib_format.specs.Soundness.{IsSound, IsSoundGate}
+use Rattle.genlib_format.specs.Soundness.{IsSoundGates, IsSoundGate}
 use Rattle.genlib_format.specs.declared.gate.Gate.{Gate}
 use Rattle.blif_gates.proofs.Told.{sound_found}
 use Rattle.tree_cover.specs.declared.writing.Signal.{Signal}
@@ -96,7 +96,7 @@ all_placed_count library names (root ∷ roots) (cover ∷ covers) fresh placed
     omega (arith, whole, both, first, later, gates)
 
 -- the areas of a netlist by a sound library have a sum of 128 bits
-pub mapped_total : (circuit : Circuit) (library : List Gate) (mapped : Mapped) → IsSound library
+pub mapped_total : (circuit : Circuit) (library : List Gate) (mapped : Mapped) → IsSoundGates library
     → IsMapped circuit library mapped
     → sum_by (λ (tree : TreeFigure). tree.figure) mapped.trees < 2 ^ 128
 mapped_total circuit library mapped sound is =

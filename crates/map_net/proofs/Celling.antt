@@ -18,7 +18,7 @@ use Rattle.circuit_tables.proofs.Folded.{folded_output, folded_reads, folded_sha
 use Rattle.genlib_expr.specs.Formula.{formula_of}
 use Rattle.genlib_expr.specs.Functions.{function_of}
 use Rattle.genlib_format.specs.Reader.{gate_named}
-use Rattle.genlib_format.specs.Soundness.{IsSound, IsOneCell}
+use Rattle.genlib_format.specs.Soundness.{IsSoundGates, IsOneCell}
 use Rattle.genlib_format.specs.declared.gate.Gate.{Gate}
 use Rattle.netlist.specs.Netlists.{pins_of, signals_of, cell_table, placed_table, IsPlaced}
 use Rattle.netlist.specs.Figures.{area_of, driven_by}
@@ -52,7 +52,7 @@ pub record IsKnown (library : List Gate) (cell : Gate) : Type 0 where
   pub known : gate_named library cell.cell ≡ Some gate
   pub one : IsOneCell gate cell
 
-pub known_cell : (library : List Gate) → IsSound library → (place : ℕ) (cell : Gate)
+pub known_cell : (library : List Gate) → IsSoundGates library → (place : ℕ) (cell : Gate)
     → slice_get library place ≡ Some cell → IsKnown library cell
 unfolding gate_named
 known_cell library sound place cell at =

@@ -20,10 +20,10 @@ use Rattle.subject_tree.specs.declared.arena.Vertex.{Vertex}
 use Rattle.genlib_expr.specs.Formula.{Formula, constant, pin, complement, product, sum, formula_of}
 use Rattle.genlib_expr.specs.Values.{formula_value}
 use Rattle.genlib_expr.specs.Functions.{bit_at, function_of}
-use Rattle.genlib_format.specs.Soundness.{IsSound, IsSoundGate}
+use Rattle.genlib_format.specs.Soundness.{IsSoundGates, IsSoundGate}
 use Rattle.genlib_format.specs.declared.gate.Gate.{Gate}
 use Rattle.pattern_set.specs.Values.{HasPin, HasLeaf}
-use Rattle.pattern_set.specs.declared.cells.Gate.{Gate as PatternGate}
+use Rattle.pattern_set.specs.declared.cells.PatternGate.{PatternGate}
 use Rattle.pattern_set.proofs.Exact.{In}
 use Rattle.tree_cover.specs.Covers.{Tile, tile_of, tiles, Matches, IsProper, Fits}
 use Rattle.tree_cover.specs.Written.{IsWritten, written_leaf, written_gate, signal_value, signal_at}
@@ -304,7 +304,7 @@ pub record IsCellAt (library : List Gate) (listed : List Tile) (t : Tree ℕ) (k
   pub before : AllByRecursion (StandsBefore (λ place. HasLeaf place t) k) gate.pins
 
 pub cell_of_gate : (cmp : Tree ℕ → Tree ℕ → Ordering) (shapes : List Vertex) (library : List Gate)
-    (made : List PatternGate) → IsSound library → HavePatterns shapes library made → (t : Tree ℕ)
+    (made : List PatternGate) → IsSoundGates library → HavePatterns shapes library made → (t : Tree ℕ)
     (signal : Signal) (gates : List CoverGate)
     → IsWritten cmp (tiles shapes made) t 0 signal gates → (k : ℕ) (gate : CoverGate)
     → slice_get gates k ≡ Some gate → IsCellAt library (tiles shapes made) t k gate
@@ -363,7 +363,7 @@ pub record IsTabled (cmp : Tree ℕ → Tree ℕ → Ordering) (shapes : List Ve
     (library : List Gate) (made : List PatternGate) (names : List (List ℕ)) (t : Tree ℕ)
     (signal : Signal) (gates : List CoverGate) (root : List ℕ) (inner : List (List ℕ))
     (tables : List Table) : Type 0 where
-  pub sound : IsSound library
+  pub sound : IsSoundGates library
   pub have : HavePatterns shapes library made
   pub written : IsWritten cmp (tiles shapes made) t 0 signal gates
   pub are : AreGateTables library (name_of names (driven_in signal inner root)) gates

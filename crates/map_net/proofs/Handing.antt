@@ -11,9 +11,9 @@ use Rattle.subject_tree.specs.Trees.{Tree, Leaf, Inv, Nand, renamed}
 use Rattle.subject_tree.specs.Order.{name_at, LeavesBelow}
 use Rattle.subject_tree.specs.Roots.{is_root_fate, tree_over, named_tree}
 use Rattle.subject_tree.specs.declared.forest.Root.{Root}
-use Rattle.subject_tree.specs.declared.judging.Fate.{Fate}
-use Rattle.subject_tree.specs.declared.judging.Fate.TheVariants.{Constant, Put, Unused}
-use Rattle.subject_tree.specs.declared.judging.Fate.TheVariants.{Root as RootFate}
+use Rattle.subject_tree.specs.declared.judging.Role.{Role}
+use Rattle.subject_tree.specs.declared.judging.Role.TheVariants.{Constant, Put, Unused}
+use Rattle.subject_tree.specs.declared.judging.Role.TheVariants.{Root as RootFate}
 use Rattle.tree_cover.specs.Covers.{Tile, Matches, IsProper, Fits}
 use Rattle.tree_cover.specs.Written.{IsWritten, written_leaf, written_gate}
 use Rattle.tree_cover.specs.declared.writing.Signal.{Signal}
@@ -61,10 +61,10 @@ tail_same x y xs ys e = let off = e in cc
 abbrev pub over : Covering → Root → Option (Tree (List ℕ))
 over covering root = Some (named_tree covering.vertices covering.names root)
 
-abbrev pub rooted : (Table → Fate) → List Table → List Table
+abbrev pub rooted : (Table → Role) → List Table → List Table
 rooted fate tables = filter (λ (table : Table). is_root_fate (fate table)) tables
 
-pub left_is : (covering : Covering) (fate : Table → Fate) (tree : List ℕ → Tree (List ℕ))
+pub left_is : (covering : Covering) (fate : Table → Role) (tree : List ℕ → Tree (List ℕ))
     (tables : List Table) (roots : List Root) (covers : List TreeCover)
     → map (over covering) roots ≡ map (tree_over tree) (rooted fate tables)
     → AllByRecursion (λ root. LeavesBelow (length covering.names) (tree_of covering root)) roots
@@ -80,7 +80,7 @@ left_is covering fate tree (table ∷ tables) roots covers same below taken =
     left : Table → List Table
     left table = left_by (fate table) (tree_over tree table) table
 
-    by : (f : Fate) (rs : List Root) (cs : List TreeCover)
+    by : (f : Role) (rs : List Root) (cs : List TreeCover)
         → map (over covering) rs
         ≡ map (tree_over tree) (cond (is_root_fate f) (table ∷ rooted fate tables)
         (rooted fate tables))

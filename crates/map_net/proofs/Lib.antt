@@ -1,4 +1,3 @@
-pub mod Noted
 pub mod New
 pub mod Zipped
 pub mod Leaves

@@ -15,18 +15,18 @@ use Rattle.circuit_laws.proofs.Names.{all_has, has_front, has_back, has_either}
 use Rattle.circuit_laws.proofs.Drivers.{driver_name, driver_reads, output_driver}
 use Rattle.subject_tree.specs.Tables.{is_constant}
 use Rattle.subject_tree.specs.Forest.{uses_of, is_outer, fate_by, fate_of, is_put_fate, is_put}
-use Rattle.subject_tree.specs.declared.judging.Fate.{Fate}
-use Rattle.subject_tree.specs.declared.judging.Fate.TheVariants.{Constant, Put, Unused}
-use Rattle.subject_tree.specs.declared.judging.Fate.TheVariants.{Root as RootFate}
+use Rattle.subject_tree.specs.declared.judging.Role.{Role}
+use Rattle.subject_tree.specs.declared.judging.Role.TheVariants.{Constant, Put, Unused}
+use Rattle.subject_tree.specs.declared.judging.Role.TheVariants.{Root}
 use Rattle.map_net.specs.Standing.{IsTakenAsLeaf}
 use Rattle.pattern_set.proofs.Exact.{In}
 
 -- whether a table of a fate stands: as it is, or as the root of a tree
-abbrev pub stands_as : Fate → Bool
+abbrev pub stands_as : Role → Bool
 stands_as Constant = true
 stands_as Put = false
 stands_as Unused = false
-stands_as RootFate = true
+stands_as Root = true
 
 pub record HasTable (circuit : Circuit) (signal : List ℕ) : Type 0 where
   pub table : Table

@@ -11,7 +11,7 @@ use Rattle.std.proofs.lemmas.List.Sums.{sum_by-cons}
 use Rattle.std.proofs.lemmas.Option.{same_Some}
 use Rattle.circuit_model.specs.Runs.{Refines}
 use Rattle.circuit_model.specs.Soundness.{outputs_of}
-use Rattle.circuit_model.specs.Soundness.{IsSound as IsSoundCircuit}
+use Rattle.circuit_model.specs.Soundness.{IsSound}
 use Rattle.circuit_model.specs.declared.circuit.Table.{Table}
 use Rattle.circuit_model.specs.declared.circuit.Circuit.{Circuit}
 use Rattle.circuit_laws.specs.Edits.{with_tables}
@@ -21,7 +21,7 @@ use Rattle.subject_tree.specs.Trees.{Tree}
 use Rattle.subject_tree.specs.Order.{tree_cmp, place_cmp}
 use Rattle.subject_tree.specs.Roots.{roots_of, tree_over, named_tree}
 use Rattle.subject_tree.specs.declared.forest.Root.{Root}
-use Rattle.genlib_format.specs.Soundness.{IsSound}
+use Rattle.genlib_format.specs.Soundness.{IsSoundGates}
 use Rattle.genlib_format.specs.declared.gate.Gate.{Gate}
 use Rattle.tree_cover.specs.Written.{area_at}
 use Rattle.tree_cover.specs.Covers.{Tile}
@@ -64,7 +64,7 @@ cells_from library tiles [] each = tt
 cells_from library tiles (gate ∷ gates) each =
     (each 0 gate refl, cells_from library tiles gates (λ k g at. each (suc k) g at))
 
-taken_cells : (covering : Covering) (library : List Gate) → IsSound library
+taken_cells : (covering : Covering) (library : List Gate) → IsSoundGates library
     → HavePatterns covering.shapes library covering.gates → (t : Tree ℕ) (cover : TreeCover)
     → IsTaken covering t cover → HaveCells library (tiles_of covering) cover.gates
 taken_cells covering library sound have t cover taken =
@@ -96,7 +96,7 @@ celled library tiles named gate output placed (cell, at, is) (other, there, coun
     same : other ≡ cell
     same = same_Some other cell (sym there ∙ at)
 
-module _ (library : List Gate) (sound : IsSound library) (tiles : List Tile)
+module _ (library : List Gate) (sound : IsSoundGates library) (tiles : List Tile)
     (named : Signal → List ℕ) where
   gate_is_placed : (gate : CoverGate) (output : List ℕ) (placed : Placed)
       → IsCelled library tiles named gate output placed → IsPlaced library placed
@@ -213,7 +213,7 @@ last_same (z ∷ xs) [] x y e =
 last_same (z ∷ xs) (w ∷ ys) x y e = last_same xs ys x y (tail_of e)
 
 -- the gates of a cover are those of its figure
-cover_figure : (covering : Covering) (library : List Gate) → IsSound library
+cover_figure : (covering : Covering) (library : List Gate) → IsSoundGates library
     → HavePatterns covering.shapes library covering.gates → (root : Root) (cover : TreeCover)
     (inner : List (List ℕ)) (own : List Placed) → IsTaken covering (tree_of covering root) cover
     → IsPlacedCover library covering.names root.name cover inner own
@@ -254,7 +254,7 @@ cover_figure covering library sound have root cover inner own taken are = record
         ∙ ap (λ (s : Signal). driven_in s inner root.name) it.drives)
 
 -- the figures of a covering are those of its gates
-pub covering_parted : (covering : Covering) (library : List Gate) → IsSound library
+pub covering_parted : (covering : Covering) (library : List Gate) → IsSoundGates library
     → HavePatterns covering.shapes library covering.gates → (roots : List Root)
     (covers : List TreeCover) (fresh : List (List ℕ)) (placed : List Placed)
     → AreTaken covering roots covers → ArePlaced library covering.names roots covers fresh placed
@@ -272,7 +272,7 @@ covering_parted covering library sound have (root ∷ roots) (cover ∷ covers) 
     )
 
 -- all gates are placed by the library
-pub covering_placed : (covering : Covering) (library : List Gate) → IsSound library
+pub covering_placed : (covering : Covering) (library : List Gate) → IsSoundGates library
     → HavePatterns covering.shapes library covering.gates → (roots : List Root)
     (covers : List TreeCover) (fresh : List (List ℕ)) (placed : List Placed)
     → AreTaken covering roots covers → ArePlaced library covering.names roots covers fresh placed
@@ -291,7 +291,7 @@ covering_placed covering library sound have (root ∷ roots) (cover ∷ covers) 
     (covering_placed covering library sound have roots covers others rest taken.1 more))
 
 -- the tables of all gates stand for the trees of the roots
-pub covering_made : (covering : Covering) (library : List Gate) → IsSound library
+pub covering_made : (covering : Covering) (library : List Gate) → IsSoundGates library
     → HavePatterns covering.shapes library covering.gates → (tree : List ℕ → Tree (List ℕ))
     (tables : List Table) (roots : List Root) (covers : List TreeCover) (fresh : List (List ℕ))
     (placed : List Placed) → map (λ (root : Root). root.name) roots ≡ outputs_of tables
@@ -340,12 +340,12 @@ covering_made covering library sound have tree (table ∷ tables) (root ∷ root
 
 module _ (circuit : Circuit) (library : List Gate) (mapped : Mapped) where
   -- the gates of a netlist by a sound library are placed by it, and its figures are theirs
-  pub mapped_placed : IsSound library → IsMapped circuit library mapped
+  pub mapped_placed : IsSoundGates library → IsMapped circuit library mapped
       → AllByRecursion (IsPlaced library) mapped.gates
   mapped_placed sound is = covering_placed is.covering library sound is.covered.patterns
       is.covering.roots is.covering.covers is.fresh mapped.gates is.covered.covers is.gates
 
-  pub mapped_parted : IsSound library → IsMapped circuit library mapped
+  pub mapped_parted : IsSoundGates library → IsMapped circuit library mapped
       → ArePartedBy library mapped.trees mapped.gates
   mapped_parted sound is =
       subst (λ figures. ArePartedBy library figures mapped.gates) (sym is.figures)
@@ -368,7 +368,7 @@ module _ (circuit : Circuit) (library : List Gate) (mapped : Mapped) where
 
 -- the netlist of a sound circuit by a sound library
 module _ (circuit : Circuit) (library : List Gate) (mapped : Mapped)
-    (sound_circuit : IsSoundCircuit circuit) (sound : IsSound library)
+    (sound_circuit : IsSound circuit) (sound : IsSoundGates library)
     (is : IsMapped circuit library mapped) where
   mapped_netted : IsNetted circuit is.covering.signal_tree is.fresh (placed_tables library
       mapped.gates)
@@ -390,7 +390,7 @@ module _ (circuit : Circuit) (library : List Gate) (mapped : Mapped)
   pub mapped_sound : IsSoundNetlist library mapped
   mapped_sound = record {
     gates = mapped_placed circuit library mapped sound is;
-    circuit = subst IsSoundCircuit (sym (mapped_circuit circuit library mapped is))
+    circuit = subst IsSound (sym (mapped_circuit circuit library mapped is))
         (realized_sound circuit (net_of circuit is.covering.signal_tree (placed_tables library
         mapped.gates)) (acyclic_rank circuit.tables sound_circuit.acyclic) (IsLive circuit)
         sound_circuit mapped_realized);

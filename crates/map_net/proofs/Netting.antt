@@ -27,9 +27,9 @@ use Rattle.subject_tree.specs.Trees.{Tree, Leaf, Inv, Nand, value_at}
 use Rattle.subject_tree.specs.Tables.{is_constant}
 use Rattle.subject_tree.specs.Forest.{fate_of, fate_by, AreTrees}
 use Rattle.subject_tree.specs.Roots.{is_root_fate, roots_of, tree_over}
-use Rattle.subject_tree.specs.declared.judging.Fate.{Fate}
-use Rattle.subject_tree.specs.declared.judging.Fate.TheVariants.{Constant, Put, Unused}
-use Rattle.subject_tree.specs.declared.judging.Fate.TheVariants.{Root as RootFate}
+use Rattle.subject_tree.specs.declared.judging.Role.{Role}
+use Rattle.subject_tree.specs.declared.judging.Role.TheVariants.{Constant, Put, Unused}
+use Rattle.subject_tree.specs.declared.judging.Role.TheVariants.{Root}
 use Rattle.subject_tree.proofs.Growing.{trees_worth}
 use Rattle.subject_tree.proofs.Rooting.{never-none, root-full}
 use Rattle.map_net.specs.Standing.{IsLeafOf}
@@ -72,23 +72,23 @@ left_is : (circuit : Circuit) (tree : List ℕ → Tree (List ℕ)) (table x : T
     → IsLeft circuit tree table x
 left_is circuit tree table x h = by (fate_of circuit table) refl (tree_over tree table) refl h
   where
-    by : (fate : Fate) → fate_of circuit table ≡ fate → (found : Option (Tree (List ℕ)))
+    by : (fate : Role) → fate_of circuit table ≡ fate → (found : Option (Tree (List ℕ)))
         → tree_over tree table ≡ found → In x (left_by fate found table)
         → IsLeft circuit tree table x
     by Constant e found is (inl same) = inl (e, sym same)
     by Constant e found is (inr off) = absurd off
     by Put e found is off = absurd off
     by Unused e found is off = absurd off
-    by RootFate e None is off = absurd off
-    by RootFate e (Some (Leaf leaf)) is (inl same) = inr (record {
+    by Root e None is off = absurd off
+    by Root e (Some (Leaf leaf)) is (inl same) = inr (record {
       leaf = leaf;
       root = ap is_root_fate e;
       is = is;
       same = sym same;
     })
-    by RootFate e (Some (Leaf leaf)) is (inr off) = absurd off
-    by RootFate e (Some (Inv t)) is off = absurd off
-    by RootFate e (Some (Nand t u)) is off = absurd off
+    by Root e (Some (Leaf leaf)) is (inr off) = absurd off
+    by Root e (Some (Inv t)) is off = absurd off
+    by Root e (Some (Nand t u)) is off = absurd off
 
 constant_left : (circuit : Circuit) (tree : List ℕ → Tree (List ℕ)) (table : Table)
     → In table circuit.tables → fate_of circuit table ≡ Constant
@@ -97,19 +97,19 @@ unfolding tables_left
 constant_left circuit tree table there e =
     in_flat (λ (t : Table). left_by (fate_of circuit t) (tree_over tree t) t) table table
     circuit.tables there
-    (subst (λ (f : Fate). In table (left_by f (tree_over tree table) table)) (sym e) (inl refl))
+    (subst (λ (f : Role). In table (left_by f (tree_over tree table) table)) (sym e) (inl refl))
 
 handed_left : (circuit : Circuit) (tree : List ℕ → Tree (List ℕ)) (table : Table) (leaf : List ℕ)
-    → In table circuit.tables → fate_of circuit table ≡ RootFate
+    → In table circuit.tables → fate_of circuit table ≡ Root
     → tree_over tree table ≡ Some (Leaf leaf)
     → In (buffer leaf table.output) (tables_left circuit tree)
 unfolding tables_left
 handed_left circuit tree table leaf there e is =
     in_flat (λ (t : Table). left_by (fate_of circuit t) (tree_over tree t) t) (buffer leaf
     table.output) table circuit.tables there
-    (subst (λ (f : Fate). In (buffer leaf table.output) (left_by f (tree_over tree table) table))
+    (subst (λ (f : Role). In (buffer leaf table.output) (left_by f (tree_over tree table) table))
     (sym e) (subst (λ (found : Option (Tree (List ℕ))). In (buffer leaf table.output) (left_by
-    RootFate found table)) (sym is) (inl refl)))
+    Root found table)) (sym is) (inl refl)))
 
 -- each table that is left is left of a table of the circuit
 pub record OfTable (circuit : Circuit) (tree : List ℕ → Tree (List ℕ)) (x : Table) : Type 0 where
@@ -136,15 +136,15 @@ IsOneAtMost table [] = Unit {0}
 IsOneAtMost table (x ∷ []) = x.output ≡ table.output
 IsOneAtMost table (x ∷ y ∷ more) = ⊥
 
-left_one : (fate : Fate) (found : Option (Tree (List ℕ))) (table : Table)
+left_one : (fate : Role) (found : Option (Tree (List ℕ))) (table : Table)
     → IsOneAtMost table (left_by fate found table)
 left_one Constant found table = refl
 left_one Put found table = tt
 left_one Unused found table = tt
-left_one RootFate None table = tt
-left_one RootFate (Some (Leaf leaf)) table = refl
-left_one RootFate (Some (Inv t)) table = tt
-left_one RootFate (Some (Nand t u)) table = tt
+left_one Root None table = tt
+left_one Root (Some (Leaf leaf)) table = refl
+left_one Root (Some (Inv t)) table = tt
+left_one Root (Some (Nand t u)) table = tt
 
 flat_outputs : (f : Table → List Table) → ((table : Table) → IsOneAtMost table (f table))
     → (tables : List Table) (name : List ℕ) → has (outputs_of (flat_map f tables)) name ≡ true
@@ -555,7 +555,7 @@ module _ (circuit : Circuit) (tree : List ℕ → Tree (List ℕ)) (fresh : List
       )
 
   handed_stands : (table : Table) (leaf : List ℕ) → In table circuit.tables
-      → fate_of circuit table ≡ RootFate → tree_over tree table ≡ Some (Leaf leaf)
+      → fate_of circuit table ≡ Root → tree_over tree table ≡ Some (Leaf leaf)
       → Stands circuit (net_of circuit tree gates) r (IsLive circuit) table.output
   handed_stands table leaf there e made = record {
     group = buffer leaf table.output ∷ [];
@@ -623,19 +623,19 @@ module _ (circuit : Circuit) (tree : List ℕ → Tree (List ℕ)) (fresh : List
       shaped : IsShaped it.table
       shaped = all_in IsShaped circuit.tables is.sound.shaped it.table there
 
-      by : (fate : Fate) → fate_of circuit it.table ≡ fate → stands_as fate ≡ true
+      by : (fate : Role) → fate_of circuit it.table ≡ fate → stands_as fate ≡ true
           → (found : Option (Tree (List ℕ))) → tree_over tree it.table ≡ found
           → Stands circuit (net_of circuit tree gates) r (IsLive circuit) it.table.output
       by Constant e stays found made = constant_stands it.table there e
       by Put e stays found made = absurd (false≢true stays)
       by Unused e stays found made = absurd (false≢true stays)
-      by RootFate e stays None made =
+      by Root e stays None made =
           absurd (never-none tree it.table shaped (root-full circuit it.table (ap is_root_fate e))
           made)
-      by RootFate e stays (Some (Leaf leaf)) made = handed_stands it.table leaf there e made
-      by RootFate e stays (Some (Inv t)) made =
+      by Root e stays (Some (Leaf leaf)) made = handed_stands it.table leaf there e made
+      by Root e stays (Some (Inv t)) made =
           gated_stands it.table there (ap is_root_fate e) (subst IsGated (sym made) tt)
-      by RootFate e stays (Some (Nand t u)) made =
+      by Root e stays (Some (Nand t u)) made =
           gated_stands it.table there (ap is_root_fate e) (subst IsGated (sym made) tt)
 
   -- each table of the net is one of a group

@@ -2,10 +2,10 @@
 use Rattle.std.proofs.Common.{◌≡◌, ◌⊎◌, List, refl, ap, inl, inr, arith}
 use Rattle.std.specs.declared.result.Result.{Result}
 use Rattle.std.specs.declared.result.Result.TheVariants.{Ok, Err}
-use Rattle.circuit_model.specs.Soundness.{IsSound as IsSoundCircuit}
+use Rattle.circuit_model.specs.Soundness.{IsSound}
 use Rattle.circuit_model.specs.declared.circuit.Circuit.{Circuit}
 use Rattle.circuit_laws.proofs.Ranks.{acyclic_rank}
-use Rattle.genlib_format.specs.Soundness.{IsSound as IsSoundLibrary}
+use Rattle.genlib_format.specs.Soundness.{IsSoundGates}
 use Rattle.genlib_format.specs.declared.gate.Gate.{Gate}
 use Rattle.subject_tree.specs.Roots.{IsTooLarge}
 use Rattle.subject_tree.proofs.Growing.{trees_only}
@@ -70,8 +70,8 @@ module _ (circuit : Circuit) (library : List Gate) (has_one : HasOne circuit lib
 
 -- a sound circuit has one choice of the trees of signals, and the gates of a sound library have
 -- their pins in each pattern
-pub sound_one : (circuit : Circuit) (library : List Gate) → IsSoundCircuit circuit
-    → IsSoundLibrary library → HasOne circuit library
+pub sound_one : (circuit : Circuit) (library : List Gate) → IsSound circuit
+    → IsSoundGates library → HasOne circuit library
 sound_one circuit library sound well = record {
   trees = λ one other are into. trees_only circuit one other
       (acyclic_rank circuit.tables sound.acyclic) are into;

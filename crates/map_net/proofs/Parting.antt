@@ -13,7 +13,7 @@ use Rattle.circuit_laws.specs.Edits.{with_tables}
 use Rattle.net_core.specs.Fresh.{used_names}
 use Rattle.sis_base.specs.declared.limits.TheConstants.{MAX_NODES}
 use Rattle.genlib_format.specs.declared.gate.Gate.{Gate}
-use Rattle.genlib_format.specs.Soundness.{IsSound as IsSoundLibrary}
+use Rattle.genlib_format.specs.Soundness.{IsSoundGates}
 use Rattle.subject_tree.specs.Sizes.{word_count}
 use Rattle.subject_tree.specs.Order.{LeavesBelow}
 use Rattle.subject_tree.specs.Forest.{fate_of}
@@ -209,7 +209,7 @@ gates_in covered = sum_by (λ (cover : TreeCover). length cover.gates) covered.c
 
 -- covers can be placed, and there are as many as roots
 pub covered_ready : (circuit : Circuit) (library : List Gate) (covered : Covered)
-    → IsSoundLibrary library → IsCovered circuit library covered
+    → IsSoundGates library → IsCovered circuit library covered
     → AllByRecursion (IsReady (length library)) covered.covers.items
 covered_ready circuit library covered sound (tree, shapes, gates, is) =
     all_ready (covering_of tree shapes gates covered) library is.patterns

@@ -12,7 +12,7 @@ use Rattle.genlib_expr.specs.Formula.{formula_of}
 use Rattle.genlib_format.specs.declared.gate.Gate.{Gate}
 use Rattle.pattern_set.specs.Cells.{IsUsedPattern, lists_some, has_some}
 use Rattle.pattern_set.specs.Cells.{lack_of}
-use Rattle.pattern_set.specs.declared.cells.Gate.{Gate as PatternGate}
+use Rattle.pattern_set.specs.declared.cells.PatternGate.{PatternGate}
 use Rattle.pattern_set.specs.declared.cells.PatternFault.{PatternFault}
 use Rattle.pattern_set.specs.declared.cells.PatternFault.TheVariants.{NoInverter, NoNand}
 use Rattle.tree_cover.specs.Listed.{HasPatterns, HavePatterns}

@@ -10,7 +10,7 @@ use Rattle.subject_tree.specs.declared.arena.Vertex.{Vertex}
 use Rattle.subject_tree.specs.declared.forest.Root.{Root}
 use Rattle.genlib_format.specs.declared.gate.Gate.{Gate}
 use Rattle.pattern_set.specs.Values.{HasLeaf}
-use Rattle.pattern_set.specs.declared.cells.Gate.{Gate as PatternGate}
+use Rattle.pattern_set.specs.declared.cells.PatternGate.{PatternGate}
 use Rattle.tree_cover.specs.Covers.{Tile, tile_of}
 use Rattle.tree_cover.specs.Written.{IsWritten, written_leaf, written_gate, UsesPins}
 use Rattle.tree_cover.specs.Listed.{HavePatterns}

@@ -9,7 +9,7 @@ use Rattle.tree_cover.specs.Covers.{Tile, Matches, IsProper, IsGiven}
 use Rattle.tree_cover.specs.Written.{IsWritten, written_leaf, written_gate, AreWritten}
 use Rattle.tree_cover.specs.Written.{none_written, more_written}
 use Rattle.tree_cover.specs.declared.writing.Signal.{Signal}
-use Rattle.tree_cover.specs.declared.writing.Signal.TheVariants.{Leaf as AtLeaf, Gate as AtGate}
+use Rattle.tree_cover.specs.declared.writing.Signal.TheVariants.{Leaf as AtLeaf, Gate}
 use Rattle.tree_cover.specs.declared.writing.CoverGate.{CoverGate}
 use Rattle.map_net.proofs.Renaming.{AreOne, one_turned, leaf_is}
 use Rattle.map_net.proofs.Alike.{AreAlike, AreGiven, given_one}
@@ -17,9 +17,9 @@ use Rattle.map_net.proofs.Alike.{AreAlike, AreGiven, given_one}
 -- two signals are one, by the names of the leaves
 abbrev pub IsOneSignal : List (List ℕ) → List (List ℕ) → Signal → Signal → Type 0
 IsOneSignal names other (AtLeaf p) (AtLeaf q) = name_at names p ≡ name_at other q
-IsOneSignal names other (AtLeaf p) (AtGate k) = ⊥
-IsOneSignal names other (AtGate k) (AtLeaf q) = ⊥
-IsOneSignal names other (AtGate k) (AtGate l) = k ≡ l
+IsOneSignal names other (AtLeaf p) (Gate k) = ⊥
+IsOneSignal names other (Gate k) (AtLeaf q) = ⊥
+IsOneSignal names other (Gate k) (Gate l) = k ≡ l
 
 -- two gates are one: they have the same place, and the same signals at their pins
 pub record IsOneGate (names other : List (List ℕ)) (gate into : CoverGate) : Type 0 where
@@ -56,7 +56,7 @@ record WrittenGate (cmp : Tree ℕ → Tree ℕ → Ordering) (library : List Ti
   before : List CoverGate
   given : IsGiven cmp library t cost place bound
   are : AreWritten cmp library bound start pins before
-  root : signal ≡ AtGate (start + length before)
+  root : signal ≡ Gate (start + length before)
   all : gates ≡ before ++ record { place = place; pins = pins } ∷ []
 
 -- the cover of a leaf
@@ -174,12 +174,12 @@ module _ (names other : List (List ℕ)) (library into : List Tile)
       → AreOneCover names other pins signals before gates)
       → (u : Tree ℕ) (begin : ℕ) (signal : Signal) (gates : List CoverGate) → start ≡ begin
       → AreOne names other t u → IsWritten (tree_cmp (place_cmp other)) into u begin signal gates
-      → AreOneCover names other (AtGate (start + length before) ∷ []) (signal ∷ [])
+      → AreOneCover names other (Gate (start + length before) ∷ []) (signal ∷ [])
       (before ++ record { place = place; pins = pins } ∷ []) gates
   gate_one t start cost place bound pins before given pins_one u begin signal gates same one
       written =
       elim (written_by (tree_cmp (place_cmp other)) into u begin signal gates written)
-      as (λ _. AreOneCover names other (AtGate (start + length before) ∷ []) (signal ∷ [])
+      as (λ _. AreOneCover names other (Gate (start + length before) ∷ []) (signal ∷ [])
       (before ++ record { place = place; pins = pins } ∷ []) gates) [
         | inl w ↦
             let (leaf, is, named) = leaf_beside other names u t w.leaf
@@ -195,7 +195,7 @@ module _ (names other : List (List ℕ)) (library into : List Tile)
             zip_length (IsOneGate names other) before w.before rest.gates_are in
             record {
               signals_are = (
-                subst (IsOneSignal names other (AtGate (start + length before))) (sym w.root)
+                subst (IsOneSignal names other (Gate (start + length before))) (sym w.root)
                     (omega (arith, same, count)),
                 tt,
               );

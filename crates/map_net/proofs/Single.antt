@@ -24,12 +24,12 @@ use Rattle.subject_tree.specs.declared.arena.Vertex.{Vertex}
 use Rattle.subject_tree.specs.declared.forest.Root.{Root}
 use Rattle.subject_tree.proofs.RootValues.{roots-named}
 use Rattle.pattern_set.specs.Cells.{IsUsedPattern}
-use Rattle.pattern_set.specs.declared.cells.Gate.{Gate as PatternGate}
+use Rattle.pattern_set.specs.declared.cells.PatternGate.{PatternGate}
 use Rattle.tree_cover.specs.Covers.{Tile, tile_of, tiles, Least}
 use Rattle.tree_cover.specs.Written.{UsesPins}
 use Rattle.tree_cover.specs.Listed.{HasPatterns, HavePatterns}
 use Rattle.tree_cover.specs.declared.writing.Signal.{Signal}
-use Rattle.tree_cover.specs.declared.writing.Signal.TheVariants.{Leaf as AtLeaf, Gate as AtGate}
+use Rattle.tree_cover.specs.declared.writing.Signal.TheVariants.{Leaf, Gate as AtGate}
 use Rattle.tree_cover.specs.declared.writing.CoverGate.{CoverGate}
 use Rattle.tree_cover.proofs.Choosing.{contains_get}
 use Rattle.tree_cover.proofs.Open.{get_all, all_gets}
@@ -259,9 +259,9 @@ module _ (names other : List (List ℕ)) where
       → IsOneSignal names other root into
       → length (driven_in root inner name) ≡ length (driven_in into own beside)
       → length inner ≡ length own
-  driven_count (AtLeaf p) (AtLeaf q) inner own name beside one e = e
-  driven_count (AtLeaf p) (AtGate l) inner own name beside one e = absurd one
-  driven_count (AtGate k) (AtLeaf q) inner own name beside one e = absurd one
+  driven_count (Leaf p) (Leaf q) inner own name beside one e = e
+  driven_count (Leaf p) (AtGate l) inner own name beside one e = absurd one
+  driven_count (AtGate k) (Leaf q) inner own name beside one e = absurd one
   driven_count (AtGate k) (AtGate l) inner own name beside one e =
       let a : length (name ∷ []) ≡ 1 = refl in
       let b : length (beside ∷ []) ≡ 1 = refl in
@@ -270,18 +270,18 @@ module _ (names other : List (List ℕ)) where
   driven_one : (root into : Signal) (inner own : List (List ℕ)) (name beside : List ℕ)
       → IsOneSignal names other root into → inner ≡ own → name ≡ beside
       → driven_in root inner name ≡ driven_in into own beside
-  driven_one (AtLeaf p) (AtLeaf q) inner own name beside one e f = e
-  driven_one (AtLeaf p) (AtGate l) inner own name beside one e f = absurd one
-  driven_one (AtGate k) (AtLeaf q) inner own name beside one e f = absurd one
+  driven_one (Leaf p) (Leaf q) inner own name beside one e f = e
+  driven_one (Leaf p) (AtGate l) inner own name beside one e f = absurd one
+  driven_one (AtGate k) (Leaf q) inner own name beside one e f = absurd one
   driven_one (AtGate k) (AtGate l) inner own name beside one e f =
       ap (λ (xs : List (List ℕ)). xs ++ name ∷ []) e
       ∙ ap (λ (x : List ℕ). own ++ x ∷ []) f
 
   name_one : (driven : List (List ℕ)) (signal into : Signal) → IsOneSignal names other signal into
       → name_of names driven signal ≡ name_of other driven into
-  name_one driven (AtLeaf p) (AtLeaf q) one = one
-  name_one driven (AtLeaf p) (AtGate l) one = absurd one
-  name_one driven (AtGate k) (AtLeaf q) one = absurd one
+  name_one driven (Leaf p) (Leaf q) one = one
+  name_one driven (Leaf p) (AtGate l) one = absurd one
+  name_one driven (AtGate k) (Leaf q) one = absurd one
   name_one driven (AtGate k) (AtGate l) one = ap (λ (n : ℕ). slice_index_or driven n []) one
 
   signals_one : (driven : List (List ℕ)) (signals intos : List Signal)

@@ -11,7 +11,7 @@ use Rattle.subject_tree.specs.declared.arena.Vertex.{Vertex}
 use Rattle.subject_tree.specs.Order.{tree_cmp, place_cmp}
 use Rattle.subject_tree.specs.declared.forest.Root.{Root}
 use Rattle.subject_tree.specs.declared.forest.Forest.{Forest}
-use Rattle.pattern_set.specs.declared.cells.Gate.{Gate as PatternGate}
+use Rattle.pattern_set.specs.declared.cells.PatternGate.{PatternGate}
 use Rattle.pattern_set.specs.declared.cells.Patterns.{Patterns}
 use Rattle.subject_tree.specs.Trees.{Tree}
 use Rattle.tree_cover.specs.Covers.{Tile, tiles, Least}

@@ -17,7 +17,7 @@ use Rattle.sis_base.specs.declared.limits.TheConstants.{MAX_VERTICES}
 use Rattle.genlib_expr.specs.Formula.{formula_of}
 use Rattle.genlib_format.specs.declared.gate.Gate.{Gate}
 use Rattle.pattern_set.specs.Cells.{IsUsedPattern, is_inverter, is_nand}
-use Rattle.pattern_set.specs.declared.cells.Gate.{Gate as PatternGate}
+use Rattle.pattern_set.specs.declared.cells.PatternGate.{PatternGate}
 use Rattle.tree_cover.specs.Covers.{Tile, tiles, Least}
 use Rattle.tree_cover.specs.Written.{IsWritten, area_at}
 use Rattle.tree_cover.specs.declared.writing.CoverGate.{CoverGate}

@@ -1,8 +1,8 @@
 -- The netlist of a circuit by a library.
 -- Source: Keutzer, "DAGON: Technology binding and local optimization by DAG matching" (24th Design
 -- Automation Conference, 1987): the gates of the covers of all trees are the mapped network. How
--- inner signals are named, in which order gates stand, and what is written as a table are the
--- project's own.
+-- inner signals are named, the order of the gates, and what is written as a table are the project's
+-- own.
 use Rattle.std.specs.Prelude.{◌≡◌, ℕ, ◌+◌, ◌<◌, ◌≤◌, true, Option, Some, None, Result, Ok, Err}
 use Rattle.std.specs.Prelude.{List, [], ◌∷◌, ◌++◌, map, flat_map, length, sum_by, slice_get}
 use Rattle.std.specs.Prelude.{slice_index_or}
@@ -24,9 +24,9 @@ use Rattle.subject_tree.specs.declared.forest.ForestFault.TheVariants.{Memory as
 use Rattle.pattern_set.specs.declared.cells.PatternFault.{PatternFault}
 use Rattle.pattern_set.specs.declared.cells.PatternFault.TheVariants.{NoInverter as LacksInverter}
 use Rattle.pattern_set.specs.declared.cells.PatternFault.TheVariants.{NoNand as LacksNand}
-use Rattle.subject_tree.specs.declared.judging.Fate.{Fate}
-use Rattle.subject_tree.specs.declared.judging.Fate.TheVariants.{Constant, Put, Unused}
-use Rattle.subject_tree.specs.declared.judging.Fate.TheVariants.{Root as RootFate}
+use Rattle.subject_tree.specs.declared.judging.Role.{Role}
+use Rattle.subject_tree.specs.declared.judging.Role.TheVariants.{Constant, Put, Unused}
+use Rattle.subject_tree.specs.declared.judging.Role.TheVariants.{Root as RootFate}
 use Rattle.tree_cover.specs.declared.writing.Signal.{Signal}
 use Rattle.tree_cover.specs.declared.writing.Signal.TheVariants.{Leaf as AtLeaf, Gate as AtGate}
 use Rattle.tree_cover.specs.declared.writing.CoverGate.{CoverGate}
@@ -50,7 +50,7 @@ abbrev pub fault_of_forest : ForestFault → MapFault
 fault_of_forest TooLarge = TreeLimit
 fault_of_forest NoMemory = Memory
 
--- the table that hands a signal on
+-- the buffer table from a signal to an output
 abbrev pub buffer : List ℕ → List ℕ → Table
 buffer signal output = record {
   inputs = signal ∷ [];
@@ -59,9 +59,9 @@ buffer signal output = record {
   phase = true;
 }
 
--- what is left of a table, by what becomes of it and by its tree: a constant table as it is, and a
--- root whose tree is a leaf as a table that hands the leaf on
-abbrev pub left_by : Fate → Option (Tree (List ℕ)) → Table → List Table
+-- what is left of a table, by its fate and its tree: a constant table as it is, and a root whose
+-- tree is a leaf as a buffer table from the leaf
+abbrev pub left_by : Role → Option (Tree (List ℕ)) → Table → List Table
 left_by Constant t table = table ∷ []
 left_by Put t table = []
 left_by Unused t table = []
@@ -70,7 +70,7 @@ left_by RootFate (Some (Leaf signal)) table = buffer signal table.output ∷ []
 left_by RootFate (Some (Inv t)) table = []
 left_by RootFate (Some (Nand t u)) table = []
 
--- the tables that no gates stand for, in order
+-- the tables that no gates implement, in order
 unfoldable pub tables_left : Circuit → (List ℕ → Tree (List ℕ)) → List Table
 tables_left circuit tree =
     flat_map (λ (table : Table). left_by (fate_of circuit table) (tree_over tree table) table)
@@ -81,7 +81,7 @@ abbrev pub name_of : List (List ℕ) → List (List ℕ) → Signal → List ℕ
 name_of names driven (AtLeaf place) = name_at names place
 name_of names driven (AtGate k) = slice_index_or driven k []
 
--- pins with the signals that they stand at, in order
+-- pins with their signals, in order
 unfoldable pub connected : List (List ℕ) → List (List ℕ) → List Connection
 connected [] signals = []
 connected (pin ∷ pins) [] = []
@@ -134,7 +134,7 @@ ArePlaced library names (root ∷ roots) (cover ∷ covers) fresh placed =
     × IsPlacedCover library names root.name cover inner own
     × ArePlaced library names roots covers others rest
 
--- the figure of a tree: the name of its root, what its cover costs, and how many gates that has
+-- the figure of a tree: the name of its root, the cost of its cover, and the number of its gates
 abbrev pub figure_of : Root → TreeCover → TreeFigure
 figure_of root cover = record { name = root.name; figure = cover.cost; gates = length cover.gates }
 
@@ -144,8 +144,8 @@ figures_of [] covers = []
 figures_of (root ∷ roots) [] = []
 figures_of (root ∷ roots) (cover ∷ covers) = figure_of root cover ∷ figures_of roots covers
 
--- how many gates, tables and latches the netlist of a covering has, the tables of the don't-care
--- part with them
+-- the number of gates, tables and latches of the netlist of a covering, the tables of the
+-- don't-care part included
 abbrev pub node_count : Circuit → Covering → ℕ
 node_count circuit covering =
     sum_by (λ (cover : TreeCover). length cover.gates) covering.covers + length
@@ -153,8 +153,8 @@ node_count circuit covering =
     + length circuit.latches + length circuit.dont_care
 
 -- a netlist is that of a circuit by a library: its gates are those of the covers that are taken of
--- the trees, and no others; its tables are those that no gates stand for; all else is the
--- circuit's. New names stand nowhere in the circuit.
+-- the trees, and no others; its tables are those that no gates implement; all else is the
+-- circuit's. New names occur nowhere in the circuit.
 pub record IsMapped (circuit : Circuit) (library : List Gate) (mapped : Mapped) : Type 0 where
   pub covering : Covering
   pub covered : IsCovering circuit library covering

@@ -1,4 +1,4 @@
--- The names of new signals: numbers in brackets that stand nowhere else.
+-- The names of new signals: numbers in brackets that occur nowhere else.
 -- Source: the names `[n]` are those of SIS's own new nodes (UCB/ERL M92/41); that the least free
 -- numbers are taken, in order, is the project's own.
 use Rattle.std.specs.Prelude.{◌≡◌, ℕ, ◌+◌, ◌^◌, ◌<◌, ◌≤◌, true, false, List, [], ◌∷◌}

@@ -1,4 +1,4 @@
--- What private functions of the mapper hand on. No public clause needs these definitions.
+-- What private functions of the mapper return. No public clause needs these definitions.
 use Rattle.std.specs.Prelude.{◌≡◌, ℕ, Result, Ok, Err, List}
 use Rattle.circuit_model.specs.declared.circuit.Circuit.{Circuit}
 use Rattle.circuit_laws.specs.Edits.{with_tables}
@@ -7,7 +7,7 @@ use Rattle.subject_tree.specs.Trees.{Tree}
 use Rattle.subject_tree.specs.Roots.{IsTooLarge}
 use Rattle.subject_tree.specs.declared.arena.Vertex.{Vertex}
 use Rattle.subject_tree.specs.declared.forest.Forest.{Forest}
-use Rattle.pattern_set.specs.declared.cells.Gate.{Gate as PatternGate}
+use Rattle.pattern_set.specs.declared.cells.PatternGate.{PatternGate}
 use Rattle.pattern_set.specs.declared.cells.Patterns.{Patterns}
 use Rattle.netlist.specs.declared.mapped.Mapped.{Mapped}
 use Rattle.map_net.specs.declared.mapping.MapFault.{MapFault}

@@ -9,14 +9,14 @@ use Rattle.circuit_model.specs.declared.circuit.Circuit.{Circuit}
 use Rattle.subject_tree.specs.Trees.{Tree, Leaf, Inv, Nand}
 use Rattle.subject_tree.specs.Forest.{is_put, uses_of}
 
--- a leaf stands in a tree
+-- a leaf occurs in a tree
 abbrev pub IsLeafOf : {A : Type 0} → A → Tree A → Type 0
 IsLeafOf x (Leaf y) = y ≡ x
 IsLeafOf x (Inv t) = IsLeafOf x t
 IsLeafOf x (Nand t u) = IsLeafOf x t ⊎ IsLeafOf x u
 
--- a signal is read by a table, some row has a literal of it, and no table of its own is put into a
--- reader
+-- a table reads a signal, some row has a literal of it, and its own table, if it has one, is not
+-- inlined
 pub record IsTakenAsLeaf (circuit : Circuit) (signal : List ℕ) : Type 0 where
   pub whole : is_put circuit signal ≡ false
   pub used : 0 < uses_of circuit.tables signal

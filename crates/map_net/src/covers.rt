@@ -1,23 +1,26 @@
-//! The covers of all trees of a forest.
+//! The covers of all trees of a forest, each with its cost.
+//!
+//! Callers rely on `AreTaken`: for the choices of a covering there is one cover for each root, in
+//! order, the one that tree_cover takes of its tree.
 
 ghost use Rattle.std.specs.Prelude.{◌≡◌, ◌<◌, ℕ, List, length, sum_by, IfOk};
 ghost use Rattle.std.specs.List.{AllByRecursion};
 ghost use Rattle.subject_tree.specs.Sizes.{word_count};
-ghost use Rattle.subject_tree.specs.declared.forest.Root.{Root as TheRoot};
+ghost use Rattle.subject_tree.specs.declared.forest.Root.{Root};
 ghost use Rattle.tree_cover.specs.Postorder.{AreBelow};
 ghost use Rattle.subject_tree.specs.Arenas.{tree_at};
 ghost use Rattle.map_net.specs.Covering.{IsTaken, AreTaken};
 ghost use Rattle.map_net.specs.Covering.{Covering as TheCovering};
 ghost use Rattle.map_net.specs.Choosing.{IsChosen};
-ghost use Rattle.map_net.specs.declared.covers.TreeCover.{TreeCover as TheTreeCover};
+ghost use Rattle.map_net.specs.declared.covers.TreeCover.{TreeCover};
 
 use sis_base::Sequence;
 use std::alloc::{AllocError, Global};
 use subject_tree::{Arena, Root};
 use tree_cover::{Choices, CoverGate, Signal, WrittenCover, write_cover};
 
-/// A cover of a tree: what drives its root, its gates, each behind those that drive its pins, and
-/// what it costs, in millionths.
+/// A cover of a tree: what drives its root, its gates, each after those that drive its pins, and
+/// its cost in millionths.
 #[derive(Drop)]
 pub struct TreeCover {
     pub root: Signal,
@@ -55,14 +58,14 @@ fn cover_at(
     Ok(settled(cover, choices.cost(root)))
 }
 
-/// The covers of the trees of roots, in their order. An error only for want of memory.
+/// The covers of the trees of roots, in their order.
 pub fn covers_of(
     alloc: Global,
     nodes: &Arena,
     choices: &Choices,
     roots: &[Root],
 ) -> Result<Vec<TreeCover>, AllocError>
-    requires roots { AllByRecursion (λ (root : TheRoot). root.number < length nodes.now) roots.now }
+    requires roots { AllByRecursion (λ (root : Root). root.number < length nodes.now) roots.now }
     requires count { length choices.now ≡ length nodes.now }
     requires below { AreBelow choices.now }
     ensures { IfOk result (λ covers. (covering : TheCovering)
@@ -75,10 +78,10 @@ pub fn covers_of(
     Ok(covers)
 }
 
-/// How many gates covers have together; `usize::MAX` where there are that many or more.
+/// The number of gates of covers together; `usize::MAX` if there are that many or more.
 pub fn gate_count(covers: &[TreeCover]) -> usize
     ensures { result
-        ≡ word_count (sum_by (λ (cover : TheTreeCover). length cover.gates) covers.now) }
+        ≡ word_count (sum_by (λ (cover : TreeCover). length cover.gates) covers.now) }
 {
     let mut count: usize = 0;
     for cover in covers {

@@ -1,9 +1,13 @@
-//! The tables that no gates stand for.
+//! The tables of a netlist: those of a circuit that no gates implement.
+//!
+//! A constant table stays as it is. A root whose tree is a leaf becomes a buffer table; all other
+//! tables are dropped. The covers of the roots are consumed in step with the tables, as roots are
+//! in table order. Callers rely on `left_from` of `specs/Working.antt`.
 
 ghost use Rattle.std.specs.Prelude.{◌≡◌, ◌++◌, ◌∷◌, [], IfOk, OnOk};
 ghost use Rattle.circuit_model.specs.declared.circuit.Tri.TheVariants.{One as AtOne};
 ghost use Rattle.tree_cover.specs.declared.writing.Signal.TheVariants.{Leaf as AtLeaf};
-ghost use Rattle.map_net.specs.Mapping.{buffer as buffer_of};
+ghost use Rattle.map_net.specs.Mapping.{buffer};
 ghost use Rattle.map_net.specs.Working.{root_left, next_left, behind_next, table_left};
 ghost use Rattle.map_net.specs.Working.{covers_behind, left_from};
 
@@ -11,10 +15,10 @@ use crate::covers::TreeCover;
 use circuit_model::{Name, Names, Row, Rows, Table, Tables, Tri};
 use sis_base::{Copied, Sequence};
 use std::alloc::{AllocError, Global};
-use subject_tree::{Fate, Leaves};
+use subject_tree::{Leaves, Role};
 use tree_cover::Signal;
 
-// The one row that asks its one input for 1.
+// A single row, with the positive literal of a single input.
 fn row_of_one(alloc: Global) -> Result<Rows, AllocError>
     ensures { IfOk result (λ rows. rows ≡ (AtOne ∷ []) ∷ []) }
 {
@@ -25,7 +29,7 @@ fn row_of_one(alloc: Global) -> Result<Rows, AllocError>
     Ok(rows)
 }
 
-// The one input.
+// A single input.
 fn input_of(alloc: Global, signal: &Name) -> Result<Names, AllocError>
     ensures { IfOk result (λ names. names ≡ signal.now ∷ []) }
 {
@@ -34,9 +38,9 @@ fn input_of(alloc: Global, signal: &Name) -> Result<Names, AllocError>
     Ok(inputs)
 }
 
-// The table that hands a signal on.
+// The buffer table from a signal to an output.
 fn buffer(alloc: Global, signal: &Name, output: &Name) -> Result<Table, AllocError>
-    ensures { IfOk result (λ table. table ≡ buffer_of signal.now output.now) }
+    ensures { IfOk result (λ table. table ≡ buffer signal.now output.now) }
 {
     let inputs = input_of(alloc, signal)?;
     let rows = row_of_one(alloc)?;
@@ -48,7 +52,7 @@ fn buffer(alloc: Global, signal: &Name, output: &Name) -> Result<Table, AllocErr
     })
 }
 
-// Puts the table that hands a leaf on, if there is a leaf.
+// Appends the buffer table from a leaf, if there is such a leaf.
 fn put_buffer(
     alloc: Global,
     left: &mut Tables,
@@ -64,7 +68,7 @@ fn put_buffer(
     Ok(())
 }
 
-// Puts what is left of the table of a root that a signal drives.
+// Appends what is left of the table of a root that a signal drives.
 fn put_root(
     alloc: Global,
     left: &mut Tables,
@@ -80,7 +84,7 @@ fn put_root(
     }
 }
 
-// Puts what is left of the table of the next root, and hands back the covers behind its own.
+// Appends what is left of the table of the next root, and returns the covers after its own.
 fn put_next<'a>(
     alloc: Global,
     left: &mut Tables,
@@ -101,13 +105,13 @@ fn put_next<'a>(
     }
 }
 
-// Puts what is left of a table of a fate, and hands back the covers of the roots behind it.
+// Appends what is left of a table of a fate, and returns the covers of the roots after it.
 fn put_left<'a>(
     alloc: Global,
     left: &mut Tables,
     leaves: &Leaves,
     table: &Table,
-    fate: Fate,
+    fate: Role,
     covers: &'a [TreeCover],
 ) -> Result<&'a [TreeCover], AllocError>
     ensures left { OnOk result (left.new ≡ left.old ++ table_left leaves.now fate table.now
@@ -115,23 +119,23 @@ fn put_left<'a>(
     ensures rest { IfOk result (λ rest. rest.now ≡ covers_behind fate covers.entry.now) }
 {
     match fate {
-        Fate::Constant => {
+        Role::Constant => {
             left.push(table.copy(alloc)?)?;
             Ok(covers)
         }
-        Fate::Put => Ok(covers),
-        Fate::Unused => Ok(covers),
-        Fate::Root => put_next(alloc, left, leaves, table, covers),
+        Role::Put => Ok(covers),
+        Role::Unused => Ok(covers),
+        Role::Root => put_next(alloc, left, leaves, table, covers),
     }
 }
 
-/// The tables that no gates stand for, in order, by what becomes of each table and the covers of
-/// the roots. An error only for want of memory.
+/// The tables that no gates implement, in order, by the fate of each table and the covers of the
+/// roots.
 pub fn tables_left(
     alloc: Global,
     leaves: &Leaves,
     tables: &[Table],
-    fates: &[Fate],
+    fates: &[Role],
     covers: &[TreeCover],
 ) -> Result<Tables, AllocError>
     ensures { IfOk result (λ left. left ≡ left_from leaves.now fates.now tables.now covers.now) }

@@ -1,21 +1,28 @@
-//! The netlist of a network.
+//! Technology mapping of a network by a library of gates.
+//!
+//! Source: Keutzer, "DAGON: Technology binding and local optimization by DAG matching" (24th Design
+//! Automation Conference, 1987). The network is cut into trees, each tree is covered at least cost,
+//! and the gates of the covers are placed between named signals. Failures are found in this order:
+//! no inverter, no two-input NAND, trees too large together, too many nodes. Callers rely on
+//! `Maps`: the netlist, or the first reason against it; the netlist is sound, and its circuit
+//! refines the network.
 
 ghost use Rattle.std.specs.Prelude.{◌≡◌, ◌↔◌, ◌+◌, ◌^◌, ◌≤◌, ◌<◌, ℕ, List, map, length, IfOk, IfErr};
 ghost use Rattle.std.specs.Prelude.{IsTrue, sum_by};
 ghost use Rattle.std.specs.List.{AllByRecursion};
-ghost use Rattle.circuit_model.specs.Soundness.{IsSound as IsSoundCircuit};
+ghost use Rattle.circuit_model.specs.Soundness.{IsSound};
 ghost use Rattle.circuit_model.specs.Runs.{Refines};
 ghost use Rattle.circuit_laws.specs.Edits.{with_tables};
-ghost use Rattle.genlib_format.specs.Soundness.{IsSound as IsSoundLibrary};
-ghost use Rattle.genlib_format.specs.declared.gate.Gate.{Gate as TheGate};
+ghost use Rattle.genlib_format.specs.Soundness.{IsSoundGates};
+ghost use Rattle.genlib_format.specs.declared.gate.Gate.{Gate};
 ghost use Rattle.net_core.specs.Fresh.{used_names};
 ghost use Rattle.netlist.specs.Netlists.{circuit_of, IsSoundNetlist};
 ghost use Rattle.netlist.specs.Figures.{ArePartedBy};
-ghost use Rattle.netlist.specs.declared.mapped.TreeFigure.{TreeFigure as TheTreeFigure};
+ghost use Rattle.netlist.specs.declared.mapped.TreeFigure.{TreeFigure};
 ghost use Rattle.subject_tree.specs.Trees.{size_of};
 ghost use Rattle.subject_tree.specs.Arenas.{tree_at};
 ghost use Rattle.subject_tree.specs.Forest.{fate_of};
-ghost use Rattle.subject_tree.specs.declared.forest.Root.{Root as TheRoot};
+ghost use Rattle.subject_tree.specs.declared.forest.Root.{Root};
 ghost use Rattle.tree_cover.specs.Candidates.{IsLibrary};
 ghost use Rattle.tree_cover.specs.Listed.{HavePatterns};
 ghost use Rattle.map_net.specs.Covering.{AreTaken};
@@ -43,8 +50,8 @@ use subject_tree::{Forest, ForestFault, Root, fates, forest_of};
 use tree_cover::{best, library_patterns};
 
 /// Why there is no netlist: the library has no inverter, or no NAND of two pins; the trees have too
-/// many vertices together; the netlist would have too many gates, tables and latches; or memory is
-/// wanting.
+/// many vertices together; the netlist would have too many gates, tables and latches; or memory ran
+/// out.
 #[derive(Clone, Copy, Debug, PartialEq, Eq, Drop)]
 pub enum MapFault {
     NoInverter,
@@ -100,7 +107,7 @@ struct Covered {
     covers: Vec<TreeCover>,
 }
 
-// What stands beside the base of a netlist, and the tables of the base.
+// What is made of a netlist: the tables of its base, its gates, and the figures of its trees.
 #[derive(Drop)]
 struct Parts {
     left: Tables,
@@ -130,8 +137,7 @@ fn figures(alloc: Global, roots: &[Root], covers: &[TreeCover]) -> Result<TreeFi
     Ok(made)
 }
 
-// Whether there are too many gates, tables and latches, the tables of the don't-care part with
-// them.
+// Whether there are too many gates, tables and latches, the tables of the don't-care part included.
 fn is_over(gates: usize, left: usize, circuit: &Circuit) -> bool
     ensures { IsTrue result ↔ (MAX_NODES < gates + left + length circuit.now.latches + length
         circuit.now.dont_care) }
@@ -152,7 +158,7 @@ fn cover_forest(
     requires library { IsLibrary patterns.now.arena patterns.now.gates }
     requires sizes { (n : ℕ) → n < length forest.now.arena
         → size_of (tree_at forest.now.arena n) ≤ MAX_VERTICES }
-    requires roots { AllByRecursion (λ (root : TheRoot). root.number < length forest.now.arena)
+    requires roots { AllByRecursion (λ (root : Root). root.number < length forest.now.arena)
         forest.now.roots.items }
     ensures { IfOk result (λ covers. (covering : TheCovering)
         → IsOver covering forest.now patterns.now
@@ -165,9 +171,9 @@ fn cover_forest(
 // The forest of a circuit with its covers, by the patterns of a library that has all that covers
 // need.
 fn covered_by(alloc: Global, circuit: &Circuit, patterns: &Patterns) -> Result<Covered, MapFault>
-    requires circuit { IsSoundCircuit circuit.now }
+    requires circuit { IsSound circuit.now }
     requires library { IsLibrary patterns.now.arena patterns.now.gates }
-    ensures ok { IfOk result (λ covered. (library : List TheGate)
+    ensures ok { IfOk result (λ covered. (library : List Gate)
         → HavePatterns patterns.now.arena library patterns.now.gates
         → IsCovered circuit.now library covered) }
     ensures err { IfErr result (λ fault. IsForestFault circuit.now fault) }
@@ -180,8 +186,8 @@ fn covered_by(alloc: Global, circuit: &Circuit, patterns: &Patterns) -> Result<C
 
 // The forest of a circuit with its covers, or why there is none.
 fn covered_of(alloc: Global, circuit: &Circuit, library: &Library) -> Result<Covered, MapFault>
-    requires circuit { IsSoundCircuit circuit.now }
-    requires library { IsSoundLibrary library.now }
+    requires circuit { IsSound circuit.now }
+    requires library { IsSoundGates library.now }
     ensures { Covers circuit.now library.now result }
 {
     let patterns = Whole {
@@ -191,9 +197,9 @@ fn covered_of(alloc: Global, circuit: &Circuit, library: &Library) -> Result<Cov
     covered_by(alloc, circuit, &patterns.it)
 }
 
-// The tables that no gates stand for.
+// The tables that no gates implement.
 fn left_of(alloc: Global, circuit: &Circuit, covered: &Covered) -> Result<Tables, AllocError>
-    requires { IsSoundCircuit circuit.now }
+    requires { IsSound circuit.now }
     ensures { IfOk result (λ left. left ≡ left_from covered.now.forest.leaves
         (map (fate_of circuit.now) circuit.now.tables) circuit.now.tables
         covered.now.covers.items) }
@@ -228,15 +234,15 @@ fn gates_of(
     place_all(alloc, library, &forest.leaves, &used, roots, covers)
 }
 
-// The parts of the netlist of covers, if they are not too many.
+// The parts of the netlist of covers, unless there are too many.
 fn parts_of(
     alloc: Global,
     circuit: &Circuit,
     library: &Library,
     covered: &Covered,
 ) -> Result<Parts, MapFault>
-    requires circuit { IsSoundCircuit circuit.now }
-    requires library { IsSoundLibrary library.now }
+    requires circuit { IsSound circuit.now }
+    requires library { IsSoundGates library.now }
     requires covered { IsCovered circuit.now library.now covered.now }
     ensures { HasParts circuit.now library.now result }
 {
@@ -252,8 +258,8 @@ fn parts_of(
 
 // The parts of the netlist of a circuit, or why there is none.
 fn map_circuit(alloc: Global, circuit: &Circuit, library: &Library) -> Result<Parts, MapFault>
-    requires circuit { IsSoundCircuit circuit.now }
-    requires library { IsSoundLibrary library.now }
+    requires circuit { IsSound circuit.now }
+    requires library { IsSoundGates library.now }
     ensures { MapsParts circuit.now library.now result }
 {
     let covered = Whole {
@@ -262,7 +268,7 @@ fn map_circuit(alloc: Global, circuit: &Circuit, library: &Library) -> Result<Pa
     parts_of(alloc, circuit, library, &covered.it)
 }
 
-// The netlist of parts, beside the ports, latches and don't-care part of a circuit.
+// The netlist of parts, with the ports, latches and don't-care part of a circuit.
 fn assembled(circuit: Circuit, parts: Parts) -> Mapped
     ensures { result ≡ mapped_of circuit parts }
 {
@@ -298,7 +304,7 @@ pub fn map<R: Row>(
     network: &Network<R>,
     library: &Library,
 ) -> Result<Mapped, MapFault>
-    requires { IsSoundLibrary library.now }
+    requires { IsSoundGates library.now }
     ensures maps { Maps network.now library.now result }
     ensures sound { IfOk result (λ mapped. IsSoundNetlist library.now mapped) }
     ensures kept { IfOk result (λ mapped. circuit_of library.now mapped ≡ with_tables network.now
@@ -306,7 +312,7 @@ pub fn map<R: Row>(
     ensures refines { IfOk result (λ mapped. Refines network.now (circuit_of library.now mapped)) }
     ensures figures { IfOk result (λ mapped. ArePartedBy library.now mapped.trees mapped.gates) }
     ensures total { IfOk result (λ mapped.
-        sum_by (λ (tree : TheTreeFigure). tree.figure) mapped.trees < 2 ^ 128) }
+        sum_by (λ (tree : TreeFigure). tree.figure) mapped.trees < 2 ^ 128) }
 {
     network.sound();
     let circuit = Whole {

@@ -1,10 +1,14 @@
-//! The gates of covers, placed between signals.
+//! The gates of covers as placed gates of a netlist, with named signals at their pins.
+//!
+//! Trees are placed in the order of the roots, and the gates of each in postorder. The last gate of
+//! a cover drives the root's signal; the others drive new names, taken in order. Callers rely on
+//! `ArePlaced` of `specs/Mapping.antt`.
 
 ghost use Rattle.std.specs.Prelude.{◌≡◌, ◌<◌, ◌+◌, ◌++◌, ◌∷◌, ℕ, List, [], map, length, slice_get};
 ghost use Rattle.std.specs.Prelude.{Some, option_copied, unwrap_or, IfOk, OnOk};
 ghost use Rattle.std.specs.List.{AllByRecursion};
-ghost use Rattle.tree_cover.specs.declared.writing.CoverGate.{CoverGate as TheCoverGate};
-ghost use Rattle.netlist.specs.declared.mapped.Placed.{Placed as ThePlaced};
+ghost use Rattle.tree_cover.specs.declared.writing.CoverGate.{CoverGate};
+ghost use Rattle.netlist.specs.declared.mapped.Placed.{Placed};
 ghost use Rattle.map_net.specs.Naming.{AreNew, AreNewTo};
 ghost use Rattle.map_net.specs.Mapping.{name_of, connected, placed_as, driven_in, ArePlacedAs};
 ghost use Rattle.map_net.specs.Mapping.{IsPlacedCover, ArePlaced};
@@ -46,7 +50,7 @@ fn signal_name(
     }
 }
 
-// Puts a pin with the signal that it stands at.
+// Appends a pin with its signal.
 fn connect(
     alloc: Global,
     pins: &mut Connections,
@@ -99,7 +103,7 @@ fn placed_gate(
     })
 }
 
-// The gate at a place of a library.
+// The gate at an index of a library.
 fn gate_at(library: &[Gate], place: usize) -> &Gate
     requires { place < length library.now }
     ensures { slice_get library.now place ≡ Some result.now }
@@ -107,7 +111,7 @@ fn gate_at(library: &[Gate], place: usize) -> &Gate
     &library[place]
 }
 
-// Places the gates of a cover behind those that there are.
+// Appends the placed gates of a cover.
 fn place_gates(
     alloc: Global,
     library: &[Gate],
@@ -116,10 +120,10 @@ fn place_gates(
     cover: &[CoverGate],
     gates: &mut Gates,
 ) -> Result<(), AllocError>
-    requires places { AllByRecursion (λ (gate : TheCoverGate). gate.place < length library.now)
+    requires places { AllByRecursion (λ (gate : CoverGate). gate.place < length library.now)
         cover.now }
     requires count { length driven.now ≡ length cover.now }
-    ensures { OnOk result ((own : List ThePlaced) × (gates.new ≡ gates.old ++ own)
+    ensures { OnOk result ((own : List Placed) × (gates.new ≡ gates.old ++ own)
         × ArePlacedAs library.now (name_of leaves.now driven.now) cover.now driven.now own) }
 {
     for (gate, output) in cover.iter().zip(driven) {
@@ -155,7 +159,7 @@ fn names_driven(
     }
 }
 
-// Places the gates of one cover behind those that there are.
+// Appends the placed gates of one cover, with new names for what they drive.
 fn place_cover(
     alloc: Global,
     library: &[Gate],
@@ -167,7 +171,7 @@ fn place_cover(
     gates: &mut Gates,
 ) -> Result<(), AllocError>
     requires { IsReady (length library.now) cover.now }
-    ensures { OnOk result ((inner : List (List ℕ)) × (own : List ThePlaced)
+    ensures { OnOk result ((inner : List (List ℕ)) × (own : List Placed)
         × AreNewTo used.now.keys start.old inner start.new × (gates.new ≡ gates.old ++ own)
         × IsPlacedCover library.now leaves.now root.now cover.now inner own) }
 {
@@ -176,7 +180,7 @@ fn place_cover(
     place_gates(alloc, library, leaves, driven.as_slice(), cover, gates)
 }
 
-/// Places the gates of all covers, tree by tree. An error only for want of memory.
+/// Places the gates of all covers, tree by tree.
 pub fn place_all(
     alloc: Global,
     library: &Library,

@@ -3,26 +3,26 @@ use Rattle.std.proofs.Common.{◌≡◌, ℕ, ◌+◌, ◌||◌, ◌&&◌, not, 
 use Rattle.std.specs.List.{list_any, count_by}
 use Rattle.std.proofs.lemmas.List.Folds.{list_any-append}
 use Rattle.std.proofs.lemmas.List.Sums.{sum_by-append}
+use Rattle.std.proofs.Math.Bool.{or-false}
 use Rattle.genlib_expr.specs.Formula.{Formula, constant, pin, complement, product, sum, postfix, formula_of, ArePostfix}
 use Rattle.genlib_expr.specs.declared.node.Node.{Node}
 use Rattle.genlib_expr.specs.declared.node.Node.TheVariants.{Not, And, Or}
 use Rattle.pattern_set.specs.Patterns.{has_constant, literal_count, is_used}
 use Rattle.pattern_set.specs.Usage.{is_constant_node, is_pin_node}
-use Rattle.pattern_set.proofs.Values.{or_false}
 use Rattle.sis_base.specs.declared.limits.TheConstants.{MAX_LITERALS}
 
 any_of_both : (ns ms : List Node) (last : Node) (a b : Bool) → is_constant_node last ≡ false → list_any is_constant_node ns ≡ a → list_any is_constant_node ms ≡ b → list_any is_constant_node ((ns ++ ms) ++ last ∷ []) ≡ (a || b)
 any_of_both ns ms last a b none f g =
     list_any-append is_constant_node (ns ++ ms) (last ∷ [])
     ∙ (ap (λ (c : Bool). list_any is_constant_node (ns ++ ms) || (c || false)) none
-    ∙ (or_false (list_any is_constant_node (ns ++ ms))
+    ∙ (or-false (list_any is_constant_node (ns ++ ms))
     ∙ (list_any-append is_constant_node ns ms ∙ (ap (λ (c : Bool). c || list_any is_constant_node ms) f ∙ ap (λ (c : Bool). a || c) g))))
 
 constants : (e : Formula) → list_any is_constant_node (postfix e) ≡ has_constant e
 unfolding postfix has_constant
 constants (constant bit) = refl
 constants (pin place) = refl
-constants (complement e) = list_any-append is_constant_node (postfix e) (Not ∷ []) ∙ (or_false (list_any is_constant_node (postfix e)) ∙ constants e)
+constants (complement e) = list_any-append is_constant_node (postfix e) (Not ∷ []) ∙ (or-false (list_any is_constant_node (postfix e)) ∙ constants e)
 constants (product d e) = any_of_both (postfix d) (postfix e) And (has_constant d) (has_constant e) refl (constants d) (constants e)
 constants (sum d e) = any_of_both (postfix d) (postfix e) Or (has_constant d) (has_constant e) refl (constants d) (constants e)
 

@@ -11,7 +11,7 @@ use Rattle.subject_tree.specs.declared.arena.Vertex.{Vertex}
 use Rattle.subject_tree.proofs.Joining.{taken-kept, trees-kept}
 use Rattle.genlib_expr.specs.Formula.{Formula}
 use Rattle.pattern_set.specs.declared.cells.Cell.{Cell}
-use Rattle.pattern_set.specs.declared.cells.Gate.{Gate}
+use Rattle.pattern_set.specs.declared.cells.PatternGate.{PatternGate}
 use Rattle.pattern_set.specs.Patterns.{is_used}
 use Rattle.pattern_set.specs.Lists.{patterns_of}
 use Rattle.pattern_set.specs.Numbers.{AreNumbers, HaveSame}
@@ -94,23 +94,23 @@ lists_kept old new ns P kept lists =
       all = λ t h. subst (λ (ts : List (Tree ℕ)). Contains ts t) same (lists.all t h);
     }
 
-gates_kept : (old new : List Vertex) (cells : List Cell) (gates : List Gate) → KeepsTrees old new → AreGatesOf old cells gates → AreGatesOf new cells gates
+gates_kept : (old new : List Vertex) (cells : List Cell) (gates : List PatternGate) → KeepsTrees old new → AreGatesOf old cells gates → AreGatesOf new cells gates
 gates_kept old new [] [] kept are = tt
 gates_kept old new [] (g ∷ gates) kept are = absurd are
 gates_kept old new (c ∷ cells) [] kept are = absurd are
 gates_kept old new (c ∷ cells) (g ∷ gates) kept are =
     (record { area = are.0.area; pins = are.0.pins; patterns = lists_kept old new g.patterns _ kept are.0.patterns }, gates_kept old new cells gates kept are.1)
 
-gates_push : (vs : List Vertex) (cells : List Cell) (gates : List Gate) (c : Cell) (g : Gate) → AreGatesOf vs cells gates → IsGateOf vs c g → AreGatesOf vs (cells ++ c ∷ []) (gates ++ g ∷ [])
+gates_push : (vs : List Vertex) (cells : List Cell) (gates : List PatternGate) (c : Cell) (g : PatternGate) → AreGatesOf vs cells gates → IsGateOf vs c g → AreGatesOf vs (cells ++ c ∷ []) (gates ++ g ∷ [])
 gates_push vs [] [] c g are is = (is, tt)
 gates_push vs [] (h ∷ gates) c g are is = absurd are
 gates_push vs (d ∷ cells) [] c g are is = absurd are
 gates_push vs (d ∷ cells) (h ∷ gates) c g are is = (are.0, gates_push vs cells gates c g are.1 is)
 
 -- one gate more
-pub gates_more : (old new : List Vertex) (cells : List Cell) (gates pushed : List Gate) (i : ℕ) (c : Cell) (g : Gate) → KeepsTrees old new → i < length cells → c ≡ get_or cells i c
+pub gates_more : (old new : List Vertex) (cells : List Cell) (gates pushed : List PatternGate) (i : ℕ) (c : Cell) (g : PatternGate) → KeepsTrees old new → i < length cells → c ≡ get_or cells i c
     → AreGatesOf old (take i cells) gates → IsGateOf new c g → pushed ≡ gates ++ g ∷ [] → AreGatesOf new (take (i + 1) cells) pushed
 gates_more old new cells gates pushed i c g kept lt is are made pushes =
-    subst (λ (gs : List Gate). AreGatesOf new (take (i + 1) cells) gs) (sym pushes)
+    subst (λ (gs : List PatternGate). AreGatesOf new (take (i + 1) cells) gs) (sym pushes)
     (subst (λ (cs : List Cell). AreGatesOf new cs (gates ++ g ∷ [])) (sym (take_more cells i c lt ∙ ap (λ (d : Cell). take i cells ++ d ∷ []) (sym is)))
     (gates_push new (take i cells) gates c g (gates_kept old new (take i cells) gates kept are) made))

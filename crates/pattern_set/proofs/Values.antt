@@ -1,6 +1,7 @@
 -- A pattern has the value of its formula.
 use Rattle.std.proofs.Common.{◌≡◌, ℕ, Bool, true, false, not, ◌&&◌, ◌||◌, List, [], ◌∷◌, ◌++◌, refl, sym, ap, ◌∙◌}
 use Rattle.std.specs.List.{list_all, list_any}
+use Rattle.std.proofs.Math.Bool.{and-true, or-false}
 use Rattle.subject_tree.specs.Trees.{Tree, product_of, sum_of, value_at}
 use Rattle.subject_tree.proofs.Values.{complement-value, product-value, sum-value}
 use Rattle.genlib_expr.specs.Formula.{Formula, constant, pin, complement, product, sum}
@@ -24,14 +25,6 @@ or_past : (a b c : Bool) → (a || (b || c)) ≡ (b || (a || c))
 or_past false b c = refl
 or_past true true c = refl
 or_past true false c = refl
-
-and_true : (b : Bool) → (b && true) ≡ b
-and_true true = refl
-and_true false = refl
-
-pub or_false : (b : Bool) → (b || false) ≡ b
-or_false true = refl
-or_false false = refl
 
 parted_all : (f : Formula → Bool) {xs ys zs : List Formula} → IsParting zs xs ys → list_all f zs ≡ (list_all f xs && list_all f ys)
 parted_all f none_left = refl
@@ -59,27 +52,27 @@ record Means (value : ℕ → Bool) (join : Tree ℕ → Tree ℕ → Tree ℕ) 
 
 module _ (value : ℕ → Bool) where
   products : Means value product_of (λ a b. a && b) (list_all (formula_value value))
-  products = record { one = λ e. and_true (formula_value value e); parts = λ h. parted_all (formula_value value) h; joins = product-value value }
+  products = record { one = λ e. and-true (formula_value value e); parts = λ h. parted_all (formula_value value) h; joins = product-value value }
 
   sums : Means value sum_of (λ a b. a || b) (list_any (formula_value value))
-  sums = record { one = λ e. or_false (formula_value value e); parts = λ h. parted_any (formula_value value) h; joins = sum-value value }
+  sums = record { one = λ e. or-false (formula_value value e); parts = λ h. parted_any (formula_value value) h; joins = sum-value value }
 
   factors_value : (e : Formula) → list_all (formula_value value) (factors e) ≡ formula_value value e
   unfolding factors formula_value
-  factors_value (constant bit) = and_true bit
-  factors_value (pin place) = and_true (value place)
-  factors_value (complement e) = and_true (not (formula_value value e))
+  factors_value (constant bit) = and-true bit
+  factors_value (pin place) = and-true (value place)
+  factors_value (complement e) = and-true (not (formula_value value e))
   factors_value (product d e) =
       all_of_both (formula_value value) (factors d) (factors e)
       ∙ (ap (λ (b : Bool). b && list_all (formula_value value) (factors e)) (factors_value d) ∙ ap (λ (b : Bool). formula_value value d && b) (factors_value e))
-  factors_value (sum d e) = and_true (formula_value value d || formula_value value e)
+  factors_value (sum d e) = and-true (formula_value value d || formula_value value e)
 
   terms_value : (e : Formula) → list_any (formula_value value) (terms e) ≡ formula_value value e
   unfolding terms formula_value
-  terms_value (constant bit) = or_false bit
-  terms_value (pin place) = or_false (value place)
-  terms_value (complement e) = or_false (not (formula_value value e))
-  terms_value (product d e) = or_false (formula_value value d && formula_value value e)
+  terms_value (constant bit) = or-false bit
+  terms_value (pin place) = or-false (value place)
+  terms_value (complement e) = or-false (not (formula_value value e))
+  terms_value (product d e) = or-false (formula_value value d && formula_value value e)
   terms_value (sum d e) =
       any_of_both (formula_value value) (terms d) (terms e)
       ∙ (ap (λ (b : Bool). b || list_any (formula_value value) (terms e)) (terms_value d) ∙ ap (λ (b : Bool). formula_value value d || b) (terms_value e))

@@ -1,6 +1,6 @@
--- Which patterns are listed for the gates of a library.
--- Source: Keutzer, "DAGON: Technology binding and local optimization by DAG matching" (24th Design Automation Conference,
--- 1987): a library is complete where it has an inverter and a NAND of two pins.
+-- Which patterns are listed for the gates of a library. Source: Keutzer, "DAGON: Technology binding
+-- and local optimization by DAG matching" (24th Design Automation Conference, 1987): a library is
+-- complete where it has an inverter and a NAND of two pins.
 use Rattle.std.specs.Prelude.{◌≡◌, ℕ, ◌==◌, Bool, true, false, not, List, nat_eq}
 use Rattle.std.specs.List.{AllByRecursion, Contains, IsDistinct, AllZip, list_any}
 use Rattle.std.specs.declared.result.Result.{Result}
@@ -12,7 +12,7 @@ use Rattle.subject_tree.specs.declared.arena.Vertex.{Vertex}
 use Rattle.genlib_expr.specs.Formula.{Formula, formula_of}
 use Rattle.pattern_set.specs.Patterns.{IsPattern, is_used}
 use Rattle.pattern_set.specs.declared.cells.Cell.{Cell}
-use Rattle.pattern_set.specs.declared.cells.Gate.{Gate}
+use Rattle.pattern_set.specs.declared.cells.PatternGate.{PatternGate}
 use Rattle.pattern_set.specs.declared.cells.PatternFault.{PatternFault}
 use Rattle.pattern_set.specs.declared.cells.PatternFault.TheVariants.{NoInverter, NoNand}
 
@@ -28,13 +28,13 @@ abbrev pub IsUsedPattern : Formula → Tree ℕ → Type 0
 IsUsedPattern e t = (is_used e ≡ true) × IsPattern e t
 
 -- a gate has the area and the pins of a cell, and lists the patterns of its formula, if it is used
-pub record IsGateOf (vertices : List Vertex) (cell : Cell) (gate : Gate) : Type 0 where
+pub record IsGateOf (vertices : List Vertex) (cell : Cell) (gate : PatternGate) : Type 0 where
   pub area : gate.area ≡ cell.area
   pub pins : gate.pins ≡ cell.pins
   pub patterns : Lists vertices gate.patterns (IsUsedPattern (formula_of cell.expr.now))
 
 -- gates are those of cells, in order
-abbrev pub AreGatesOf : List Vertex → List Cell → List Gate → Type 0
+abbrev pub AreGatesOf : List Vertex → List Cell → List PatternGate → Type 0
 AreGatesOf vertices cells gates = AllZip (IsGateOf vertices) cells gates
 
 -- whether a tree is a leaf
@@ -64,11 +64,11 @@ is_nand (Inv t) = false
 is_nand (Nand t u) = are_leaves t u
 
 -- whether a gate lists a tree that passes a test
-abbrev pub lists_some : (Tree ℕ → Bool) → List Vertex → Gate → Bool
+abbrev pub lists_some : (Tree ℕ → Bool) → List Vertex → PatternGate → Bool
 lists_some test vertices gate = list_any (λ n. test (tree_at vertices n)) gate.patterns
 
 -- whether some gate does
-abbrev pub has_some : (Tree ℕ → Bool) → List Vertex → List Gate → Bool
+abbrev pub has_some : (Tree ℕ → Bool) → List Vertex → List PatternGate → Bool
 has_some test vertices gates = list_any (lists_some test vertices) gates
 
 -- what a library lacks, by whether it has an inverter and a NAND

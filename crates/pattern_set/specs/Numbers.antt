@@ -1,6 +1,5 @@
--- Lists of trees by the numbers of their vertices.
--- Source: Ershov, "On programming of arithmetic operations" (Communications of the ACM 1, 1958): one number for each
--- different subterm.
+-- Lists of trees by the numbers of their vertices. Source: Ershov, "On programming of arithmetic
+-- operations" (Communications of the ACM 1, 1958): one number for each different subterm.
 use Rattle.std.specs.Prelude.{◌≡◌, ℕ, List, map, nat_eq}
 use Rattle.std.specs.List.{AllByRecursion, list_any}
 use Rattle.subject_tree.specs.Trees.{Tree}
@@ -25,11 +24,11 @@ SetsTaken vertices sets = AllByRecursion (AreTaken vertices) sets
 abbrev pub AreSets : List Vertex → List (List ℕ) → List (List (Tree ℕ)) → Type 0
 AreSets vertices sets ts = SetsTaken vertices sets × (set_trees vertices sets ≡ ts)
 
--- what operands gather, by the trees of their numbers
+-- gathered operands, by the trees of their numbers
 abbrev pub gathered_at : List Vertex → Operands → Gathered
 gathered_at vertices operands = record { kind = operands.kind; sets = set_trees vertices operands.sets }
 
--- operands gather something
+-- numbers of operands have the trees of gathered ones
 abbrev pub Gathers : List Vertex → Operands → Gathered → Type 0
 Gathers vertices operands gathered = SetsTaken vertices operands.sets × (gathered_at vertices operands ≡ gathered)
 
@@ -37,10 +36,10 @@ Gathers vertices operands gathered = SetsTaken vertices operands.sets × (gather
 abbrev pub AllTaken : List Vertex → List Operands → Type 0
 AllTaken vertices waiting = AllByRecursion (λ (operands : Operands). SetsTaken vertices operands.sets) waiting
 
--- each of some operands gathers something
+-- the numbers of each of some operands have the trees of gathered ones
 abbrev pub GatherAll : List Vertex → List Operands → List Gathered → Type 0
 GatherAll vertices waiting gathered = AllTaken vertices waiting × (map (gathered_at vertices) waiting ≡ gathered)
 
--- the same numbers stand in two lists
+-- two lists have the same numbers
 abbrev pub HaveSame : List ℕ → List ℕ → Type 0
 HaveSame one other = (n : ℕ) → list_any (nat_eq n) one ≡ list_any (nat_eq n) other

@@ -1,12 +1,19 @@
-//! The patterns of a formula, from its nodes in postfix order.
+//! The patterns of a formula, computed from its nodes in postfix order.
+//!
+//! Source: Rudell, "Logic Synthesis for VLSI Design" (thesis, University of California, Berkeley,
+//! 1989), the chapter on technology mapping. A stack holds one entry for each subformula that is
+//! still an operand: nested products, or nested sums, are kept flat as the list of their operands,
+//! each with its own patterns. They are joined in all ways only where another operation, or the
+//! end, needs their patterns. Callers rely on `patterns_of`: all patterns of the formula, perhaps
+//! some of them more than once.
 
 ghost use Rattle.std.specs.Prelude.{◌≡◌, ◌++◌, ◌∷◌, ◌≤◌, None, [], fold, length, map, IfOk, IfSome, OnOk};
 ghost use Rattle.std.specs.List.{range_with_len};
 ghost use Rattle.subject_tree.specs.Arenas.{KeepsTrees};
 ghost use Rattle.subject_tree.specs.Tables.{trees_of, AreTaken};
-ghost use Rattle.subject_tree.specs.Trees.{Leaf as TheLeaf, complement_of};
+ghost use Rattle.subject_tree.specs.Trees.{Leaf, complement_of};
 ghost use Rattle.genlib_expr.specs.Formula.{formula_of};
-ghost use Rattle.pattern_set.specs.Lists.{one as one_set, settled, operands_as, complemented, combined, complemented_newest, combined_newest, gathered_more, newest, patterns_of};
+ghost use Rattle.pattern_set.specs.Lists.{one, settled, operands_as, complemented, combined, complemented_newest, combined_newest, gathered_more, newest, patterns_of};
 ghost use Rattle.pattern_set.specs.Numbers.{AreNumbers, AreSets, SetsTaken, AllTaken, gathered_at, Gathers, GatherAll};
 
 use crate::joining::join_all;
@@ -17,8 +24,8 @@ use std::alloc::{AllocError, Global};
 use std::collections::VecDeque;
 use subject_tree::Arena;
 
-/// The operands of a product or of a sum, each by the numbers of its patterns; one operand is its own product, and its own
-/// sum.
+/// The operands of a product or of a sum, each by the numbers of its patterns; one operand is its
+/// own product, and its own sum.
 #[derive(Drop)]
 pub struct Operands {
     pub kind: Kind,
@@ -36,7 +43,7 @@ fn places_below(alloc: Global, count: usize) -> Result<Vec<usize>, AllocError>
     Ok(made)
 }
 
-// The patterns of what was gathered.
+// The patterns of gathered operands.
 #[tactic(auto, unfolding(crate::specs::Lists::settled))]
 fn settle(
     alloc: Global,
@@ -44,7 +51,8 @@ fn settle(
     operands: &Operands,
 ) -> Result<Sequence<usize>, AllocError>
     requires { SetsTaken arena.old operands.now.sets }
-    ensures ok { IfOk result (λ made. AreNumbers arena.new made (settled (gathered_at arena.old operands.now))) }
+    ensures ok { IfOk result (λ made. AreNumbers arena.new made
+        (settled (gathered_at arena.old operands.now))) }
     ensures kept { KeepsTrees arena.old arena.new }
 {
     let count = operands.sets.len();
@@ -60,7 +68,7 @@ fn settle(
     Ok(Sequence::from_vec(made))
 }
 
-// One operand.
+// A single operand.
 fn one(alloc: Global, set: Sequence<usize>) -> Result<Operands, AllocError>
     ensures { IfOk result (λ made. made ≡ record { kind = Kind.Product; sets = set ∷ [] }) }
 {
@@ -72,7 +80,8 @@ fn one(alloc: Global, set: Sequence<usize>) -> Result<Operands, AllocError>
     })
 }
 
-// What was gathered, as operands of a kind.
+// Gathered operands as operands of a kind: they are joined to one operand if they are of the other
+// kind.
 #[tactic(auto, unfolding(crate::specs::Lists::operands_as))]
 fn operands_as(
     alloc: Global,
@@ -81,7 +90,8 @@ fn operands_as(
     operands: Operands,
 ) -> Result<Sequence<Sequence<usize>>, AllocError>
     requires { SetsTaken arena.old operands.sets }
-    ensures ok { IfOk result (λ made. AreSets arena.new made (operands_as kind (gathered_at arena.old operands))) }
+    ensures ok { IfOk result (λ made. AreSets arena.new made
+        (operands_as kind (gathered_at arena.old operands))) }
     ensures kept { KeepsTrees arena.old arena.new }
 {
     if is_same(kind, operands.kind) {
@@ -93,7 +103,7 @@ fn operands_as(
     Ok(made)
 }
 
-// Sets behind others.
+// One list of sets after the other.
 fn append(
     left: Sequence<Sequence<usize>>,
     right: Sequence<Sequence<usize>>,
@@ -106,7 +116,7 @@ fn append(
     Ok(Sequence::from_vec(made))
 }
 
-// What two operands of a product or of a sum gather together.
+// The operands of the product or of the sum of two.
 fn combine(
     alloc: Global,
     arena: &mut Arena,
@@ -116,7 +126,8 @@ fn combine(
 ) -> Result<Operands, AllocError>
     requires left { SetsTaken arena.old left.sets }
     requires right { SetsTaken arena.old right.sets }
-    ensures ok { IfOk result (λ made. Gathers arena.new made (combined kind (gathered_at arena.old left) (gathered_at arena.old right))) }
+    ensures ok { IfOk result (λ made. Gathers arena.new made
+        (combined kind (gathered_at arena.old left) (gathered_at arena.old right))) }
     ensures kept { KeepsTrees arena.old arena.new }
 {
     let lefts = operands_as(alloc, arena, kind, left)?;
@@ -132,7 +143,8 @@ fn complement_each(
     numbers: &[usize],
 ) -> Result<Sequence<usize>, AllocError>
     requires { AreTaken arena.old numbers.now }
-    ensures ok { IfOk result (λ made. AreNumbers arena.new made (map complement_of (trees_of arena.old numbers.now))) }
+    ensures ok { IfOk result (λ made. AreNumbers arena.new made
+        (map complement_of (trees_of arena.old numbers.now))) }
     ensures kept { KeepsTrees arena.old arena.new }
 {
     let mut made = Vec::with_capacity(alloc, numbers.len())?;
@@ -142,10 +154,11 @@ fn complement_each(
     Ok(Sequence::from_vec(made))
 }
 
-// The complement of what was gathered, as one operand.
+// The complement of gathered operands, as one operand.
 fn complement(alloc: Global, arena: &mut Arena, operands: Operands) -> Result<Operands, AllocError>
     requires { SetsTaken arena.old operands.sets }
-    ensures ok { IfOk result (λ made. Gathers arena.new made (complemented (gathered_at arena.old operands))) }
+    ensures ok { IfOk result (λ made. Gathers arena.new made
+        (complemented (gathered_at arena.old operands))) }
     ensures kept { KeepsTrees arena.old arena.new }
 {
     let set = settle(alloc, arena, &operands)?;
@@ -155,7 +168,7 @@ fn complement(alloc: Global, arena: &mut Arena, operands: Operands) -> Result<Op
 
 // The leaf of a pin, as one operand.
 fn leaf(alloc: Global, arena: &mut Arena, place: usize) -> Result<Operands, AllocError>
-    ensures ok { IfOk result (λ made. Gathers arena.new made (one_set (TheLeaf place ∷ []))) }
+    ensures ok { IfOk result (λ made. Gathers arena.new made (one (Leaf place ∷ []))) }
     ensures kept { KeepsTrees arena.old arena.new }
 {
     let number = arena.leaf(place)?;
@@ -164,16 +177,17 @@ fn leaf(alloc: Global, arena: &mut Arena, place: usize) -> Result<Operands, Allo
     one(alloc, set)
 }
 
-// The newest two of what waits.
+// The two newest entries of the stack.
 #[derive(Drop)]
 struct Pair {
     left: Operands,
     right: Operands,
 }
 
-// Takes the newest two off, where there are two.
+// Pops the two newest entries, if there are two.
 fn take_two(waiting: &mut VecDeque<Operands>) -> Option<Pair>
-    ensures some { IfSome result (λ two. waiting.old.items ≡ two.right ∷ two.left ∷ waiting.new.items) }
+    ensures some { IfSome result (λ two. waiting.old.items
+        ≡ two.right ∷ two.left ∷ waiting.new.items) }
     ensures none { result ≡ None → length waiting.old.items ≤ 1 }
 {
     let right = waiting.pop_front()?;
@@ -181,7 +195,7 @@ fn take_two(waiting: &mut VecDeque<Operands>) -> Option<Pair>
     Some(Pair { left, right })
 }
 
-// The newest two are combined, where there are two; and else none is left.
+// Combines the two newest entries, if there are two; otherwise none is left.
 fn combine_newest(
     alloc: Global,
     arena: &mut Arena,
@@ -189,7 +203,8 @@ fn combine_newest(
     waiting: &mut VecDeque<Operands>,
 ) -> Result<(), AllocError>
     requires { AllTaken arena.old waiting.old.items }
-    ensures ok { OnOk result (GatherAll arena.new waiting.new.items (combined_newest kind (map (gathered_at arena.old) waiting.old.items))) }
+    ensures ok { OnOk result (GatherAll arena.new waiting.new.items
+        (combined_newest kind (map (gathered_at arena.old) waiting.old.items))) }
     ensures kept { KeepsTrees arena.old arena.new }
 {
     match take_two(waiting) {
@@ -205,14 +220,15 @@ fn combine_newest(
     }
 }
 
-// The complement of the newest is taken, where there is one.
+// Complements the newest entry, if there is one.
 fn complement_newest(
     alloc: Global,
     arena: &mut Arena,
     waiting: &mut VecDeque<Operands>,
 ) -> Result<(), AllocError>
     requires { AllTaken arena.old waiting.old.items }
-    ensures ok { OnOk result (GatherAll arena.new waiting.new.items (complemented_newest (map (gathered_at arena.old) waiting.old.items))) }
+    ensures ok { OnOk result (GatherAll arena.new waiting.new.items
+        (complemented_newest (map (gathered_at arena.old) waiting.old.items))) }
     ensures kept { KeepsTrees arena.old arena.new }
 {
     match waiting.pop_front() {
@@ -225,7 +241,7 @@ fn complement_newest(
     }
 }
 
-// The leaf of a pin is put before those that wait.
+// Pushes the leaf of a pin.
 fn put_leaf(
     alloc: Global,
     arena: &mut Arena,
@@ -233,7 +249,8 @@ fn put_leaf(
     place: usize,
 ) -> Result<(), AllocError>
     requires { AllTaken arena.old waiting.old.items }
-    ensures ok { OnOk result (GatherAll arena.new waiting.new.items (one_set (TheLeaf place ∷ []) ∷ map (gathered_at arena.old) waiting.old.items)) }
+    ensures ok { OnOk result (GatherAll arena.new waiting.new.items
+        (one (Leaf place ∷ []) ∷ map (gathered_at arena.old) waiting.old.items)) }
     ensures kept { KeepsTrees arena.old arena.new }
 {
     let made = leaf(alloc, arena, place)?;
@@ -241,14 +258,15 @@ fn put_leaf(
     Ok(())
 }
 
-// A constant, which has no pattern, is put before those that wait.
+// Pushes a constant, which has no pattern.
 fn put_constant(
     alloc: Global,
     arena: &Arena,
     waiting: &mut VecDeque<Operands>,
 ) -> Result<(), AllocError>
     requires { AllTaken arena.now waiting.old.items }
-    ensures { OnOk result (GatherAll arena.now waiting.new.items (one_set [] ∷ map (gathered_at arena.now) waiting.old.items)) }
+    ensures { OnOk result (GatherAll arena.now waiting.new.items
+        (one [] ∷ map (gathered_at arena.now) waiting.old.items)) }
 {
     let _arena = arena;
     let made = one(alloc, Sequence::new(alloc))?;
@@ -256,7 +274,7 @@ fn put_constant(
     Ok(())
 }
 
-// Takes one node more.
+// Processes one more node.
 #[tactic(auto, unfolding(crate::specs::Lists::gathered_more))]
 fn take_node(
     alloc: Global,
@@ -265,7 +283,8 @@ fn take_node(
     node: Node,
 ) -> Result<(), AllocError>
     requires { AllTaken arena.old waiting.old.items }
-    ensures ok { OnOk result (GatherAll arena.new waiting.new.items (gathered_more (map (gathered_at arena.old) waiting.old.items) node)) }
+    ensures ok { OnOk result (GatherAll arena.new waiting.new.items
+        (gathered_more (map (gathered_at arena.old) waiting.old.items) node)) }
     ensures kept { KeepsTrees arena.old arena.new }
 {
     match node {
@@ -277,13 +296,14 @@ fn take_node(
     }
 }
 
-// What stands gathered at the end of nodes, the newest first.
+// The stack after all nodes, the newest entry first.
 fn gather(
     alloc: Global,
     arena: &mut Arena,
     nodes: &[Node],
 ) -> Result<VecDeque<Operands>, AllocError>
-    ensures ok { IfOk result (λ waiting. GatherAll arena.new waiting.items (fold gathered_more [] nodes.now)) }
+    ensures ok { IfOk result (λ waiting. GatherAll arena.new waiting.items
+        (fold gathered_more [] nodes.now)) }
     ensures kept { KeepsTrees arena.old arena.new }
 {
     let mut waiting = VecDeque::new(alloc);
@@ -293,14 +313,15 @@ fn gather(
     Ok(waiting)
 }
 
-// The patterns of the newest of what stands gathered.
+// The patterns of the newest entry of the stack.
 fn settle_newest(
     alloc: Global,
     arena: &mut Arena,
     waiting: VecDeque<Operands>,
 ) -> Result<Sequence<usize>, AllocError>
     requires { AllTaken arena.old waiting.items }
-    ensures ok { IfOk result (λ made. AreNumbers arena.new made (settled (newest (map (gathered_at arena.old) waiting.items)))) }
+    ensures ok { IfOk result (λ made. AreNumbers arena.new made
+        (settled (newest (map (gathered_at arena.old) waiting.items)))) }
     ensures kept { KeepsTrees arena.old arena.new }
 {
     let mut waiting = waiting;
@@ -313,7 +334,7 @@ fn settle_newest(
     }
 }
 
-/// The numbers of all patterns of a formula; one may come more than once.
+/// The numbers of all patterns of a formula; one may occur more than once.
 pub fn all_patterns(
     alloc: Global,
     arena: &mut Arena,

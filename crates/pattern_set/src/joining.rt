@@ -1,4 +1,10 @@
-//! Patterns of several operands, joined in all ways.
+//! Joins patterns of several operands of a product or a sum, in all ways to parenthesize them.
+//!
+//! Source: Rudell, "Logic Synthesis for VLSI Design" (thesis, University of California, Berkeley,
+//! 1989), the chapter on technology mapping. The operands are split in two nonempty parts in every
+//! way, where the first operand stays in the first part, since a NAND is matched in either order.
+//! Each part is joined by itself, by a recursion no deeper than `depth`, and each tree of the one
+//! part is joined to each of the other. Callers rely on `joined` of `specs/Lists.antt`.
 
 ghost use Rattle.std.specs.Prelude.{◌≡◌, ◌<◌, ◌++◌, [], map, length, drop, slice_index_or, IfOk, OnOk};
 ghost use Rattle.subject_tree.specs.Arenas.{tree_at, KeepsTrees, Has};
@@ -12,11 +18,12 @@ use sis_base::Sequence;
 use std::alloc::{AllocError, Global};
 use subject_tree::Arena;
 
-// The number of two joined trees.
+// The number of two trees, joined.
 fn join(arena: &mut Arena, kind: Kind, left: usize, right: usize) -> Result<usize, AllocError>
     requires left { left < length arena.old }
     requires right { right < length arena.old }
-    ensures ok { IfOk result (λ number. Has arena.new number (join_by kind (tree_at arena.old left) (tree_at arena.old right))) }
+    ensures ok { IfOk result (λ number. Has arena.new number
+        (join_by kind (tree_at arena.old left) (tree_at arena.old right))) }
     ensures kept { KeepsTrees arena.old arena.new }
 {
     match kind {
@@ -25,7 +32,7 @@ fn join(arena: &mut Arena, kind: Kind, left: usize, right: usize) -> Result<usiz
     }
 }
 
-// Joins a tree to each of others, and puts the joined trees behind those that are made.
+// Joins a tree to each of others, and appends the results.
 fn join_each(
     arena: &mut Arena,
     kind: Kind,
@@ -36,7 +43,9 @@ fn join_each(
     requires left { left < length arena.old }
     requires others { AreTaken arena.old others.now }
     requires made { AreTaken arena.old made.old.items }
-    ensures ok { OnOk result (AreNumbers arena.new made.new.items (trees_of arena.old made.old.items ++ map (join_by kind (tree_at arena.old left)) (trees_of arena.old others.now))) }
+    ensures ok { OnOk result (AreNumbers arena.new made.new.items
+        (trees_of arena.old made.old.items ++ map (join_by kind (tree_at arena.old left))
+        (trees_of arena.old others.now))) }
     ensures kept { KeepsTrees arena.old arena.new }
 {
     for right in others {
@@ -45,7 +54,7 @@ fn join_each(
     Ok(())
 }
 
-// Joins each tree of one list to each of another, and puts the joined trees behind those that are made.
+// Joins each tree of one list to each of another, and appends the results.
 fn cross(
     arena: &mut Arena,
     kind: Kind,
@@ -56,7 +65,9 @@ fn cross(
     requires lefts { AreTaken arena.old lefts.now }
     requires rights { AreTaken arena.old rights.now }
     requires made { AreTaken arena.old made.old.items }
-    ensures ok { OnOk result (AreNumbers arena.new made.new.items (trees_of arena.old made.old.items ++ crossed (join_by kind) (trees_of arena.old lefts.now) (trees_of arena.old rights.now))) }
+    ensures ok { OnOk result (AreNumbers arena.new made.new.items
+        (trees_of arena.old made.old.items ++ crossed (join_by kind) (trees_of arena.old lefts.now)
+        (trees_of arena.old rights.now))) }
     ensures kept { KeepsTrees arena.old arena.new }
 {
     for left in lefts {
@@ -65,7 +76,7 @@ fn cross(
     Ok(())
 }
 
-// A copy of the set at a place; empty past the last.
+// A copy of the set at an index; empty past the last.
 fn set_at(alloc: Global, sets: &[Sequence<usize>], place: usize) -> Result<Vec<usize>, AllocError>
     ensures { IfOk result (λ made. made.items ≡ slice_index_or sets.now place []) }
 {
@@ -75,7 +86,7 @@ fn set_at(alloc: Global, sets: &[Sequence<usize>], place: usize) -> Result<Vec<u
     }
 }
 
-// The places behind the first.
+// All indices but the first.
 fn rest_of(places: &[usize]) -> &[usize]
     requires { 0 < length places.now }
     ensures { result.now ≡ drop 1 places.now }
@@ -84,7 +95,8 @@ fn rest_of(places: &[usize]) -> &[usize]
     rest
 }
 
-/// The trees that join one of each of the sets at some places, at most `depth` of them; as deep a recursion.
+/// The trees that join one of each of the sets at some indices, nested at most `depth` deep: all
+/// such trees if there are at most `depth` indices. The recursion is as deep.
 pub fn join_all(
     alloc: Global,
     arena: &mut Arena,
@@ -94,7 +106,8 @@ pub fn join_all(
     places: &[usize],
 ) -> Result<Vec<usize>, AllocError>
     requires { SetsTaken arena.old sets.now }
-    ensures ok { IfOk result (λ made. AreNumbers arena.new made.items (joined (join_by kind) (set_trees arena.old sets.now) depth places.now)) }
+    ensures ok { IfOk result (λ made. AreNumbers arena.new made.items
+        (joined (join_by kind) (set_trees arena.old sets.now) depth places.now)) }
     ensures kept { KeepsTrees arena.old arena.new }
 {
     if depth == 0 {

@@ -1,7 +1,7 @@
 //! The two kinds of operations whose nested operands are gathered.
 
 ghost use Rattle.std.specs.Prelude.{◌≡◌};
-ghost use Rattle.pattern_set.specs.Lists.{is_same as is_same_kind};
+ghost use Rattle.pattern_set.specs.Lists.{is_same};
 
 /// An operation of several operands.
 #[derive(Clone, Copy)]
@@ -10,9 +10,9 @@ pub enum Kind {
     Sum,
 }
 
-/// Whether two kinds are one.
+/// Whether two kinds are the same.
 pub fn is_same(left: Kind, right: Kind) -> bool
-    ensures { result ≡ is_same_kind left right }
+    ensures { result ≡ is_same left right }
 {
     match (left, right) {
         (Kind::Product, Kind::Product) => true,

@@ -1,4 +1,10 @@
-//! The patterns of the gates of a library, and whether they cover all trees.
+//! The patterns of the gates of a library, and whether the library can cover every tree.
+//!
+//! Source: Keutzer, "DAGON: Technology binding and local optimization by DAG matching" (24th Design
+//! Automation Conference, 1987): a library is complete if it has an inverter and a two-input NAND.
+//! `patterns` lists for each gate its patterns, each once, or none if the gate is not used in
+//! covers. Callers rely on `AreGatesOf`, and on `covers_all` to name the first of the two that is
+//! missing.
 
 ghost use Rattle.std.specs.Prelude.{◌≡◌, nat_eq, IfOk};
 ghost use Rattle.std.specs.List.{IsDistinct};
@@ -6,9 +12,9 @@ ghost use Rattle.subject_tree.specs.Arenas.{trees, tree_at, built, KeepsTrees};
 ghost use Rattle.subject_tree.specs.Trees.{Leaf as TheLeaf};
 ghost use Rattle.genlib_expr.specs.Formula.{formula_of};
 ghost use Rattle.pattern_set.specs.Numbers.{HaveSame};
-ghost use Rattle.pattern_set.specs.Cells.{Lists, IsUsedPattern, IsGateOf, AreGatesOf, is_leaf as is_leaf_tree, are_leaves, is_inverter, is_nand, lists_some, has_some, lack_of};
+ghost use Rattle.pattern_set.specs.Cells.{Lists, IsUsedPattern, IsGateOf, AreGatesOf, is_leaf, are_leaves, is_inverter, is_nand, lists_some, has_some, lack_of};
 
-use crate::cells::{Cell, Gate, PatternFault, Patterns};
+use crate::cells::{Cell, PatternFault, PatternGate, Patterns};
 use crate::gathering::all_patterns;
 use crate::usage::is_used;
 use genlib_expr::Expr;
@@ -29,7 +35,7 @@ fn once(alloc: Global, numbers: &[usize]) -> Result<Sequence<usize>, AllocError>
     Ok(Sequence::from_vec(Vec::from_slice(alloc, kept.as_slice())?))
 }
 
-// The patterns of a formula, each once; none where its gate is not used.
+// The patterns of a formula, each once; none if its gate is not used.
 fn used_patterns(
     alloc: Global,
     arena: &mut Arena,
@@ -47,19 +53,19 @@ fn used_patterns(
 }
 
 // The gate of a cell.
-fn gate_of(alloc: Global, arena: &mut Arena, cell: &Cell) -> Result<Gate, AllocError>
+fn gate_of(alloc: Global, arena: &mut Arena, cell: &Cell) -> Result<PatternGate, AllocError>
     ensures ok { IfOk result (λ made. IsGateOf arena.new cell.now made) }
     ensures kept { KeepsTrees arena.old arena.new }
 {
     let patterns = used_patterns(alloc, arena, cell.expr)?;
-    Ok(Gate {
+    Ok(PatternGate {
         area: cell.area,
         pins: cell.pins,
         patterns,
     })
 }
 
-/// The patterns of the gates of cells, in order. An error only for want of memory.
+/// The patterns of the gates of cells, in order.
 pub fn patterns(alloc: Global, cells: &[Cell]) -> Result<Patterns, AllocError>
     ensures { IfOk result (λ made. AreGatesOf made.arena cells.now made.gates) }
 {
@@ -72,8 +78,8 @@ pub fn patterns(alloc: Global, cells: &[Cell]) -> Result<Patterns, AllocError>
     Ok(Patterns { arena, gates })
 }
 
-// The vertex of a number, of which its tree is made.
-fn vertex_of(arena: &Arena, number: usize) -> Vertex
+/// The vertex of a number, of which its tree is made.
+pub fn vertex_of(arena: &Arena, number: usize) -> Vertex
     ensures { tree_at arena.now number ≡ built (trees arena.now) result }
 {
     arena.sound();
@@ -82,7 +88,7 @@ fn vertex_of(arena: &Arena, number: usize) -> Vertex
 
 // Whether the tree of a number is a leaf.
 fn is_leaf(arena: &Arena, number: usize) -> bool
-    ensures { result ≡ is_leaf_tree (tree_at arena.now number) }
+    ensures { result ≡ is_leaf (tree_at arena.now number) }
 {
     match vertex_of(arena, number) {
         Vertex::Leaf(_) => true,
@@ -91,7 +97,7 @@ fn is_leaf(arena: &Arena, number: usize) -> bool
     }
 }
 
-// Whether the tree of a number is a leaf other than that of a place.
+// Whether the tree of a number is a leaf other than that of an index.
 fn is_other_leaf(arena: &Arena, place: usize, number: usize) -> bool
     ensures { result ≡ are_leaves (TheLeaf place) (tree_at arena.now number) }
 {
@@ -136,7 +142,7 @@ fn has_nand(arena: &Arena, number: usize) -> bool
 }
 
 // Whether a gate lists an inverter.
-fn lists_inverter(arena: &Arena, gate: &Gate) -> bool
+fn lists_inverter(arena: &Arena, gate: &PatternGate) -> bool
     ensures { result ≡ lists_some is_inverter arena.now gate.now }
 {
     gate.patterns
@@ -146,7 +152,7 @@ fn lists_inverter(arena: &Arena, gate: &Gate) -> bool
 }
 
 // Whether a gate lists a NAND of two pins.
-fn lists_nand(arena: &Arena, gate: &Gate) -> bool
+fn lists_nand(arena: &Arena, gate: &PatternGate) -> bool
     ensures { result ≡ lists_some is_nand arena.now gate.now }
 {
     gate.patterns
@@ -156,14 +162,14 @@ fn lists_nand(arena: &Arena, gate: &Gate) -> bool
 }
 
 // Whether some gate lists an inverter.
-fn some_inverter(arena: &Arena, gates: &[Gate]) -> bool
+fn some_inverter(arena: &Arena, gates: &[PatternGate]) -> bool
     ensures { result ≡ has_some is_inverter arena.now gates.now }
 {
     gates.iter().any(|gate| lists_inverter(arena, gate))
 }
 
 // Whether some gate lists a NAND of two pins.
-fn some_nand(arena: &Arena, gates: &[Gate]) -> bool
+fn some_nand(arena: &Arena, gates: &[PatternGate]) -> bool
     ensures { result ≡ has_some is_nand arena.now gates.now }
 {
     gates.iter().any(|gate| lists_nand(arena, gate))
@@ -182,9 +188,11 @@ fn lack_by(has_inverter: bool, has_nand: bool) -> Result<(), PatternFault>
     Ok(())
 }
 
-/// Whether the library can cover any tree: it has an inverter and a NAND of two pins. Takes no memory.
+/// Whether the library can cover any tree: it has an inverter and a NAND of two pins. Takes no
+/// memory.
 pub fn covers_all(patterns: &Patterns) -> Result<(), PatternFault>
-    ensures { result ≡ lack_of (has_some is_inverter patterns.now.arena patterns.now.gates) (has_some is_nand patterns.now.arena patterns.now.gates) }
+    ensures { result ≡ lack_of (has_some is_inverter patterns.now.arena patterns.now.gates)
+        (has_some is_nand patterns.now.arena patterns.now.gates) }
 {
     let arena = &patterns.arena;
     let gates = patterns.gates.as_slice();

@@ -1,4 +1,7 @@
-//! All ways to part places in two.
+//! All ways to split a list of indices in two parts, in order.
+//!
+//! Callers rely on `all_partings`: each index goes to the first part or to the second, and either
+//! may be empty. There are 2^n of them; the lists are the at most six operands of a gate.
 
 ghost use Rattle.std.specs.Prelude.{◌≡◌, ◌∷◌, ◌++◌, [], map, IfOk};
 ghost use Rattle.pattern_set.specs.Lists.{with_first, with_second, partings as all_partings};
@@ -6,14 +9,14 @@ ghost use Rattle.pattern_set.specs.Lists.{with_first, with_second, partings as a
 use sis_base::Sequence;
 use std::alloc::{AllocError, Global};
 
-/// Places, each in one of two parts.
+/// Indices, each in one of two parts.
 #[derive(Drop)]
 pub struct Parting {
     pub first: Sequence<usize>,
     pub second: Sequence<usize>,
 }
 
-/// A place before others.
+/// An index before others.
 pub fn put_front(
     alloc: Global,
     place: usize,
@@ -27,14 +30,14 @@ pub fn put_front(
     Ok(Sequence::from_vec(made))
 }
 
-/// A copy of places.
+/// A copy of indices.
 fn copy_places(alloc: Global, places: &[usize]) -> Result<Sequence<usize>, AllocError>
     ensures { IfOk result (λ made. made ≡ places.now) }
 {
     Ok(Sequence::from_vec(Vec::from_slice(alloc, places)?))
 }
 
-/// A parting with a place more in its first part.
+/// A parting with one more index in its first part.
 fn first_more(alloc: Global, place: usize, parting: &Parting) -> Result<Parting, AllocError>
     ensures { IfOk result (λ made. made ≡ with_first place parting.now) }
 {
@@ -43,7 +46,7 @@ fn first_more(alloc: Global, place: usize, parting: &Parting) -> Result<Parting,
     Ok(Parting { first, second })
 }
 
-/// A parting with a place more in its second part.
+/// A parting with one more index in its second part.
 fn second_more(alloc: Global, place: usize, parting: &Parting) -> Result<Parting, AllocError>
     ensures { IfOk result (λ made. made ≡ with_second place parting.now) }
 {
@@ -52,13 +55,14 @@ fn second_more(alloc: Global, place: usize, parting: &Parting) -> Result<Parting
     Ok(Parting { first, second })
 }
 
-/// Each parting with a place more: first those in whose first part it stands.
+/// Each parting with one more index: first those that have it in the first part.
 fn partings_with(
     alloc: Global,
     place: usize,
     partings: &[Parting],
 ) -> Result<Vec<Parting>, AllocError>
-    ensures { IfOk result (λ made. made.items ≡ map (with_first place) partings.now ++ map (with_second place) partings.now) }
+    ensures { IfOk result (λ made. made.items ≡ map (with_first place) partings.now ++ map
+        (with_second place) partings.now) }
 {
     let mut made = Vec::new(alloc);
     for parting in partings {
@@ -70,7 +74,7 @@ fn partings_with(
     Ok(made)
 }
 
-/// The parting of no places.
+/// The parting of no indices.
 #[tactic(auto, unfolding(crate::specs::Lists::partings))]
 fn no_places(alloc: Global) -> Result<Vec<Parting>, AllocError>
     ensures { IfOk result (λ made. made.items ≡ all_partings []) }
@@ -83,7 +87,7 @@ fn no_places(alloc: Global) -> Result<Vec<Parting>, AllocError>
     Ok(made)
 }
 
-/// All ways to part places in two.
+/// All ways to split indices in two parts.
 pub fn partings(alloc: Global, places: &[usize]) -> Result<Vec<Parting>, AllocError>
     ensures { IfOk result (λ made. made.items ≡ all_partings places.now) }
 {

@@ -4,7 +4,7 @@ use Rattle.std.specs.List.{list_any}
 use Rattle.std.proofs.lemmas.List.{length-map}
 use Rattle.std.proofs.lemmas.List.FromFn.{length-range_with_len}
 use Rattle.sis_base.specs.declared.limits.TheConstants.{MAX_INPUTS}
-use Rattle.circuit_model.specs.MachineSoundness.{IsSound as IsSoundMachine, mentioned_by, first_mentions}
+use Rattle.circuit_model.specs.MachineSoundness.{IsSoundMachine, mentioned_by, first_mentions}
 use Rattle.circuit_model.specs.declared.circuit.Tri.{Tri}
 use Rattle.circuit_model.specs.declared.circuit.Table.{Table}
 use Rattle.circuit_model.specs.declared.circuit.Latch.{Latch}

@@ -1,5 +1,5 @@
 -- The circuit of a sound machine that is not too wide is sound.
-use Rattle.std.proofs.Common.{◌≡◌, ℕ, ◌+◌, ◌^◌, ◌<◌, ◌≤◌, true, false, cond, List, [], ◌∷◌, ◌++◌, flat_map, length, append_assoc, refl, sym, ap, ◌∙◌, subst, inl, inr, arith, length-append}
+use Rattle.std.proofs.Common.{◌≡◌, ℕ, ◌+◌, ◌^◌, ◌<◌, ◌≤◌, true, false, cond, List, [], ◌∷◌, ◌++◌, length, append_assoc, refl, sym, ap, ◌∙◌, subst, inl, inr, arith, length-append}
 use Rattle.std.specs.Prelude.{codes}
 use Rattle.std.specs.List.{AllByRecursion}
 use Rattle.std.proofs.lemmas.Bool.{false≢true}
@@ -10,7 +10,7 @@ use Rattle.circuit_model.specs.Names.{has, all_different}
 use Rattle.circuit_model.specs.Values.{driver}
 use Rattle.circuit_model.specs.Runs.{latch_outputs}
 use Rattle.circuit_model.specs.Soundness.{outputs_of, latch_inputs, names_of, table_inputs, given, taken, IsAcyclic, IsShaped, IsSound}
-use Rattle.circuit_model.specs.MachineSoundness.{IsSound as IsSoundMachine, IsShaped as IsShapedRow}
+use Rattle.circuit_model.specs.MachineSoundness.{IsSoundMachine, IsShaped as IsShapedRow}
 use Rattle.circuit_model.specs.declared.circuit.Table.{Table}
 use Rattle.circuit_model.specs.declared.machine.Machine.{Machine}
 use Rattle.circuit_model.specs.declared.machine.MachineRow.{MachineRow}
@@ -18,7 +18,7 @@ use Rattle.circuit_laws.proofs.Drivers.{driver_all, driver_name}
 use Rattle.circuit_laws.proofs.Kept.{all_weaker}
 use Rattle.circuit_laws.proofs.Names.{AreApart, different_apart, apart_different, different_none, all_has, all_from_has, has_front, has_back, has_either, has_neither, has_not}
 use Rattle.circuit_laws.proofs.Ranks.{rank_acyclic}
-use Rattle.circuit_laws.proofs.Sound.{IsWord, HasWords, all_append, all_parts, parts_words}
+use Rattle.circuit_laws.proofs.Sound.{IsWord, HasWords, all_append, all_parts, parts_words, names_each}
 use Rattle.state_code.specs.declared.codes.Style.{Style}
 use Rattle.state_code.specs.declared.tables.Part.{Part}
 use Rattle.state_code.specs.declared.tables.Part.TheVariants.{Next, Output}
@@ -27,14 +27,6 @@ use Rattle.state_code.specs.Encoded.{state_names, next_names, table_of, tables_f
 use Rattle.state_code.specs.Naming.{free_names}
 use Rattle.state_code.proofs.FreeNames.{numbered_word, length-free, each_free, free_differ, free_unused, states_nexts}
 use Rattle.state_code.proofs.Parts.{latches_drive, latches_take, latches_begin, table_drives, tables_drive, each_table, table_shaped, table_once, table_reads}
-
--- what holds of each name of each table
-each_flat : (P : List ℕ → Type 0) (list : Table → List (List ℕ)) (tables : List Table)
-    → AllByRecursion (λ (table : Table). AllByRecursion P (list table)) tables
-    → AllByRecursion P (flat_map list tables)
-each_flat P list [] h = tt
-each_flat P list (table ∷ tables) h = all_append P (list table) (flat_map list tables) h.0
-    (each_flat P list tables h.1)
 
 no_cycle : IsAcyclic []
 unfolding driver
@@ -68,7 +60,7 @@ module _ (style : Style) (machine : Machine) (sound : IsSoundMachine machine)
   pub same_long : length nexts ≡ length states
   same_long = nexts_long ∙ sym states_long
 
-  -- no name stands twice
+  -- no name occurs twice
   port_names : AreApart machine.inputs machine.outputs
   port_names = different_apart machine.inputs machine.outputs sound.ports_once
 
@@ -267,7 +259,7 @@ module _ (style : Style) (machine : Machine) (sound : IsSoundMachine machine)
 
   table_words : AllByRecursion IsWord (names_of (encoded style machine).tables)
   table_words =
-      each_flat IsWord (λ (t : Table). t.output ∷ t.inputs) (encoded style machine).tables
+      names_each IsWord (λ (t : Table). t.output ∷ t.inputs) (encoded style machine).tables
       (each (λ (t : Table). AllByRecursion IsWord (t.output ∷ t.inputs)) IsWord
       (λ part place name word. (
         subst IsWord (sym (table_drives style machine part place name)) word,
@@ -301,7 +293,7 @@ module _ (style : Style) (machine : Machine) (sound : IsSoundMachine machine)
   driven =
       all_append IsGiven (table_inputs (encoded style machine).tables)
       (latch_inputs (encoded style machine) ++ (encoded style machine).outputs)
-      (each_flat IsGiven (λ (t : Table). t.inputs) (encoded style machine).tables
+      (names_each IsGiven (λ (t : Table). t.inputs) (encoded style machine).tables
       (each_one (λ (t : Table). AllByRecursion IsGiven t.inputs) (λ part place name.
       table_reads IsGiven style machine part place name
       (λ input leaf. is_given input

@@ -6,6 +6,7 @@ use Rattle.std.specs.Option.{option_or}
 use Rattle.std.proofs.lemmas.List.{map-append, length-map}
 use Rattle.std.proofs.lemmas.List.FromFn.{length-map-range_with_len}
 use Rattle.std.proofs.lemmas.Option.{none-some}
+use Rattle.std.proofs.Math.Bool.{and_comm}
 use Rattle.sis_base.specs.Rows.{agrees, matches, some_matches, value_by_phase}
 use Rattle.sis_base.specs.declared.limits.TheConstants.{MAX_INPUTS}
 use Rattle.circuit_model.specs.Names.{has, all_different}
@@ -13,7 +14,7 @@ use Rattle.circuit_model.specs.Behaviors.{Meets, RefinesAs}
 use Rattle.circuit_model.specs.Values.{literal_of, table_value, driver, driven_value, is_free_under}
 use Rattle.circuit_model.specs.Runs.{bit_of, latch_outputs, leaves_of, value_in, tri_of, is_free, output_at, outputs_at, next_state, IsStart, of_circuit}
 use Rattle.circuit_model.specs.Soundness.{IsSound}
-use Rattle.circuit_model.specs.MachineSoundness.{IsSound as IsSoundMachine, IsShaped as IsShapedRow}
+use Rattle.circuit_model.specs.MachineSoundness.{IsSoundMachine, IsShaped}
 use Rattle.circuit_model.specs.MachineRuns.{holds_in, is_taken, specified, taken, outputs_from, next_from}
 use Rattle.circuit_model.specs.MachineBehaviors.{of_machine}
 use Rattle.circuit_model.specs.declared.circuit.Tri.{Tri}
@@ -96,12 +97,6 @@ matches_append (place ∷ row) other (bit ∷ point) bits e =
     cases true rest = rest
     cases false rest = refl
 
-turned : (a b : Bool) → (a && b) ≡ (b && a)
-turned true true = refl
-turned true false = refl
-turned false true = refl
-turned false false = refl
-
 current_met : (style : Style) (states place : ℕ) (current : Option ℕ) → place < states
     → IsBelow states current
     → matches (map literal_of
@@ -127,7 +122,7 @@ row_met style states place point row inside long below =
     ∙ sym (length-map row.input literal_of))
     ∙ (ap (λ b. matches (map literal_of row.input) point && b)
     (current_met style states place row.current inside below)
-    ∙ turned (matches (map literal_of row.input) point) (holds_in row.current place)))
+    ∙ and_comm (matches (map literal_of row.input) point) (holds_in row.current place)))
 
 rows_met : (style : Style) (states place : ℕ) (point : List Bool) (test : MachineRow
     → Bool) (rows : List MachineRow) → place < states
@@ -160,7 +155,7 @@ rows_met style states place point test (row ∷ rows) inside h =
     cases false true told is rest = rw told rest
     cases false false told is rest = rest
 
--- lists by place
+-- lists by index
 
 zip_places : {A B : Type 0} (R : A → B → Type 0) (f : ℕ → B) (d : A) (xs : List A) (from : ℕ)
     → ((i : ℕ) → i < length xs → R (get_or xs i d) (f (from + i)))
@@ -217,7 +212,7 @@ module _ (style : Style) (machine : Machine) (sound : IsSoundMachine machine)
   below = states_below (length machine.states) machine.rows sound.in_order
 
   both : (point : List Bool) → length point ≡ length machine.inputs → (rows : List MachineRow)
-      → AllByRecursion (IsShapedRow machine) rows
+      → AllByRecursion (IsShaped machine) rows
       → AllByRecursion (HasBelow (length machine.states)) rows → AllByRecursion (IsRow point) rows
   both point wide [] shaped known = tt
   both point wide (row ∷ rows) shaped known =
@@ -325,7 +320,7 @@ module _ (style : Style) (machine : Machine) (sound : IsSoundMachine machine)
     unfolding taken
     agreed =
         taken_agreed place point machine.rows
-        (all_weaker (IsShapedRow machine) (λ (row : MachineRow). length row.input ≡ length point)
+        (all_weaker (IsShaped machine) (λ (row : MachineRow). length row.input ≡ length point)
         (λ row shaped. shaped.input ∙ sym wide) machine.rows sound.shaped)
         (sound_apart machine.rows sound.apart)
 
@@ -335,7 +330,7 @@ module _ (style : Style) (machine : Machine) (sound : IsSoundMachine machine)
     outputs_wide =
         all_filter (λ (row : MachineRow). length row.output ≡ length machine.outputs)
         (is_taken place point) machine.rows
-        (all_weaker (IsShapedRow machine) (λ (row : MachineRow). length row.output ≡ length
+        (all_weaker (IsShaped machine) (λ (row : MachineRow). length row.output ≡ length
         machine.outputs) (λ row shaped. shaped.output) machine.rows sound.shaped)
 
     -- what is shown

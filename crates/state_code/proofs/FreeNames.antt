@@ -1,7 +1,7 @@
 -- Names of a prefix and a number that are free: so many, all words, all different, none a port's.
 use Rattle.std.proofs.Common.{◌≡◌, ℕ, zero, suc, ◌+◌, ◌%◌, ◌^◌, ◌<◌, ◌≤◌, Bool, true, false, not, cond, List, [], ◌∷◌, ◌++◌, map, take, filter, length, bytes_eq, decimal, refl, sym, ap, ◌∙◌, subst, inl, inr, arith}
 use Rattle.std.specs.Prelude.{codes}
-use Rattle.std.specs.List.{AllByRecursion, IsDistinct, list_all, range_with_len}
+use Rattle.std.specs.List.{AllByRecursion, list_all, range_with_len}
 use Rattle.std.proofs.lemmas.Cmp.{nat_list_eq_equiv}
 use Rattle.std.proofs.lemmas.Bool.{false≢true, not-true, or_cases}
 use Rattle.std.proofs.lemmas.Bool.Decides.{nat_tests}
@@ -13,8 +13,9 @@ use Rattle.std.proofs.lemmas.List.FromFn.{length-map-range_with_len}
 use Rattle.std.proofs.lemmas.Map.Made.{length-le_from_is_member}
 use Rattle.sis_base.specs.Written.{is_word, is_word_byte}
 use Rattle.circuit_model.specs.Names.{has, all_different}
-use Rattle.circuit_laws.proofs.Names.{name_not, same_name, all_from_has, all_has, has_head, has_tail, has_not, different_cons, different_head, different_tail, different_none}
+use Rattle.circuit_laws.proofs.Names.{name_not, same_name, all_has, has_head, has_tail, has_not, different_cons, different_head, different_tail, different_none}
 use Rattle.state_code.specs.Naming.{numbered, unused, free_names}
+use Rattle.circuit_order.proofs.Orders.{distinct}
 
 -- numbers make words, and different ones
 
@@ -149,16 +150,6 @@ all_take P (suc count) [] h = tt
 all_take P (suc count) (first ∷ names) h = (h.0, all_take P count names h.1)
 
 -- so many are free
-
-distinct : (names : List (List ℕ)) → all_different names ≡ true → IsDistinct bytes_eq names
-unfolding IsDistinct
-distinct [] h = tt
-distinct (first ∷ names) h = (
-  all_from_has (λ name. bytes_eq first name ≡ false) names
-      (λ name among. name_not first name (λ e. false≢true (sym (different_head first names h)
-      ∙ subst (λ (n : List ℕ). has names n ≡ true) (sym e) among))),
-  distinct names (different_tail first names h),
-)
 
 passed : (test : List ℕ → Bool) (names : List (List ℕ)) (name : List ℕ)
     → has (filter test names) name ≡ true → test name ≡ true

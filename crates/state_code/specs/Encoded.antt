@@ -20,7 +20,8 @@ use Rattle.state_code.specs.declared.tables.Part.TheVariants.{Next, Output}
 use Rattle.state_code.specs.Codes.{code_bit, width_of}
 use Rattle.state_code.specs.Naming.{free_names}
 
--- the names of the state bits, which latches drive, and those of the next ones, which latches take
+-- the names of the state bits, which latches drive, and those of the next-state bits, which latches
+-- take
 abbrev pub state_names : Style → Machine → List (List ℕ)
 state_names style machine =
     free_names (codes "st_") (machine.inputs ++ machine.outputs) (width_of style machine)
@@ -29,7 +30,7 @@ abbrev pub next_names : Style → Machine → List (List ℕ)
 next_names style machine =
     free_names (codes "nx_") (machine.inputs ++ machine.outputs) (width_of style machine)
 
--- the character that a row has for a bit of its current state's code: a dash for every state
+-- the character of a row for a bit of its current state's code: a dash for every state
 abbrev pub code_character : Style → Option ℕ → ℕ → Tri
 code_character style None bit = Free
 code_character style (Some state) bit = tri_of (code_bit style state bit)
@@ -49,8 +50,8 @@ abbrev pub specifies_one : Style → Part → ℕ → MachineRow → Bool
 specifies_one style Next bit row = option_map_or (λ next. code_bit style next bit) row.next false
 specifies_one style Output place row = is_one (slice_index_or row.output place Free)
 
--- the tidy table of a bit of the next state's code, or of an output: 1 where a row is taken that
--- specifies 1
+-- the table of a bit of the next state's code, or of an output, in normal form: 1 where a row is
+-- taken that specifies 1
 unfoldable pub table_of : Style → Machine → Part → ℕ → List ℕ → Table
 table_of style machine part place name = tidied (record {
   inputs = machine.inputs ++ state_names style machine;
@@ -60,7 +61,7 @@ table_of style machine part place name = tidied (record {
   phase = true;
 })
 
--- a table for each name, of the places from this one on
+-- a table for each name, from this index on
 unfoldable pub tables_from : Style → Machine → Part → ℕ → List (List ℕ) → List Table
 tables_from style machine part place [] = []
 tables_from style machine part place (name ∷ names) =
@@ -71,8 +72,8 @@ abbrev pub init_of : Bool → ℕ
 init_of true = 1
 init_of false = 0
 
--- the latches of bits one after the other, with what they take and what they drive; they start at
--- the code of a state
+-- the latches of bits one after the other, with their inputs and outputs; they start at the code of
+-- a state
 unfoldable pub latches_from : Style → ℕ → ℕ → List (List ℕ) → List (List ℕ) → List Latch
 latches_from style state bit [] outputs = []
 latches_from style state bit (input ∷ inputs) [] = []
@@ -81,7 +82,7 @@ latches_from style state bit (input ∷ inputs) (output ∷ outputs) =
     ∷ latches_from style state (bit + 1) inputs outputs
 
 -- the circuit: the machine's name and ports, a latch for each bit of the code, which starts at that
--- of the reset, and a table for each next bit and for each output
+-- of the reset, and a table for each next-state bit and for each output
 unfoldable pub encoded : Style → Machine → Circuit
 encoded style machine = record {
   name = machine.name;

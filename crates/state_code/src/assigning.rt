@@ -1,7 +1,9 @@
-//! The network of a machine by the codes of its states.
+//! The network of a machine by the codes of its states. `assign` returns exactly what `HasAssigned`
+//! of `specs/Assigned.antt` allows: the encoded circuit and the codes, or `TooWide` if inputs and
+//! state bits are more than `MAX_INPUTS`.
 
 ghost use Rattle.std.specs.Prelude.{◌≡◌, ◌≤◌, IfOk};
-ghost use Rattle.circuit_model.specs.MachineSoundness.{IsSound};
+ghost use Rattle.circuit_model.specs.MachineSoundness.{IsSoundMachine};
 ghost use Rattle.net_core.specs.Reads.{HasBounds};
 ghost use Rattle.state_code.specs.Codes.{width_of, leaf_count, codes_of};
 ghost use Rattle.state_code.specs.Encoded.{encoded};
@@ -17,8 +19,8 @@ use sis_base::Copied;
 use sis_base::limits::MAX_INPUTS;
 use std::alloc::{AllocError, Global};
 
-/// Why there is no network: inputs and state bits are too many, told with the machine's name and
-/// their number; or memory is wanting.
+/// Why there is no network: inputs and state bits are too many, with the machine's name and their
+/// number; or memory ran out.
 #[derive(Debug, Drop)]
 pub enum CodeFault {
     TooWide(Name, usize),
@@ -36,13 +38,13 @@ impl From<AllocError> for CodeFault {
     }
 }
 
-/// The network and the codes; an error only for want of memory.
+/// The network and the codes.
 fn encode<R: Row>(
     alloc: Global,
     machine: &Machine,
     coding: Coding,
 ) -> Result<(Network<R>, Codes), AllocError>
-    requires sound { IsSound machine.now }
+    requires sound { IsSoundMachine machine.now }
     requires width { coding.width ≡ width_of coding.style machine.now }
     requires few { leaf_count coding.style machine.now ≤ MAX_INPUTS }
     ensures network { IfOk result (λ made. made.0 ≡ encoded coding.style machine.now) }
@@ -53,14 +55,14 @@ fn encode<R: Row>(
     Ok((network, codes))
 }
 
-/// The network of a machine whose states are coded in latches, and the codes; refused where inputs
+/// The network of a machine whose states are coded in latches, and the codes; `TooWide` if inputs
 /// and state bits are too many.
 pub fn assign<R: Row>(
     alloc: Global,
     machine: &Machine,
     style: Style,
 ) -> Result<(Network<R>, Codes), CodeFault>
-    requires { IsSound machine.now }
+    requires { IsSoundMachine machine.now }
     ensures assigned { HasAssigned machine.now style result }
     ensures bounds { IfOk result (λ made. HasBounds made.0) }
 {

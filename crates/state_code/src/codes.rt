@@ -1,4 +1,6 @@
-//! The codes of states.
+//! The codes of states: binary codes of the least length, the lowest bit first, or one-hot codes
+//! with one bit for each state (De Micheli, "Synthesis and Optimization of Digital Circuits",
+//! chapter 9; `specs/Codes.antt`).
 
 ghost use Rattle.std.specs.Prelude.{◌≡◌, ◌≤◌, IfOk};
 ghost use Rattle.state_code.specs.Codes.{least_bits, code_width, code_bit, code_of, codes_from};
@@ -23,7 +25,7 @@ pub struct Code {
 /// Codes, in the order of the states.
 pub type Codes = Sequence<Code>;
 
-/// The least number of bits by which so many codes can be told apart.
+/// The least number of bits that give so many different codes.
 fn least_bits(count: usize) -> usize
     ensures { result ≡ least_bits count }
 {
@@ -35,7 +37,7 @@ fn least_bits(count: usize) -> usize
     64
 }
 
-/// How many bits the codes of so many states have.
+/// How many bits the codes of `states` states have.
 pub(crate) fn code_width(style: Style, states: usize) -> usize
     ensures value { result ≡ code_width style states }
     ensures bound { result ≤ states }
@@ -56,7 +58,7 @@ pub(crate) fn code_bit(style: Style, state: usize, bit: usize) -> bool
     }
 }
 
-/// The code of a state; an error only for want of memory.
+/// The code of a state.
 fn code_of(
     alloc: Global,
     style: Style,
@@ -72,7 +74,7 @@ fn code_of(
     Ok(Sequence::from_vec(bits))
 }
 
-/// The codes of states, in order; an error only for want of memory.
+/// The codes of states, in order.
 pub(crate) fn codes_of(
     alloc: Global,
     style: Style,

@@ -1,4 +1,9 @@
 //! The circuit of a machine whose states are coded in latches.
+//!
+//! Source: De Micheli, "Synthesis and Optimization of Digital Circuits", chapter 9 (state
+//! encoding). The state bits are latches that start at the code of the reset state; each bit of the
+//! next state and each output is a table over the inputs and the state bits. `encoded` returns
+//! exactly that of `specs/Encoded.antt`; `laws` says that it is sound and refines the machine.
 
 ghost use Rattle.std.specs.Prelude.{◌≡◌, ◌+◌, ◌^◌, ◌<◌, ◌++◌, length, IfOk};
 ghost use Rattle.state_code.specs.Codes.{width_of};
@@ -19,7 +24,7 @@ fn init_of(bit: bool) -> u8
     if bit { 1 } else { 0 }
 }
 
-/// The latches of the bits, which start at the code of the reset; an error only for want of memory.
+/// The latches of the bits, which start at the code of the reset state.
 fn latches_of(
     alloc: Global,
     machine: &Machine,
@@ -42,7 +47,7 @@ fn latches_of(
     Ok(Sequence::from_vec(latches))
 }
 
-/// The names of inputs and state bits, which tables read; an error only for want of memory.
+/// The names of inputs and state bits, which tables read.
 fn leaves_of(alloc: Global, machine: &Machine, states: &[Name]) -> Result<Names, AllocError>
     ensures { IfOk result (λ names. names ≡ machine.now.inputs ++ states.now) }
 {
@@ -53,7 +58,7 @@ fn leaves_of(alloc: Global, machine: &Machine, states: &[Name]) -> Result<Names,
     Ok(names)
 }
 
-/// The tables of the next bits and of the outputs; an error only for want of memory.
+/// The tables of the next-state bits and of the outputs.
 fn tables_of(
     alloc: Global,
     machine: &Machine,
@@ -92,7 +97,7 @@ fn tables_of(
     Ok(Sequence::from_vec(tables))
 }
 
-/// The circuit, by the names of its state bits; an error only for want of memory.
+/// The circuit, by the names of its state bits.
 #[tactic(auto, unfolding(crate::specs::Encoded::encoded))]
 fn circuit_of(
     alloc: Global,
@@ -119,7 +124,7 @@ fn circuit_of(
     })
 }
 
-/// The circuit of a machine whose states are coded in latches; an error only for want of memory.
+/// The circuit of a machine whose states are coded in latches.
 pub(crate) fn encoded(
     alloc: Global,
     machine: &Machine,

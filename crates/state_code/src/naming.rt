@@ -1,13 +1,14 @@
-//! The names of new signals.
+//! The names of new signals: a prefix and the least numbers that give a name that no port has
+//! (`specs/Naming.antt`).
 
 ghost use Rattle.std.specs.Prelude.{◌≡◌, ◌+◌, ◌^◌, ◌<◌, [], ◌∷◌, ◌++◌, length, IfOk, OnOk, if◌then◌else◌};
 ghost use Rattle.circuit_model.specs.Names.{has};
 ghost use Rattle.state_code.specs.Naming.{numbered, free_names};
 
-use circuit_model::Name;
+use circuit_model::{Name, has_name};
 use std::alloc::{AllocError, Global};
 
-/// A prefix and a number; an error only for want of memory.
+/// A prefix and a number.
 #[tactic(auto, using(std::proofs::lemmas::Grind::common_steps), unfolding(crate::specs::Naming::numbered))]
 fn numbered(alloc: Global, prefix: &[u8], number: usize) -> Result<Name, AllocError>
     ensures { IfOk result (λ name. name ≡ numbered prefix.now number) }
@@ -19,15 +20,7 @@ fn numbered(alloc: Global, prefix: &[u8], number: usize) -> Result<Name, AllocEr
     Ok(Name::from_vec(bytes))
 }
 
-/// Whether a name is among names.
-fn is_among(names: &[Name], name: &Name) -> bool
-    ensures { result ≡ has names.now name.now }
-{
-    names.iter().any(|other| *name == *other)
-}
-
-/// Puts a prefix and a number behind the last, unless a port has that name; an error only for want
-/// of memory.
+/// Puts a prefix and a number behind the last, unless a port has that name.
 fn push_free(
     alloc: Global,
     names: &mut Vec<Name>,
@@ -41,14 +34,13 @@ fn push_free(
         then [] else numbered prefix.now number ∷ [])) }
 {
     let name = numbered(alloc, prefix, number)?;
-    if !is_among(inputs, &name) && !is_among(outputs, &name) {
+    if !has_name(inputs, &name) && !has_name(outputs, &name) {
         names.push(name)?;
     }
     Ok(())
 }
 
-/// So many names of a prefix with a number that no port has, those of the least numbers; an error
-/// only for want of memory.
+/// So many names of a prefix with a number that no port has, those of the least numbers.
 pub(crate) fn free_names(
     alloc: Global,
     prefix: &[u8],

@@ -1,4 +1,10 @@
-//! The tables of next bits and outputs.
+//! The tables of next-state bits and outputs.
+//!
+//! Source: De Micheli, "Synthesis and Optimization of Digital Circuits", chapter 9 (state
+//! encoding). A table has a row for each row of the machine that specifies 1 for its bit or output:
+//! the input cube and the code of the current state, with dashes for every state. Unspecified bits
+//! become 0. Each table is then brought to normal form (`tidied` of circuit_tables), and is exactly
+//! that of `specs/Encoded.antt`.
 
 ghost use Rattle.std.specs.Prelude.{◌≡◌, [], ◌∷◌, ◌++◌, map, slice_index_or, IfOk, OnOk, if◌then◌else◌};
 ghost use Rattle.std.specs.List.{filter};
@@ -33,7 +39,7 @@ struct Column {
     place: usize,
 }
 
-/// The character that a row has for a bit of its current state's code.
+/// The character of a row for a bit of its current state's code.
 fn code_character(style: Style, current: Option<usize>, bit: usize) -> Tri
     ensures { result ≡ code_character style current bit }
 {
@@ -44,7 +50,7 @@ fn code_character(style: Style, current: Option<usize>, bit: usize) -> Tri
     }
 }
 
-/// A row over the inputs and state bits; an error only for want of memory.
+/// A row over the inputs and state bits.
 fn coded_row(alloc: Global, coding: Coding, row: &MachineRow) -> Result<Row, AllocError>
     ensures { IfOk result (λ made. made ≡ coded_row coding.style coding.width row.now) }
 {
@@ -55,7 +61,7 @@ fn coded_row(alloc: Global, coding: Coding, row: &MachineRow) -> Result<Row, All
     Ok(made)
 }
 
-/// Whether the character at a place is 1.
+/// Whether the character of a column is 1.
 fn is_one(output: &[Tri], place: usize) -> bool
     ensures { result ≡ is_one (slice_index_or output.now place Free) }
 {
@@ -76,8 +82,7 @@ fn specifies_one(style: Style, column: Column, row: &MachineRow) -> bool
     }
 }
 
-/// Puts a row over inputs and state bits behind the last where it specifies 1; an error only for
-/// want of memory.
+/// Appends a row over inputs and state bits, if it specifies 1.
 fn push_row(
     alloc: Global,
     rows: &mut Vec<Row>,
@@ -95,7 +100,7 @@ fn push_row(
     Ok(())
 }
 
-/// The rows of a table; an error only for want of memory.
+/// The rows of a table.
 fn rows_of(
     alloc: Global,
     coding: Coding,
@@ -112,8 +117,7 @@ fn rows_of(
     Ok(Sequence::from_vec(made))
 }
 
-/// The tidy table of a bit of the next state's code, or of an output; an error only for want of
-/// memory.
+/// The table of a bit of the next state's code, or of an output, in normal form.
 #[tactic(auto, unfolding(crate::specs::Encoded::table_of))]
 fn table_of(
     alloc: Global,
@@ -137,7 +141,7 @@ fn table_of(
     tidied_table(alloc, table)
 }
 
-/// Puts the tables of a part behind the last, one for each name; an error only for want of memory.
+/// Appends the tables of a part, one for each name.
 pub(crate) fn push_tables(
     alloc: Global,
     tables: &mut Vec<Table>,

@@ -5,6 +5,7 @@ use Rattle.std.specs.Cmp.{IsTotalOrder, then_total, on_total, nat_cmp_total, tie
 use Rattle.std.specs.declared.cmp.Ordering.{Ordering}
 use Rattle.std.proofs.lemmas.Cmp.{nat_list_cmp_total}
 use Rattle.std.proofs.lemmas.Map.Lookups.{CmpEqualImpliesEq, exact_unsigned, exact_bytes}
+use Rattle.std.proofs.lemmas.Bool.{or_parts}
 use borrow.Author.Tests.{eqb-true, eqb-false}
 use Rattle.circuit_model.specs.Names.{has, all_different}
 use Rattle.circuit_laws.proofs.Names.{name_apart, different_head, different_tail}
@@ -16,7 +17,7 @@ use Rattle.subject_tree.specs.declared.order.Next.{Next}
 use Rattle.subject_tree.specs.declared.order.Next.TheVariants.{Done, Below}
 use Rattle.subject_tree.specs.declared.arena.Vertex.{Vertex}
 use Rattle.subject_tree.specs.declared.arena.Vertex.TheVariants.{Leaf as AtLeaf, Inv as AtInv, Nand as AtNand}
-use Rattle.subject_tree.proofs.Arenas.{or_none, reads_all, over_all}
+use Rattle.subject_tree.proofs.Arenas.{reads_all, over_all}
 
 -- places compare totally, and only one place is equal to itself
 pub place_total : (names : List (List ℕ)) → IsTotalOrder (place_cmp names)
@@ -184,8 +185,8 @@ level names vs m n e =
 -- the place of a name among different names
 apart_at : (names : List (List ℕ)) (first : List ℕ) (n : ℕ) → has names first ≡ false → n < length names → first ≡ name_at names n → ⊥
 apart_at [] first n new lt e = omega (arith, lt)
-apart_at (name ∷ names) first zero new lt e = name_apart first name (or_none (bytes_eq first name) (has names first) new).0 e
-apart_at (name ∷ names) first (suc n) new lt e = apart_at names first n (or_none (bytes_eq first name) (has names first) new).1 (omega (arith, lt)) e
+apart_at (name ∷ names) first zero new lt e = name_apart first name (or_parts (bytes_eq first name) (has names first) new).0 e
+apart_at (name ∷ names) first (suc n) new lt e = apart_at names first n (or_parts (bytes_eq first name) (has names first) new).1 (omega (arith, lt)) e
 
 one_place : (names : List (List ℕ)) (m n : ℕ) → all_different names ≡ true → m < length names → n < length names → name_at names m ≡ name_at names n → m ≡ n
 one_place [] m n different p q e = absurd (omega (arith, p))

@@ -12,8 +12,8 @@ use Rattle.circuit_laws.proofs.Names.{same_name}
 use Rattle.subject_tree.specs.Sizes.{word_count}
 use Rattle.subject_tree.specs.Tables.{is_constant}
 use Rattle.subject_tree.specs.Forest.{uses_in_row, uses_in_rows, uses_of, is_outer, fate_by_uses, fate_by, fate_of, count_in, AreCounts}
-use Rattle.subject_tree.specs.declared.judging.Fate.{Fate}
-use Rattle.subject_tree.specs.declared.judging.Fate.TheVariants.{Constant, Root}
+use Rattle.subject_tree.specs.declared.judging.Role.{Role}
+use Rattle.subject_tree.specs.declared.judging.Role.TheVariants.{Constant, Root}
 
 word_more : (a : ℕ) → word_count (word_count a + 1) ≡ word_count (a + 1)
 word_more a = omega arith
@@ -70,7 +70,7 @@ row_counted start now new inputs row k place input c next within width is before
     omega (arith, e, f))
     (step (λ signal. uses signal + uses_in_row signal (drop place inputs) (drop place row)) (before uses are))
 
-drop_all : {X : Type 0} (xs : List X) → drop (length xs) xs ≡ []
+pub drop_all : {X : Type 0} (xs : List X) → drop (length xs) xs ≡ []
 drop_all [] = refl
 drop_all (x ∷ xs) = drop_all xs
 
@@ -134,23 +134,23 @@ fate_word (suc (suc n)) =
     let e : word_count (suc (suc n)) ≡ suc (suc (word_count (suc (suc n)) - 2)) = omega arith in
     ap fate_by_uses e
 
-pub fate-found : (circuit : Circuit) (table : Table) (outer : Bool) (count : ℕ) (fate : Fate) → outer ≡ is_outer circuit table.output → count ≡ word_count (uses_of circuit.tables table.output) → fate ≡ fate_by (is_constant table) outer count
+pub fate-found : (circuit : Circuit) (table : Table) (outer : Bool) (count : ℕ) (fate : Role) → outer ≡ is_outer circuit table.output → count ≡ word_count (uses_of circuit.tables table.output) → fate ≡ fate_by (is_constant table) outer count
     → fate ≡ fate_of circuit table
 unfolding fate_of
 fate-found circuit table outer count fate stands is found =
     found
     ∙ (ap (λ (b : Bool). fate_by (is_constant table) b count) stands
-    ∙ ap (λ (f : Fate). if is_constant table then Constant else (if is_outer circuit table.output then Root else f)) (ap fate_by_uses is ∙ fate_word (uses_of circuit.tables table.output)))
+    ∙ ap (λ (f : Role). if is_constant table then Constant else (if is_outer circuit table.output then Root else f)) (ap fate_by_uses is ∙ fate_word (uses_of circuit.tables table.output)))
 
 judged_same : (circuit : Circuit) (outer : List (List ℕ)) (counts : List ℕ → Option ℕ) → ((signal : List ℕ) → has outer signal ≡ is_outer circuit signal) → AreCounts counts (uses_of circuit.tables) → (tables : List Table)
     → map (λ (table : Table). fate_by (is_constant table) (has outer table.output) (count_in (counts table.output))) tables ≡ map (fate_of circuit) tables
 judged_same circuit outer counts stands are [] = refl
 judged_same circuit outer counts stands are (table ∷ tables) =
-    ap (λ (f : Fate). f ∷ map (λ (t : Table). fate_by (is_constant t) (has outer t.output) (count_in (counts t.output))) tables)
+    ap (λ (f : Role). f ∷ map (λ (t : Table). fate_by (is_constant t) (has outer t.output) (count_in (counts t.output))) tables)
     (fate-found circuit table (has outer table.output) (count_in (counts table.output)) (fate_by (is_constant table) (has outer table.output) (count_in (counts table.output))) (stands table.output) (are table.output) refl)
-    ∙ ap (λ (fs : List Fate). fate_of circuit table ∷ fs) (judged_same circuit outer counts stands are tables)
+    ∙ ap (λ (fs : List Role). fate_of circuit table ∷ fs) (judged_same circuit outer counts stands are tables)
 
-pub all_judged : (circuit : Circuit) (outer : List (List ℕ)) (counts : List ℕ → Option ℕ) (tables : List Table) (fates : List Fate) → tables ≡ circuit.tables → ((signal : List ℕ) → has outer signal ≡ is_outer circuit signal) → AreCounts counts (uses_of tables)
+pub all_judged : (circuit : Circuit) (outer : List (List ℕ)) (counts : List ℕ → Option ℕ) (tables : List Table) (fates : List Role) → tables ≡ circuit.tables → ((signal : List ℕ) → has outer signal ≡ is_outer circuit signal) → AreCounts counts (uses_of tables)
     → fates ≡ map (λ (table : Table). fate_by (is_constant table) (has outer table.output) (count_in (counts table.output))) tables → fates ≡ map (fate_of circuit) circuit.tables
 all_judged circuit outer counts tables fates same stands are made =
     made ∙ (judged_same circuit outer counts stands (subst (λ (ts : List Table). AreCounts counts (uses_of ts)) same are) tables ∙ ap (map (fate_of circuit)) same)

@@ -7,6 +7,7 @@ use Rattle.subject_tree.specs.Trees.{Tree, product_of, sum_of}
 use Rattle.subject_tree.specs.declared.arena.Vertex.{Vertex}
 use Rattle.subject_tree.specs.Arenas.{tree_at, KeepsTrees}
 use Rattle.subject_tree.specs.Tables.{with_front, joined, literal_tree, literal_trees, row_tree, row_trees, trees_of, AreTaken, Finds}
+use Rattle.subject_tree.proofs.Counting.{drop_all}
 
 -- what is found stays found
 pub finds-kept : (old new : List Vertex) (made : Option ℕ) (t : Option (Tree ℕ)) → KeepsTrees old new → Finds old made t → Finds new made t
@@ -110,10 +111,6 @@ kept_on a b c first second n lt =
     let (p, e) = first n lt in
     let (q, f) = second n p in
     (q, f ∙ e)
-
-drop_all : {X : Type 0} (xs : List X) → drop (length xs) xs ≡ []
-drop_all [] = refl
-drop_all (x ∷ xs) = drop_all xs
 
 pub row_begun : (vs : List Vertex) (ns : List ℕ) (row : List Tri) → row_tree (trees_of vs (drop (length ns) ns)) (drop (length ns) row) ≡ None
 unfolding literal_trees joined

@@ -18,7 +18,7 @@ use Rattle.circuit_order.specs.Places.{IsIndex}
 use Rattle.subject_tree.specs.Trees.{Tree}
 use Rattle.subject_tree.specs.Forest.{fate_of, is_put_fate, is_put, put_driver, AreTrees}
 use Rattle.subject_tree.specs.Reading.{AllTaken, AreRead, IsGrown, IsReady}
-use Rattle.subject_tree.specs.declared.judging.Fate.{Fate}
+use Rattle.subject_tree.specs.declared.judging.Role.{Role}
 use Rattle.subject_tree.specs.declared.arena.Vertex.{Vertex}
 use Rattle.subject_tree.proofs.Growing.{put_table}
 use Rattle.subject_tree.proofs.Planting.{inputs-read}
@@ -39,14 +39,14 @@ driver_place (first ∷ tables) signal table e = cases (bytes_eq signal first.ou
     cases false e rest = let (i, at) = rest e in (suc i, at)
 
 -- a table that a place is found for is put where its fate says so
-pub put-here : (circuit : Circuit) (fates : List Fate) (place : List ℕ → Option ℕ) (signal : List ℕ) (i : ℕ) → all_different (outputs_of circuit.tables) ≡ true → fates ≡ map (fate_of circuit) circuit.tables → IsIndex circuit.tables place → place signal ≡ Some i
+pub put-here : (circuit : Circuit) (fates : List Role) (place : List ℕ → Option ℕ) (signal : List ℕ) (i : ℕ) → all_different (outputs_of circuit.tables) ≡ true → fates ≡ map (fate_of circuit) circuit.tables → IsIndex circuit.tables place → place signal ≡ Some i
     → put_driver circuit signal ≡ (if option_map_or is_put_fate (slice_get fates i) false then slice_get circuit.tables i else None)
 unfolding put_driver is_put
 put-here circuit fates place signal i different is index at =
     let (table, there, name) = index.only signal i at in
     let drives : driver circuit.tables signal ≡ Some table = ap (driver circuit.tables) (sym name) ∙ placed_driver circuit.tables i table different there in
     let fate : option_map_or is_put_fate (slice_get fates i) false ≡ is_put_fate (fate_of circuit table) =
-    ap (λ (fs : List Fate). option_map_or is_put_fate (slice_get fs i) false) is ∙ ap (λ (o : Option Fate). option_map_or is_put_fate o false) (mapped_get (fate_of circuit) circuit.tables i table there) in
+    ap (λ (fs : List Role). option_map_or is_put_fate (slice_get fs i) false) is ∙ ap (λ (o : Option Role). option_map_or is_put_fate o false) (mapped_get (fate_of circuit) circuit.tables i table there) in
     ap (λ (o : Option Table). if option_map_or (λ (t : Table). is_put_fate (fate_of circuit t)) o false then o else None) drives
     ∙ (ap (λ (b : Bool). if b then Some table else None) (sym fate) ∙ ap (λ (o : Option Table). if option_map_or is_put_fate (slice_get fates i) false then o else None) (sym there))
 

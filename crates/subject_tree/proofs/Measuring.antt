@@ -5,7 +5,7 @@ use Rattle.subject_tree.specs.Trees.{Tree, size_of}
 use Rattle.subject_tree.specs.Arenas.{nowhere, trees, tree_at, tree_in, built, vertex_at, IsOver, IsArena}
 use Rattle.subject_tree.specs.Sizes.{word_count, word_size, size_over}
 use Rattle.subject_tree.specs.declared.arena.Vertex.{Vertex}
-use Rattle.subject_tree.specs.declared.arena.Vertex.TheVariants.{Leaf as AtLeaf, Inv as AtInv, Nand as AtNand}
+use Rattle.subject_tree.specs.declared.arena.Vertex.TheVariants.{Leaf, Inv, Nand}
 use Rattle.subject_tree.proofs.Arenas.{length-trees}
 
 take_past : {X : Type 0} (xs : List X) (n : ℕ) → length xs ≤ n → take n xs ≡ xs
@@ -38,10 +38,10 @@ size_known (t ∷ ts) (suc n) (suc k) lt = size_known ts n k (omega (arith, lt))
 
 pub size_built : (ts : List (Tree ℕ)) (n : ℕ) (v : Vertex) → IsOver n v → size_over (map word_size (take n ts)) v ≡ word_size (built ts v)
 unfolding size_of
-size_built ts n (AtLeaf place) over = sym leaf_size
-size_built ts n (AtInv i) over =
+size_built ts n (Leaf place) over = sym leaf_size
+size_built ts n (Inv i) over =
     ap (λ (k : ℕ). word_count (k + 1)) (size_known ts n i over) ∙ word_inv (size_of (tree_in ts i))
-size_built ts n (AtNand i j) over =
+size_built ts n (Nand i j) over =
     ap (λ (k : ℕ). word_count (word_count (k + get_or (map word_size (take n ts)) j 1) + 1)) (size_known ts n i over.0)
     ∙ (ap (λ (k : ℕ). word_count (word_count (word_size (tree_in ts i) + k) + 1)) (size_known ts n j over.1) ∙ word_nand (size_of (tree_in ts i)) (size_of (tree_in ts j)))
 

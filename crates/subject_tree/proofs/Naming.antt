@@ -1,21 +1,10 @@
 -- The names at places, as names are put behind the last.
-use Rattle.std.proofs.Common.{◌≡◌, ℕ, zero, suc, Bool, true, false, if◌then◌else◌, Some, List, [], ◌∷◌, ◌++◌, slice_get, bytes_eq, refl, sym, ap, ◌∙◌, subst, inl, inr}
-use Rattle.std.proofs.lemmas.Bool.{false≢true, or_cases}
+use Rattle.std.proofs.Common.{◌≡◌, ℕ, zero, suc, Bool, true, false, if◌then◌else◌, Some, List, [], ◌∷◌, ◌++◌, slice_get, bytes_eq, refl, sym, ap, ◌∙◌}
 use Rattle.std.proofs.lemmas.Option.{none-some}
 use Rattle.circuit_model.specs.Names.{has, all_different}
-use Rattle.circuit_laws.proofs.Names.{same_name, different_cons, different_none, apart_different}
+use Rattle.circuit_laws.proofs.Names.{same_name}
 use Rattle.subject_tree.specs.Order.{KeepsNames}
-
-different_push : (names : List (List ℕ)) (last : List ℕ) → all_different names ≡ true → has names last ≡ false → all_different (names ++ last ∷ []) ≡ true
-different_push names last different new = apart_different names (last ∷ []) (record {
-  front = different;
-  back = different_cons last [] refl different_none;
-  between = λ name among at.
-      elim (or_cases (bytes_eq name last) false at) as (λ _. ⊥) [
-        | inl e ↦ false≢true (sym new ∙ subst (λ (n : List ℕ). has names n ≡ true) (same_name name last e) among)
-        | inr m ↦ false≢true m
-      ];
-})
+use Rattle.circuit_order.proofs.Orders.{different_push}
 
 get_push_left : {X : Type 0} (xs : List X) (y x : X) (i : ℕ) → slice_get xs i ≡ Some x → slice_get (xs ++ y ∷ []) i ≡ Some x
 get_push_left [] y x i at = absurd (none-some x at)

@@ -20,7 +20,7 @@ use Rattle.subject_tree.specs.Reading.{AreRead, IsMade, AllTaken}
 use Rattle.subject_tree.specs.Roots.{is_root_fate, roots_of, tree_over, size_if, named_tree, AreRoots}
 use Rattle.subject_tree.specs.declared.arena.Vertex.{Vertex}
 use Rattle.subject_tree.specs.declared.forest.Root.{Root}
-use Rattle.subject_tree.specs.declared.judging.Fate.{Fate}
+use Rattle.subject_tree.specs.declared.judging.Role.{Role}
 use Rattle.subject_tree.proofs.Growing.{mapped_length}
 use Rattle.subject_tree.proofs.Listing.{mapped_get}
 use Rattle.subject_tree.proofs.Reading.{named_on, read-kept}
@@ -88,10 +88,10 @@ all_tables P xs k x h lt is = subst P (sym is) (at xs k h lt)
     at (y ∷ ys) (suc i) h lt = at ys i h.1 (omega (arith, lt))
 
 -- the fate at a place
-fate-here : (circuit : Circuit) (tables : List Table) (fates : List Fate) (k : ℕ) (table : Table) (b : Bool) → fates ≡ map (fate_of circuit) tables → k < length tables → table ≡ get_or tables k table → b ≡ option_map_or is_root_fate (slice_get fates k) false
+fate-here : (circuit : Circuit) (tables : List Table) (fates : List Role) (k : ℕ) (table : Table) (b : Bool) → fates ≡ map (fate_of circuit) tables → k < length tables → table ≡ get_or tables k table → b ≡ option_map_or is_root_fate (slice_get fates k) false
     → is_root_fate (fate_of circuit table) ≡ b
 fate-here circuit tables fates k table b is lt at e =
-    sym (e ∙ (ap (λ (fs : List Fate). option_map_or is_root_fate (slice_get fs k) false) is ∙ ap (λ (o : Option Fate). option_map_or is_root_fate o false) (mapped_get (fate_of circuit) tables k table (item_at tables k table lt at))))
+    sym (e ∙ (ap (λ (fs : List Role). option_map_or is_root_fate (slice_get fs k) false) is ∙ ap (λ (o : Option Role). option_map_or is_root_fate o false) (mapped_get (fate_of circuit) tables k table (item_at tables k table lt at))))
 
 -- the roots of one table more
 next-roots : (circuit : Circuit) (tables : List Table) (k : ℕ) (table : Table) (b : Bool) → k < length tables → table ≡ get_or tables k table → is_root_fate (fate_of circuit table) ≡ b
@@ -123,7 +123,7 @@ all_read-kept old new names more numbers tree kept named taken [] read = tt
 all_read-kept old new names more numbers tree kept named taken (signal ∷ signals) read =
     (read-kept old new names more signal (numbers signal) (tree signal) kept named (taken signal) read.0, all_read-kept old new names more numbers tree kept named taken signals read.1)
 
-pub roots-next : (circuit : Circuit) (tables : List Table) (fates : List Fate) (first old new : List Vertex) (firsts names more : List (List ℕ)) (numbers : List ℕ → Option ℕ) (k : ℕ) (table : Table) (b : Bool) (roots after : List Root) (tree : List ℕ → Tree (List ℕ))
+pub roots-next : (circuit : Circuit) (tables : List Table) (fates : List Role) (first old new : List Vertex) (firsts names more : List (List ℕ)) (numbers : List ℕ → Option ℕ) (k : ℕ) (table : Table) (b : Bool) (roots after : List Root) (tree : List ℕ → Tree (List ℕ))
     → fates ≡ map (fate_of circuit) tables → k < length tables → table ≡ get_or tables k table → b ≡ option_map_or is_root_fate (slice_get fates k) false
     → KeepsTrees first old → KeepsNames firsts names → AllTaken first numbers → ((signals : List (List ℕ)) → AreRead first firsts numbers tree signals)
     → (((trees : List ℕ → Tree (List ℕ)) (others : List Table) → AreRead old names numbers trees table.inputs → (b ≡ true → is_constant table ≡ false) → AreRoots old names trees others roots → AreRoots new more trees (others ++ cond b (table ∷ []) []) after))
@@ -155,7 +155,7 @@ word_sum : {X : Type 0} (f : X → ℕ) (xs : List X) → word_count (sum_by (λ
 word_sum f [] = refl
 word_sum {X} f (x ∷ xs) = omega (arith, sum_by-cons (λ (y : X). word_count (f y)) x xs, sum_by-cons f x xs, word_sum f xs)
 
-size_there : (ts : List (Tree ℕ)) (n : ℕ) → get_or (map word_size ts) n 1 ≡ word_size (get_or ts n nowhere)
+pub size_there : (ts : List (Tree ℕ)) (n : ℕ) → get_or (map word_size ts) n 1 ≡ word_size (get_or ts n nowhere)
 unfolding size_of
 size_there [] n = refl
 size_there (t ∷ ts) zero = refl

@@ -2,21 +2,21 @@
 use Rattle.std.proofs.Common.{◌≡◌, ℕ, zero, suc, ◌+◌, ◌-◌, ◌^◌, ◌<◌, ◌≤◌, true, Option, Some, List, [], ◌∷◌, ◌++◌, map, length, take, drop, set, leb, get_or, sum_by, refl, sym, ap, ◌∙◌, subst, inl, inr, ◌⊎◌, arith}
 use Rattle.std.specs.List.{AllByRecursion, list_all}
 use Rattle.std.proofs.lemmas.List.{length-append, get_or_append_left}
-use Rattle.std.proofs.lemmas.Bool.{leb-true, le-leb}
+use Rattle.std.proofs.lemmas.Bool.{leb-true, le-leb, and_parts}
 use Rattle.std.proofs.lemmas.List.Edits.{map_over_more}
 use Rattle.std.proofs.lemmas.List.Sums.{sum_by-cons}
 use Rattle.std.proofs.Math.Seq.{get_or-append_seam}
 use Rattle.circuit_model.specs.declared.circuit.Table.{Table}
-use Rattle.subject_tree.proofs.Vertices.{both}
 use Rattle.subject_tree.specs.Trees.{Tree, Inv, Nand, size_of, renamed}
 use Rattle.subject_tree.specs.Order.{name_at}
-use Rattle.subject_tree.specs.Arenas.{nowhere, trees, tree_at, built, vertex_at, IsOver, IsArena, KeepsTrees, Has}
+use Rattle.subject_tree.specs.Arenas.{trees, tree_at, built, vertex_at, IsOver, IsArena, KeepsTrees, Has}
 use Rattle.subject_tree.specs.Sizes.{word_size}
 use Rattle.subject_tree.specs.Pruning.{number_in, renumbered_vertex, renumbered_root}
 use Rattle.subject_tree.specs.Roots.{named_tree, AreRoots}
 use Rattle.subject_tree.specs.declared.arena.Vertex.{Vertex}
-use Rattle.subject_tree.specs.declared.arena.Vertex.TheVariants.{Leaf as AtLeaf, Inv as AtInv, Nand as AtNand}
+use Rattle.subject_tree.specs.declared.arena.Vertex.TheVariants.{Leaf, Inv as AtInv, Nand as AtNand}
 use Rattle.subject_tree.specs.declared.forest.Root.{Root}
+use Rattle.subject_tree.proofs.Rooting.{size_there}
 
 -- the small trees of the first vertices stand in the new arena, and no tree there is large
 pub record Pruned (limit : ℕ) (vs ws : List Vertex) (numbers : List ℕ) (k : ℕ) : Type 0 where
@@ -35,7 +35,7 @@ pruned_none limit vs ws is = record {
 replaced : (limit : ℕ) (vs ws : List Vertex) (numbers : List ℕ) (k : ℕ) → Pruned limit vs ws numbers k → (v : Vertex) → IsOver k v → size_of (built (trees vs) v) ≤ limit
     → IsOver (length ws) (renumbered_vertex numbers v) × (built (trees ws) (renumbered_vertex numbers v) ≡ built (trees vs) v)
 unfolding size_of
-replaced limit vs ws numbers k pruned (AtLeaf place) over le = (tt, refl)
+replaced limit vs ws numbers k pruned (Leaf place) over le = (tt, refl)
 replaced limit vs ws numbers k pruned (AtInv n) over le =
     let has : Has ws (number_in numbers n) (tree_at vs n) = pruned.each n over (omega (arith, le)) in
     (has.0, ap (λ (t : Tree ℕ). Inv t) has.1)
@@ -92,13 +92,6 @@ pruned_more limit vs old new numbers after k made arena lt pruned is kept has ad
       | inr (le, same) ↦ subst (λ (t : Tree ℕ). size_of t ≤ limit) (sym (same ∙ (replaced_at limit vs old numbers k arena lt pruned le).1)) le
     ]
 
--- sizes as words, against a limit below the greatest word
-size_there : (ts : List (Tree ℕ)) (n : ℕ) → get_or (map word_size ts) n 1 ≡ word_size (get_or ts n nowhere)
-unfolding size_of
-size_there [] n = refl
-size_there (t ∷ ts) zero = refl
-size_there (t ∷ ts) (suc n) = size_there ts n
-
 pub size_small : (vs : List Vertex) (sizes : List ℕ) (n limit size : ℕ) → sizes ≡ map word_size (trees vs) → size ≡ get_or sizes n 1 → limit < 2 ^ 64 - 1 → size ≤ limit → size_of (tree_at vs n) ≤ limit
 size_small vs sizes n limit size is at low le = omega (arith, at, ap (λ (xs : List ℕ). get_or xs n 1) is, size_there (trees vs) n, low, le)
 
@@ -108,8 +101,8 @@ small_size vs sizes n limit size is at le = omega (arith, at, ap (λ (xs : List 
 -- where all sizes are within the limit, all trees are
 all_within : (sizes : List ℕ) (limit n : ℕ) → 1 ≤ limit → list_all (λ (size : ℕ). leb size limit) sizes ≡ true → get_or sizes n 1 ≤ limit
 all_within [] limit n one all = one
-all_within (size ∷ sizes) limit zero one all = leb-true size limit (both _ _ all).0
-all_within (size ∷ sizes) limit (suc n) one all = all_within sizes limit n one (both _ _ all).1
+all_within (size ∷ sizes) limit zero one all = leb-true size limit (and_parts _ _ all).0
+all_within (size ∷ sizes) limit (suc n) one all = all_within sizes limit n one (and_parts _ _ all).1
 
 pub all_small : (vs : List Vertex) (sizes : List ℕ) (limit n : ℕ) → sizes ≡ map word_size (trees vs) → 1 ≤ limit → limit < 2 ^ 64 - 1 → list_all (λ (size : ℕ). leb size limit) sizes ≡ true → size_of (tree_at vs n) ≤ limit
 all_small vs sizes limit n is one low all = size_small vs sizes n limit (get_or sizes n 1) is refl low (all_within sizes limit n one all)

@@ -9,6 +9,7 @@ use Rattle.circuit_model.specs.declared.circuit.Circuit.{Circuit}
 use Rattle.circuit_laws.proofs.Names.{same_name, has_append}
 use Rattle.subject_tree.specs.Forest.{is_outer}
 use Rattle.subject_tree.specs.Tables.{is_constant}
+use Rattle.subject_tree.proofs.Counting.{drop_all}
 
 or_again : (a b : Bool) → (b ≡ true → a ≡ true) → a ≡ (a || b)
 or_again true b h = refl
@@ -43,10 +44,6 @@ named_more old new name copy same put signal =
 abbrev pub any_from : {X : Type 0} → (X → Bool) → List X → Bool
 any_from test [] = false
 any_from test (x ∷ xs) = test x || any_from test xs
-
-drop_all : {X : Type 0} (xs : List X) → drop (length xs) xs ≡ []
-drop_all [] = refl
-drop_all (x ∷ xs) = drop_all xs
 
 pub standing_begun : {X : Type 0} (test : X → Bool) (a : Bool) (xs : List X) → a ≡ (a || any_from test (drop (length xs) xs))
 standing_begun {X} test a xs =

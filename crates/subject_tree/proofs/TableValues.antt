@@ -1,8 +1,9 @@
 -- The value of a table's tree is the table's value.
 use Rattle.std.proofs.Common.{◌≡◌, ◌==◌, Bool, true, false, not, ◌&&◌, ◌||◌, Option, Some, None, List, [], ◌∷◌, ◌++◌, map, length, option_map, option_to_list, unwrap_or, refl, sym, ap, ◌∙◌, arith}
 use Rattle.std.specs.List.{AllByRecursion, list_all, list_any}
-use Rattle.std.proofs.lemmas.Bool.{false≢true}
+use Rattle.std.proofs.lemmas.Bool.{false≢true, or_right, or_parts}
 use Rattle.std.proofs.lemmas.Option.{same_Some, none-some}
+use Rattle.std.proofs.Math.Bool.{and-true, or-false}
 use Rattle.sis_base.specs.Rows.{matches, some_matches, phase_value, value_by_phase}
 use Rattle.circuit_model.specs.Values.{literal_of, table_value}
 use Rattle.circuit_model.specs.declared.circuit.Tri.{Tri}
@@ -10,20 +11,7 @@ use Rattle.circuit_model.specs.declared.circuit.Tri.TheVariants.{Zero, One, Free
 use Rattle.circuit_model.specs.declared.circuit.Table.{Table}
 use Rattle.subject_tree.specs.Trees.{Tree, product_of, sum_of, value_at}
 use Rattle.subject_tree.specs.Tables.{with_front, joined, literal_trees, row_tree, row_trees, by_phase, table_tree, is_blank, is_constant}
-use Rattle.subject_tree.proofs.Arenas.{or_none}
 use Rattle.subject_tree.proofs.Values.{complement-value, product-value, sum-value}
-
-and_true : (b : Bool) → (b && true) ≡ b
-and_true true = refl
-and_true false = refl
-
-or_back : (a b : Bool) → b ≡ true → (a || b) ≡ true
-or_back true b e = refl
-or_back false b e = e
-
-or_false : (b : Bool) → (b || false) ≡ b
-or_false true = refl
-or_false false = refl
 
 module _ {A : Type 0} (value : A → Bool) where
   -- the value of what may be no tree
@@ -32,12 +20,12 @@ module _ {A : Type 0} (value : A → Bool) where
 
   front_product : (t : Tree A) (rest : Option (Tree A)) → value_at value (with_front product_of t rest) ≡ (value_at value t && worth true rest)
   unfolding worth
-  front_product t None = sym (and_true (value_at value t))
+  front_product t None = sym (and-true (value_at value t))
   front_product t (Some u) = product-value value t u
 
   front_sum : (t : Tree A) (rest : Option (Tree A)) → value_at value (with_front sum_of t rest) ≡ (value_at value t || worth false rest)
   unfolding worth
-  front_sum t None = sym (or_false (value_at value t))
+  front_sum t None = sym (or-false (value_at value t))
   front_sum t (Some u) = sum-value value t u
 
   product_worth : (ts : List (Tree A)) → worth true (joined product_of ts) ≡ list_all (value_at value) ts
@@ -75,7 +63,7 @@ module _ {A : Type 0} (value : A → Bool) where
   unfolding row_trees some_matches value_at worth
   rows_value ts [] widths full = refl
   rows_value ts (row ∷ rows) widths full =
-      let (mine, others) = or_none (is_blank row) (list_any is_blank rows) full in
+      let (mine, others) = or_parts (is_blank row) (list_any is_blank rows) full in
       cases (row_tree ts row) refl mine (rows_value ts rows widths.1 others)
     where
       cases : (found : Option (Tree A)) → row_tree ts row ≡ found → is_blank row ≡ false
@@ -101,7 +89,7 @@ module _ {A : Type 0} (value : A → Bool) where
       cases None e made = absurd (none-some t made)
       cases (Some s) e made =
           let sum : value_at value s ≡ some_matches (map (map literal_of) table.rows) (map (value_at value) ts) =
-          sym (ap (worth false) e) ∙ (sum_worth (row_trees ts table.rows) ∙ rows_value ts table.rows widths (or_none (length table.rows == 0) (list_any is_blank table.rows) full).1) in
+          sym (ap (worth false) e) ∙ (sum_worth (row_trees ts table.rows) ∙ rows_value ts table.rows widths (or_parts (length table.rows == 0) (list_any is_blank table.rows) full).1) in
           ap (value_at value) (sym (same_Some (by_phase table.phase s) t made)) ∙ (phase_of table.phase s ∙ ap (phase_value table.phase) sum)
 
   -- a table that is not constant has a tree
@@ -109,7 +97,7 @@ module _ {A : Type 0} (value : A → Bool) where
   unfolding row_trees joined
   rows_none ts [] widths none = refl
   rows_none ts (row ∷ rows) widths none =
-      or_back (length (row ∷ rows) == 0) (is_blank row || list_any is_blank rows) (cases (row_tree ts row) refl none)
+      or_right (length (row ∷ rows) == 0) (is_blank row || list_any is_blank rows) (cases (row_tree ts row) refl none)
     where
       cases : (found : Option (Tree A)) → row_tree ts row ≡ found → joined sum_of (option_to_list found ++ row_trees ts rows) ≡ None → (is_blank row || list_any is_blank rows) ≡ true
       cases None e none = ap (λ (b : Bool). b || list_any is_blank rows) (blank_none ts row widths.0 e)

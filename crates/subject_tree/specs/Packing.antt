@@ -1,16 +1,17 @@
 -- Vertices as two small numbers each.
--- Source: Ershov, "On programming of arithmetic operations" (Communications of the ACM 1, 1958): an operation is written as
--- the numbers of its operands. That the kind is told by a number that is none is the project's own.
+-- Source: Ershov, "On programming of arithmetic operations" (Communications of the ACM 1, 1958): an
+-- operation is written as the numbers of its operands. That the kind is encoded by a number that is
+-- none is the project's own.
 use Rattle.std.specs.Prelude.{ℕ, Bool, true, false, ◌==◌}
 use Rattle.subject_tree.specs.declared.arena.Vertex.{Vertex}
-use Rattle.subject_tree.specs.declared.arena.Vertex.TheVariants.{Leaf as AtLeaf, Inv as AtInv, Nand as AtNand}
+use Rattle.subject_tree.specs.declared.arena.Vertex.TheVariants.{Leaf, Inv, Nand}
 use Rattle.subject_tree.specs.declared.packing.Packed.{Packed}
 
 -- the vertex of two numbers, by whether the first and the second are none
 abbrev pub vertex_by : Bool → Bool → ℕ → ℕ → Vertex
-vertex_by true lone first second = AtLeaf second
-vertex_by false true first second = AtInv first
-vertex_by false false first second = AtNand first second
+vertex_by true lone first second = Leaf second
+vertex_by false true first second = Inv first
+vertex_by false false first second = Nand first second
 
 -- the vertex that is packed
 abbrev pub unpacked : Packed → Vertex

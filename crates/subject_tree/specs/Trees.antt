@@ -1,7 +1,9 @@
--- Subject trees: what a network looks like before gates are chosen for it, over two-input NANDs and inverters alone.
--- Source: Keutzer, "DAGON: Technology binding and local optimization by DAG matching" (24th Design Automation Conference,
--- 1987); Rudell, "Logic Synthesis for VLSI Design" (thesis, University of California, Berkeley, 1989), the chapter on
--- technology mapping. A subject tree has signals as its leaves; a gate's pattern is such a tree over the gate's pins.
+-- Subject trees: a network before gates are chosen for it, over two-input NANDs and inverters
+-- alone.
+-- Source: Keutzer, "DAGON: Technology binding and local optimization by DAG matching" (24th Design
+-- Automation Conference, 1987); Rudell, "Logic Synthesis for VLSI Design" (thesis, University of
+-- California, Berkeley, 1989), the chapter on technology mapping. A subject tree has signals as its
+-- leaves; a gate's pattern is such a tree over the gate's pins.
 use Rattle.std.specs.Prelude.{ℕ, ◌+◌, Bool, not, ◌&&◌}
 
 -- a leaf, an inverter over a tree, or a NAND over two trees
@@ -10,7 +12,7 @@ pub data Tree (A : Type 0) : Type 0 where
   Inv : Tree A → Tree A
   Nand : Tree A → Tree A → Tree A
 
--- the complement of a tree: an inverter at its root goes, and else one is put over it
+-- the complement of a tree: an inverter at its root is removed, and otherwise one is added
 abbrev pub complement_of : {A : Type 0} → Tree A → Tree A
 complement_of (Leaf leaf) = Inv (Leaf leaf)
 complement_of (Inv t) = t
@@ -24,19 +26,19 @@ product_of t u = Inv (Nand t u)
 abbrev pub sum_of : {A : Type 0} → Tree A → Tree A → Tree A
 sum_of t u = Nand (complement_of t) (complement_of u)
 
--- the value of a tree where its leaves' values are given
+-- the value of a tree, given the values of its leaves
 unfoldable pub value_at : {A : Type 0} → (A → Bool) → Tree A → Bool
 value_at value (Leaf leaf) = value leaf
 value_at value (Inv t) = not (value_at value t)
 value_at value (Nand t u) = not (value_at value t && value_at value u)
 
--- how many vertices a tree has, its leaves with them
+-- the number of vertices of a tree, its leaves included
 unfoldable pub size_of : {A : Type 0} → Tree A → ℕ
 size_of (Leaf leaf) = 1
 size_of (Inv t) = size_of t + 1
 size_of (Nand t u) = size_of t + size_of u + 1
 
--- the tree with another thing in the place of each leaf
+-- the tree with each leaf replaced by its image
 unfoldable pub renamed : {A B : Type 0} → (A → B) → Tree A → Tree B
 renamed rename (Leaf leaf) = Leaf (rename leaf)
 renamed rename (Inv t) = Inv (renamed rename t)

@@ -1,4 +1,12 @@
-//! The forest of a circuit: the trees of its roots, over those of the tables that are put into their readers.
+//! The forest of a circuit: one tree for each root, with the tables that a single literal uses
+//! inlined.
+//!
+//! Source: Keutzer, "DAGON: Technology binding and local optimization by DAG matching" (24th Design
+//! Automation Conference, 1987). First the trees of the inlined tables are made in topological
+//! order, then those of the roots in the order of their tables. Callers rely on `IsForest`: the
+//! roots are exactly the tables with the fate `Root`, each with its table's tree over named leaves.
+//! No tree of the arena has more than `MAX_VERTICES` vertices, and `TreeLimit` is returned only if
+//! the roots' trees have more together, shared trees counted each time.
 
 ghost use Rattle.std.specs.Prelude.{◌≡◌, ◌<◌, ◌≤◌, ◌++◌, ◌∷◌, ℕ, List, Option, Some, None, [], true, false, length, map, slice_get, slice_index_or, option_copied, sum_by, Err, bytes_eq, if◌then◌else◌, IfSome, IfOk, OnOk};
 ghost use Rattle.std.specs.List.{AllByRecursion};
@@ -7,8 +15,8 @@ ghost use Rattle.indexmap.specs.IndexMap.{get};
 ghost use Rattle.circuit_model.specs.Names.{all_different};
 ghost use Rattle.circuit_model.specs.Soundness.{outputs_of, IsShaped, IsAcyclic};
 ghost use Rattle.circuit_model.specs.Values.{driver};
-ghost use Rattle.circuit_model.specs.declared.circuit.Circuit.{Circuit as TheCircuit};
-ghost use Rattle.circuit_model.specs.declared.circuit.Table.{Table as TheTable};
+ghost use Rattle.circuit_model.specs.declared.circuit.Circuit.{Circuit};
+ghost use Rattle.circuit_model.specs.declared.circuit.Table.{Table};
 ghost use Rattle.circuit_order.specs.Order.{IsOrdered};
 ghost use Rattle.circuit_order.specs.Places.{IsIndex};
 ghost use Rattle.subject_tree.specs.Trees.{Tree, renamed, size_of};
@@ -23,7 +31,7 @@ ghost use Rattle.subject_tree.specs.Reading.{HasTree, IsRead, AreRead, IsMade, A
 ghost use Rattle.subject_tree.specs.Roots.{tree_over, is_root_fate, roots_of, AreRoots, IsForest, IsTooLarge};
 
 use crate::arena::Arena;
-use crate::judging::{Fate, fates};
+use crate::judging::{Role, fates};
 use crate::laws::forest_trees_are_there;
 use crate::leaves::Leaves;
 use crate::pruning::shrink;
@@ -44,7 +52,8 @@ pub struct Root {
     pub number: usize,
 }
 
-/// The trees of a circuit's roots, which are numbers in the arena; their leaves are places in `leaves`.
+/// The trees of a circuit's roots, by their numbers in the arena; their leaves are indices into
+/// `leaves`.
 #[derive(Drop)]
 pub struct Forest {
     pub arena: Arena,
@@ -52,7 +61,7 @@ pub struct Forest {
     pub roots: Vec<Root>,
 }
 
-/// Why there is no forest: the trees of all roots are too large together, or memory is wanting.
+/// Why there is no forest: the trees of all roots are too large together, or memory ran out.
 #[derive(Debug, Drop)]
 pub enum ForestFault {
     TreeLimit,
@@ -70,14 +79,14 @@ impl From<AllocError> for ForestFault {
     }
 }
 
-// What a map has for a name.
+// The number of a name in a map.
 fn find(map: &IndexMap<Name, usize>, name: &Name) -> Option<usize>
     ensures { result ≡ get bytes_eq map.now name.now }
 {
     map.get(name).copied()
 }
 
-// The number of a signal's tree where it is read: its own, or that of its leaf.
+// The number of a signal's tree as it is read: its own, or else that of its leaf.
 fn read_signal(
     alloc: Global,
     arena: &mut Arena,
@@ -87,7 +96,9 @@ fn read_signal(
 ) -> Result<usize, AllocError>
     requires { AllTaken arena.old (get bytes_eq numbers.now) }
     ensures taken { IfOk result (λ number. number < length arena.new) }
-    ensures tree { IfOk result (λ number. (t : Tree (List ℕ)) → IsRead arena.old leaves.old signal.now (get bytes_eq numbers.now signal.now) t → HasTree arena.new leaves.new number t) }
+    ensures tree { IfOk result (λ number. (t : Tree (List ℕ))
+        → IsRead arena.old leaves.old signal.now (get bytes_eq numbers.now signal.now) t
+        → HasTree arena.new leaves.new number t) }
     ensures kept { KeepsTrees arena.old arena.new }
     ensures named { KeepsNames leaves.old leaves.new }
 {
@@ -101,7 +112,7 @@ fn read_signal(
     }
 }
 
-// The numbers of the trees of signals where they are read.
+// The numbers of the trees of signals as they are read.
 fn read_signals(
     alloc: Global,
     arena: &mut Arena,
@@ -112,7 +123,10 @@ fn read_signals(
     requires { AllTaken arena.old (get bytes_eq numbers.now) }
     ensures taken { IfOk result (λ found. AreTaken arena.new found.items) }
     ensures count { IfOk result (λ found. length found.items ≡ length signals.now) }
-    ensures trees { IfOk result (λ found. (tree : List ℕ → Tree (List ℕ)) → AreRead arena.old leaves.old (get bytes_eq numbers.now) tree signals.now → (more : List (List ℕ)) → KeepsNames leaves.new more → map (renamed (name_at more)) (trees_of arena.new found.items) ≡ map tree signals.now) }
+    ensures trees { IfOk result (λ found. (tree : List ℕ → Tree (List ℕ))
+        → AreRead arena.old leaves.old (get bytes_eq numbers.now) tree signals.now
+        → (more : List (List ℕ)) → KeepsNames leaves.new more → map (renamed (name_at more))
+        (trees_of arena.new found.items) ≡ map tree signals.now) }
     ensures kept { KeepsTrees arena.old arena.new }
     ensures named { KeepsNames leaves.old leaves.new }
 {
@@ -134,7 +148,9 @@ fn grow_table(
     requires taken { AllTaken arena.old (get bytes_eq numbers.now) }
     requires shaped { IsShaped table.now }
     ensures taken { IfOk result (λ made. IfSome made (λ n. n < length arena.new)) }
-    ensures tree { IfOk result (λ made. (tree : List ℕ → Tree (List ℕ)) → AreRead arena.old leaves.old (get bytes_eq numbers.now) tree table.now.inputs → IsMade arena.new leaves.new made (tree_over tree table.now)) }
+    ensures tree { IfOk result (λ made. (tree : List ℕ → Tree (List ℕ))
+        → AreRead arena.old leaves.old (get bytes_eq numbers.now) tree table.now.inputs
+        → IsMade arena.new leaves.new made (tree_over tree table.now)) }
     ensures kept { KeepsTrees arena.old arena.new }
     ensures named { KeepsNames leaves.old leaves.new }
 {
@@ -143,15 +159,16 @@ fn grow_table(
     Ok(made)
 }
 
-// Notes a number for a name.
+// Sets the number of a name.
 fn note(map: &mut IndexMap<Name, usize>, name: Name, number: usize) -> Result<(), AllocError>
-    ensures { OnOk result ((other : List ℕ) → get bytes_eq map.new other ≡ (if bytes_eq name other then Some number else get bytes_eq map.old other)) }
+    ensures { OnOk result ((other : List ℕ) → get bytes_eq map.new other
+        ≡ (if bytes_eq name other then Some number else get bytes_eq map.old other)) }
 {
     let _old = map.insert(name, number)?;
     Ok(())
 }
 
-// The place of each table by its output.
+// The index of each table by its output.
 fn index_of(alloc: Global, tables: &[Table]) -> Result<IndexMap<Name, usize>, AllocError>
     requires { all_different (outputs_of tables.now) ≡ true }
     ensures { IfOk result (λ index. IsIndex tables.now (get bytes_eq index)) }
@@ -163,14 +180,15 @@ fn index_of(alloc: Global, tables: &[Table]) -> Result<IndexMap<Name, usize>, Al
     Ok(index)
 }
 
-// Notes the number of a signal's tree, where one was made.
+// Sets the number of a signal's tree, if one was made.
 fn note_made(
     alloc: Global,
     numbers: &mut IndexMap<Name, usize>,
     signal: &Name,
     made: Option<usize>,
 ) -> Result<(), AllocError>
-    ensures { OnOk result ((other : List ℕ) → get bytes_eq numbers.new other ≡ noted (get bytes_eq numbers.old) signal.now made other) }
+    ensures { OnOk result ((other : List ℕ) → get bytes_eq numbers.new other ≡ noted
+        (get bytes_eq numbers.old) signal.now made other) }
 {
     match made {
         None => Ok(()),
@@ -181,7 +199,7 @@ fn note_made(
     }
 }
 
-// Makes the tree of a table that is put into its reader, and notes its number.
+// Makes the tree of an inlined table, and sets its number.
 fn grow_put(
     alloc: Global,
     arena: &mut Arena,
@@ -192,7 +210,12 @@ fn grow_put(
     requires taken { AllTaken arena.old (get bytes_eq numbers.old) }
     requires shaped { IsShaped table.now }
     ensures taken { OnOk result (AllTaken arena.new (get bytes_eq numbers.new)) }
-    ensures grown { OnOk result ((circuit : TheCircuit) (tree : List ℕ → Tree (List ℕ)) (listed : List (List ℕ)) → AreTrees circuit tree → is_put circuit table.now.output ≡ true → driver circuit.tables table.now.output ≡ Some table.now → IsReady circuit.tables listed table.now.output → IsGrown circuit arena.old leaves.old (get bytes_eq numbers.old) tree listed → IsGrown circuit arena.new leaves.new (get bytes_eq numbers.new) tree (listed ++ table.now.output ∷ [])) }
+    ensures grown { OnOk result ((circuit : Circuit) (tree : List ℕ → Tree (List ℕ))
+        (listed : List (List ℕ)) → AreTrees circuit tree → is_put circuit table.now.output ≡ true
+        → driver circuit.tables table.now.output ≡ Some table.now
+        → IsReady circuit.tables listed table.now.output → IsGrown circuit arena.old leaves.old
+        (get bytes_eq numbers.old) tree listed → IsGrown circuit arena.new leaves.new
+        (get bytes_eq numbers.new) tree (listed ++ table.now.output ∷ [])) }
     ensures kept { OnOk result (KeepsTrees arena.old arena.new) }
     ensures named { OnOk result (KeepsNames leaves.old leaves.new) }
 {
@@ -201,43 +224,43 @@ fn grow_put(
     Ok(())
 }
 
-// Whether the table at a place is put into its reader.
-fn is_put_at(fates: &[Fate], place: usize) -> bool
+// Whether the table at an index is inlined.
+fn is_put_at(fates: &[Role], place: usize) -> bool
     ensures { result ≡ option_map_or is_put_fate (slice_get fates.now place) false }
 {
     match fates.get(place) {
         None => false,
-        Some(Fate::Constant) => false,
-        Some(Fate::Put) => true,
-        Some(Fate::Unused) => false,
-        Some(Fate::Root) => false,
+        Some(Role::Constant) => false,
+        Some(Role::Put) => true,
+        Some(Role::Unused) => false,
+        Some(Role::Root) => false,
     }
 }
 
-// Whether the table at a place is the root of a tree.
-fn is_root_at(fates: &[Fate], place: usize) -> bool
+// Whether the table at an index is the root of a tree.
+fn is_root_at(fates: &[Role], place: usize) -> bool
     ensures { result ≡ option_map_or is_root_fate (slice_get fates.now place) false }
 {
     match fates.get(place) {
         None => false,
-        Some(Fate::Constant) => false,
-        Some(Fate::Put) => false,
-        Some(Fate::Unused) => false,
-        Some(Fate::Root) => true,
+        Some(Role::Constant) => false,
+        Some(Role::Put) => false,
+        Some(Role::Unused) => false,
+        Some(Role::Root) => true,
     }
 }
 
-// The table at a place, if there is one.
+// The table at an index, if there is one.
 fn table_at(tables: &[Table], place: usize) -> Option<&Table>
     ensures { option_copied result ≡ slice_get tables.now place }
 {
     tables.get(place)
 }
 
-// The table of a signal, if it is put into its reader.
+// The table of a signal, if it is inlined.
 fn put_table<'a>(
     circuit: &'a Circuit,
-    fates: &[Fate],
+    fates: &[Role],
     index: &IndexMap<Name, usize>,
     signal: &Name,
 ) -> Option<&'a Table>
@@ -258,7 +281,7 @@ fn put_table<'a>(
     }
 }
 
-// Makes the tree of a table that is put into its reader, if there is one.
+// Makes the tree of an inlined table, if there is one.
 fn grow_found(
     alloc: Global,
     arena: &mut Arena,
@@ -269,7 +292,12 @@ fn grow_found(
     requires taken { AllTaken arena.old (get bytes_eq numbers.old) }
     requires shaped { IfSome (option_copied found) IsShaped }
     ensures taken { OnOk result (AllTaken arena.new (get bytes_eq numbers.new)) }
-    ensures grown { OnOk result ((circuit : TheCircuit) (tree : List ℕ → Tree (List ℕ)) (listed : List (List ℕ)) (name : List ℕ) → AreTrees circuit tree → option_copied found.entry ≡ put_driver circuit name → IsReady circuit.tables listed name → IsGrown circuit arena.old leaves.old (get bytes_eq numbers.old) tree listed → IsGrown circuit arena.new leaves.new (get bytes_eq numbers.new) tree (listed ++ name ∷ [])) }
+    ensures grown { OnOk result ((circuit : Circuit) (tree : List ℕ → Tree (List ℕ))
+        (listed : List (List ℕ)) (name : List ℕ) → AreTrees circuit tree → option_copied found.entry
+        ≡ put_driver circuit name → IsReady circuit.tables listed name
+        → IsGrown circuit arena.old leaves.old (get bytes_eq numbers.old) tree listed
+        → IsGrown circuit arena.new leaves.new (get bytes_eq numbers.new) tree
+        (listed ++ name ∷ [])) }
 {
     match found {
         None => Ok(()),
@@ -280,13 +308,14 @@ fn grow_found(
     }
 }
 
-// The numbers of the trees of those tables that are put into their readers, by their outputs, from the order of all tables.
+// The numbers of the trees of inlined tables by their outputs, given the topological order of all
+// tables.
 fn grow_listed(
     alloc: Global,
     arena: &mut Arena,
     leaves: &mut Leaves,
     circuit: &Circuit,
-    fates: &[Fate],
+    fates: &[Role],
     index: &IndexMap<Name, usize>,
     names: &[Name],
 ) -> Result<IndexMap<Name, usize>, AllocError>
@@ -296,7 +325,9 @@ fn grow_listed(
     requires index { IsIndex circuit.now.tables (get bytes_eq index.now) }
     requires ordered { IsOrdered circuit.now.tables names.now }
     ensures taken { IfOk result (λ numbers. AllTaken arena.new (get bytes_eq numbers)) }
-    ensures read { IfOk result (λ numbers. (tree : List ℕ → Tree (List ℕ)) → AreTrees circuit.now tree → (signals : List (List ℕ)) → AreRead arena.new leaves.new (get bytes_eq numbers) tree signals) }
+    ensures read { IfOk result (λ numbers. (tree : List ℕ → Tree (List ℕ))
+        → AreTrees circuit.now tree → (signals : List (List ℕ)) → AreRead arena.new leaves.new
+        (get bytes_eq numbers) tree signals) }
 {
     let mut numbers = IndexMap::new(alloc);
     for name in names {
@@ -306,20 +337,22 @@ fn grow_listed(
     Ok(numbers)
 }
 
-// The numbers of the trees of those tables that are put into their readers, by their outputs.
-fn grow_puts(
+// The numbers of the trees of inlined tables by their outputs.
+fn build_inlined(
     alloc: Global,
     arena: &mut Arena,
     leaves: &mut Leaves,
     circuit: &Circuit,
-    fates: &[Fate],
+    fates: &[Role],
 ) -> Result<IndexMap<Name, usize>, AllocError>
     requires acyclic { IsAcyclic circuit.now.tables }
     requires different { all_different (outputs_of circuit.now.tables) ≡ true }
     requires shaped { AllByRecursion IsShaped circuit.now.tables }
     requires fates { fates.now ≡ map (fate_of circuit.now) circuit.now.tables }
     ensures taken { IfOk result (λ numbers. AllTaken arena.new (get bytes_eq numbers)) }
-    ensures read { IfOk result (λ numbers. (tree : List ℕ → Tree (List ℕ)) → AreTrees circuit.now tree → (signals : List (List ℕ)) → AreRead arena.new leaves.new (get bytes_eq numbers) tree signals) }
+    ensures read { IfOk result (λ numbers. (tree : List ℕ → Tree (List ℕ))
+        → AreTrees circuit.now tree → (signals : List (List ℕ)) → AreRead arena.new leaves.new
+        (get bytes_eq numbers) tree signals) }
 {
     acyclic_tables_are_ordered();
     let tables = circuit.tables.as_slice();
@@ -337,7 +370,7 @@ fn grow_puts(
     Ok(numbers)
 }
 
-// Makes the tree of a table that is a root, and puts it behind the other roots.
+// Makes the tree of a table that is a root, and appends the root.
 fn add_root(
     alloc: Global,
     arena: &mut Arena,
@@ -350,7 +383,10 @@ fn add_root(
     requires shaped { IsShaped table.now }
     ensures kept { OnOk result (KeepsTrees arena.old arena.new) }
     ensures named { OnOk result (KeepsNames leaves.old leaves.new) }
-    ensures added { OnOk result ((tree : List ℕ → Tree (List ℕ)) (tables : List TheTable) → AreRead arena.old leaves.old (get bytes_eq numbers.now) tree table.now.inputs → is_constant table.now ≡ false → AreRoots arena.old leaves.old tree tables roots.old.items → AreRoots arena.new leaves.new tree (tables ++ table.now ∷ []) roots.new.items) }
+    ensures added { OnOk result ((tree : List ℕ → Tree (List ℕ)) (tables : List Table)
+        → AreRead arena.old leaves.old (get bytes_eq numbers.now) tree table.now.inputs
+        → is_constant table.now ≡ false → AreRoots arena.old leaves.old tree tables roots.old.items
+        → AreRoots arena.new leaves.new tree (tables ++ table.now ∷ []) roots.new.items) }
 {
     let made = grow_table(alloc, arena, leaves, numbers, table)?;
     match made {
@@ -363,7 +399,7 @@ fn add_root(
     }
 }
 
-// Puts the root of a table behind the other roots, if the table is one.
+// Appends the root of a table, if the table is one.
 fn add_if_root(
     alloc: Global,
     arena: &mut Arena,
@@ -377,7 +413,12 @@ fn add_if_root(
     requires shaped { IsShaped table.now }
     ensures kept { OnOk result (KeepsTrees arena.old arena.new) }
     ensures named { OnOk result (KeepsNames leaves.old leaves.new) }
-    ensures added { OnOk result ((tree : List ℕ → Tree (List ℕ)) (tables : List TheTable) → AreRead arena.old leaves.old (get bytes_eq numbers.now) tree table.now.inputs → (is_root ≡ true → is_constant table.now ≡ false) → AreRoots arena.old leaves.old tree tables roots.old.items → AreRoots arena.new leaves.new tree (tables ++ (if is_root then table.now ∷ [] else [])) roots.new.items) }
+    ensures added { OnOk result ((tree : List ℕ → Tree (List ℕ)) (tables : List Table)
+        → AreRead arena.old leaves.old (get bytes_eq numbers.now) tree table.now.inputs
+        → (is_root ≡ true → is_constant table.now ≡ false)
+        → AreRoots arena.old leaves.old tree tables roots.old.items
+        → AreRoots arena.new leaves.new tree (tables ++ (if is_root then table.now ∷ [] else []))
+        roots.new.items) }
 {
     if is_root {
         add_root(alloc, arena, leaves, numbers, roots, table)?;
@@ -394,11 +435,15 @@ fn grow_roots(
     leaves: &mut Leaves,
     numbers: &IndexMap<Name, usize>,
     tables: &[Table],
-    fates: &[Fate],
+    fates: &[Role],
 ) -> Result<Vec<Root>, AllocError>
     requires taken { AllTaken arena.old (get bytes_eq numbers.now) }
     requires shaped { AllByRecursion IsShaped tables.now }
-    ensures { IfOk result (λ roots. (circuit : TheCircuit) (tree : List ℕ → Tree (List ℕ)) → tables.now ≡ circuit.tables → fates.now ≡ map (fate_of circuit) tables.now → ((signals : List (List ℕ)) → AreRead arena.old leaves.old (get bytes_eq numbers.now) tree signals) → AreRoots arena.new leaves.new tree (roots_of circuit) roots.items) }
+    ensures { IfOk result (λ roots. (circuit : Circuit) (tree : List ℕ → Tree (List ℕ))
+        → tables.now ≡ circuit.tables → fates.now ≡ map (fate_of circuit) tables.now
+        → ((signals : List (List ℕ)) → AreRead arena.old leaves.old
+        (get bytes_eq numbers.now) tree signals) → AreRoots arena.new leaves.new tree
+        (roots_of circuit) roots.items) }
 {
     let mut roots = Vec::new(alloc);
     for (place, table) in tables.iter().enumerate() {
@@ -418,19 +463,21 @@ fn plant(
     requires acyclic { IsAcyclic circuit.now.tables }
     requires different { all_different (outputs_of circuit.now.tables) ≡ true }
     requires shaped { AllByRecursion IsShaped circuit.now.tables }
-    ensures { IfOk result (λ roots. (tree : List ℕ → Tree (List ℕ)) → AreTrees circuit.now tree → AreRoots arena.new leaves.new tree (roots_of circuit.now) roots.items) }
+    ensures { IfOk result (λ roots. (tree : List ℕ → Tree (List ℕ)) → AreTrees circuit.now tree
+        → AreRoots arena.new leaves.new tree (roots_of circuit.now) roots.items) }
 {
     let fates = fates(alloc, circuit)?;
     let fates = fates.as_slice();
-    let numbers = grow_puts(alloc, arena, leaves, circuit, fates)?;
+    let numbers = build_inlined(alloc, arena, leaves, circuit, fates)?;
     let tables = circuit.tables.as_slice();
     let roots = grow_roots(alloc, arena, leaves, &numbers, tables, fates)?;
     Ok(roots)
 }
 
-// The sum of the sizes at the numbers of roots, as a word.
+// The sum of the sizes of roots, as a word.
 fn sum_sizes(sizes: &[u64], roots: &[Root]) -> u64
-    ensures { result ≡ word_count (sum_by (λ (root : TheRoot). slice_index_or sizes.now root.number 1) roots.now) }
+    ensures { result ≡ word_count (sum_by (λ (root : TheRoot). slice_index_or sizes.now root.number
+        1) roots.now) }
 {
     let mut total: u64 = 0;
     for root in roots {
@@ -439,26 +486,28 @@ fn sum_sizes(sizes: &[u64], roots: &[Root]) -> u64
     total
 }
 
-// How many vertices the trees of roots have together, as a word.
+// The number of vertices of the trees of roots together, as a word.
 fn total_size(alloc: Global, arena: &Arena, roots: &[Root]) -> Result<u64, AllocError>
-    ensures { IfOk result (λ total. total ≡ word_count (sum_by (λ (root : TheRoot). size_of (tree_at arena.now root.number)) roots.now)) }
+    ensures { IfOk result (λ total. total ≡ word_count
+        (sum_by (λ (root : TheRoot). size_of (tree_at arena.now root.number)) roots.now)) }
 {
     let sizes = arena.sizes(alloc)?;
     let total = sum_sizes(sizes.as_slice(), roots);
     Ok(total)
 }
 
-/// The forest of a circuit: its roots in the order of their tables, each with the number of its tree in the arena, whose
-/// leaves are places in `leaves`; no tree of the arena has more than `MAX_VERTICES` vertices.
-/// TreeLimit where the trees of all
-/// roots have more than `MAX_VERTICES` vertices together, each counted at every place where it
-/// stands.
+/// The forest of a circuit: its roots in the order of their tables, each with the number of its
+/// tree in the arena, whose leaves are indices into `leaves`. No tree of the arena has more than
+/// `MAX_VERTICES` vertices. TreeLimit if the trees of all roots have more than `MAX_VERTICES`
+/// vertices together, a tree counted each time it occurs.
 pub fn forest_of(alloc: Global, circuit: &Circuit) -> Result<Forest, ForestFault>
     requires acyclic { IsAcyclic circuit.now.tables }
     requires different { all_different (outputs_of circuit.now.tables) ≡ true }
     requires shaped { AllByRecursion IsShaped circuit.now.tables }
-    ensures ok { IfOk result (λ forest. IsForest circuit.now forest.arena forest.leaves forest.roots.items) }
-    ensures small { IfOk result (λ forest. (n : ℕ) → n < length forest.arena → size_of (tree_at forest.arena n) ≤ MAX_VERTICES) }
+    ensures ok { IfOk result (λ forest. IsForest circuit.now forest.arena forest.leaves
+        forest.roots.items) }
+    ensures small { IfOk result (λ forest. (n : ℕ) → n < length forest.arena → size_of
+        (tree_at forest.arena n) ≤ MAX_VERTICES) }
     ensures limit { result ≡ Err TooLarge → IsTooLarge circuit.now }
 {
     forest_trees_are_there();

@@ -1,4 +1,9 @@
-//! The leaves of subject trees: names, each with its place, in the order in which they were first met.
+//! The leaves of subject trees: names, each with an index, in the order in which they were first
+//! met.
+//!
+//! Invariant: no name has two indices. Callers rely on `KeepsNames`: an index keeps its name,
+//! whatever is added and whatever the answer. Leaves compare by name, not by index, so the order of
+//! trees does not depend on the order in which names were met.
 
 ghost use Rattle.std.specs.Prelude.{◌≡◌, ◌==◌, ◌<◌, ℕ, true, Some, [], List, length, slice_get, option_copied, IfOk};
 ghost use Rattle.circuit_model.specs.Names.{all_different};
@@ -10,8 +15,8 @@ use std::alloc::{AllocError, Global};
 use std::cmp::Ordering;
 use std::marker::Model;
 
-/// Names, each at a place of its own. Contracts see them as the list of the names. After an error all places have the names
-/// that they had.
+/// Names, each with an index of its own. Contracts see them as the list of the names. After an
+/// error all indices keep their names.
 #[derive(Drop)]
 pub struct Leaves {
     names: IndexSet<Name>,
@@ -38,7 +43,7 @@ impl Leaves {
         }
     }
 
-    /// How many names there are: the places below it are taken.
+    /// The number of names; all lower indices are taken.
     pub fn len(&self) -> usize
         ensures { result ≡ length self.now }
     {
@@ -52,21 +57,21 @@ impl Leaves {
         self.names.len() == 0
     }
 
-    /// What holds of all leaves: no name has two places.
+    /// States the invariant of all leaves: no name has two indices.
     pub fn sound(&self)
         ensures { all_different self.now ≡ true }
     {
         let _names = &self.names;
     }
 
-    /// The name at a place; none past the last.
+    /// The name at an index; none past the last.
     pub fn name(&self, place: usize) -> Option<&Name>
         ensures { option_copied result ≡ slice_get self.now place }
     {
         self.names.get_index(place)
     }
 
-    /// The place of a name, which is a new one where the name had none.
+    /// The index of a name: a new one if the name had none.
     pub fn place_of(&mut self, name: Name) -> Result<usize, AllocError>
         ensures ok { IfOk result (λ place. slice_get self.new place ≡ Some name) }
         ensures kept { KeepsNames self.old self.new }
@@ -75,7 +80,7 @@ impl Leaves {
         Ok(place)
     }
 
-    // The bytes of the name at a place; none past the last.
+    // The bytes of the name at an index; none past the last.
     fn bytes(&self, place: usize) -> &[u8]
         ensures { result.now ≡ name_at self.now place }
     {
@@ -85,7 +90,8 @@ impl Leaves {
         }
     }
 
-    /// How two places compare: by their names, and where both have one name, as past the last, by the places.
+    /// How two indices compare: by their names, and if both have one name, as past the last, by the
+    /// indices.
     pub fn compare(&self, left: usize, right: usize) -> Ordering
         ensures { result ≡ place_cmp self.now left right }
     {

@@ -1,25 +1,28 @@
-//! How two trees compare, by their numbers.
+//! The order of two trees, given by their numbers.
+//!
+//! Equal trees have one number, so the comparison descends a single path, to the first subtrees
+//! that differ. Callers rely on `compare` to be `tree_cmp`, with leaves compared by name.
 
 ghost use Rattle.std.specs.Prelude.{◌≡◌};
 ghost use Rattle.subject_tree.specs.Arenas.{tree_at};
 ghost use Rattle.subject_tree.specs.Order.{tree_cmp, place_cmp};
-ghost use Rattle.subject_tree.specs.Steps.{next as next_of};
+ghost use Rattle.subject_tree.specs.Steps.{next};
 
 use crate::arena::{Arena, Vertex};
 use crate::leaves::Leaves;
 use std::cmp::Ordering;
 
-// What the roots of two different trees tell: how the trees compare, or the numbers of two trees below that compare as they
-// do.
+// What the roots of two different trees decide: how the trees compare, or which two trees below
+// compare as they do.
 #[derive(Clone, Copy)]
 enum Next {
     Done(Ordering),
     Below(usize, usize),
 }
 
-// Looks at the roots of two different trees.
+// Compares the roots of two different trees.
 fn decide(leaves: &Leaves, left: Vertex, right: Vertex) -> Next
-    ensures { result ≡ next_of (place_cmp leaves.now) left right }
+    ensures { result ≡ next (place_cmp leaves.now) left right }
 {
     match (left, right) {
         (Vertex::Leaf(m), Vertex::Leaf(n)) => Next::Done(leaves.compare(m, n)),
@@ -41,10 +44,12 @@ fn decide(leaves: &Leaves, left: Vertex, right: Vertex) -> Next
 }
 
 impl Arena {
-    /// How the trees of two numbers compare, with their leaves by name: a leaf before an inverter before a NAND, then by the
-    /// trees below, the left one first. It goes down one path, and is as quick as the smaller tree is deep.
+    /// How the trees of two numbers compare, with their leaves by name: a leaf before an inverter
+    /// before a NAND, then by the trees below, the left one first. It descends one path, no deeper
+    /// than the smaller tree.
     pub fn compare(&self, leaves: &Leaves, left: usize, right: usize) -> Ordering
-        ensures { result ≡ tree_cmp (place_cmp leaves.now) (tree_at self.now left) (tree_at self.now right) }
+        ensures { result ≡ tree_cmp (place_cmp leaves.now) (tree_at self.now left)
+            (tree_at self.now right) }
     {
         self.sound();
         let mut left = left;

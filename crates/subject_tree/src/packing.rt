@@ -1,4 +1,7 @@
-//! Vertices in eight bytes, as an arena keeps them.
+//! Vertices packed into eight bytes, as an arena keeps them.
+//!
+//! The kind of a vertex is encoded by a number that no vertex uses. Callers rely on `unpacked`:
+//! what was packed is read back unchanged.
 
 ghost use Rattle.std.specs.Prelude.{◌≡◌, ◌<◌, IfOk};
 ghost use Rattle.subject_tree.specs.Packing.{unpacked};
@@ -6,18 +9,18 @@ ghost use Rattle.subject_tree.specs.Packing.{unpacked};
 use crate::arena::Vertex;
 use std::alloc::AllocError;
 
-/// A vertex as two small numbers. One of them is `NOWHERE` where there is only one number: the first at a leaf, and the second
-/// at an inverter.
+/// A vertex as two small numbers. One of them is `NOWHERE` where there is only one number: the
+/// first at a leaf, and the second at an inverter.
 #[derive(Clone, Copy, Debug, PartialEq, Eq, Hash)]
 pub struct Packed {
     pub first: u32,
     pub second: u32,
 }
 
-// What stands in place of a number where there is none; no number is as large.
+// Means that there is no number; no number is as large.
 const NOWHERE: u32 = 4_294_967_295;
 
-// A number as a small one; want of memory where it is too large for that.
+// A number as one of 32 bits; want of memory if it is too large.
 fn small(number: usize) -> Result<u32, AllocError>
     ensures same { IfOk result (λ made. made ≡ number) }
     ensures less { IfOk result (λ made. made < 4294967295) }
@@ -29,7 +32,7 @@ fn small(number: usize) -> Result<u32, AllocError>
     }
 }
 
-/// A vertex, packed; want of memory where a number in it is too large for that.
+/// A vertex, packed; want of memory if a number in it is too large for that.
 pub fn pack(vertex: Vertex) -> Result<Packed, AllocError>
     ensures { IfOk result (λ packed. unpacked packed ≡ vertex) }
 {

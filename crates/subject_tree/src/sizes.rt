@@ -1,13 +1,15 @@
-//! How large the trees of numbers are.
+//! The sizes of the trees of an arena: their vertices, shared subtrees counted each time.
+//!
+//! A size that exceeds the greatest word of 64 bits is given as that word.
 
 ghost use Rattle.std.specs.Prelude.{◌≡◌, map, slice_index_or, IfOk};
 ghost use Rattle.subject_tree.specs.Arenas.{trees};
-ghost use Rattle.subject_tree.specs.Sizes.{word_size, size_over as size_over_words};
+ghost use Rattle.subject_tree.specs.Sizes.{word_size, size_over};
 
 use crate::arena::{Arena, Vertex};
 use std::alloc::{AllocError, Global};
 
-/// The size at a place; past the last that of a leaf.
+/// The size of a number; past the last that of a leaf.
 pub fn size_at(sizes: &[u64], number: usize) -> u64
     ensures { result ≡ slice_index_or sizes.now number 1 }
 {
@@ -17,9 +19,9 @@ pub fn size_at(sizes: &[u64], number: usize) -> u64
     }
 }
 
-// The size of the tree of a vertex, where those of the trees below it are known.
+// The size of the tree of a vertex, given those of the trees below it.
 fn size_over(sizes: &[u64], vertex: Vertex) -> u64
-    ensures { result ≡ size_over_words sizes.now vertex }
+    ensures { result ≡ size_over sizes.now vertex }
 {
     match vertex {
         Vertex::Leaf(_) => 1,
@@ -31,8 +33,8 @@ fn size_over(sizes: &[u64], vertex: Vertex) -> u64
 }
 
 impl Arena {
-    /// How many vertices the tree of each number has, in the order of the numbers: exactly, or `u64::MAX` where there are that
-    /// many or more. An error only for want of memory.
+    /// The number of vertices of the tree of each number, in the order of the numbers; `u64::MAX`
+    /// if there are that many or more.
     pub fn sizes(&self, alloc: Global) -> Result<Vec<u64>, AllocError>
         ensures { IfOk result (λ sizes. sizes.items ≡ map word_size (trees self.now)) }
     {

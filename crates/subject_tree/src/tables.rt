@@ -1,8 +1,14 @@
-//! The trees of tables, from the last row to the first, and in each from the last literal to the first.
+//! The tree of a table over the trees of its inputs: a sum of products as NANDs and inverters.
+//!
+//! Source: Rudell, "Logic Synthesis for VLSI Design" (thesis, University of California, Berkeley,
+//! 1989), the chapter on technology mapping. Sums and products are joined from the last row to the
+//! first, and in each row from the last literal to the first. Rows without literals are skipped; a
+//! table none of whose rows has a literal has no tree. Callers rely on `table_tree`, and on the
+//! trees that the arena had to stay.
 
 ghost use Rattle.std.specs.Prelude.{◌≡◌, ◌<◌, ◌++◌, ℕ, List, Option, length, option_map, option_to_list, IfOk, IfSome};
 ghost use Rattle.std.specs.List.{AllByRecursion};
-ghost use Rattle.circuit_model.specs.declared.circuit.Tri.{Tri as TheTri};
+ghost use Rattle.circuit_model.specs.declared.circuit.Tri.{Tri};
 ghost use Rattle.subject_tree.specs.Trees.{Tree, product_of, sum_of};
 ghost use Rattle.subject_tree.specs.Arenas.{tree_at, KeepsTrees};
 ghost use Rattle.subject_tree.specs.Tables.{with_front, joined, literal_tree, literal_trees, row_tree, row_trees, by_phase, table_tree, trees_of, AreTaken, Finds};
@@ -11,7 +17,7 @@ use crate::arena::Arena;
 use circuit_model::{Row, Table, Tri};
 use std::alloc::AllocError;
 
-// The number of a tree's product with the one behind it, if there is one.
+// The number of the product of a tree and the next one, if there is one.
 fn product_front(
     arena: &mut Arena,
     front: usize,
@@ -19,7 +25,9 @@ fn product_front(
 ) -> Result<usize, AllocError>
     requires front { front < length arena.old }
     requires behind { IfSome behind (λ number. number < length arena.old) }
-    ensures ok { IfOk result (λ number. (number < length arena.new) × (tree_at arena.new number ≡ with_front product_of (tree_at arena.old front) (option_map (tree_at arena.old) behind))) }
+    ensures ok { IfOk result (λ number. (number < length arena.new)
+        × (tree_at arena.new number ≡ with_front product_of (tree_at arena.old front)
+        (option_map (tree_at arena.old) behind))) }
     ensures kept { KeepsTrees arena.old arena.new }
 {
     match behind {
@@ -28,11 +36,13 @@ fn product_front(
     }
 }
 
-// The number of a tree's sum with the one behind it, if there is one.
+// The number of the sum of a tree and the next one, if there is one.
 fn sum_front(arena: &mut Arena, front: usize, behind: Option<usize>) -> Result<usize, AllocError>
     requires front { front < length arena.old }
     requires behind { IfSome behind (λ number. number < length arena.old) }
-    ensures ok { IfOk result (λ number. (number < length arena.new) × (tree_at arena.new number ≡ with_front sum_of (tree_at arena.old front) (option_map (tree_at arena.old) behind))) }
+    ensures ok { IfOk result (λ number. (number < length arena.new)
+        × (tree_at arena.new number ≡ with_front sum_of (tree_at arena.old front)
+        (option_map (tree_at arena.old) behind))) }
     ensures kept { KeepsTrees arena.old arena.new }
 {
     match behind {
@@ -41,10 +51,11 @@ fn sum_front(arena: &mut Arena, front: usize, behind: Option<usize>) -> Result<u
     }
 }
 
-// The number of a literal's tree, over its input's number; none where the character has no literal.
+// The number of a literal's tree, given its input's number; none for a dash.
 fn literal(arena: &mut Arena, input: usize, character: Tri) -> Result<Option<usize>, AllocError>
     requires { input < length arena.old }
-    ensures ok { IfOk result (λ number. Finds arena.new number (literal_tree character (tree_at arena.old input))) }
+    ensures ok { IfOk result (λ number. Finds arena.new number
+        (literal_tree character (tree_at arena.old input))) }
     ensures kept { KeepsTrees arena.old arena.new }
 {
     match character {
@@ -54,7 +65,7 @@ fn literal(arena: &mut Arena, input: usize, character: Tri) -> Result<Option<usi
     }
 }
 
-// A literal, joined to what was made of those behind it.
+// Joins a literal to what was made of the literals after it.
 fn with_literal(
     arena: &mut Arena,
     input: usize,
@@ -63,7 +74,10 @@ fn with_literal(
 ) -> Result<Option<usize>, AllocError>
     requires input { input < length arena.old }
     requires behind { IfSome behind (λ number. number < length arena.old) }
-    ensures ok { IfOk result (λ made. (ts : List (Tree ℕ)) → Finds arena.old behind (joined product_of ts) → Finds arena.new made (joined product_of (option_to_list (literal_tree character (tree_at arena.old input)) ++ ts))) }
+    ensures ok { IfOk result (λ made. (ts : List (Tree ℕ)) → Finds arena.old behind
+        (joined product_of ts) → Finds arena.new made
+        (joined product_of (option_to_list (literal_tree character (tree_at arena.old input)) ++
+        ts))) }
     ensures kept { KeepsTrees arena.old arena.new }
 {
     match literal(arena, input, character)? {
@@ -72,11 +86,12 @@ fn with_literal(
     }
 }
 
-// The number of a row's tree, over the numbers of its inputs; none where the row has no literal.
+// The number of a row's tree, given the numbers of its inputs; none if the row has no literal.
 fn row_number(arena: &mut Arena, inputs: &[usize], row: &[Tri]) -> Result<Option<usize>, AllocError>
     requires taken { AreTaken arena.old inputs.now }
     requires width { length row.now ≡ length inputs.now }
-    ensures ok { IfOk result (λ made. Finds arena.new made (row_tree (trees_of arena.old inputs.now) row.now)) }
+    ensures ok { IfOk result (λ made. Finds arena.new made
+        (row_tree (trees_of arena.old inputs.now) row.now)) }
     ensures kept { KeepsTrees arena.old arena.new }
 {
     let mut made = None;
@@ -88,7 +103,7 @@ fn row_number(arena: &mut Arena, inputs: &[usize], row: &[Tri]) -> Result<Option
     Ok(made)
 }
 
-// A row's tree, if there is one, joined to what was made of the rows behind it.
+// Joins a row's tree, if there is one, to what was made of the rows after it.
 fn with_row(
     arena: &mut Arena,
     row: Option<usize>,
@@ -96,7 +111,9 @@ fn with_row(
 ) -> Result<Option<usize>, AllocError>
     requires row { IfSome row (λ number. number < length arena.old) }
     requires behind { IfSome behind (λ number. number < length arena.old) }
-    ensures ok { IfOk result (λ made. (t : Option (Tree ℕ)) (ts : List (Tree ℕ)) → Finds arena.old row t → Finds arena.old behind (joined sum_of ts) → Finds arena.new made (joined sum_of (option_to_list t ++ ts))) }
+    ensures ok { IfOk result (λ made. (t : Option (Tree ℕ)) (ts : List (Tree ℕ))
+        → Finds arena.old row t → Finds arena.old behind (joined sum_of ts) → Finds arena.new made
+        (joined sum_of (option_to_list t ++ ts))) }
     ensures kept { KeepsTrees arena.old arena.new }
 {
     match row {
@@ -105,15 +122,17 @@ fn with_row(
     }
 }
 
-// The number of the sum of rows, over the numbers of their inputs; none where no row has a literal.
+// The number of the sum of rows, given the numbers of their inputs; none if no row has a literal.
 fn rows_number(
     arena: &mut Arena,
     inputs: &[usize],
     rows: &[Row],
 ) -> Result<Option<usize>, AllocError>
     requires taken { AreTaken arena.old inputs.now }
-    requires widths { AllByRecursion (λ (row : List TheTri). length row ≡ length inputs.now) rows.now }
-    ensures ok { IfOk result (λ made. Finds arena.new made (joined sum_of (row_trees (trees_of arena.old inputs.now) rows.now))) }
+    requires widths { AllByRecursion (λ (row : List Tri). length row ≡ length inputs.now)
+        rows.now }
+    ensures ok { IfOk result (λ made. Finds arena.new made
+        (joined sum_of (row_trees (trees_of arena.old inputs.now) rows.now))) }
     ensures kept { KeepsTrees arena.old arena.new }
 {
     let mut made = None;
@@ -126,14 +145,15 @@ fn rows_number(
     Ok(made)
 }
 
-// The number of a tree where the phase is 1, else of its complement.
+// The number of a tree if the phase is 1, else of its complement.
 fn by_phase_number(
     arena: &mut Arena,
     number: usize,
     phase: bool,
 ) -> Result<Option<usize>, AllocError>
     requires { number < length arena.old }
-    ensures ok { IfOk result (λ made. Finds arena.new made (Some (by_phase phase (tree_at arena.old number)))) }
+    ensures ok { IfOk result (λ made. Finds arena.new made
+        (Some (by_phase phase (tree_at arena.old number)))) }
     ensures kept { KeepsTrees arena.old arena.new }
 {
     if phase {
@@ -142,16 +162,17 @@ fn by_phase_number(
     Ok(Some(arena.complement(number)?))
 }
 
-/// The number of a table's tree, over the numbers of its inputs; none where no row has a literal. An error only for want of
-/// memory.
+/// The number of a table's tree, given the numbers of its inputs; none if no row has a literal.
 pub fn table_number(
     arena: &mut Arena,
     inputs: &[usize],
     table: &Table,
 ) -> Result<Option<usize>, AllocError>
     requires taken { AreTaken arena.old inputs.now }
-    requires widths { AllByRecursion (λ (row : List TheTri). length row ≡ length inputs.now) table.now.rows }
-    ensures ok { IfOk result (λ made. Finds arena.new made (table_tree (trees_of arena.old inputs.now) table.now)) }
+    requires widths { AllByRecursion (λ (row : List Tri). length row ≡ length inputs.now)
+        table.now.rows }
+    ensures ok { IfOk result (λ made. Finds arena.new made
+        (table_tree (trees_of arena.old inputs.now) table.now)) }
     ensures kept { KeepsTrees arena.old arena.new }
 {
     match rows_number(arena, inputs, table.rows.as_slice())? {

@@ -9,10 +9,10 @@ use Rattle.subject_tree.specs.Tables.{trees_of}
 use Rattle.subject_tree.specs.declared.arena.Vertex.{Vertex}
 use Rattle.genlib_expr.specs.Formula.{formula_of}
 use Rattle.genlib_expr.specs.declared.node.Node.{Node}
-use Rattle.genlib_format.specs.declared.gate.Gate.{Gate as LibraryGate}
+use Rattle.genlib_format.specs.declared.gate.Gate.{Gate}
 use Rattle.genlib_format.specs.Soundness.{IsSoundGate}
 use Rattle.pattern_set.specs.declared.cells.Cell.{Cell}
-use Rattle.pattern_set.specs.declared.cells.Gate.{Gate}
+use Rattle.pattern_set.specs.declared.cells.PatternGate.{PatternGate}
 use Rattle.pattern_set.specs.Values.{HasPin, HasLeaf}
 use Rattle.pattern_set.specs.Cells.{Lists, IsUsedPattern, AreGatesOf, lack_of, is_inverter, is_nand, has_some}
 use Rattle.pattern_set.proofs.Pins.{pattern-pins}
@@ -25,22 +25,22 @@ use Rattle.tree_cover.specs.Listed.{IsCellOf, AreCellsOf, HavePatterns, function
 use Rattle.tree_cover.proofs.Mentioned.{pins_exact}
 use Rattle.sis_base.specs.declared.limits.TheConstants.{MAX_PINS}
 
-cells_push : (gates : List LibraryGate) (cells : List Cell) (g : LibraryGate) (c : Cell) → AreCellsOf gates cells → IsCellOf g c → AreCellsOf (gates ++ g ∷ []) (cells ++ c ∷ [])
+cells_push : (gates : List Gate) (cells : List Cell) (g : Gate) (c : Cell) → AreCellsOf gates cells → IsCellOf g c → AreCellsOf (gates ++ g ∷ []) (cells ++ c ∷ [])
 cells_push [] [] g c are is = (is, tt)
 cells_push [] (d ∷ cells) g c are is = absurd are
 cells_push (h ∷ gates) [] g c are is = absurd are
 cells_push (h ∷ gates) (d ∷ cells) g c are is = (are.0, cells_push gates cells g c are.1 is)
 
 -- one cell more
-pub cells_more : (gates : List LibraryGate) (cells pushed : List Cell) (i : ℕ) (g : LibraryGate) (c : Cell) → i < length gates → g ≡ get_or gates i g
+pub cells_more : (gates : List Gate) (cells pushed : List Cell) (i : ℕ) (g : Gate) (c : Cell) → i < length gates → g ≡ get_or gates i g
     → AreCellsOf (take i gates) cells → IsCellOf g c → pushed ≡ cells ++ c ∷ [] → AreCellsOf (take (i + 1) gates) pushed
 cells_more gates cells pushed i g c lt is are made pushes =
     subst (λ (cs : List Cell). AreCellsOf (take (i + 1) gates) cs) (sym pushes)
-    (subst (λ (gs : List LibraryGate). AreCellsOf gs (cells ++ c ∷ [])) (sym (take_more gates i g lt ∙ ap (λ (h : LibraryGate). take i gates ++ h ∷ []) (sym is)))
+    (subst (λ (gs : List Gate). AreCellsOf gs (cells ++ c ∷ [])) (sym (take_more gates i g lt ∙ ap (λ (h : Gate). take i gates ++ h ∷ []) (sym is)))
     (cells_push (take i gates) cells g c are made))
 
 -- the gates made of cells are those of the library
-pub patterns_had : (vertices : List Vertex) (gates : List LibraryGate) (cells : List Cell) (made : List Gate) → AreCellsOf gates cells → AreGatesOf vertices cells made → HavePatterns vertices gates made
+pub patterns_had : (vertices : List Vertex) (gates : List Gate) (cells : List Cell) (made : List PatternGate) → AreCellsOf gates cells → AreGatesOf vertices cells made → HavePatterns vertices gates made
 patterns_had vertices [] [] [] cells_are gates_are = tt
 patterns_had vertices [] [] (m ∷ made) cells_are gates_are = absurd gates_are
 patterns_had vertices [] (c ∷ cells) made cells_are gates_are = absurd cells_are
@@ -58,7 +58,7 @@ patterns_had vertices (g ∷ gates) (c ∷ cells) (m ∷ made) cells_are gates_a
 area_fits : (area : ℕ) → area < 10 ^ 15 → area < 2 ^ 50
 area_fits area lt = omega (arith, lt)
 
-cell_formed : (gate : LibraryGate) (cell : Cell) → IsCellOf gate cell → IsSoundGate gate → IsWellFormed cell
+cell_formed : (gate : Gate) (cell : Cell) → IsCellOf gate cell → IsSoundGate gate → IsWellFormed cell
 cell_formed gate cell is sound = record {
   area = subst (λ (k : ℕ). k < 2 ^ 50) (sym is.area) (area_fits gate.area.0 sound.area);
   few = subst (λ (k : ℕ). k ≤ MAX_PINS) (sym is.pins) sound.few;
@@ -69,13 +69,13 @@ cell_formed gate cell is sound = record {
 }
 
 -- the cells of sound gates are well-formed
-pub cells_formed : (gates : List LibraryGate) (cells : List Cell) → AreCellsOf gates cells → AllByRecursion IsSoundGate gates → AllByRecursion IsWellFormed cells
+pub cells_formed : (gates : List Gate) (cells : List Cell) → AreCellsOf gates cells → AllByRecursion IsSoundGate gates → AllByRecursion IsWellFormed cells
 cells_formed [] [] are sound = tt
 cells_formed [] (c ∷ cells) are sound = absurd are
 cells_formed (g ∷ gates) [] are sound = absurd are
 cells_formed (g ∷ gates) (c ∷ cells) are sound = (cell_formed g c are.0 sound.0, cells_formed gates cells are.1 sound.1)
 
-leaves_exact : (ts : List (Tree ℕ)) (gate : LibraryGate) (pins : ℕ) → pins ≡ length gate.pins → IsSoundGate gate → AllByRecursion (IsUsedPattern (formula_of gate.expr)) ts
+leaves_exact : (ts : List (Tree ℕ)) (gate : Gate) (pins : ℕ) → pins ≡ length gate.pins → IsSoundGate gate → AllByRecursion (IsUsedPattern (formula_of gate.expr)) ts
     → AllByRecursion (λ (t : Tree ℕ). (pin : ℕ) → HasLeaf pin t ↔ (pin < pins)) ts
 leaves_exact [] gate pins same sound all = tt
 leaves_exact (t ∷ ts) gate pins same sound all = (
@@ -87,7 +87,7 @@ leaves_exact (t ∷ ts) gate pins same sound all = (
 )
 
 -- the gates of sound gates can be taken
-pub gates_usable : (vertices : List Vertex) (gates : List LibraryGate) (made : List Gate) → HavePatterns vertices gates made → AllByRecursion IsSoundGate gates → AllByRecursion (IsUsable vertices) made
+pub gates_usable : (vertices : List Vertex) (gates : List Gate) (made : List PatternGate) → HavePatterns vertices gates made → AllByRecursion IsSoundGate gates → AllByRecursion (IsUsable vertices) made
 gates_usable vertices [] [] have sound = tt
 gates_usable vertices [] (m ∷ made) have sound = absurd have
 gates_usable vertices (g ∷ gates) [] have sound = absurd have
@@ -110,14 +110,14 @@ lacks_none false nand e = absurd (let off = e in cc)
 lacks_none true false e = absurd (let off = e in cc)
 lacks_none true true e = record { first = refl; second = refl }
 
-pub covers_trees : (vertices : List Vertex) (gates : List LibraryGate) (made : List Gate) → HavePatterns vertices gates made → AllByRecursion IsSoundGate gates
+pub covers_trees : (vertices : List Vertex) (gates : List Gate) (made : List PatternGate) → HavePatterns vertices gates made → AllByRecursion IsSoundGate gates
     → lack_of (has_some is_inverter vertices made) (has_some is_nand vertices made) ≡ Ok tt → IsLibrary vertices made
 covers_trees vertices gates made have sound e =
     let both = lacks_none (has_some is_inverter vertices made) (has_some is_nand vertices made) e in
     record { usable = gates_usable vertices gates made have sound; inverter = both.first; nand = both.second }
 
 -- the patterns of gates are patterns of their functions
-pub patterns_described : (vertices : List Vertex) (gates : List LibraryGate) (made : List Gate) → HavePatterns vertices gates made → Describes (function_in gates) (tiles vertices made)
+pub patterns_described : (vertices : List Vertex) (gates : List Gate) (made : List PatternGate) → HavePatterns vertices gates made → Describes (function_in gates) (tiles vertices made)
 patterns_described vertices gates [] have place tile pattern at listed = absurd (none-some tile at)
 patterns_described vertices [] (m ∷ made) have place tile pattern at listed = absurd have
 patterns_described vertices (g ∷ gates) (m ∷ made) have zero tile pattern at listed =

@@ -14,14 +14,14 @@ use Rattle.genlib_expr.specs.Values.{formula_value}
 use Rattle.pattern_set.specs.Values.{HasLeaf}
 use Rattle.pattern_set.specs.Cells.{IsUsedPattern, AreGatesOf}
 use Rattle.pattern_set.specs.declared.cells.Cell.{Cell}
-use Rattle.pattern_set.specs.declared.cells.Gate.{Gate}
+use Rattle.pattern_set.specs.declared.cells.PatternGate.{PatternGate}
 use Rattle.tree_cover.specs.Covers.{Tile, tile_of, tiles, Matches, Fits, IsGiven}
 use Rattle.tree_cover.specs.Candidates.{IsUsable}
 use Rattle.tree_cover.proofs.Valuing.{gate-value}
 use Rattle.tree_cover.proofs.Choosing.{contains_get}
 use Rattle.tree_cover.proofs.Open.{get_all}
 use Rattle.tree_cover.specs.declared.writing.Signal.{Signal}
-use Rattle.tree_cover.specs.declared.writing.Signal.TheVariants.{Leaf as AtLeaf, Gate as AtGate}
+use Rattle.tree_cover.specs.declared.writing.Signal.TheVariants.{Leaf as AtLeaf, Gate}
 use Rattle.tree_cover.specs.declared.writing.CoverGate.{CoverGate}
 use Rattle.tree_cover.specs.Written.{IsWritten, written_leaf, written_gate, AreWritten, none_written, more_written, signal_value, signal_at, Obeys, Describes, function_at, UsesPins, StandsBefore, AreWired}
 
@@ -97,7 +97,7 @@ module _ (functions : ℕ → Formula) (value driven : ℕ → Bool) where
           (all-values more (start + length first) signals rest others (obeys_back start first rest obeys))
 
 -- patterns that gates list are patterns of their cells' functions
-pub described : (vertices : List Vertex) (cells : List Cell) (gates : List Gate) → AreGatesOf vertices cells gates → Describes (function_at cells) (tiles vertices gates)
+pub described : (vertices : List Vertex) (cells : List Cell) (gates : List PatternGate) → AreGatesOf vertices cells gates → Describes (function_at cells) (tiles vertices gates)
 described vertices [] [] are place tile pattern at listed = absurd (none-some tile at)
 described vertices [] (gate ∷ gates) are place tile pattern at listed = elim are [ ]
 described vertices (cell ∷ cells) [] are place tile pattern at listed = elim are [ ]
@@ -125,7 +125,7 @@ matched_leaf leaf (Nand p q) (Nand t v) bound pin u (inr h) (inr is) at has = in
 
 stands_more : (leaves : ℕ → Type 0) (a b : ℕ) (signal : Signal) → a ≤ b → StandsBefore leaves a signal → StandsBefore leaves b signal
 stands_more leaves a b (AtLeaf place) le h = h
-stands_more leaves a b (AtGate k) le h = omega (arith, le, h)
+stands_more leaves a b (Gate k) le h = omega (arith, le, h)
 
 all_more : (leaves : ℕ → Type 0) (a b : ℕ) (signals : List Signal) → a ≤ b → AllByRecursion (StandsBefore leaves a) signals → AllByRecursion (StandsBefore leaves b) signals
 all_more leaves a b [] le h = tt
@@ -184,7 +184,7 @@ module _ (cmp : Tree ℕ → Tree ℕ → Ordering) (library : List Tile) (uses 
         )
 
 -- gates that can be taken have all their pins in each pattern
-pub usable_use_pins : (shapes : List Vertex) (gates : List Gate) → AllByRecursion (IsUsable shapes) gates → UsesPins (tiles shapes gates)
+pub usable_use_pins : (shapes : List Vertex) (gates : List PatternGate) → AllByRecursion (IsUsable shapes) gates → UsesPins (tiles shapes gates)
 usable_use_pins shapes [] all place tile pattern pin at listed lt = absurd (none-some tile at)
 usable_use_pins shapes (gate ∷ gates) all zero tile pattern pin at listed lt =
     let same : tile_of shapes gate ≡ tile = same_Some (tile_of shapes gate) tile at in

@@ -1,6 +1,6 @@
 -- A pattern whose first two levels do not fit a tree has no match there.
-use Rattle.std.proofs.Common.{◌≡◌, ℕ, ◌&&◌, ◌||◌, Bool, true, false, None, List, [], ◌++◌, length, refl, sym, ap, ◌∙◌, inl, inr, ◌⊎◌, arith}
-use Rattle.std.proofs.lemmas.Bool.{false≢true}
+use Rattle.std.proofs.Common.{◌≡◌, ℕ, ◌&&◌, Bool, true, false, None, List, [], ◌++◌, length, refl, sym, ap, ◌∙◌, inl, inr, arith}
+use Rattle.std.proofs.lemmas.Bool.{false≢true, and_cases, or_parts}
 use Rattle.std.proofs.lemmas.Option.{none-some}
 use Rattle.std.specs.declared.cmp.Ordering.{Ordering}
 use Rattle.subject_tree.specs.Trees.{Tree, Leaf, Inv, Nand}
@@ -8,7 +8,7 @@ use Rattle.subject_tree.specs.Arenas.{trees, tree_at, built, vertex_at, IsArena}
 use Rattle.subject_tree.specs.declared.arena.Vertex.{Vertex}
 use Rattle.subject_tree.specs.declared.arena.Vertex.TheVariants.{Leaf as AtLeaf, Inv as AtInv, Nand as AtNand}
 use Rattle.subject_tree.proofs.Arenas.{reads_all}
-use Rattle.pattern_set.specs.declared.cells.Gate.{Gate}
+use Rattle.pattern_set.specs.declared.cells.PatternGate.{PatternGate}
 use Rattle.tree_cover.specs.declared.binding.Binding.{Binding}
 use Rattle.tree_cover.specs.declared.choice.Choice.{Choice}
 use Rattle.tree_cover.specs.Covers.{IsProper}
@@ -23,14 +23,6 @@ fit_proper (Leaf pin) t e = absurd (false≢true e)
 fit_proper (Inv p) t e = tt
 fit_proper (Nand p q) t e = tt
 
-pub both_false : (a b : Bool) → (a && b) ≡ false → (a ≡ false) ⊎ (b ≡ false)
-both_false true b e = inr e
-both_false false b e = inl refl
-
-pub either_false : (a b : Bool) → (a || b) ≡ false → (a ≡ false) × (b ≡ false)
-either_false true b e = absurd (false≢true (sym e))
-either_false false b e = (refl, e)
-
 no_inverter_below : (v : Vertex) (ts : List (Tree ℕ)) (f : ℕ → List Binding) → has_inverter (built ts v) ≡ false → under_inverter v f ≡ []
 no_inverter_below (AtLeaf place) ts f e = refl
 no_inverter_below (AtInv m) ts f e = absurd (false≢true (sym e))
@@ -42,7 +34,7 @@ no_nand_below (AtInv m) ts f e = refl
 no_nand_below (AtNand m k) ts f e = absurd (false≢true (sym e))
 
 -- where a pattern has no match, no choice is the best one
-pub no_match_best : (vs : List Vertex) (order : Choice → Choice → Ordering) (choices : List Choice) (gate : Gate) (place n : ℕ) (p : Tree ℕ) → (IsProper p → matched vs p n ≡ []) → BestOf order (FromPattern vs choices gate place n p) None
+pub no_match_best : (vs : List Vertex) (order : Choice → Choice → Ordering) (choices : List Choice) (gate : PatternGate) (place n : ℕ) (p : Tree ℕ) → (IsProper p → matched vs p n ≡ []) → BestOf order (FromPattern vs choices gate place n p) None
 no_match_best vs order choices gate place n p no_match = record {
   among = λ c e. absurd (none-some c e);
   first = λ c d e h g. none-some c e;
@@ -66,7 +58,7 @@ module _ (vs : List Vertex) (arena : IsArena vs) where
   inverter_none p (AtNand m k) bs e = refl
 
   side_none : (p q : Tree ℕ) (m k : ℕ) (bs : List Binding) → (fits_root p (tree_at vs m) && fits_root q (tree_at vs k)) ≡ false → grown vs q k (grown vs p m bs) ≡ []
-  side_none p q m k bs e = elim (both_false (fits_root p (tree_at vs m)) (fits_root q (tree_at vs k)) e) as (λ _. grown vs q k (grown vs p m bs) ≡ []) [
+  side_none p q m k bs e = elim (and_cases (fits_root p (tree_at vs m)) (fits_root q (tree_at vs k)) e) as (λ _. grown vs q k (grown vs p m bs) ≡ []) [
     | inl a ↦ ap (grown vs q k) (root_none p m bs a) ∙ grown_none vs q k
     | inr b ↦ root_none q k (grown vs p m bs) b
   ]
@@ -75,7 +67,7 @@ module _ (vs : List Vertex) (arena : IsArena vs) where
   nand_none p q (AtLeaf place) bs e = refl
   nand_none p q (AtInv m) bs e = refl
   nand_none p q (AtNand m k) bs e =
-      let (a, b) = either_false (fits_root p (tree_at vs m) && fits_root q (tree_at vs k)) (fits_root p (tree_at vs k) && fits_root q (tree_at vs m)) e in
+      let (a, b) = or_parts (fits_root p (tree_at vs m) && fits_root q (tree_at vs k)) (fits_root p (tree_at vs k) && fits_root q (tree_at vs m)) e in
       ap (λ (xs : List Binding). xs ++ grown vs q m (grown vs p k bs)) (side_none p q m k bs a) ∙ side_none p q k m bs b
 
   fit_none : (p : Tree ℕ) (n : ℕ) (bs : List Binding) → IsProper p → may_fit p (tree_at vs n) ≡ false → grown vs p n bs ≡ []
@@ -84,5 +76,5 @@ module _ (vs : List Vertex) (arena : IsArena vs) where
   fit_none (Inv p) n bs proper e = inverter_none p (vertex_at vs n) bs (ap (may_fit (Inv p)) (sym (reads_all vs arena n)) ∙ e)
   fit_none (Nand p q) n bs proper e = nand_none p q (vertex_at vs n) bs (ap (may_fit (Nand p q)) (sym (reads_all vs arena n)) ∙ e)
 
-  pub unfit_best : (order : Choice → Choice → Ordering) (choices : List Choice) (gate : Gate) (place n : ℕ) (p : Tree ℕ) (fits : Bool) → fits ≡ may_fit p (tree_at vs n) → fits ≡ false → BestOf order (FromPattern vs choices gate place n p) None
+  pub unfit_best : (order : Choice → Choice → Ordering) (choices : List Choice) (gate : PatternGate) (place n : ℕ) (p : Tree ℕ) (fits : Bool) → fits ≡ may_fit p (tree_at vs n) → fits ≡ false → BestOf order (FromPattern vs choices gate place n p) None
   unfit_best order choices gate place n p fits is no_fit = no_match_best vs order choices gate place n p (λ proper. fit_none p n _ proper (sym is ∙ no_fit))

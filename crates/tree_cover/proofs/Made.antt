@@ -11,7 +11,7 @@ use Rattle.subject_tree.specs.declared.arena.Vertex.TheVariants.{Leaf as AtLeaf,
 use Rattle.subject_tree.proofs.Arenas.{reads_all, over_all}
 use Rattle.pattern_set.specs.Values.{HasLeaf}
 use Rattle.pattern_set.specs.Cells.{is_inverter, is_nand}
-use Rattle.pattern_set.specs.declared.cells.Gate.{Gate}
+use Rattle.pattern_set.specs.declared.cells.PatternGate.{PatternGate}
 use Rattle.tree_cover.specs.declared.choice.Choice.{Choice}
 use Rattle.tree_cover.specs.Covers.{Tile, tile_of, tiles, Cover, leaf_cover, Least, LeastOfAll, Stands, IsGiven, choice_cmp}
 use Rattle.tree_cover.specs.Candidates.{order_of, BestOf, Below, FromGates, IsUsable, IsLibrary, IsSmall, IsChoice, AreMade, cost_at}
@@ -20,7 +20,7 @@ use Rattle.tree_cover.proofs.Open.{get_map, get_some, get_all, all_gets, pushed_
 use Rattle.tree_cover.proofs.Reaching.{Lists, some_lists, inverter_fits, nand_fits}
 use Rattle.tree_cover.proofs.Standing.{stands_from, from_stands, have_least}
 
-leaves_of : (test : Tree ℕ → _) (shapes : List Vertex) (gates : List Gate) (l : Lists test shapes gates) → AllByRecursion (IsUsable shapes) gates → (pin : ℕ) → HasLeaf pin l.pattern ↔ (pin < l.gate.pins)
+leaves_of : (test : Tree ℕ → _) (shapes : List Vertex) (gates : List PatternGate) (l : Lists test shapes gates) → AllByRecursion (IsUsable shapes) gates → (pin : ℕ) → HasLeaf pin l.pattern ↔ (pin < l.gate.pins)
 leaves_of test shapes gates l usable =
     let (k, at) = contains_get l.pattern (trees_of shapes l.gate.patterns) l.listed in
     get_all (λ (p : Tree ℕ). (pin : ℕ) → HasLeaf pin p ↔ (pin < l.gate.pins)) (trees_of shapes l.gate.patterns) k l.pattern (get_all (IsUsable shapes) gates l.place l.gate usable l.there).leaves at
@@ -29,7 +29,7 @@ leaves_of test shapes gates l usable =
 abbrev Cheap : List Tile → Tree ℕ → Type 0
 Cheap library t = (d : ℕ) × (q : ℕ) × (us : List (Tree ℕ)) × Stands library t d q us × (d ≤ 2 ^ 50 * size_of t)
 
-module _ (cmp : Tree ℕ → Tree ℕ → Ordering) (vs shapes : List Vertex) (gates : List Gate) (choices : List Choice) (n : ℕ) (arena : IsArena vs) (lt : n < length vs) (library : IsLibrary shapes gates)
+module _ (cmp : Tree ℕ → Tree ℕ → Ordering) (vs shapes : List Vertex) (gates : List PatternGate) (choices : List Choice) (n : ℕ) (arena : IsArena vs) (lt : n < length vs) (library : IsLibrary shapes gates)
     (before : AreMade cmp vs (tiles shapes gates) choices n) where
   cost_of : (m : ℕ) → m < n → (x : Choice) × IsChoice cmp vs (tiles shapes gates) m x × (cost_at choices m ≡ x.cost)
   cost_of m below =

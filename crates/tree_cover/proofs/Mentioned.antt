@@ -13,6 +13,7 @@ use Rattle.genlib_format.specs.declared.gate.Gate.{Gate}
 use Rattle.genlib_format.specs.Gates.{is_gate_name}
 use Rattle.genlib_format.specs.Soundness.{IsName, pin_places, mentions, IsSoundGate}
 use Rattle.pattern_set.specs.Values.{HasPin}
+use Rattle.genlib_format.proofs.Mentions.{places_both}
 
 -- a place is among some
 Among : ℕ → List ℕ → Type 0
@@ -43,15 +44,6 @@ leaves (pin place) = place ∷ []
 leaves (complement e) = leaves e
 leaves (product d e) = leaves d ++ leaves e
 leaves (sum d e) = leaves d ++ leaves e
-
-places_both : (xs ys : List Node) → pin_places (xs ++ ys) ≡ pin_places xs ++ pin_places ys
-unfolding pin_places
-places_both [] ys = refl
-places_both (node.Pin place ∷ xs) ys = ap (λ (ns : List ℕ). place ∷ ns) (places_both xs ys)
-places_both (node.Constant bit ∷ xs) ys = places_both xs ys
-places_both (node.Not ∷ xs) ys = places_both xs ys
-places_both (node.And ∷ xs) ys = places_both xs ys
-places_both (node.Or ∷ xs) ys = places_both xs ys
 
 two_and_none : (xs ys zs : List Node) (ps qs : List ℕ) → pin_places zs ≡ [] → pin_places xs ≡ ps → pin_places ys ≡ qs → pin_places (xs ++ ys ++ zs) ≡ ps ++ qs
 two_and_none xs ys zs ps qs none one other =

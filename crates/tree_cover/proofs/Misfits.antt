@@ -1,7 +1,7 @@
 -- What outlines tell of patterns: one that does not fit has no match.
 use Rattle.std.proofs.Common.{◌≡◌, ℕ, ◌+◌, ◌<◌, ◌&&◌, ◌||◌, Bool, true, false, Option, Some, None, List, [], ◌∷◌, ◌++◌, length, get_or, slice_get, refl, sym, ap, ◌∙◌, subst, inl, inr, arith, length-append}
 use Rattle.std.proofs.Math.Bool.{or_comm, and_comm}
-use Rattle.std.proofs.lemmas.Bool.{false≢true}
+use Rattle.std.proofs.lemmas.Bool.{false≢true, and_cases, or_parts}
 use Rattle.std.proofs.lemmas.Option.{slice_get-get_or}
 use Rattle.std.specs.declared.cmp.Ordering.{Ordering}
 use Rattle.subject_tree.specs.Trees.{Tree, Leaf, Inv, Nand}
@@ -9,14 +9,14 @@ use Rattle.subject_tree.specs.Arenas.{trees, tree_at, built, vertex_at, IsOver, 
 use Rattle.subject_tree.specs.declared.arena.Vertex.{Vertex}
 use Rattle.subject_tree.specs.declared.arena.Vertex.TheVariants.{Leaf as AtLeaf, Inv as AtInv, Nand as AtNand}
 use Rattle.subject_tree.proofs.Arenas.{reads_all}
-use Rattle.pattern_set.specs.declared.cells.Gate.{Gate}
+use Rattle.pattern_set.specs.declared.cells.PatternGate.{PatternGate}
 use Rattle.tree_cover.specs.declared.binding.Binding.{Binding}
 use Rattle.tree_cover.specs.declared.choice.Choice.{Choice}
 use Rattle.tree_cover.specs.Bindings.{under_inverter, under_nand, grown}
 use Rattle.tree_cover.specs.Candidates.{better_of, BestOf, FromPattern}
 use Rattle.tree_cover.specs.Outlines.{fits, IsOutline, AreOutlines, TellMisfits}
 use Rattle.tree_cover.proofs.Growing.{grown_none, told}
-use Rattle.tree_cover.proofs.Levels.{both_false, either_false, no_match_best}
+use Rattle.tree_cover.proofs.Levels.{no_match_best}
 use Rattle.tree_cover.proofs.Open.{pushed_at}
 
 -- trees that fit alike, under an inverter and under a NAND
@@ -145,7 +145,7 @@ module _ (vs : List Vertex) (arena : IsArena vs) where
   nand_misfit p q (AtLeaf place) bs none e = refl
   nand_misfit p q (AtInv m) bs none e = refl
   nand_misfit p q (AtNand m k) bs none e =
-      let (a, b) = either_false (fits p (tree_at vs m) && fits q (tree_at vs k)) (fits p (tree_at vs k) && fits q (tree_at vs m)) e in
+      let (a, b) = or_parts (fits p (tree_at vs m) && fits q (tree_at vs k)) (fits p (tree_at vs k) && fits q (tree_at vs m)) e in
       ap (λ (xs : List Binding). xs ++ grown vs q m (grown vs p k bs)) (none m k a) ∙ none k m b
 
   pub misfit_none : (p : Tree ℕ) (n : ℕ) (bs : List Binding) → fits p (tree_at vs n) ≡ false → grown vs p n bs ≡ []
@@ -154,12 +154,12 @@ module _ (vs : List Vertex) (arena : IsArena vs) where
   misfit_none (Inv p) n bs e = inverter_misfit p (vertex_at vs n) bs (λ m f. misfit_none p m bs f) (ap (fits (Inv p)) (sym (reads_all vs arena n)) ∙ e)
   misfit_none (Nand p q) n bs e =
       nand_misfit p q (vertex_at vs n) bs
-      (λ m k f. elim (both_false (fits p (tree_at vs m)) (fits q (tree_at vs k)) f) as (λ _. grown vs q k (grown vs p m bs) ≡ []) [
+      (λ m k f. elim (and_cases (fits p (tree_at vs m)) (fits q (tree_at vs k)) f) as (λ _. grown vs q k (grown vs p m bs) ≡ []) [
         | inl a ↦ ap (grown vs q k) (misfit_none p m bs a) ∙ grown_none vs q k
         | inr b ↦ misfit_none q k (grown vs p m bs) b
       ]) (ap (fits (Nand p q)) (sym (reads_all vs arena n)) ∙ e)
 
-  pub misfit_best : (order : Choice → Choice → Ordering) (shapes : List Vertex) (choices : List Choice) (gate : Gate) (place n : ℕ) (numbers : List ℕ) (marks : List Bool) (pattern : ℕ) → TellMisfits shapes vs n numbers marks
+  pub misfit_best : (order : Choice → Choice → Ordering) (shapes : List Vertex) (choices : List Choice) (gate : PatternGate) (place n : ℕ) (numbers : List ℕ) (marks : List Bool) (pattern : ℕ) → TellMisfits shapes vs n numbers marks
       → ((o : ℕ) × (slice_get numbers pattern ≡ Some o) × (slice_get marks o ≡ Some false)) → BestOf order (FromPattern vs choices gate place n (tree_at shapes pattern)) None
   misfit_best order shapes choices gate place n numbers marks pattern tell (o, at, misfit) =
       no_match_best vs order choices gate place n (tree_at shapes pattern) (λ proper. misfit_none (tree_at shapes pattern) n _ (tell pattern o at misfit))

@@ -9,7 +9,7 @@ use Rattle.subject_tree.specs.Tables.{trees_of}
 use Rattle.subject_tree.specs.declared.arena.Vertex.{Vertex}
 use Rattle.pattern_set.specs.Values.{HasLeaf}
 use Rattle.pattern_set.specs.Cells.{is_inverter, is_nand, lists_some, has_some}
-use Rattle.pattern_set.specs.declared.cells.Gate.{Gate}
+use Rattle.pattern_set.specs.declared.cells.PatternGate.{PatternGate}
 use Rattle.tree_cover.specs.Covers.{tile_of, Matches, IsProper, Fits}
 use Rattle.tree_cover.proofs.Choosing.{get_contains}
 use Rattle.tree_cover.proofs.Open.{get_map}
@@ -24,15 +24,15 @@ any_get {A} test (x ∷ xs) h = by_test (test x) refl h (λ k. any_get test xs k
     by_test false e h rest = let (i, y, at, is) = rest h in (suc i, y, at, is)
 
 -- a gate that lists a tree which passes a test
-pub record Lists (test : Tree ℕ → Bool) (shapes : List Vertex) (gates : List Gate) : Type 0 where
+pub record Lists (test : Tree ℕ → Bool) (shapes : List Vertex) (gates : List PatternGate) : Type 0 where
   pub place : ℕ
-  pub gate : Gate
+  pub gate : PatternGate
   pub there : slice_get gates place ≡ Some gate
   pub pattern : Tree ℕ
   pub listed : Contains (trees_of shapes gate.patterns) pattern
   pub passes : test pattern ≡ true
 
-pub some_lists : (test : Tree ℕ → Bool) (shapes : List Vertex) (gates : List Gate) → has_some test shapes gates ≡ true → Lists test shapes gates
+pub some_lists : (test : Tree ℕ → Bool) (shapes : List Vertex) (gates : List PatternGate) → has_some test shapes gates ≡ true → Lists test shapes gates
 some_lists test shapes gates h =
     let (q, gate, at_gate, some) = any_get (lists_some test shapes) gates h in
     let (k, pattern, at_pattern, passes) = any_get (λ n. test (tree_at shapes n)) gate.patterns some in
@@ -107,13 +107,13 @@ nand_is (Nand (Leaf a) (Nand u v)) pins e leaves = absurd (false≢true e)
 nand_is (Nand (Inv t) u) pins e leaves = absurd (false≢true e)
 nand_is (Nand (Nand s t) u) pins e leaves = absurd (false≢true e)
 
-pub inverter_fits : (shapes : List Vertex) (gates : List Gate) (l : Lists is_inverter shapes gates) (u : Tree ℕ) → ((pin : ℕ) → HasLeaf pin l.pattern ↔ (pin < l.gate.pins)) → Fits (tile_of shapes l.gate) (Inv u) (u ∷ [])
+pub inverter_fits : (shapes : List Vertex) (gates : List PatternGate) (l : Lists is_inverter shapes gates) (u : Tree ℕ) → ((pin : ℕ) → HasLeaf pin l.pattern ↔ (pin < l.gate.pins)) → Fits (tile_of shapes l.gate) (Inv u) (u ∷ [])
 unfolding Matches IsProper
 inverter_fits shapes gates l u leaves =
     let (is, count) = inverter_is l.pattern l.gate.pins l.passes leaves in
     record { pins = sym count; pattern = Inv (Leaf 0); listed = subst (λ (p : Tree ℕ). Contains (trees_of shapes l.gate.patterns) p) is l.listed; proper = tt; matches = refl }
 
-pub nand_fits : (shapes : List Vertex) (gates : List Gate) (l : Lists is_nand shapes gates) (u v : Tree ℕ) → ((pin : ℕ) → HasLeaf pin l.pattern ↔ (pin < l.gate.pins))
+pub nand_fits : (shapes : List Vertex) (gates : List PatternGate) (l : Lists is_nand shapes gates) (u v : Tree ℕ) → ((pin : ℕ) → HasLeaf pin l.pattern ↔ (pin < l.gate.pins))
     → Fits (tile_of shapes l.gate) (Nand u v) (u ∷ v ∷ [])
 unfolding Matches IsProper
 nand_fits shapes gates l u v leaves =

@@ -17,7 +17,7 @@ use Rattle.tree_cover.specs.Candidates.{choice_at, cost_at, IsChoice, AreMade}
 use Rattle.tree_cover.specs.declared.choice.Choice.{Choice}
 use Rattle.tree_cover.proofs.Valuing.{leasts-one}
 use Rattle.tree_cover.specs.declared.writing.Signal.{Signal}
-use Rattle.tree_cover.specs.declared.writing.Signal.TheVariants.{Leaf as AtLeaf, Gate as AtGate}
+use Rattle.tree_cover.specs.declared.writing.Signal.TheVariants.{Leaf as AtLeaf, Gate}
 use Rattle.tree_cover.specs.declared.writing.CoverGate.{CoverGate}
 use Rattle.tree_cover.specs.declared.writing.Step.{Step}
 use Rattle.tree_cover.specs.declared.writing.Step.TheVariants.{Visit}
@@ -71,11 +71,11 @@ two_places signals pins n e = omega (arith, length-append signals pins, e)
 
 -- the gate of a choice takes the signals of its pins
 gate_put-is : (choice : Choice) (signals pins : List Signal) (gates : List CoverGate) → length pins ≡ length choice.pins
-    → gate_put choice (progress (signals ++ pins) gates) ≡ progress (signals ++ AtGate (length gates) ∷ []) (gates ++ record { place = choice.place; pins = pins } ∷ [])
+    → gate_put choice (progress (signals ++ pins) gates) ≡ progress (signals ++ Gate (length gates) ∷ []) (gates ++ record { place = choice.place; pins = pins } ∷ [])
 gate_put-is choice signals pins gates e =
-    ap (λ (k : ℕ). progress (take k (signals ++ pins) ++ AtGate (length gates) ∷ []) (gates ++ record { place = choice.place; pins = drop k (signals ++ pins) } ∷ [])) (two_places signals pins (length choice.pins) e)
-    ∙ (ap (λ (xs : List Signal). progress (xs ++ AtGate (length gates) ∷ []) (gates ++ record { place = choice.place; pins = drop (length signals) (signals ++ pins) } ∷ [])) (take-append_seam signals pins)
-    ∙ ap (λ (xs : List Signal). progress (signals ++ AtGate (length gates) ∷ []) (gates ++ record { place = choice.place; pins = xs } ∷ [])) (drop-append_seam signals pins))
+    ap (λ (k : ℕ). progress (take k (signals ++ pins) ++ Gate (length gates) ∷ []) (gates ++ record { place = choice.place; pins = drop k (signals ++ pins) } ∷ [])) (two_places signals pins (length choice.pins) e)
+    ∙ (ap (λ (xs : List Signal). progress (xs ++ Gate (length gates) ∷ []) (gates ++ record { place = choice.place; pins = drop (length signals) (signals ++ pins) } ∷ [])) (take-append_seam signals pins)
+    ∙ ap (λ (xs : List Signal). progress (signals ++ Gate (length gates) ∷ []) (gates ++ record { place = choice.place; pins = xs } ∷ [])) (drop-append_seam signals pins))
 
 last_is : (waiting : List Signal) (root signal : Signal) → waiting ++ root ∷ [] ≡ signal ∷ [] → root ≡ signal
 last_is [] root signal e = first_same root signal [] [] e
@@ -86,7 +86,7 @@ last_is (s ∷ waiting) root signal e =
 -- there is a signal once an event has happened
 event_signals : (choices : List Choice) (p : Progress) (event : Event) → (after_event choices p event).signals ≡ [] → ⊥
 event_signals choices p (meet place) e = never_empty p.signals (AtLeaf place) e
-event_signals choices p (put n) e = never_empty _ (AtGate (length p.gates)) e
+event_signals choices p (put n) e = never_empty _ (Gate (length p.gates)) e
 
 events_signals : (v : Vertex) (n : ℕ) (choices : List Choice) (p : Progress) (below : List Event) → (after choices p (events_by v n below)).signals ≡ [] → ⊥
 unfolding after
@@ -139,15 +139,15 @@ module _ (cmp : Tree ℕ → Tree ℕ → Ordering) (library : List Tile) (vs : 
       → Adds cmp library choices (below ++ put n ∷ []) (tree_at vs n) choice.cost signals gates
   unfolding after
   add_gate n choice below is given least signals gates all = record {
-    signal = AtGate (length gates + length all.more);
+    signal = Gate (length gates + length all.more);
     more = all.more ++ record { place = choice.place; pins = all.pins } ∷ [];
     comes =
         after-append choices (progress signals gates) below (put n ∷ [])
         ∙ (ap (λ (p : Progress). after_event choices p (put n)) all.comes
         ∙ (ap (λ (c : Choice). gate_put c (progress (signals ++ all.pins) (gates ++ all.more))) is
         ∙ (gate_put-is choice signals all.pins (gates ++ all.more) (all.count ∙ length-map choice.pins (tree_at vs))
-        ∙ (ap (λ (k : ℕ). progress (signals ++ AtGate k ∷ []) ((gates ++ all.more) ++ record { place = choice.place; pins = all.pins } ∷ [])) (length-append gates all.more)
-        ∙ ap (λ (gs : List CoverGate). progress (signals ++ AtGate (length gates + length all.more) ∷ []) gs) (append_assoc gates all.more (record { place = choice.place; pins = all.pins } ∷ []))))));
+        ∙ (ap (λ (k : ℕ). progress (signals ++ Gate k ∷ []) ((gates ++ all.more) ++ record { place = choice.place; pins = all.pins } ∷ [])) (length-append gates all.more)
+        ∙ ap (λ (gs : List CoverGate). progress (signals ++ Gate (length gates + length all.more) ∷ []) gs) (append_assoc gates all.more (record { place = choice.place; pins = all.pins } ∷ []))))));
     writes = written_gate (tree_at vs n) (length gates) choice.cost choice.place (trees_of vs choice.pins) all.pins all.more given all.writes;
     area = whole given.stands;
   }

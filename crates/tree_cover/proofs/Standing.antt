@@ -9,7 +9,7 @@ use Rattle.subject_tree.specs.Arenas.{tree_at, IsArena}
 use Rattle.subject_tree.specs.Tables.{trees_of}
 use Rattle.subject_tree.specs.declared.arena.Vertex.{Vertex}
 use Rattle.pattern_set.specs.Values.{HasLeaf}
-use Rattle.pattern_set.specs.declared.cells.Gate.{Gate}
+use Rattle.pattern_set.specs.declared.cells.PatternGate.{PatternGate}
 use Rattle.pattern_set.proofs.Exact.{In}
 use Rattle.pattern_set.proofs.Members.{in_contains, contains_in}
 use Rattle.tree_cover.specs.declared.binding.Binding.{Binding}
@@ -40,7 +40,7 @@ not_start : (b : Binding) (pin m : ℕ) → In b (start ∷ []) → slice_get b.
 not_start b pin m (inl e) at = nothing_bound MAX_PINS pin m (ap (λ (c : Binding). slice_get c.pins pin) e ∙ at)
 not_start b pin m (inr h) at = elim h [ ]
 
-module _ (vs shapes : List Vertex) (gates : List Gate) (choices : List Choice) (n : ℕ) (arena : IsArena vs) (lt : n < length vs) (sound : AllByRecursion (IsUsable shapes) gates)
+module _ (vs shapes : List Vertex) (gates : List PatternGate) (choices : List Choice) (n : ℕ) (arena : IsArena vs) (lt : n < length vs) (sound : AllByRecursion (IsUsable shapes) gates)
     (table : (m : ℕ) → m < n → Least (tiles shapes gates) (tree_at vs m) (cost_at choices m)) where
   least_table : (ns : List ℕ) → AllByRecursion (λ m. m < n) ns → LeastOfAll (tiles shapes gates) (trees_of vs ns) (sum_by (cost_at choices) ns)
   unfolding LeastOfAll
@@ -102,13 +102,13 @@ module _ (vs shapes : List Vertex) (gates : List Gate) (choices : List Choice) (
           holds (trees_of vs c.pins) agrees
 
   -- what a gate that fits gives: the numbers of the trees at its pins, and the choice of them
-  pub record Fitted (gate : Gate) (q : ℕ) (us : List (Tree ℕ)) : Type 0 where
+  pub record Fitted (gate : PatternGate) (q : ℕ) (us : List (Tree ℕ)) : Type 0 where
     pub numbers : List ℕ
     pub trees : trees_of vs numbers ≡ us
     pub below : AllByRecursion (λ m. m < n) numbers
     pub opens : (d : ℕ) → d ≡ gate.area + sum_by (cost_at choices) numbers → FromGates vs shapes choices gates n q (record { cost = d; place = q; pins = numbers })
 
-  fitted_by : (gate : Gate) (q k pattern : ℕ) (us : List (Tree ℕ)) → slice_get gates q ≡ Some gate → slice_get gate.patterns k ≡ Some pattern → IsProper (tree_at shapes pattern) → Matches (tree_at shapes pattern) (tree_at vs n) us → length us ≡ gate.pins
+  fitted_by : (gate : PatternGate) (q k pattern : ℕ) (us : List (Tree ℕ)) → slice_get gates q ≡ Some gate → slice_get gate.patterns k ≡ Some pattern → IsProper (tree_at shapes pattern) → Matches (tree_at shapes pattern) (tree_at vs n) us → length us ≡ gate.pins
       → Fitted gate q us
   fitted_by gate q k pattern us at_gate at_pattern proper matches count =
       let ok : IsUsable shapes gate = get_all (IsUsable shapes) gates q gate sound at_gate in
@@ -140,7 +140,7 @@ module _ (vs shapes : List Vertex) (gates : List Gate) (choices : List Choice) (
         );
       }
 
-  pub fitted : (gate : Gate) (q : ℕ) (us : List (Tree ℕ)) → slice_get gates q ≡ Some gate → Fits (tile_of shapes gate) (tree_at vs n) us → Fitted gate q us
+  pub fitted : (gate : PatternGate) (q : ℕ) (us : List (Tree ℕ)) → slice_get gates q ≡ Some gate → Fits (tile_of shapes gate) (tree_at vs n) us → Fitted gate q us
   fitted gate q us at_gate fits =
       let (k, at_k) = contains_get fits.pattern (trees_of shapes gate.patterns) fits.listed in
       let (pattern, at_pattern, f) = from_get_map (tree_at shapes) gate.patterns k fits.pattern at_k in

@@ -8,7 +8,7 @@ use Rattle.genlib_expr.specs.Formula.{formula_of}
 use Rattle.pattern_set.specs.Values.{HasLeaf}
 use Rattle.pattern_set.specs.Cells.{IsUsedPattern, AreGatesOf}
 use Rattle.pattern_set.specs.declared.cells.Cell.{Cell}
-use Rattle.pattern_set.specs.declared.cells.Gate.{Gate}
+use Rattle.pattern_set.specs.declared.cells.PatternGate.{PatternGate}
 use Rattle.pattern_set.proofs.Pins.{pattern-pins}
 use Rattle.tree_cover.specs.Candidates.{IsUsable, IsWellFormed}
 use Rattle.sis_base.specs.declared.limits.TheConstants.{MAX_PINS}
@@ -24,7 +24,7 @@ leaves_of_all (t ∷ ts) cell pins same well all = (
   leaves_of_all ts cell pins same well all.1,
 )
 
-pub gates-usable : (vertices : List Vertex) (cells : List Cell) (gates : List Gate) → AreGatesOf vertices cells gates → AllByRecursion IsWellFormed cells → AllByRecursion (IsUsable vertices) gates
+pub gates-usable : (vertices : List Vertex) (cells : List Cell) (gates : List PatternGate) → AreGatesOf vertices cells gates → AllByRecursion IsWellFormed cells → AllByRecursion (IsUsable vertices) gates
 gates-usable vertices [] [] are well = tt
 gates-usable vertices [] (g ∷ gates) are well = absurd are
 gates-usable vertices (c ∷ cells) [] are well = absurd are

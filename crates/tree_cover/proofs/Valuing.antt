@@ -1,6 +1,7 @@
 -- Values of trees that patterns match, and least costs.
-use Rattle.std.proofs.Common.{◌≡◌, ℕ, Bool, true, false, not, ◌&&◌, List, [], ◌∷◌, refl, sym, ap, ◌∙◌, inl, inr, arith}
+use Rattle.std.proofs.Common.{◌≡◌, ℕ, Bool, not, ◌&&◌, List, [], ◌∷◌, sym, ap, ◌∙◌, inl, inr, arith}
 use Rattle.std.proofs.lemmas.Option.{get_or_from_slice_get}
+use Rattle.std.proofs.Math.Bool.{and_comm}
 use Rattle.subject_tree.specs.Trees.{Tree, Leaf, Inv, Nand, value_at}
 use Rattle.subject_tree.specs.Arenas.{tree_in, nowhere}
 use Rattle.genlib_expr.specs.Formula.{Formula}
@@ -8,12 +9,6 @@ use Rattle.genlib_expr.specs.Values.{formula_value}
 use Rattle.pattern_set.specs.Patterns.{IsPattern}
 use Rattle.pattern_set.proofs.Values.{pattern-value}
 use Rattle.tree_cover.specs.Covers.{Tile, Matches, Least, LeastOfAll}
-
-and_turned : (a b : Bool) → (a && b) ≡ (b && a)
-and_turned true true = refl
-and_turned true false = refl
-and_turned false true = refl
-and_turned false false = refl
 
 both_values : (a b c d : Bool) → a ≡ c → b ≡ d → not (a && b) ≡ not (c && d)
 both_values a b c d p q = ap (λ (x : Bool). not (x && b)) p ∙ ap (λ (x : Bool). not (c && x)) q
@@ -29,7 +24,7 @@ matches-value value (Nand p q) (Inv t) bound h = elim h [ ]
 matches-value value (Nand p q) (Nand t u) bound (inl h) = both_values _ _ _ _ (matches-value value p t bound h.0) (matches-value value q u bound h.1)
 matches-value value (Nand p q) (Nand t u) bound (inr h) =
     both_values _ _ _ _ (matches-value value p u bound h.0) (matches-value value q t bound h.1)
-    ∙ ap not (and_turned (value_at value u) (value_at value t))
+    ∙ ap not (and_comm (value_at value u) (value_at value t))
 
 pub gate-value : (value : ℕ → Bool) (e : Formula) (pattern t : Tree ℕ) (bound : List (Tree ℕ)) → IsPattern e pattern → Matches pattern t bound
     → formula_value (λ pin. value_at value (tree_in bound pin)) e ≡ value_at value t

@@ -6,11 +6,11 @@ use Rattle.std.proofs.lemmas.List.Sums.{sum_by-append, sum_by-cons}
 use Rattle.std.proofs.lemmas.Option.{unwrap_or-slice_get}
 use Rattle.subject_tree.specs.Arenas.{vertex_at}
 use Rattle.subject_tree.specs.declared.arena.Vertex.{Vertex}
-use Rattle.subject_tree.specs.declared.arena.Vertex.TheVariants.{Leaf as VertexLeaf, Inv as VertexInv, Nand as VertexNand}
+use Rattle.subject_tree.specs.declared.arena.Vertex.TheVariants.{Leaf, Inv, Nand}
 use Rattle.tree_cover.specs.declared.choice.Choice.{Choice}
 use Rattle.tree_cover.specs.Candidates.{choice_at}
 use Rattle.tree_cover.specs.declared.writing.Signal.{Signal}
-use Rattle.tree_cover.specs.declared.writing.Signal.TheVariants.{Gate as AtGate}
+use Rattle.tree_cover.specs.declared.writing.Signal.TheVariants.{Gate}
 use Rattle.tree_cover.specs.declared.writing.CoverGate.{CoverGate}
 use Rattle.tree_cover.specs.declared.writing.Step.{Step}
 use Rattle.tree_cover.specs.declared.writing.Step.TheVariants.{Visit, Write}
@@ -73,12 +73,12 @@ module _ (vs : List Vertex) (choices : List Choice) (below : AreBelow choices) w
       → after choices (record { signals = signals ++ leaf_signals v; gates = gates }) (to_come vs choices d (waiting ++ first_steps v n ns))
       ≡ after choices (record { signals = signals; gates = gates }) (events_by v n (flat_map (postorder vs choices d) ns) ++ to_come vs choices d waiting)
   unfolding after
-  visit_at (VertexLeaf place) d n ns waiting signals gates =
-      ap (λ (ws : List Step). after choices (record { signals = signals ++ leaf_signals (VertexLeaf place); gates = gates }) (to_come vs choices d ws)) (back_nothing waiting)
-  visit_at (VertexInv m) d n ns waiting signals gates =
+  visit_at (Leaf place) d n ns waiting signals gates =
+      ap (λ (ws : List Step). after choices (record { signals = signals ++ leaf_signals (Leaf place); gates = gates }) (to_come vs choices d ws)) (back_nothing waiting)
+  visit_at (Inv m) d n ns waiting signals gates =
       ap (λ (xs : List Signal). after choices (record { signals = xs; gates = gates }) (to_come vs choices d (waiting ++ (Write n ∷ visits ns)))) (back_nothing signals)
       ∙ ap (after choices (record { signals = signals; gates = gates })) (gate_steps d n waiting ns)
-  visit_at (VertexNand l r) d n ns waiting signals gates =
+  visit_at (Nand l r) d n ns waiting signals gates =
       ap (λ (xs : List Signal). after choices (record { signals = xs; gates = gates }) (to_come vs choices d (waiting ++ (Write n ∷ visits ns)))) (back_nothing signals)
       ∙ ap (after choices (record { signals = signals; gates = gates })) (gate_steps d n waiting ns)
 
@@ -110,12 +110,12 @@ module _ (vs : List Vertex) (choices : List Choice) (below : AreBelow choices) w
 
   visit_turns_at : (v : Vertex) (d n : ℕ) (ns : List ℕ) (waiting : List Step)
       → sum_by (turns_of vs choices d) (waiting ++ first_steps v n ns) < sum_by (turns_of vs choices d) waiting + 2 * length (events_by v n (flat_map (postorder vs choices d) ns))
-  visit_turns_at (VertexLeaf place) d n ns waiting =
+  visit_turns_at (Leaf place) d n ns waiting =
       let same : sum_by (turns_of vs choices d) (waiting ++ []) ≡ sum_by (turns_of vs choices d) waiting = ap (sum_by (turns_of vs choices d)) (back_nothing waiting) in
-      let one : length (events_by (VertexLeaf place) n (flat_map (postorder vs choices d) ns)) ≡ 1 = refl in
+      let one : length (events_by (Leaf place) n (flat_map (postorder vs choices d) ns)) ≡ 1 = refl in
       omega (arith, same, one)
-  visit_turns_at (VertexInv m) d n ns waiting = gate_turns d n waiting ns
-  visit_turns_at (VertexNand l r) d n ns waiting = gate_turns d n waiting ns
+  visit_turns_at (Inv m) d n ns waiting = gate_turns d n waiting ns
+  visit_turns_at (Nand l r) d n ns waiting = gate_turns d n waiting ns
 
   visit_turns : (d n : ℕ) (waiting : List Step) → n < d
       → sum_by (turns_of vs choices d) (waiting ++ first_steps (vertex_at vs n) n (choice_at choices n).pins) < sum_by (turns_of vs choices d) waiting + turns_of vs choices d (Visit n)
@@ -145,13 +145,13 @@ module _ (vs : List Vertex) (choices : List Choice) (below : AreBelow choices) w
       subst (λ (ws : List Step). sum_by (turns_of vs choices d) ws < sum_by (turns_of vs choices d) before + turns_of vs choices d (Visit n)) (sym wait) (visit_turns d n before lt)
 
   pub write_told : (d n : ℕ) (waiting : List Step) (signals more : List Signal) (gates others : List CoverGate)
-      → more ≡ take (length signals - length (choice_at choices n).pins) signals ++ AtGate (length gates) ∷ []
+      → more ≡ take (length signals - length (choice_at choices n).pins) signals ++ Gate (length gates) ∷ []
       → others ≡ gates ++ record { place = (choice_at choices n).place; pins = drop (length signals - length (choice_at choices n).pins) signals } ∷ []
       → after choices (record { signals = more; gates = others }) (to_come vs choices d waiting) ≡ after choices (record { signals = signals; gates = gates }) ((put n ∷ []) ++ to_come vs choices d waiting)
   unfolding after
   write_told d n waiting signals more gates others is gate =
       ap (λ (xs : List Signal). after choices (record { signals = xs; gates = others }) (to_come vs choices d waiting)) is
-      ∙ ap (λ (gs : List CoverGate). after choices (record { signals = take (length signals - length (choice_at choices n).pins) signals ++ AtGate (length gates) ∷ []; gates = gs }) (to_come vs choices d waiting)) gate
+      ∙ ap (λ (gs : List CoverGate). after choices (record { signals = take (length signals - length (choice_at choices n).pins) signals ++ Gate (length gates) ∷ []; gates = gs }) (to_come vs choices d waiting)) gate
 
 all_both : {X : Type 0} (P : X → Type 0) (xs ys : List X) → AllByRecursion P xs → AllByRecursion P ys → AllByRecursion P (xs ++ ys)
 all_both P [] ys a b = b
@@ -171,9 +171,9 @@ visits_in d n [] lt below = tt
 visits_in d n (m ∷ ns) lt below = all_both (StepBelow d) (visits ns) (Visit m ∷ []) (visits_in d n ns lt below.1) (omega (arith, lt, below.0), tt)
 
 first_in : (v : Vertex) (d n : ℕ) (ns : List ℕ) → n < d → AllByRecursion (λ m. m < n) ns → AllByRecursion (StepBelow d) (first_steps v n ns)
-first_in (VertexLeaf place) d n ns lt below = tt
-first_in (VertexInv m) d n ns lt below = (lt, visits_in d n ns lt below)
-first_in (VertexNand l r) d n ns lt below = (lt, visits_in d n ns lt below)
+first_in (Leaf place) d n ns lt below = tt
+first_in (Inv m) d n ns lt below = (lt, visits_in d n ns lt below)
+first_in (Nand l r) d n ns lt below = (lt, visits_in d n ns lt below)
 
 pub visit_in : (vs : List Vertex) (choices : List Choice) → AreBelow choices → (d n : ℕ) (after_it waiting : List Step) → n < d → after_it ≡ waiting ++ first_steps (vertex_at vs n) n (choice_at choices n).pins
     → AllByRecursion (StepBelow d) waiting → AllByRecursion (StepBelow d) after_it

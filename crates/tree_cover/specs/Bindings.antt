@@ -1,5 +1,5 @@
--- Bindings of pins, by the numbers of the trees that they are bound to.
--- Source: Aho, Ganapathi, Tjiang, "Code generation using tree matching and dynamic programming" (ACM Transactions on
+-- Bindings of pins, by the numbers of the trees that they are bound to. Source: Aho, Ganapathi,
+-- Tjiang, "Code generation using tree matching and dynamic programming" (ACM Transactions on
 -- Programming Languages and Systems 11, 1989), on trees in which equal subtrees have one number.
 use Rattle.std.specs.Prelude.{◌≡◌, ℕ, ◌<◌, ◌==◌, if◌then◌else◌, Option, Some, None, List, [], ◌∷◌, ◌++◌, length, replicate, slice_get, slice_set}
 use Rattle.std.specs.List.{Contains, flat_map}
@@ -20,11 +20,12 @@ PinsBelow width (Nand p q) = PinsBelow width p × PinsBelow width q
 abbrev pub Agrees : List Vertex → Binding → List (Tree ℕ) → Type 0
 Agrees vertices binding bound = (pin n : ℕ) → slice_get binding.pins pin ≡ Some (Some n) → (n < length vertices) × (slice_get bound pin ≡ Some (tree_at vertices n))
 
--- some of the bindings agrees with trees
+-- some binding agrees with trees
 abbrev pub SomeAgrees : List Vertex → List Binding → List (Tree ℕ) → Type 0
 SomeAgrees vertices bindings bound = (binding : Binding) × Contains bindings binding × Agrees vertices binding bound
 
--- a pin bound to a number: none where it is bound to another one already, or where there is no such pin
+-- the bindings with a pin bound to a number: none if it is bound to another one already, or there
+-- is no such pin
 abbrev pub bound_as : ℕ → ℕ → Binding → Option (Option ℕ) → List Binding
 bound_as pin n binding None = []
 bound_as pin n binding (Some None) = (record { pins = slice_set binding.pins pin (Some n) }) ∷ []
@@ -33,19 +34,19 @@ bound_as pin n binding (Some (Some m)) = if m == n then binding ∷ [] else []
 abbrev pub bind : ℕ → ℕ → Binding → List Binding
 bind pin n binding = bound_as pin n binding (slice_get binding.pins pin)
 
--- what is made of the vertex below an inverter; nothing where there is none
+-- what is made of the vertex below an inverter; nothing if there is none
 abbrev pub under_inverter : Vertex → (ℕ → List Binding) → List Binding
 under_inverter (AtLeaf place) make = []
 under_inverter (AtInv n) make = make n
 under_inverter (AtNand m n) make = []
 
--- what is made of the vertices below a NAND; nothing where there is none
+-- what is made of the vertices below a NAND; nothing if there is none
 abbrev pub under_nand : Vertex → (ℕ → ℕ → List Binding) → List Binding
 under_nand (AtLeaf place) make = []
 under_nand (AtInv n) make = []
 under_nand (AtNand m n) make = make m n
 
--- the bindings that some bindings grow to where a pattern is matched with the tree of a number
+-- the bindings that some bindings grow to when a pattern is matched with the tree of a number
 unfoldable pub grown : List Vertex → Tree ℕ → ℕ → List Binding → List Binding
 grown vertices (Leaf pin) n bindings = flat_map (bind pin n) bindings
 grown vertices (Inv p) n bindings = under_inverter (vertex_at vertices n) (λ m. grown vertices p m bindings)

@@ -1,6 +1,7 @@
--- A quick test whether a pattern may match a tree: their first two levels fit. No public clause needs these definitions.
--- Source: Keutzer, "DAGON: Technology binding and local optimization by DAG matching" (24th Design Automation Conference,
--- 1987): patterns are told apart by the operators at their roots first.
+-- A quick test whether a pattern may match a tree: their top two levels fit. No public clause needs
+-- these definitions.
+-- Source: Keutzer, "DAGON: Technology binding and local optimization by DAG matching" (24th Design
+-- Automation Conference, 1987): patterns are distinguished by the operators at their roots first.
 use Rattle.std.specs.Prelude.{ℕ, Bool, true, false, ◌&&◌, ◌||◌}
 use Rattle.subject_tree.specs.Trees.{Tree, Leaf, Inv, Nand}
 
@@ -21,7 +22,7 @@ fits_root (Leaf pin) t = true
 fits_root (Inv p) t = has_inverter t
 fits_root (Nand p q) t = has_nand t
 
--- whether the roots, and those below them, fit; no pattern that is a lone pin does
+-- whether the roots, and those below them, fit; no pattern that is a single pin does
 abbrev pub may_fit : Tree ℕ → Tree ℕ → Bool
 may_fit (Leaf pin) t = false
 may_fit (Inv p) (Leaf place) = false

@@ -1,12 +1,13 @@
--- Choices as they are kept: their costs, their gates and where their pins begin in lists of their own, and all pins behind each
--- other.
--- Source: the usual form of lists of lists in one list; Gustavson, "Some basic techniques for solving sparse systems of linear
--- equations" (Sparse Matrices and Their Applications, 1972): rows behind each other, and where each begins.
+-- Choices as they are kept: their costs, their gates and where their pins begin in lists of their
+-- own, and all pins one after the other.
+-- Source: the usual form of lists of lists in one list; Gustavson, "Some basic techniques for
+-- solving sparse systems of linear equations" (Sparse Matrices and Their Applications, 1972): rows
+-- one after the other, and where each begins.
 use Rattle.std.specs.Prelude.{◌≡◌, ℕ, ◌-◌, ◌≤◌, List, [], ◌∷◌, length, take, drop, slice_index_or}
 use Rattle.std.specs.List.{AllByRecursion}
 use Rattle.tree_cover.specs.declared.choice.Choice.{Choice}
 
--- the items from one place to another
+-- the items from one position to another
 abbrev pub part : ℕ → ℕ → List ℕ → List ℕ
 part start end pins = take (end - start) (drop start pins)
 

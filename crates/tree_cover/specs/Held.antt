@@ -1,6 +1,6 @@
--- Candidates as the choices that they are.
--- Source: Aho, Ganapathi, Tjiang, "Code generation using tree matching and dynamic programming" (ACM Transactions on
--- Programming Languages and Systems 11, 1989): at each vertex the cheapest match so far is kept.
+-- Candidates as the choices that they are. Source: Aho, Ganapathi, Tjiang, "Code generation using
+-- tree matching and dynamic programming" (ACM Transactions on Programming Languages and Systems 11,
+-- 1989): at each vertex the cheapest match so far is kept.
 use Rattle.std.specs.Prelude.{Option, None, Some}
 use Rattle.tree_cover.specs.declared.choice.Choice.{Choice}
 use Rattle.tree_cover.specs.declared.choice.Candidate.{Candidate}

@@ -1,7 +1,10 @@
-//! Which trees the pins of a pattern are bound to.
+//! Bindings of the pins of a pattern to trees, by the numbers of the trees.
+//!
+//! Equal trees have one number, so a pin that occurs twice is bound to one tree if the two numbers
+//! are equal.
 
 ghost use Rattle.std.specs.Prelude.{◌≡◌, ◌++◌, None, replicate, slice_get, OnOk};
-ghost use Rattle.tree_cover.specs.Bindings.{bind as bindings_of};
+ghost use Rattle.tree_cover.specs.Bindings.{bind};
 
 use sis_base::limits::MAX_PINS;
 use std::alloc::AllocError;
@@ -21,21 +24,22 @@ pub(crate) fn unbound() -> Binding
     }
 }
 
-// What a pin is bound to; none where there is no such pin.
+// What a pin is bound to; none if there is no such pin.
 fn slot_of(binding: &Binding, pin: usize) -> Option<Option<usize>>
     ensures { result ≡ slice_get binding.now.pins pin }
 {
     binding.pins.get(pin).copied()
 }
 
-/// Puts a binding with one pin more bound behind others; none where the pin is bound to another tree.
+/// Appends a binding with one more pin bound; none if the pin is bound to another tree, or there is
+/// no such pin.
 pub(crate) fn bind(
     pin: usize,
     number: usize,
     binding: &Binding,
     made: &mut Vec<Binding>,
 ) -> Result<(), AllocError>
-    ensures { OnOk result (made.new.items ≡ made.old.items ++ bindings_of pin number binding.now) }
+    ensures { OnOk result (made.new.items ≡ made.old.items ++ bind pin number binding.now) }
 {
     match slot_of(binding, pin) {
         None => Ok(()),

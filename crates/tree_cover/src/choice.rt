@@ -1,4 +1,8 @@
-//! Choices of a gate at a tree, and which of two comes first.
+//! Choices of a gate at a tree, and the order that breaks ties between them.
+//!
+//! The lesser choice is taken: by cost, then by the index of the gate in the library, then by the
+//! trees at the pins in order. The order of ties is the project's own. Callers rely on
+//! `choice_cmp`; a `Candidate` is a choice whose pins need no memory of their own.
 
 ghost use Rattle.std.specs.Prelude.{◌≡◌};
 ghost use Rattle.std.specs.Ordering.{ordering_then, nat_cmp};
@@ -13,8 +17,8 @@ use sis_base::{Sequence, Short};
 use std::cmp::Ordering;
 use subject_tree::{Arena, Leaves};
 
-/// A gate that is taken at a tree: what the cover costs in millionths, the gate's place in the library, and for each pin the
-/// number of the tree that it is bound to. `Choices` keeps many.
+/// A gate chosen at a tree: the cost of the cover in millionths, the gate's index in the library,
+/// and for each pin the number of the tree that it is bound to. `Choices` keeps many.
 #[derive(Drop)]
 pub struct Choice {
     pub cost: u128,
@@ -22,9 +26,10 @@ pub struct Choice {
     pub pins: Sequence<u32>,
 }
 
-// How two lists of trees compare: the first two that differ decide, and else the lengths do.
+// How two lists of trees compare: the first two that differ decide, otherwise the lengths do.
 fn compare_pins(leaves: &Leaves, nodes: &Arena, one: &[u32], other: &[u32]) -> Ordering
-    ensures { result ≡ slice_cmp (tree_cmp (place_cmp leaves.now)) (trees_of nodes.now one.now) (trees_of nodes.now other.now) }
+    ensures { result ≡ slice_cmp (tree_cmp (place_cmp leaves.now)) (trees_of nodes.now one.now)
+        (trees_of nodes.now other.now) }
 {
     let count = one.len().min(other.len());
     let mut place = 0;
@@ -47,7 +52,8 @@ fn compare_parts(
     other: (u128, usize),
     other_pins: &[u32],
 ) -> Ordering
-    ensures { result ≡ choice_cmp (tree_cmp (place_cmp leaves.now)) one.0 one.1 (trees_of nodes.now one_pins.now) other.0 other.1 (trees_of nodes.now other_pins.now) }
+    ensures { result ≡ choice_cmp (tree_cmp (place_cmp leaves.now)) one.0 one.1
+        (trees_of nodes.now one_pins.now) other.0 other.1 (trees_of nodes.now other_pins.now) }
 {
     match one.0.cmp(&other.0).then(one.1.cmp(&other.1)) {
         Ordering::Less => Ordering::Less,
@@ -56,10 +62,12 @@ fn compare_parts(
     }
 }
 
-/// How two choices compare, of which the lesser one is taken: by cost, then by the place of the gate in the library, then by
-/// the trees at the pins in order.
+/// How two choices compare, the lesser of which is taken: by cost, then by the index of the gate in
+/// the library, then by the trees at the pins in order.
 pub fn compare(leaves: &Leaves, nodes: &Arena, one: &Choice, other: &Choice) -> Ordering
-    ensures { result ≡ choice_cmp (tree_cmp (place_cmp leaves.now)) one.now.cost one.now.place (trees_of nodes.now one.now.pins) other.now.cost other.now.place (trees_of nodes.now other.now.pins) }
+    ensures { result ≡ choice_cmp (tree_cmp (place_cmp leaves.now)) one.now.cost one.now.place
+        (trees_of nodes.now one.now.pins) other.now.cost other.now.place
+        (trees_of nodes.now other.now.pins) }
 {
     compare_parts(
         leaves,
@@ -71,8 +79,8 @@ pub fn compare(leaves: &Leaves, nodes: &Arena, one: &Choice, other: &Choice) -> 
     )
 }
 
-/// A choice that stands open, as long as it is not known to be the best. Gates of covers have at most six literals, so that the
-/// numbers at its pins take no memory of their own.
+/// A choice that is not yet known to be the best. Gates of covers have at most six literals, so
+/// that the numbers at its pins take no memory of their own.
 #[derive(Drop)]
 pub(crate) struct Candidate {
     pub cost: u128,
@@ -80,14 +88,15 @@ pub(crate) struct Candidate {
     pub pins: Short<u32, 6>,
 }
 
-/// How two candidates compare, as the choices that they are.
+/// How two candidates compare, as choices.
 pub(crate) fn compare_candidates(
     leaves: &Leaves,
     nodes: &Arena,
     one: &Candidate,
     other: &Candidate,
 ) -> Ordering
-    ensures { result ≡ order_of (tree_cmp (place_cmp leaves.now)) nodes.now (choice_of one.now) (choice_of other.now) }
+    ensures { result ≡ order_of (tree_cmp (place_cmp leaves.now)) nodes.now (choice_of one.now)
+        (choice_of other.now) }
 {
     compare_parts(
         leaves,

@@ -1,14 +1,21 @@
-//! The choices at all vertices, in flat lists.
+//! The choices at all vertices of an arena, in flat lists.
+//!
+//! Source: the usual form of lists of lists in one list; Gustavson, "Some basic techniques for
+//! solving sparse systems of linear equations" (Sparse Matrices and Their Applications, 1972).
+//! Invariant (`AreFlat`): there are as many gates and starts as costs, and no pins start past the
+//! last. Contracts see the list of the choices; callers rely on `push` to append one, or to change
+//! nothing after an error.
 
 ghost use Rattle.std.specs.Prelude.{◌≡◌, ◌+◌, ◌<◌, ◌≤◌, ◌++◌, ◌∷◌, [], length, slice_index_or, vec_len, vec_capacity, IfOk, OnOk, OnErr};
-ghost use Rattle.tree_cover.specs.Candidates.{choice_at, cost_at as cost_there};
-ghost use Rattle.tree_cover.specs.Flat.{part, start_at as start_there};
+ghost use Rattle.tree_cover.specs.Candidates.{choice_at, cost_at};
+ghost use Rattle.tree_cover.specs.Flat.{part, start_at};
 
 use std::alloc::{AllocError, Global};
 use std::marker::Model;
 
-/// The choice at each vertex, in the order of their numbers; contracts see the list of choices. They are kept in flat lists of
-/// costs, of gates, of where the pins of each begin, and of all pins behind each other: 24 bytes a vertex, and four a pin.
+/// The choice at each vertex, in the order of their numbers; contracts see the list of choices.
+/// They are kept in flat lists of costs, of gates, of where the pins of each begin, and of all pins
+/// one after the other: 24 bytes a vertex, and four a pin.
 #[derive(Drop)]
 pub struct Choices {
     costs: Vec<u128>,
@@ -29,7 +36,7 @@ impl Model for Choices {
     ghost invariant = { λ c. AreFlat c.costs.items c.places.items c.starts.items c.pins.items };
 }
 
-/// A number as a small one; want of memory where it is too large for that, as no arena's is.
+/// A number as one of 32 bits; want of memory if it is too large, as no arena's is.
 pub(crate) fn small(number: usize) -> Result<u32, AllocError>
     ensures { IfOk result (λ made. made ≡ number) }
 {
@@ -40,7 +47,7 @@ pub(crate) fn small(number: usize) -> Result<u32, AllocError>
     }
 }
 
-// The cost at a number; nothing past the last.
+// The cost at a number; 0 past the last.
 fn cost_at(costs: &[u128], number: usize) -> u128
     ensures { result ≡ slice_index_or costs.now number 0 }
 {
@@ -50,7 +57,7 @@ fn cost_at(costs: &[u128], number: usize) -> u128
     }
 }
 
-// The gate at a number; the first one past the last.
+// The index of the gate at a number; 0 past the last.
 fn place_at(places: &[u32], number: usize) -> usize
     ensures { result ≡ slice_index_or places.now number 0 }
 {
@@ -62,7 +69,7 @@ fn place_at(places: &[u32], number: usize) -> usize
 
 // Where the pins of a number begin; past the last number, where the pins end.
 fn start_at(starts: &[u32], pins: &[u32], number: usize) -> usize
-    ensures { result ≡ start_there starts.now pins.now number }
+    ensures { result ≡ start_at starts.now pins.now number }
 {
     match starts.get(number) {
         None => pins.len(),
@@ -72,7 +79,7 @@ fn start_at(starts: &[u32], pins: &[u32], number: usize) -> usize
 
 // Where the pins of a number end.
 fn end_at(starts: &[u32], pins: &[u32], number: usize) -> usize
-    ensures { result ≡ start_there starts.now pins.now (number + 1) }
+    ensures { result ≡ start_at starts.now pins.now (number + 1) }
 {
     if number < starts.len() {
         return start_at(starts, pins, number + 1);
@@ -80,7 +87,7 @@ fn end_at(starts: &[u32], pins: &[u32], number: usize) -> usize
     pins.len()
 }
 
-// The pins from one place to another.
+// The pins from one position to another.
 fn pins_between(pins: &[u32], start: usize, end: usize) -> &[u32]
     requires { end ≤ length pins.now }
     ensures { result.now ≡ part start end pins.now }
@@ -91,7 +98,7 @@ fn pins_between(pins: &[u32], start: usize, end: usize) -> &[u32]
     }
 }
 
-// Puts a number behind others, where there is room for it.
+// Appends a number, for which there is room.
 fn put(numbers: &mut Vec<u32>, number: u32)
     requires { vec_len numbers.old < vec_capacity numbers.old }
     ensures { numbers.new.items ≡ numbers.old.items ++ number ∷ [] }
@@ -102,7 +109,7 @@ fn put(numbers: &mut Vec<u32>, number: u32)
     }
 }
 
-// Puts a cost behind others, where there is room for it.
+// Appends a cost, for which there is room.
 fn put_cost(costs: &mut Vec<u128>, cost: u128)
     requires { vec_len costs.old < vec_capacity costs.old }
     ensures { costs.new.items ≡ costs.old.items ++ cost ∷ [] }
@@ -114,7 +121,7 @@ fn put_cost(costs: &mut Vec<u128>, cost: u128)
 }
 
 impl Choices {
-    /// No choice.
+    /// No choices.
     pub fn new(alloc: Global) -> Choices
         ensures { result ≡ [] }
     {
@@ -126,7 +133,7 @@ impl Choices {
         }
     }
 
-    /// No choice, with room for so many but for their pins. An error only for want of memory.
+    /// No choices, with room for so many except for their pins.
     pub fn with_capacity(alloc: Global, count: usize) -> Result<Choices, AllocError>
         ensures { IfOk result (λ choices. choices ≡ []) }
     {
@@ -138,17 +145,18 @@ impl Choices {
         })
     }
 
-    /// How many choices there are.
+    /// The number of choices.
     pub fn len(&self) -> usize
         ensures { result ≡ length self.now }
     {
         self.costs.len()
     }
 
-    /// Puts a choice behind the others, by its cost, its gate and the numbers at its pins. An error, after which nothing has
-    /// changed, only for want of memory; the place of a gate and all pins together count as that past 2^32 - 1.
+    /// Appends a choice, by its cost, its gate and the numbers at its pins. An error changes
+    /// nothing; a gate's index, or a count of all pins, past 2^32 - 1 counts as want of memory.
     pub fn push(&mut self, cost: u128, place: usize, pins: &[u32]) -> Result<(), AllocError>
-        ensures ok { OnOk result (self.new ≡ self.old ++ record { cost = cost; place = place; pins = pins.now } ∷ []) }
+        ensures ok { OnOk result (self.new ≡ self.old ++ record
+            { cost = cost; place = place; pins = pins.now } ∷ []) }
         ensures err { OnErr result (self.new ≡ self.old) }
     {
         let place = small(place)?;
@@ -163,14 +171,14 @@ impl Choices {
         Ok(())
     }
 
-    /// What the tree of a number costs; nothing past the last.
+    /// The cost of the tree of a number; 0 past the last.
     pub fn cost(&self, number: usize) -> u128
-        ensures { result ≡ cost_there self.now number }
+        ensures { result ≡ cost_at self.now number }
     {
         cost_at(self.costs.as_slice(), number)
     }
 
-    /// The gate at a number, by its place in the library; the first one past the last.
+    /// The index in the library of the gate at a number; 0 past the last.
     pub fn place(&self, number: usize) -> usize
         ensures { result ≡ (choice_at self.now number).place }
     {

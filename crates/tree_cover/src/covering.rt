@@ -1,16 +1,25 @@
-//! The choice that is taken at each vertex of subject trees.
+//! Least-cost covers of subject trees by dynamic programming: the choice of a gate at each vertex.
+//!
+//! Source: Aho, Ganapathi and Tjiang, "Code generation using tree matching and dynamic programming"
+//! (ACM Transactions on Programming Languages and Systems 11, 1989); Keutzer, "DAGON: Technology
+//! binding and local optimization by DAG matching" (24th Design Automation Conference, 1987).
+//! Vertices are visited in the order of their numbers, so the choices below a vertex are known. At
+//! each, all matches of all patterns are compared, except those whose outline does not fit.
+//! Invariant (`AreMade`): each choice so far has the least cost of its tree and is the first among
+//! those. Callers rely on `best` for the same of all vertices, for trees of at most 2^20 vertices
+//! and areas below 2^50.
 
 ghost use Rattle.std.specs.Prelude.{◌≡◌, ◌≤◌, ◌<◌, ◌*◌, ◌^◌, ℕ, List, Some, None, length, IfOk};
 ghost use Rattle.std.specs.List.{AllByRecursion, sum_by};
 ghost use Rattle.subject_tree.specs.Order.{tree_cmp, place_cmp};
 ghost use Rattle.subject_tree.specs.Trees.{Leaf as TheLeaf, size_of};
 ghost use Rattle.subject_tree.specs.Arenas.{tree_at};
-ghost use Rattle.tree_cover.specs.declared.choice.Choice.{Choice as TheChoice};
+ghost use Rattle.tree_cover.specs.declared.choice.Choice.{Choice};
 ghost use Rattle.tree_cover.specs.Covers.{IsProper, tiles};
 ghost use Rattle.tree_cover.specs.Bindings.{PinsBelow};
 ghost use Rattle.tree_cover.specs.Held.{choice_of, held};
 ghost use Rattle.tree_cover.specs.Outlines.{AreOutlines, TellMisfits};
-ghost use Rattle.tree_cover.specs.Candidates.{order_of, better_of as better_choice, bound_at as bound_there, BestOf, Binds, IsSmall, IsUsable, cost_at as cost_there, IsFrom, Below, FromBindings, FromPattern, FromPatterns, FromGates, IsLibrary, IsChoice, AreMade};
+ghost use Rattle.tree_cover.specs.Candidates.{order_of, better_of, bound_at, BestOf, Binds, IsSmall, IsUsable, cost_at, IsFrom, Below, FromBindings, FromPattern, FromPatterns, FromGates, IsLibrary, IsChoice, AreMade};
 
 use crate::binding::Binding;
 use crate::choice::{Candidate, compare_candidates};
@@ -18,7 +27,7 @@ use crate::choices::{Choices, small};
 use crate::fitting::may_fit;
 use crate::matching::matches;
 use crate::outlines::{Outlines, is_open, marks_of, outlines_of};
-use pattern_set::{Gate, Patterns};
+use pattern_set::{PatternGate, Patterns};
 use sis_base::Short;
 use sis_base::limits::MAX_PINS;
 use std::alloc::{AllocError, Global};
@@ -32,7 +41,8 @@ fn better(
     one: Option<Candidate>,
     other: Option<Candidate>,
 ) -> Option<Candidate>
-    ensures { held result ≡ better_choice (order_of (tree_cmp (place_cmp leaves.now)) nodes.now) (held one) (held other) }
+    ensures { held result ≡ better_of (order_of (tree_cmp (place_cmp leaves.now)) nodes.now)
+        (held one) (held other) }
 {
     match (one, other) {
         (None, other) => other,
@@ -48,7 +58,7 @@ fn better(
 
 // The number that a pin is bound to, if it is bound.
 fn bound_at(binding: &Binding, pin: usize) -> Option<usize>
-    ensures { result ≡ bound_there binding.now pin }
+    ensures { result ≡ bound_at binding.now pin }
 {
     match binding.pins.get(pin) {
         None => None,
@@ -56,14 +66,16 @@ fn bound_at(binding: &Binding, pin: usize) -> Option<usize>
     }
 }
 
-// The numbers that the first pins are bound to; none where one of them is not bound.
+// The numbers that the first pins are bound to; none if one of them is not bound.
 fn pins_of(
     alloc: Global,
     binding: &Binding,
     count: usize,
 ) -> Result<Option<Short<u32, 6>>, AllocError>
-    ensures some { IfOk result (λ made. (numbers : List ℕ) → made ≡ Some numbers → (length numbers ≡ count) × Binds binding.now numbers) }
-    ensures none { IfOk result (λ made. (numbers : List ℕ) → made ≡ None → length numbers ≡ count → Binds binding.now numbers → ⊥) }
+    ensures some { IfOk result (λ made. (numbers : List ℕ) → made ≡ Some numbers
+        → (length numbers ≡ count) × Binds binding.now numbers) }
+    ensures none { IfOk result (λ made. (numbers : List ℕ) → made ≡ None → length numbers ≡ count
+        → Binds binding.now numbers → ⊥) }
 {
     let mut made = Short::new(alloc);
     for pin in 0..count {
@@ -75,20 +87,20 @@ fn pins_of(
     Ok(Some(made))
 }
 
-// What the tree of a number costs, by the choices made.
+// The cost of the tree of a number, by the choices made.
 fn cost_at(choices: &Choices, number: usize) -> u128
     requires { AllByRecursion IsSmall choices.now }
-    ensures cost { result ≡ cost_there choices.now number }
+    ensures cost { result ≡ cost_at choices.now number }
     ensures small { result ≤ 2 ^ 70 }
 {
     choices.cost(number)
 }
 
-// What the trees at pins cost together.
+// The sum of the costs of the trees at pins.
 fn costs_of(choices: &Choices, pins: &[u32]) -> u128
     requires choices { AllByRecursion IsSmall choices.now }
     requires pins { length pins.now ≤ MAX_PINS }
-    ensures sum { result ≡ sum_by (cost_there choices.now) pins.now }
+    ensures sum { result ≡ sum_by (cost_at choices.now) pins.now }
     ensures small { result ≤ 15 * 2 ^ 70 }
 {
     let mut total: u128 = 0;
@@ -98,19 +110,21 @@ fn costs_of(choices: &Choices, pins: &[u32]) -> u128
     total
 }
 
-// The choice that comes from a binding; none where a pin is not bound.
+// The choice that a binding gives; none if a pin is not bound.
 fn candidate(
     alloc: Global,
     choices: &Choices,
-    gate: &Gate,
+    gate: &PatternGate,
     place: usize,
     binding: &Binding,
 ) -> Result<Option<Candidate>, AllocError>
     requires choices { AllByRecursion IsSmall choices.now }
     requires area { gate.now.area < 2 ^ 50 }
     requires pins { gate.now.pins ≤ MAX_PINS }
-    ensures some { IfOk result (λ made. (choice : TheChoice) → held made ≡ Some choice → IsFrom choices.now gate.now place binding.now choice) }
-    ensures none { IfOk result (λ made. (choice : TheChoice) → held made ≡ None → IsFrom choices.now gate.now place binding.now choice → ⊥) }
+    ensures some { IfOk result (λ made. (choice : Choice) → held made ≡ Some choice
+        → IsFrom choices.now gate.now place binding.now choice) }
+    ensures none { IfOk result (λ made. (choice : Choice) → held made ≡ None
+        → IsFrom choices.now gate.now place binding.now choice → ⊥) }
 {
     match pins_of(alloc, binding, gate.pins)? {
         None => Ok(None),
@@ -127,14 +141,16 @@ fn best_bound(
     leaves: &Leaves,
     nodes: &Arena,
     choices: &Choices,
-    gate: &Gate,
+    gate: &PatternGate,
     place: usize,
     bindings: &[Binding],
 ) -> Result<Option<Candidate>, AllocError>
     requires choices { AllByRecursion IsSmall choices.now }
     requires area { gate.now.area < 2 ^ 50 }
     requires pins { gate.now.pins ≤ MAX_PINS }
-    ensures { IfOk result (λ best. BestOf (order_of (tree_cmp (place_cmp leaves.now)) nodes.now) (Below (length bindings.now) (FromBindings choices.now gate.now place bindings.now)) (held best)) }
+    ensures { IfOk result (λ best. BestOf (order_of (tree_cmp (place_cmp leaves.now)) nodes.now)
+        (Below (length bindings.now) (FromBindings choices.now gate.now place bindings.now))
+        (held best)) }
 {
     let mut best = None;
     for binding in bindings {
@@ -151,7 +167,7 @@ fn best_match(
     nodes: &Arena,
     shapes: &Arena,
     choices: &Choices,
-    gate: &Gate,
+    gate: &PatternGate,
     place: usize,
     number: usize,
     pattern: usize,
@@ -162,7 +178,9 @@ fn best_match(
     requires choices { AllByRecursion IsSmall choices.now }
     requires area { gate.now.area < 2 ^ 50 }
     requires pins { gate.now.pins ≤ MAX_PINS }
-    ensures { IfOk result (λ best. BestOf (order_of (tree_cmp (place_cmp leaves.now)) nodes.now) (FromPattern nodes.now choices.now gate.now place number (tree_at shapes.now pattern)) (held best)) }
+    ensures { IfOk result (λ best. BestOf (order_of (tree_cmp (place_cmp leaves.now)) nodes.now)
+        (FromPattern nodes.now choices.now gate.now place number (tree_at shapes.now pattern))
+        (held best)) }
 {
     let bindings = matches(alloc, nodes, shapes, pattern, number)?;
     let best = best_bound(
@@ -177,14 +195,15 @@ fn best_match(
     Ok(best)
 }
 
-// The best choice from a gate's pattern at the tree of a number; none where their first levels do not fit.
+// The best choice from a gate's pattern at the tree of a number; none if their top two levels do
+// not fit.
 fn best_pattern(
     alloc: Global,
     leaves: &Leaves,
     nodes: &Arena,
     shapes: &Arena,
     choices: &Choices,
-    gate: &Gate,
+    gate: &PatternGate,
     place: usize,
     number: usize,
     pattern: usize,
@@ -194,7 +213,9 @@ fn best_pattern(
     requires choices { AllByRecursion IsSmall choices.now }
     requires area { gate.now.area < 2 ^ 50 }
     requires pins { gate.now.pins ≤ MAX_PINS }
-    ensures { IfOk result (λ best. BestOf (order_of (tree_cmp (place_cmp leaves.now)) nodes.now) (FromPattern nodes.now choices.now gate.now place number (tree_at shapes.now pattern)) (held best)) }
+    ensures { IfOk result (λ best. BestOf (order_of (tree_cmp (place_cmp leaves.now)) nodes.now)
+        (FromPattern nodes.now choices.now gate.now place number (tree_at shapes.now pattern))
+        (held best)) }
 {
     nodes.sound();
     if !may_fit(shapes, nodes, pattern, number) {
@@ -206,14 +227,14 @@ fn best_pattern(
     Ok(best)
 }
 
-// The best choice from a gate at the tree of a number; only patterns are tried that are not told to be misfits.
+// The best choice from a gate at the tree of a number; patterns marked as misfits are not tried.
 fn best_gate(
     alloc: Global,
     leaves: &Leaves,
     nodes: &Arena,
     shapes: &Arena,
     choices: &Choices,
-    gate: &Gate,
+    gate: &PatternGate,
     place: usize,
     number: usize,
     numbers: &[usize],
@@ -223,7 +244,9 @@ fn best_gate(
     requires marks { TellMisfits shapes.now nodes.now number numbers.now marks.now }
     requires choices { AllByRecursion IsSmall choices.now }
     requires gate { IsUsable shapes.now gate.now }
-    ensures { IfOk result (λ best. BestOf (order_of (tree_cmp (place_cmp leaves.now)) nodes.now) (Below (length gate.now.patterns) (FromPatterns nodes.now shapes.now choices.now gate.now place number)) (held best)) }
+    ensures { IfOk result (λ best. BestOf (order_of (tree_cmp (place_cmp leaves.now)) nodes.now)
+        (Below (length gate.now.patterns) (FromPatterns nodes.now shapes.now choices.now gate.now
+        place number)) (held best)) }
 {
     nodes.sound();
     let mut best = None;
@@ -246,7 +269,7 @@ fn best_choice(
     nodes: &Arena,
     shapes: &Arena,
     choices: &Choices,
-    gates: &[Gate],
+    gates: &[PatternGate],
     number: usize,
     numbers: &[usize],
     marks: &[bool],
@@ -255,7 +278,9 @@ fn best_choice(
     requires marks { TellMisfits shapes.now nodes.now number numbers.now marks.now }
     requires choices { AllByRecursion IsSmall choices.now }
     requires gates { AllByRecursion (IsUsable shapes.now) gates.now }
-    ensures { IfOk result (λ best. BestOf (order_of (tree_cmp (place_cmp leaves.now)) nodes.now) (Below (length gates.now) (FromGates nodes.now shapes.now choices.now gates.now number)) (held best)) }
+    ensures { IfOk result (λ best. BestOf (order_of (tree_cmp (place_cmp leaves.now)) nodes.now)
+        (Below (length gates.now) (FromGates nodes.now shapes.now choices.now gates.now number))
+        (held best)) }
 {
     let mut best = None;
     for place in 0..gates.len() {
@@ -283,7 +308,7 @@ fn choose_gate(
     nodes: &Arena,
     shapes: &Arena,
     choices: &Choices,
-    gates: &[Gate],
+    gates: &[PatternGate],
     lines: &Outlines,
     number: usize,
 ) -> Result<Candidate, AllocError>
@@ -292,8 +317,10 @@ fn choose_gate(
     requires inner { (place : ℕ) → tree_at nodes.now number ≡ TheLeaf place → ⊥ }
     requires library { IsLibrary shapes.now gates.now }
     requires small { AllByRecursion IsSmall choices.now }
-    requires made { AreMade (tree_cmp (place_cmp leaves.now)) nodes.now (tiles shapes.now gates.now) choices.now number }
-    ensures { IfOk result (λ choice. IsChoice (tree_cmp (place_cmp leaves.now)) nodes.now (tiles shapes.now gates.now) number (choice_of choice)) }
+    requires made { AreMade (tree_cmp (place_cmp leaves.now)) nodes.now
+        (tiles shapes.now gates.now) choices.now number }
+    ensures { IfOk result (λ choice. IsChoice (tree_cmp (place_cmp leaves.now)) nodes.now
+        (tiles shapes.now gates.now) number (choice_of choice)) }
 {
     nodes.sound();
     let marks = marks_of(alloc, &lines.arena, nodes, number)?;
@@ -321,7 +348,7 @@ fn choose(
     nodes: &Arena,
     shapes: &Arena,
     choices: &Choices,
-    gates: &[Gate],
+    gates: &[PatternGate],
     lines: &Outlines,
     number: usize,
 ) -> Result<Candidate, AllocError>
@@ -329,8 +356,10 @@ fn choose(
     requires lines { AreOutlines lines.now.arena shapes.now lines.now.numbers.items }
     requires library { IsLibrary shapes.now gates.now }
     requires small { AllByRecursion IsSmall choices.now }
-    requires made { AreMade (tree_cmp (place_cmp leaves.now)) nodes.now (tiles shapes.now gates.now) choices.now number }
-    ensures { IfOk result (λ choice. IsChoice (tree_cmp (place_cmp leaves.now)) nodes.now (tiles shapes.now gates.now) number (choice_of choice)) }
+    requires made { AreMade (tree_cmp (place_cmp leaves.now)) nodes.now
+        (tiles shapes.now gates.now) choices.now number }
+    ensures { IfOk result (λ choice. IsChoice (tree_cmp (place_cmp leaves.now)) nodes.now
+        (tiles shapes.now gates.now) number (choice_of choice)) }
 {
     nodes.sound();
     if let Vertex::Leaf(_) = nodes.vertex(number) {
@@ -344,8 +373,8 @@ fn choose(
     Ok(choice)
 }
 
-/// The choice that is taken at each vertex, in the order of their numbers: a cover of least cost, of such covers the first gate
-/// of the library, then the least trees at its pins. An error only for want of memory.
+/// The choice at each vertex, in the order of their numbers: a cover of least cost; of such covers
+/// the first gate of the library, then the least trees at its pins.
 pub fn best(
     alloc: Global,
     leaves: &Leaves,
@@ -354,7 +383,8 @@ pub fn best(
 ) -> Result<Choices, AllocError>
     requires library { IsLibrary patterns.now.arena patterns.now.gates }
     requires sizes { (n : ℕ) → n < length nodes.now → size_of (tree_at nodes.now n) ≤ 2 ^ 20 }
-    ensures { IfOk result (λ choices. AreMade (tree_cmp (place_cmp leaves.now)) nodes.now (tiles patterns.now.arena patterns.now.gates) choices (length nodes.now)) }
+    ensures { IfOk result (λ choices. AreMade (tree_cmp (place_cmp leaves.now)) nodes.now
+        (tiles patterns.now.arena patterns.now.gates) choices (length nodes.now)) }
 {
     let lines = outlines_of(alloc, &patterns.arena)?;
     let mut choices = Choices::with_capacity(alloc, nodes.len())?;

@@ -1,19 +1,16 @@
-//! A quick test whether a pattern may match a tree, by their first two levels.
+//! A quick test whether a pattern may match a tree, by the top two levels of both.
+//!
+//! Source: Keutzer, "DAGON: Technology binding and local optimization by DAG matching" (24th Design
+//! Automation Conference, 1987). It needs no recursion and no memory. A pattern that is more than a
+//! pin and fails the test matches nothing; no public clause mentions it.
 
 ghost use Rattle.std.specs.Prelude.{◌≡◌};
 ghost use Rattle.subject_tree.specs.Trees.{Inv as TheInv, Nand as TheNand};
-ghost use Rattle.subject_tree.specs.Arenas.{trees, tree_at, built};
-ghost use Rattle.tree_cover.specs.Fitting.{has_inverter, has_nand, fits_root as roots_fit, may_fit as two_levels_fit};
+ghost use Rattle.subject_tree.specs.Arenas.{tree_at};
+ghost use Rattle.tree_cover.specs.Fitting.{has_inverter, has_nand, fits_root, may_fit};
 
+use pattern_set::vertex_of;
 use subject_tree::{Arena, Vertex};
-
-// The vertex of a number, of which its tree is made.
-fn vertex_of(arena: &Arena, number: usize) -> Vertex
-    ensures { tree_at arena.now number ≡ built (trees arena.now) result }
-{
-    arena.sound();
-    arena.vertex(number)
-}
 
 // Whether the tree of a number is an inverter.
 fn is_inverter(nodes: &Arena, number: usize) -> bool
@@ -37,9 +34,9 @@ fn is_nand(nodes: &Arena, number: usize) -> bool
     }
 }
 
-// Whether the root of a pattern fits that of the tree of a number.
+// Whether the roots of a pattern and of the tree of a number fit.
 fn fits_root(shapes: &Arena, nodes: &Arena, pattern: usize, number: usize) -> bool
-    ensures { result ≡ roots_fit (tree_at shapes.now pattern) (tree_at nodes.now number) }
+    ensures { result ≡ fits_root (tree_at shapes.now pattern) (tree_at nodes.now number) }
 {
     match vertex_of(shapes, pattern) {
         Vertex::Leaf(_) => true,
@@ -48,9 +45,10 @@ fn fits_root(shapes: &Arena, nodes: &Arena, pattern: usize, number: usize) -> bo
     }
 }
 
-// Whether what is below an inverter in a pattern fits what is below one in the tree of a number, if one is there.
+// Whether an inverter over a pattern fits the tree of a number, down to two levels.
 fn fits_inverter(shapes: &Arena, nodes: &Arena, below: usize, number: usize) -> bool
-    ensures { result ≡ two_levels_fit (TheInv (tree_at shapes.now below)) (tree_at nodes.now number) }
+    ensures { result ≡ may_fit (TheInv (tree_at shapes.now below))
+        (tree_at nodes.now number) }
 {
     match vertex_of(nodes, number) {
         Vertex::Leaf(_) => false,
@@ -59,9 +57,10 @@ fn fits_inverter(shapes: &Arena, nodes: &Arena, below: usize, number: usize) -> 
     }
 }
 
-// Whether what is below a NAND in a pattern fits what is below one in the tree of a number, if one is there.
+// Whether a NAND of two patterns fits the tree of a number, down to two levels.
 fn fits_nand(shapes: &Arena, nodes: &Arena, left: usize, right: usize, number: usize) -> bool
-    ensures { result ≡ two_levels_fit (TheNand (tree_at shapes.now left) (tree_at shapes.now right)) (tree_at nodes.now number) }
+    ensures { result ≡ may_fit (TheNand (tree_at shapes.now left) (tree_at shapes.now right))
+        (tree_at nodes.now number) }
 {
     match vertex_of(nodes, number) {
         Vertex::Leaf(_) => false,
@@ -74,9 +73,10 @@ fn fits_nand(shapes: &Arena, nodes: &Arena, left: usize, right: usize, number: u
     }
 }
 
-/// Whether the first two levels of a pattern and of the tree of a number fit; false for a pattern that is a lone pin.
+/// Whether the top two levels of a pattern and of the tree of a number fit; false for a pattern
+/// that is a single pin.
 pub fn may_fit(shapes: &Arena, nodes: &Arena, pattern: usize, number: usize) -> bool
-    ensures { result ≡ two_levels_fit (tree_at shapes.now pattern) (tree_at nodes.now number) }
+    ensures { result ≡ may_fit (tree_at shapes.now pattern) (tree_at nodes.now number) }
 {
     match vertex_of(shapes, pattern) {
         Vertex::Leaf(_) => false,

@@ -1,4 +1,7 @@
-//! The cells of a library's gates, and their patterns.
+//! The cells of a library's gates, and their patterns, in the order of the library's file.
+//!
+//! Callers rely on `AreCellsOf` and `HavePatterns`: one cell, and one gate with its patterns, for
+//! each gate of the library.
 
 ghost use Rattle.std.specs.Prelude.{IfOk};
 ghost use Rattle.tree_cover.specs.Listed.{IsCellOf, AreCellsOf, HavePatterns};
@@ -18,7 +21,7 @@ fn cell_of(gate: &Gate) -> Cell
     }
 }
 
-/// The cells of a library's gates, in the order of its file. An error only for want of memory.
+/// The cells of a library's gates, in the order of its file.
 pub fn cells(alloc: Global, library: &Library) -> Result<Vec<Cell>, AllocError>
     ensures { IfOk result (λ made. AreCellsOf library.now made.items) }
 {
@@ -30,7 +33,7 @@ pub fn cells(alloc: Global, library: &Library) -> Result<Vec<Cell>, AllocError>
     Ok(made)
 }
 
-/// The patterns of a library's gates, in the order of its file. An error only for want of memory.
+/// The patterns of a library's gates, in the order of its file.
 pub fn library_patterns(alloc: Global, library: &Library) -> Result<Patterns, AllocError>
     ensures { IfOk result (λ made. HavePatterns made.arena library.now made.gates) }
 {

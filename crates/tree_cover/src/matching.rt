@@ -1,4 +1,10 @@
-//! With which trees at its pins a pattern matches a tree.
+//! The bindings with which a pattern matches a tree, a NAND in either order of its inputs.
+//!
+//! Source: Aho, Ganapathi and Tjiang, "Code generation using tree matching and dynamic programming"
+//! (ACM Transactions on Programming Languages and Systems 11, 1989). A list of partial bindings
+//! grows as pattern and tree are walked together, by a recursion as deep as the pattern. Callers
+//! rely on `matches` to be exact: the pattern matches with given trees at its pins exactly if one
+//! of the bindings agrees with them.
 
 ghost use Rattle.std.specs.Prelude.{◌≡◌, ◌<◌, ◌++◌, ℕ, List, length, ◌↔◌, IfOk};
 ghost use Rattle.std.specs.List.{flat_map};
@@ -6,21 +12,21 @@ ghost use Rattle.subject_tree.specs.Trees.{Tree};
 ghost use Rattle.subject_tree.specs.Arenas.{tree_at};
 ghost use Rattle.pattern_set.specs.Values.{HasLeaf};
 ghost use Rattle.tree_cover.specs.Covers.{Matches};
-ghost use Rattle.tree_cover.specs.Bindings.{SomeAgrees, PinsBelow, bind as bindings_of, grown, matched};
+ghost use Rattle.tree_cover.specs.Bindings.{SomeAgrees, PinsBelow, bind, grown, matched};
 
 use crate::binding::{Binding, bind, unbound};
 use sis_base::limits::MAX_PINS;
 use std::alloc::{AllocError, Global};
 use subject_tree::{Arena, Vertex};
 
-// The bindings with one pin more bound to the tree of a number.
+// The bindings with one more pin bound to the tree of a number.
 fn bind_each(
     alloc: Global,
     pin: usize,
     number: usize,
     bindings: &[Binding],
 ) -> Result<Vec<Binding>, AllocError>
-    ensures { IfOk result (λ made. made.items ≡ flat_map (bindings_of pin number) bindings.now) }
+    ensures { IfOk result (λ made. made.items ≡ flat_map (bind pin number) bindings.now) }
 {
     let mut made = Vec::new(alloc);
     for binding in bindings {
@@ -29,7 +35,7 @@ fn bind_each(
     Ok(made)
 }
 
-// Both lists of bindings.
+// Both lists of bindings, one after the other.
 fn both(left: Vec<Binding>, right: Vec<Binding>) -> Result<Vec<Binding>, AllocError>
     ensures { IfOk result (λ made. made.items ≡ left.items ++ right.items) }
 {
@@ -39,8 +45,8 @@ fn both(left: Vec<Binding>, right: Vec<Binding>) -> Result<Vec<Binding>, AllocEr
     Ok(made)
 }
 
-// The bindings that some bindings grow to where a pattern is matched with the tree of a number; as deep a recursion as the
-// pattern.
+// The bindings that some bindings grow to when a pattern is matched with the tree of a number; the
+// recursion is as deep as the pattern.
 fn grow(
     alloc: Global,
     nodes: &Arena,
@@ -49,7 +55,8 @@ fn grow(
     number: usize,
     bindings: &[Binding],
 ) -> Result<Vec<Binding>, AllocError>
-    ensures { IfOk result (λ made. made.items ≡ grown nodes.now (tree_at shapes.now pattern) number bindings.now) }
+    ensures { IfOk result (λ made. made.items ≡ grown nodes.now
+        (tree_at shapes.now pattern) number bindings.now) }
 {
     if bindings.is_empty() {
         return Ok(Vec::new(alloc));
@@ -83,8 +90,8 @@ fn grow(
     }
 }
 
-/// The bindings with which a pattern matches the tree of a number: it matches with trees at its pins just where one of them
-/// agrees. An error only for want of memory.
+/// The bindings with which a pattern matches the tree of a number: it matches with trees at its
+/// pins exactly if one of them agrees.
 pub fn matches(
     alloc: Global,
     nodes: &Arena,
@@ -94,8 +101,11 @@ pub fn matches(
 ) -> Result<Vec<Binding>, AllocError>
     requires number { number < length nodes.now }
     requires pins { PinsBelow MAX_PINS (tree_at shapes.now pattern) }
-    ensures exact { IfOk result (λ made. (bound : List (Tree ℕ)) → Matches (tree_at shapes.now pattern) (tree_at nodes.now number) bound ↔ SomeAgrees nodes.now made.items bound) }
-    ensures grown { IfOk result (λ made. made.items ≡ matched nodes.now (tree_at shapes.now pattern) number) }
+    ensures exact { IfOk result (λ made. (bound : List (Tree ℕ)) → Matches
+        (tree_at shapes.now pattern) (tree_at nodes.now number) bound
+        ↔ SomeAgrees nodes.now made.items bound) }
+    ensures grown { IfOk result (λ made. made.items ≡ matched nodes.now
+        (tree_at shapes.now pattern) number) }
 {
     nodes.sound();
     let mut start = Vec::with_capacity(alloc, 1)?;

@@ -1,25 +1,32 @@
-//! Which patterns fit a tree where their pins are not told apart, for all patterns of a library at once.
+//! Outlines: patterns whose pins are not distinguished, and which of them fit a tree.
+//!
+//! Source: Hoffmann and O'Donnell, "Pattern matching in trees" (Journal of the ACM 29, 1982): what
+//! patterns have in common is looked for once. Many patterns share one outline, so at a vertex each
+//! outline is tried once for all of them. Callers rely on `is_open`: a pattern whose outline is
+//! marked as misfit matches nothing there. The recursion is as deep as the pattern.
 
 ghost use Rattle.std.specs.Prelude.{◌≡◌, ◌<◌, ℕ, Some, false, length, slice_get, IfOk};
 ghost use Rattle.subject_tree.specs.Trees.{Nand as TheNand};
 ghost use Rattle.subject_tree.specs.Arenas.{tree_at, KeepsTrees};
-ghost use Rattle.tree_cover.specs.Outlines.{fits as trees_fit, IsOutline, AreOutlines, AreMarks};
+ghost use Rattle.tree_cover.specs.Outlines.{fits, IsOutline, AreOutlines, AreMarks};
 
 use std::alloc::{AllocError, Global};
 use subject_tree::{Arena, Vertex};
 
-/// The outlines of patterns: trees that fit where the patterns do, and for each pattern the number of its own.
+/// The outlines of patterns: trees that fit exactly where the patterns do, and for each pattern the
+/// number of its outline.
 #[derive(Drop)]
 pub(crate) struct Outlines {
     pub arena: Arena,
     pub numbers: Vec<usize>,
 }
 
-// The outline of a NAND of two outlines, whichever of them is on the left.
+// The outline of a NAND of two outlines, in whichever order they are given.
 fn outline_over(outlines: &mut Arena, one: usize, other: usize) -> Result<usize, AllocError>
     requires one { one < length outlines.old }
     requires other { other < length outlines.old }
-    ensures ok { IfOk result (λ number. IsOutline outlines.new (TheNand (tree_at outlines.old one) (tree_at outlines.old other)) number) }
+    ensures ok { IfOk result (λ number. IsOutline outlines.new
+        (TheNand (tree_at outlines.old one) (tree_at outlines.old other)) number) }
     ensures kept { KeepsTrees outlines.old outlines.new }
 {
     if other < one {
@@ -49,7 +56,7 @@ fn outline_at(
     }
 }
 
-/// The outlines of all patterns. An error only for want of memory.
+/// The outlines of all patterns.
 pub(crate) fn outlines_of(alloc: Global, shapes: &Arena) -> Result<Outlines, AllocError>
     ensures { IfOk result (λ made. AreOutlines made.arena shapes.now made.numbers.items) }
 {
@@ -62,9 +69,10 @@ pub(crate) fn outlines_of(alloc: Global, shapes: &Arena) -> Result<Outlines, All
     Ok(Outlines { arena, numbers })
 }
 
-// Whether a pattern fits the tree of a number; as deep a recursion as the pattern.
+// Whether a pattern fits the tree of a number, its pins not distinguished; the recursion is as deep
+// as the pattern.
 fn fits(shapes: &Arena, nodes: &Arena, pattern: usize, number: usize) -> bool
-    ensures { result ≡ trees_fit (tree_at shapes.now pattern) (tree_at nodes.now number) }
+    ensures { result ≡ fits (tree_at shapes.now pattern) (tree_at nodes.now number) }
 {
     shapes.sound();
     nodes.sound();
@@ -86,7 +94,7 @@ fn fits(shapes: &Arena, nodes: &Arena, pattern: usize, number: usize) -> bool
     }
 }
 
-/// Marks of outlines: whether they fit the tree of a number. An error only for want of memory.
+/// For each outline whether it fits the tree of a number.
 pub(crate) fn marks_of(
     alloc: Global,
     outlines: &Arena,
@@ -102,9 +110,10 @@ pub(crate) fn marks_of(
     Ok(made)
 }
 
-/// Whether a pattern's outline is not marked as one that does not fit.
+/// Whether a pattern's outline is not marked as a misfit.
 pub(crate) fn is_open(numbers: &[usize], marks: &[bool], pattern: usize) -> bool
-    ensures { result ≡ false → (outline : ℕ) × (slice_get numbers.now pattern ≡ Some outline) × (slice_get marks.now outline ≡ Some false) }
+    ensures { result ≡ false → (outline : ℕ) × (slice_get numbers.now pattern ≡ Some outline)
+        × (slice_get marks.now outline ≡ Some false) }
 {
     match numbers.get(pattern) {
         None => true,

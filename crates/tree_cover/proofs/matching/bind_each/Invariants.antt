@@ -1,7 +1,7 @@
 use Rattle.std.proofs.Common.{◌≡◌, take}
 use Rattle.std.specs.List.{flat_map}
-use Rattle.tree_cover.specs.Bindings.{bind as bindings_of}
+use Rattle.tree_cover.specs.Bindings.{bind}
 use Rattle.tree_cover.proofs.matching.bind_each.Given as goal
 
 abbrev pub invariant-loop-binding : goal.invariant-loop-binding
-invariant-loop-binding l = l.made.items ≡ flat_map (bindings_of l.pin l.number) (take l.binding-index l.bindings)
+invariant-loop-binding l = l.made.items ≡ flat_map (bind l.pin l.number) (take l.binding-index l.bindings)

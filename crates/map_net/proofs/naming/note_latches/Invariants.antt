@@ -1,9 +1,0 @@
-use Rattle.std.proofs.Common.{◌≡◌, ◌||◌, ℕ, List, map, take}
-use Rattle.circuit_model.specs.Names.{has}
-use Rattle.circuit_model.specs.declared.circuit.Latch.{Latch}
-use Rattle.map_net.proofs.naming.note_latches.Given as goal
-
-abbrev pub invariant-loop-latch : goal.invariant-loop-latch
-invariant-loop-latch l = (other : List ℕ)
-    → has l.names.keys other ≡ (has l.fn.names.keys other || has (map (λ (latch : Latch).
-    latch.output) (take l.latch-index l.latches)) other)
