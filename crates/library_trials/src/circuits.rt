@@ -1,4 +1,8 @@
-//! Circuits: their runs and copies, and what is asked of them.
+//! Cases of circuits: runs, copies, and checks.
+//!
+//! The case's text is read as a circuit, which is then simulated, copied, ordered, searched for
+//! cycles and wrong names, or cut to what its outputs need. `put_generated` prints a circuit of
+//! `gen`, and `put_checks` the checks of names. A text that is no circuit is a bad case.
 
 ghost use Rattle.circuit_model.specs.Soundness.{IsSound};
 
@@ -15,7 +19,7 @@ use sis_base::{Copied, Sequence, Whole};
 use std::alloc::{AllocError, Global};
 use trial_cases::{Case, CaseFault, number_of};
 
-/// Puts the answer to a case of a circuit.
+/// Appends the answer to a case of a circuit.
 pub fn answer(
     alloc: Global,
     out: &mut Vec<u8>,
@@ -26,7 +30,7 @@ pub fn answer(
     put_about(alloc, out, case, &circuit)
 }
 
-/// Puts the circuit of a seed and a number of tables, a thousand at most.
+/// Appends the circuit of a seed and a number of tables, at most a thousand.
 pub fn put_generated(alloc: Global, out: &mut Vec<u8>, case: &Case<'_>) -> Result<(), CaseFault> {
     let seed = number_of(case.word(1))?;
     let tables = number_of(case.word(2))?;
@@ -36,7 +40,8 @@ pub fn put_generated(alloc: Global, out: &mut Vec<u8>, case: &Case<'_>) -> Resul
     put_circuit(alloc, out, &generate(alloc, seed as u64, tables as u16)?)
 }
 
-/// Puts the answer about a circuit. What is copied is a whole, so that letting it go is one call.
+/// Appends the answer about a circuit. A copy is wrapped in a `Whole`, so that dropping it is one
+/// call.
 fn put_about(
     alloc: Global,
     out: &mut Vec<u8>,
@@ -70,7 +75,7 @@ fn put_about(
     }
 }
 
-/// The bits of a word; none where it is `.`.
+/// The bits of a word; none if it is `.`.
 fn bits(alloc: Global, word: &str) -> Result<Bits, AllocError> {
     let mut made = Sequence::new(alloc);
     if word != "." {
@@ -81,7 +86,7 @@ fn bits(alloc: Global, word: &str) -> Result<Bits, AllocError> {
     Ok(made)
 }
 
-/// Puts what a circuit shows from a start, over one row.
+/// Appends what a circuit shows from a start, over one row.
 fn put_run(
     alloc: Global,
     out: &mut Vec<u8>,
@@ -98,7 +103,7 @@ fn put_run(
     )
 }
 
-/// Puts the order of a circuit's tables, the first on a cycle, and the first wrong name of its
+/// Appends the order of a circuit's tables, the first on a cycle, and the first wrong name of its
 /// don't-care part.
 #[tactic(auto, using(net_wires::proofs::Taking::tables_differ))]
 fn put_order(alloc: Global, out: &mut Vec<u8>, circuit: &Circuit) -> Result<(), CaseFault>
@@ -115,7 +120,7 @@ fn put_order(alloc: Global, out: &mut Vec<u8>, circuit: &Circuit) -> Result<(), 
     put_value(alloc, out, &wrong)
 }
 
-/// Puts a name that was found, or `none`.
+/// Appends a name that was found, or `none`.
 fn put_found(out: &mut Vec<u8>, found: Result<Option<&Name>, AllocError>) -> Result<(), CaseFault> {
     match found? {
         Some(name) => put_text(out, name.as_slice()),
@@ -123,7 +128,7 @@ fn put_found(out: &mut Vec<u8>, found: Result<Option<&Name>, AllocError>) -> Res
     }
 }
 
-/// Puts the circuit of what is needed, or that all is.
+/// Appends the circuit of what is needed, or that all is.
 #[tactic(auto, using(net_wires::proofs::Taking::tables_differ, net_wires::proofs::Taking::latches_differ))]
 fn put_needed(alloc: Global, out: &mut Vec<u8>, circuit: &Circuit) -> Result<(), CaseFault>
     requires { IsSound circuit.now }
@@ -134,7 +139,7 @@ fn put_needed(alloc: Global, out: &mut Vec<u8>, circuit: &Circuit) -> Result<(),
     }
 }
 
-/// Puts of the letters a to d those that tables drive, and those that are leaves which the
+/// Appends which of the letters a to d are driven by tables, and which are leaves that the
 /// don't-care part reads.
 fn put_leaves(alloc: Global, out: &mut Vec<u8>, circuit: &Circuit) -> Result<(), CaseFault> {
     let driven = Whole {
@@ -153,9 +158,9 @@ fn put_leaves(alloc: Global, out: &mut Vec<u8>, circuit: &Circuit) -> Result<(),
     Ok(())
 }
 
-/// Puts of the names of the second word the first that is among those of the first word or comes
-/// again, the first that is not among those, and the first that is listed twice in one of the two
-/// words.
+/// Appends three names of the second word: the first that is among those of the first word or
+/// occurs again, the first that is not among those, and the first that is listed twice in one of
+/// the two words.
 pub fn put_checks(alloc: Global, out: &mut Vec<u8>, case: &Case<'_>) -> Result<(), CaseFault> {
     let known = names(alloc, case.word(1))?;
     let asked = names(alloc, case.word(2))?;

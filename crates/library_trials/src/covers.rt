@@ -1,4 +1,9 @@
-//! Calls on covers and on factored forms, whose inputs are named a, b, c and so on.
+//! Cases of covers and of factored forms, whose inputs are named a, b, c and so on.
+//!
+//! The first argument of a case is a cover in the form of `rows`. The calls are those of
+//! cube_cover, cover_ops, alg_div, alg_kernel and alg_factor: intersections, cofactors, on-list and
+//! off-list, composition, quotient and remainder, kernels, factored forms. Each answer is a cover
+//! or a form as text, and the functions are generic in the kind of row.
 
 ghost use Rattle.std.specs.Prelude.{◌≡◌, length};
 
@@ -16,13 +21,13 @@ use sis_base::{Copied, Whole};
 use std::alloc::Global;
 use trial_cases::{Case, CaseFault, number_of};
 
-/// Puts the answer to a case of the cover that is its first argument.
+/// Appends the answer to a case of the cover that is its first argument.
 pub fn answer<R: Row>(alloc: Global, out: &mut Vec<u8>, case: &Case<'_>) -> Result<(), CaseFault> {
     let first: Cover<R> = cover(alloc, case.word(1))?;
     answer_cover(alloc, out, &first, case)
 }
 
-/// Puts the answer to a case of a cover.
+/// Appends the answer to a case of a cover.
 fn answer_cover<R: Row>(
     alloc: Global,
     out: &mut Vec<u8>,
@@ -46,7 +51,7 @@ fn answer_cover<R: Row>(
     }
 }
 
-/// Puts what is made of the first two rows of a cover, if they intersect.
+/// Appends what is made of the first two rows of a cover, if they intersect.
 fn put_rows<R: Row>(alloc: Global, out: &mut Vec<u8>, f: &Cover<R>) -> Result<(), CaseFault> {
     match f.rows() {
         [one, other, ..] => {
@@ -62,8 +67,8 @@ fn put_rows<R: Row>(alloc: Global, out: &mut Vec<u8>, f: &Cover<R>) -> Result<()
     }
 }
 
-/// Puts the second of two rows without its literals where the first has one: by each way to make a
-/// row of literals.
+/// Appends the second of two rows without its literals in the columns in which the first has one,
+/// by each way to make a row of literals.
 fn put_stripped<R: Row>(
     alloc: Global,
     out: &mut Vec<u8>,
@@ -82,7 +87,7 @@ fn put_stripped<R: Row>(
     )
 }
 
-/// Puts a cover made anew of the literals of the rows of a copy.
+/// Appends a cover made anew from the literals of the rows of a copy.
 fn put_anew<R: Row>(alloc: Global, out: &mut Vec<u8>, f: &Cover<R>) -> Result<(), CaseFault> {
     let copy = f.copy(alloc)?;
     let found = all_literals_of(alloc, copy.rows())?;
@@ -90,7 +95,7 @@ fn put_anew<R: Row>(alloc: Global, out: &mut Vec<u8>, f: &Cover<R>) -> Result<()
     put_cover(alloc, out, &made)
 }
 
-/// Puts the cofactor for a bit at a place.
+/// Appends the cofactor for a bit of a column.
 fn put_cofactor<R: Row>(
     alloc: Global,
     out: &mut Vec<u8>,
@@ -104,7 +109,7 @@ fn put_cofactor<R: Row>(
     put_made(alloc, out, &f.cofactor(alloc, place, case.word(3) == "1"))
 }
 
-/// Puts the on-list or the off-list of a cover and a phase.
+/// Appends the on-list or the off-list of a cover and a phase.
 fn put_list<R: Row>(
     alloc: Global,
     out: &mut Vec<u8>,
@@ -119,8 +124,8 @@ fn put_list<R: Row>(
     put_made(alloc, out, &off_list(alloc, f, phase, limit))
 }
 
-/// Puts the composition of a cover and another one of two inputs that the first lacks, at the place
-/// 0.
+/// Appends the composition of a cover with another one, of two inputs that the first does not have,
+/// at column 0.
 #[tactic(auto, unfolding(cover_ops::specs::Composed::AreEntries))]
 fn put_composition<R: Row>(
     alloc: Global,
@@ -138,7 +143,7 @@ fn put_composition<R: Row>(
     put_made(alloc, out, &made)
 }
 
-/// Puts the quotient and the remainder by another cover.
+/// Appends the quotient and the remainder by another cover.
 fn put_quotient<R: Row>(
     alloc: Global,
     out: &mut Vec<u8>,
@@ -158,7 +163,7 @@ fn put_quotient<R: Row>(
     put_cover(alloc, out, &parts.it.1)
 }
 
-/// Puts the kernels of a cover, each on a line, or why there are none.
+/// Appends the kernels of a cover, each on a line, or why there are none.
 fn put_kernels<R: Row>(alloc: Global, out: &mut Vec<u8>, f: &Cover<R>) -> Result<(), CaseFault> {
     match &kernels(alloc, f) {
         Ok(found) => {
@@ -171,7 +176,7 @@ fn put_kernels<R: Row>(alloc: Global, out: &mut Vec<u8>, f: &Cover<R>) -> Result
     }
 }
 
-/// Puts the factored form of a cover, with a name of the word for each input, and the form
+/// Appends the factored form of a cover, with a name from the word for each input, and the form
 /// multiplied out.
 fn put_factored<R: Row>(
     alloc: Global,
@@ -183,7 +188,7 @@ fn put_factored<R: Row>(
     put_form(alloc, out, &form, names(alloc, word)?.as_slice())
 }
 
-/// Puts the text of a form, with a name for each input, and the form multiplied out.
+/// Appends the text of a form, with a name for each input, and the form multiplied out.
 fn put_form<R: Row>(
     alloc: Global,
     out: &mut Vec<u8>,
@@ -197,8 +202,9 @@ fn put_form<R: Row>(
     put_made(alloc, out, &form.expand(alloc))
 }
 
-/// Puts the sum of the rows of a cover, with a name of the word for each input, and the literals of
-/// those rows that have the literal 1 of its first input, without it, and of the others.
+/// Appends the sum of the rows of a cover, with a name from the word for each input, then the
+/// numbers of literals of the rows that have the positive literal of its first input, without that
+/// literal, and of the others.
 fn put_parts<R: Row>(
     alloc: Global,
     out: &mut Vec<u8>,

@@ -1,4 +1,8 @@
-//! What files of circuits, machines and gates are read as, and what is written.
+//! Cases of files: what circuits, machines and gates are read as, and what is written.
+//!
+//! The case's text is read as a circuit or a machine, as a KISS2 table, as a library or as one
+//! expression. The answer is the text of a copy of what was read, or the fault. `put_with_library`
+//! reads a circuit with the library before a line `and`.
 
 use crate::puts::{put_circuit, put_names, put_text, put_value};
 use crate::reads::{circuit, library, parted};
@@ -17,7 +21,8 @@ use std::alloc::Global;
 use tree_cover::cells;
 use trial_cases::{Case, CaseFault, put_line, put_number, text_of};
 
-/// Puts the answer to a case of a file's text. What is read is a whole, let go in one call.
+/// Appends the answer to a case of a file's text. What is read is wrapped in a `Whole`, so that
+/// dropping it is one call.
 pub fn answer(
     alloc: Global,
     out: &mut Vec<u8>,
@@ -84,7 +89,7 @@ pub fn answer(
     }
 }
 
-/// Puts a copy of what a text is read as, or the fault.
+/// Appends a copy of what a text is read as, or the fault.
 fn put_read(
     alloc: Global,
     out: &mut Vec<u8>,
@@ -100,7 +105,7 @@ fn put_read(
     }
 }
 
-/// Puts a circuit or a machine.
+/// Appends a circuit or a machine.
 fn put_spec(alloc: Global, out: &mut Vec<u8>, spec: &Spec) -> Result<(), CaseFault> {
     match spec {
         Spec::Circuit(circuit) => put_circuit(alloc, out, circuit),
@@ -108,7 +113,7 @@ fn put_spec(alloc: Global, out: &mut Vec<u8>, spec: &Spec) -> Result<(), CaseFau
     }
 }
 
-/// Puts what the lines behind a line `and` are read as, with the library of those before it.
+/// Appends what the lines after a line `and` are read as, with the library of those before it.
 fn put_with_library(alloc: Global, out: &mut Vec<u8>, lines: &[&str]) -> Result<(), CaseFault> {
     let (first, rest) = parted(lines);
     let gates = Whole {
@@ -121,7 +126,7 @@ fn put_with_library(alloc: Global, out: &mut Vec<u8>, lines: &[&str]) -> Result<
     put_read(alloc, out, &found.it)
 }
 
-/// Puts what the lines of a text are read as, in one run.
+/// Appends what the lines of a text are read as, in one run.
 fn put_content(alloc: Global, out: &mut Vec<u8>, text: &[u8]) -> Result<(), CaseFault> {
     let lines = logical_lines(alloc, text)?;
     match &blif_lines::read_lines(alloc, text, lines.as_slice(), &[], None) {
@@ -130,7 +135,7 @@ fn put_content(alloc: Global, out: &mut Vec<u8>, text: &[u8]) -> Result<(), Case
     }
 }
 
-/// Puts the texts of the latches of a circuit and of its tables.
+/// Appends the texts of the latches of a circuit and of its tables.
 fn put_parts(alloc: Global, out: &mut Vec<u8>, circuit: &Circuit) -> Result<(), CaseFault> {
     let latches = latches_text(alloc, &circuit.timing, circuit.latches.as_slice())?;
     out.extend_from_slice(latches.as_slice())?;
@@ -138,7 +143,7 @@ fn put_parts(alloc: Global, out: &mut Vec<u8>, circuit: &Circuit) -> Result<(), 
     Ok(out.extend_from_slice(tables.as_slice())?)
 }
 
-/// Puts the machine that was read, or the fault.
+/// Appends the machine that was read, or the fault.
 fn put_kiss(
     alloc: Global,
     out: &mut Vec<u8>,
@@ -154,7 +159,7 @@ fn put_kiss(
     }
 }
 
-/// Puts a machine: its name, its ports, and its text.
+/// Appends a machine: its name, its ports, and its text.
 fn put_machine(alloc: Global, out: &mut Vec<u8>, machine: &Machine) -> Result<(), CaseFault> {
     put_line(out, machine.name.as_slice())?;
     out.extend_from_slice(b"inputs")?;
@@ -164,7 +169,7 @@ fn put_machine(alloc: Global, out: &mut Vec<u8>, machine: &Machine) -> Result<()
     Ok(machine_text(alloc, machine, out)?)
 }
 
-/// Puts the gates of a library that was read, or the fault.
+/// Appends the gates of a library that was read, or the fault.
 fn put_library(
     alloc: Global,
     out: &mut Vec<u8>,
@@ -180,7 +185,7 @@ fn put_library(
     }
 }
 
-/// Puts for each gate its name, its area and the number of its pins.
+/// Appends for each gate its name, its area and the number of its pins.
 fn put_gates(alloc: Global, out: &mut Vec<u8>, library: &Library) -> Result<(), CaseFault> {
     let cells = cells(alloc, library)?;
     for (gate, cell) in library.gates().iter().zip(cells.iter()) {
@@ -193,7 +198,7 @@ fn put_gates(alloc: Global, out: &mut Vec<u8>, library: &Library) -> Result<(), 
     Ok(())
 }
 
-/// Puts the output and the pins of the first gate of a name, and its rows; `none` where there is no
+/// Appends the output and the pins of the first gate of a name, and its rows; `none` if there is no
 /// such gate.
 fn put_gate(
     alloc: Global,
@@ -207,7 +212,7 @@ fn put_gate(
     }
 }
 
-/// Puts the output and the pins of a gate, and its rows.
+/// Appends the output and the pins of a gate, and its rows.
 fn put_function(alloc: Global, out: &mut Vec<u8>, gate: &Gate) -> Result<(), CaseFault> {
     out.extend_from_slice(gate.output.as_slice())?;
     put_names(out, gate.pins.as_slice())?;
@@ -219,8 +224,8 @@ fn put_function(alloc: Global, out: &mut Vec<u8>, gate: &Gate) -> Result<(), Cas
     Ok(())
 }
 
-/// Puts the pins and the rows of an expression, and whether it agrees with the product of its first
-/// two pins.
+/// Appends the pins and the rows of the expression of a text, and whether it agrees with the
+/// product of its first two pins.
 fn put_expression(alloc: Global, out: &mut Vec<u8>, text: &[u8]) -> Result<(), CaseFault> {
     match &genlib_expr::read(alloc, text) {
         Ok(parsed) => put_parsed(alloc, out, parsed),
@@ -228,8 +233,8 @@ fn put_expression(alloc: Global, out: &mut Vec<u8>, text: &[u8]) -> Result<(), C
     }
 }
 
-/// Puts the pins and the rows of an expression, and whether it agrees with the product of its first
-/// two pins.
+/// Appends the pins and the rows of an expression, and whether it agrees with the product of its
+/// first two pins.
 fn put_parsed(alloc: Global, out: &mut Vec<u8>, parsed: &Parsed) -> Result<(), CaseFault> {
     put_names(out, parsed.pins.as_slice())?;
     let rows = genlib_expr::rows(alloc, parsed.pins.len(), &parsed.expr)?;

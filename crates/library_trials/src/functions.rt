@@ -1,11 +1,15 @@
-//! Functions by number, as plain trees and in one table of nodes: an operation on some variables,
-//! and the functions of a network's signals, under a limit of size.
+//! Cases of functions by number, as plain trees and in one shared table of nodes.
+//!
+//! A case gives the kind of functions and a limit on their size, then an operation on some
+//! variables, or a network and the name of one of its tables. The answer has the size of the
+//! function and a point where it is true, or the sizes of the network's functions. The functions
+//! are generic in `Functions`, so both kinds are called in the same way.
 
 ghost use Rattle.std.specs.Prelude.{◌≡◌, ℕ, ◌≤◌, true, List, IfOk};
 ghost use Rattle.std.specs.List.{AllByRecursion};
 ghost use Rattle.circuit_model.specs.Names.{has};
 ghost use Rattle.circuit_model.specs.Soundness.{outputs_of};
-ghost use Rattle.func_core.specs.declared.functions.Func.{Func as TheFunc};
+ghost use Rattle.func_core.specs.declared.functions.Func.{Func};
 
 use crate::networks::has_table;
 use crate::puts::put_value;
@@ -31,8 +35,8 @@ pub fn limit_of(case: &Case<'_>) -> Result<usize, CaseFault>
     Ok(limit)
 }
 
-/// Puts the answer to a case of functions: how they are held, a limit, an operation, the number of
-/// the first variable, the distance of two, and how many there are.
+/// Appends the answer to a case of functions: the kind of functions, a limit, an operation, the
+/// number of the first variable, the distance of two, and how many there are.
 pub fn answer(alloc: Global, out: &mut Vec<u8>, case: &Case<'_>) -> Result<(), CaseFault> {
     let limit = limit_of(case)?;
     match case.word(1) {
@@ -82,8 +86,8 @@ fn combined<F: Functions>(
     Ok(made)
 }
 
-/// Puts the size of the function of a case, and, unless it is said to be enough, a point where the
-/// function is true.
+/// Appends the size of the function of a case, and, unless the case asks for the size alone, a
+/// point where the function is true.
 fn put_combined<F: Functions>(
     alloc: Global,
     out: &mut Vec<u8>,
@@ -105,7 +109,7 @@ fn put_combined<F: Functions>(
     }
 }
 
-/// Puts the answer to a case of a network: how functions are held, a limit, the name of a table.
+/// Appends the answer to a case of a network: the kind of functions, a limit, the name of a table.
 pub fn put_signals(
     alloc: Global,
     out: &mut Vec<u8>,
@@ -133,8 +137,8 @@ pub fn put_signals(
     }
 }
 
-/// Puts the sizes of functions of a network, and those where the table of a name is 1, if there is
-/// such a table.
+/// Appends the sizes of functions of a network, and those with the table of a name set to 1, if
+/// there is such a table.
 fn put_told<F: Functions>(
     alloc: Global,
     out: &mut Vec<u8>,
@@ -151,8 +155,8 @@ fn put_told<F: Functions>(
     Ok(())
 }
 
-/// Puts the size of the last signal's function where the table of a name is 1, and that of where
-/// its signal is seen from outside.
+/// Appends the size of the last signal's function with the table of a name set to 1, and that of
+/// the condition under which its signal is observable from outside.
 fn put_fixed<F: Functions>(
     alloc: Global,
     out: &mut Vec<u8>,
@@ -170,7 +174,7 @@ fn put_fixed<F: Functions>(
     }
 }
 
-/// Puts how many signals have a function, and the size of the last one.
+/// Appends how many signals have a function, and the size of the last one.
 fn put_last<F: Functions>(
     alloc: Global,
     out: &mut Vec<u8>,
@@ -178,7 +182,7 @@ fn put_last<F: Functions>(
     made: Result<Signals, NetFuncFault>,
 ) -> Result<(), CaseFault>
     requires { IfOk made (λ signals. AllByRecursion
-        (λ (pair : List ℕ × TheFunc). F.holds functions.now pair.1.0) signals.own) }
+        (λ (pair : List ℕ × Func). F.holds functions.now pair.1.0) signals.own) }
 {
     match made {
         Err(fault) => put_value(alloc, out, &fault),

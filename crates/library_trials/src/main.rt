@@ -1,23 +1,24 @@
-//! Makes each call of a library that can want memory once, with memory enough, on small data.
+//! Makes each call of a library that can run out of memory once, with enough memory, on small data.
 //!
 //! A body that only answers want of memory meets its contract; here it would print another answer.
-//! Whole commands are cases of top_trials, which leaves stores, sources and sinks wanting too.
+//! Whole commands are cases of top_trials, which makes stores, sources and sinks want memory too.
 //!
-//! The first line of a case says the call and its arguments; the text or the words that it is about
-//! stand below, in the forms of trial_cases, and a circuit behind the text of a library and a line
-//! `and`. Circuits are written in the Berkeley Logic Interchange Format. What is in `stdin` and
-//! `stdout` is worked out by hand from the definitions.
+//! The first line of a case gives the call and its arguments; the text or the words that it is
+//! about are below it, in the forms of trial_cases, and a circuit follows the text of a library and
+//! a line `and`. Circuits are written in the Berkeley Logic Interchange Format. What is in `stdin`
+//! and `stdout` is worked out by hand from the definitions.
 //!
 //! Not called by name, since cases here or commands of top_trials surely run through them:
 //! - `first_cyclic`, `read_gate`, `add_signals`, `add_names`, `characters`, `end_line`: files read;
 //! - `place_rows`: `compose`; `note_place`: `dangling_step`; `from_written`: `tidy`; `fates`,
 //!   `table_number`, `place_of`, and an arena's other vertices: `forest`; `Choices`: `cover`;
-//! - `take_in`, `places_of`: `eliminate`; `divided_table`, `cover_table`: `resub`;
-//! - `Work`'s and `Links`' `set`, `add` and `remove`, `UseCounts`: `eliminate` and `decomp`;
+//! - `compose_into`, `places_of`: `eliminate`; `divided_table`, `cover_table`: `resub`;
+//! - `set`, `add` and `remove` of `WorkingNetwork` and `Links`, `UseCounts`: `eliminate` and
+//!   `decomp`;
 //! - `cube_over`, `row_over`, `cover_over`, and what net_candidates gives: `fx`, `gkx` and `gcx`;
-//! - `KeptGains`, `Totals`, `Codes`, divisors: `fx`; `KeptSavings`, `RankedCovers`, `best_saved`,
-//!   `leaves_narrow`, `places_for`: `gkx` and `gcx`;
-//! - `assign`: `state_assign`;
+//! - `DivisorGains`, `Codes`, divisors: `fx`; `CandidateQueue`, `best_saved`, `places_for`,
+//!   `fits_input_limit`: `gkx` and `gcx`; a `Queue`: `eliminate`, `fx` and `gkx`;
+//! - `assign`: `state_assign`; `KeptFunctions`, `table_function`: `full`;
 //! - `factor_line`, `factor_lines`, `kernel_lines`, `load`, `error_text`, `refusal_text`,
 //!   `put_two`, `put_three`, `read_words`, `run_sis`: `print_factor`, `print_kernel`, `read_blif`,
 //!   refusals.
@@ -50,7 +51,7 @@ use trial_cases::{Case, CaseFault, Trial, answers, text_of};
 struct Calls;
 
 impl Trial for Calls {
-    /// Puts the answer to a case behind a text.
+    /// Appends the answer to a case to a text.
     fn answer(alloc: Global, out: &mut Vec<u8>, case: &Case<'_>) -> Result<(), CaseFault> {
         match case.word(0) {
             "store" => outside::put_store(alloc, out),
@@ -69,7 +70,7 @@ impl Trial for Calls {
     }
 }
 
-/// Puts the answer to a case whose lines are one text, or to one of rows and covers.
+/// Appends the answer to a case whose lines are one text, or to one of rows and covers.
 fn answer_of_text(alloc: Global, out: &mut Vec<u8>, case: &Case<'_>) -> Result<(), CaseFault> {
     let text = text_of(alloc, case.lines.as_slice())?;
     match case.word(0) {

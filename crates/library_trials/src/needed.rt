@@ -1,9 +1,10 @@
-//! Whether something of a circuit reads a name.
+//! Whether a circuit reads a name. The answer `false` is proved to mean that nothing reads it, the
+//! don't-care part included (`IsClosed`), as the calls that remove a table require.
 
 ghost use Rattle.std.specs.Prelude.{◌≡◌, false, map};
 ghost use Rattle.circuit_model.specs.Names.{has};
 ghost use Rattle.circuit_model.specs.Soundness.{table_inputs};
-ghost use Rattle.circuit_model.specs.declared.circuit.Latch.{Latch as TheLatch};
+ghost use Rattle.circuit_model.specs.declared.circuit.Latch.{Latch};
 ghost use Rattle.circuit_laws.specs.Edits.{is_other};
 ghost use Rattle.circuit_laws.specs.Kept.{IsClosed};
 
@@ -28,9 +29,9 @@ fn is_table_input(tables: &[Table], name: &Name) -> bool
     false
 }
 
-/// Whether a latch takes a name.
+/// Whether a name is the input of a latch.
 fn is_latched(latches: &[Latch], name: &Name) -> bool
-    ensures { result ≡ has (map (λ (latch : TheLatch). latch.input) latches.now) name.now }
+    ensures { result ≡ has (map (λ (latch : Latch). latch.input) latches.now) name.now }
 {
     for latch in latches {
         if *name == latch.input {
@@ -40,7 +41,7 @@ fn is_latched(latches: &[Latch], name: &Name) -> bool
     false
 }
 
-/// Whether something of a circuit reads a name, also of its don't-care part.
+/// Whether a circuit reads a name, its don't-care part included.
 pub fn is_needed(circuit: &Circuit, name: &Name) -> bool
     ensures { result ≡ false → IsClosed circuit.now (is_other name.now) }
 {

@@ -1,6 +1,7 @@
-//! Netlists: the text of a circuit with one gate beside it, and what a network is mapped to.
+//! Cases of netlists: the text of a circuit with one gate, and the netlist that a network is mapped
+//! to, or why there is none.
 
-ghost use Rattle.genlib_format.specs.Soundness.{IsSound as IsSoundLibrary};
+ghost use Rattle.genlib_format.specs.Soundness.{IsSoundGates};
 
 use crate::puts::put_value;
 use crate::reads::{circuit, library, network, parted};
@@ -15,7 +16,7 @@ use sis_base::Sequence;
 use std::alloc::{AllocError, Global};
 use trial_cases::{Case, CaseFault, text_of};
 
-/// A pin, and the signal that stands there.
+/// A pin with its signal.
 fn connection(alloc: Global, pin: &str, signal: &str) -> Result<Connection, AllocError> {
     Ok(Connection {
         pin: name_of(alloc, pin.as_bytes())?,
@@ -23,7 +24,8 @@ fn connection(alloc: Global, pin: &str, signal: &str) -> Result<Connection, Allo
     })
 }
 
-/// The gate of one pin that a case says: its cell, its pin with a signal, its output with another.
+/// The gate of one pin that a case describes: its cell, its pin with a signal, its output with
+/// another.
 fn placed(alloc: Global, case: &Case<'_>) -> Result<Placed, AllocError> {
     let mut pins = Sequence::new(alloc);
     pins.push(connection(alloc, case.word(2), case.word(3))?)?;
@@ -45,7 +47,7 @@ fn mapped(alloc: Global, case: &Case<'_>, text: &[u8]) -> Result<Mapped, CaseFau
     })
 }
 
-/// Puts the text of the netlist of a case.
+/// Appends the text of the netlist of a case.
 pub fn put_netlist(
     alloc: Global,
     out: &mut Vec<u8>,
@@ -56,7 +58,7 @@ pub fn put_netlist(
     Ok(())
 }
 
-/// Puts the netlist of a network by a library, which stand in a case, or why there is none.
+/// Appends the netlist of the network of a case by its library, or why there is none.
 pub fn put_mapped(alloc: Global, out: &mut Vec<u8>, case: &Case<'_>) -> Result<(), CaseFault> {
     let (first, rest) = parted(case.lines.as_slice());
     let library = library(alloc, text_of(alloc, first)?.as_slice())?;
@@ -65,14 +67,14 @@ pub fn put_mapped(alloc: Global, out: &mut Vec<u8>, case: &Case<'_>) -> Result<(
     put_map(alloc, out, &network, &library)
 }
 
-/// Puts the netlist of a network by a library, or why there is none.
+/// Appends the netlist of a network by a library, or why there is none.
 fn put_map(
     alloc: Global,
     out: &mut Vec<u8>,
     network: &Network<PlainRow>,
     library: &Library,
 ) -> Result<(), CaseFault>
-    requires { IsSoundLibrary library.now }
+    requires { IsSoundGates library.now }
 {
     match map(alloc, network, library) {
         Ok(netlist) => {

@@ -1,5 +1,10 @@
-//! Networks that are changed one table at a time, what they tell, and the commands that change them
-//! whole.
+//! Cases of networks: changes of one table at a time, the working network, and the commands that
+//! change a network whole.
+//!
+//! The case's text is read as a network. `answer` makes one call on a name and prints its result
+//! and the network after it; `put_work` prints what the working network answers; `put_command`
+//! prints the network that a command makes, or `refused`, and `put_full` that of full
+//! simplification, or its fault. A text that is no network is a bad case.
 
 ghost use Rattle.std.specs.Prelude.{◌≡◌, ℕ, true, false, List, map};
 ghost use Rattle.circuit_model.specs.Names.{has};
@@ -17,21 +22,21 @@ use func_core::{Functions, PlainFunctions};
 use func_shared::SharedFunctions;
 use line_words::name_of;
 use net_candidates::Rule as Extraction;
-use net_core::{AddFault, Network, Table, tidy};
+use net_core::{AddFault, CoverTable, Network, tidy};
 use net_decomp::{Rule, decompose};
 use net_elim::{collapse, eliminate};
 use net_extract::extract;
 use net_resub::resubstitute;
 use net_sweep::{SweepFault, Swept, sweep};
-use net_work::Work;
+use net_work::WorkingNetwork;
 use odc_simplify::full_simplify;
 use sdc_simplify::simplify;
 use sis_base::Sequence;
 use std::alloc::{AllocError, Global};
 use trial_cases::{Case, CaseFault};
 
-/// Puts the answer to a case of a network: what the call on a name tells, and the network behind
-/// it.
+/// Appends the answer to a case of a network: the result of the call on a name, and the network
+/// after it.
 pub fn answer(
     alloc: Global,
     out: &mut Vec<u8>,
@@ -44,7 +49,7 @@ pub fn answer(
     put_network(alloc, out, &network)
 }
 
-/// Puts the text of a network.
+/// Appends the text of a network.
 fn put_network(
     alloc: Global,
     out: &mut Vec<u8>,
@@ -54,7 +59,7 @@ fn put_network(
     put_circuit(alloc, out, &circuit)
 }
 
-/// Makes a call on a network and a name, and puts what it tells.
+/// Makes a call on a network and a name, and appends its result.
 fn change(
     alloc: Global,
     out: &mut Vec<u8>,
@@ -75,7 +80,7 @@ fn change(
     }
 }
 
-/// Puts the swept network in the place of a network, and tells how many tables and latches went.
+/// Replaces a network by the swept one, and returns how many tables and latches were removed.
 fn sweep_in_place(alloc: Global, network: &mut Network<PlainRow>) -> Result<Swept, SweepFault> {
     let (made, swept) = sweep(alloc, network)?;
     *network = made;
@@ -84,11 +89,11 @@ fn sweep_in_place(alloc: Global, network: &mut Network<PlainRow>) -> Result<Swep
 
 /// The constant 0.
 #[tactic(auto, unfolding(net_core::specs::Tables::named))]
-fn constant(alloc: Global) -> Table<PlainRow>
+fn constant(alloc: Global) -> CoverTable<PlainRow>
     ensures over { IsOverInputs result }
     ensures written { (name : List ℕ) → named name result ≡ constant_table name false }
 {
-    Table {
+    CoverTable {
         inputs: Sequence::new(alloc),
         cover: Cover::new(alloc, 0),
         phase: true,
@@ -102,7 +107,7 @@ pub fn has_table(network: &Network<PlainRow>, name: &Name) -> bool
     network.table(name).is_some()
 }
 
-/// Puts the constant 0 in the place of a table.
+/// Replaces a table by the constant 0.
 fn put_constant(alloc: Global, network: &mut Network<PlainRow>, name: &Name)
     requires { has (outputs_of network.old.tables) name.now ≡ true }
 {
@@ -110,14 +115,14 @@ fn put_constant(alloc: Global, network: &mut Network<PlainRow>, name: &Name)
     network.replace(name, constant(alloc));
 }
 
-/// Puts the constant 0 in the place of the table of a name, if there is one.
+/// Replaces the table of a name by the constant 0, if there is one.
 fn replace(alloc: Global, network: &mut Network<PlainRow>, name: &Name) {
     if has_table(network, name) {
         put_constant(alloc, network, name);
     }
 }
 
-/// Takes the table or latch of a name away that nothing reads.
+/// Removes the table or latch of a name that nothing reads.
 fn remove(alloc: Global, network: &mut Network<PlainRow>, name: &Name) -> Result<(), AllocError> {
     let circuit = network.to_circuit(alloc)?;
     if !is_needed(&circuit, name) {
@@ -131,7 +136,7 @@ fn add_constant(alloc: Global, network: &mut Network<PlainRow>) -> Result<Name, 
     network.add(alloc, constant(alloc))
 }
 
-/// Puts the tidy table of a copy of the table of a name.
+/// Appends the normal form of a copy of the table of a name.
 fn put_tidy(
     alloc: Global,
     out: &mut Vec<u8>,
@@ -147,8 +152,9 @@ fn put_tidy(
     }
 }
 
-/// Puts what the working form of a network tells: the places of its tables in order, those that
-/// read a signal, what the first table is worth, and the name that a new one would take.
+/// Appends what the working form of a network answers: the indices of its tables in order, the
+/// readers of a signal, the elimination value of the first table, and the name that a new one would
+/// get.
 pub fn put_work(
     alloc: Global,
     out: &mut Vec<u8>,
@@ -156,15 +162,15 @@ pub fn put_work(
     text: &[u8],
 ) -> Result<(), CaseFault> {
     let name = name_of(alloc, case.word(1).as_bytes())?;
-    let work = Work::from_network(alloc, network(alloc, text)?)?;
+    let work = WorkingNetwork::from_network(alloc, network(alloc, text)?)?;
     put_told(alloc, out, &work, &name)
 }
 
-/// Puts what a working form tells.
+/// Appends what a working form answers.
 fn put_told(
     alloc: Global,
     out: &mut Vec<u8>,
-    work: &Work<PlainRow>,
+    work: &WorkingNetwork<PlainRow>,
     name: &Name,
 ) -> Result<(), CaseFault> {
     put_value(alloc, out, &work.order(alloc)?)?;
@@ -173,7 +179,7 @@ fn put_told(
     put_names(out, &[work.new_name(alloc)?])
 }
 
-/// What a command makes of a network, if it is not refused.
+/// The network that a command makes, if it is not refused.
 fn changed(alloc: Global, network: &Network<PlainRow>, command: &str) -> Option<Network<PlainRow>> {
     match command {
         "sweep" => sweep(alloc, network).ok().map(|(made, _)| made),
@@ -190,7 +196,7 @@ fn changed(alloc: Global, network: &Network<PlainRow>, command: &str) -> Option<
     }
 }
 
-/// Puts the network that a command makes of that of a text.
+/// Appends the network that a command makes of that of a text.
 pub fn put_command(
     alloc: Global,
     out: &mut Vec<u8>,
@@ -204,8 +210,8 @@ pub fn put_command(
     }
 }
 
-/// Puts the network that full simplification makes of that of a text, or its fault: how functions
-/// are held, and a limit.
+/// Appends the network that full simplification makes of that of a text, or its fault, by the kind
+/// of functions and a limit.
 pub fn put_full(
     alloc: Global,
     out: &mut Vec<u8>,
@@ -226,7 +232,7 @@ pub fn put_full(
     }
 }
 
-/// Puts the network that full simplification makes by an object of functions, or its fault.
+/// Appends the network that full simplification makes by an object of functions, or its fault.
 fn put_by<F: Functions>(
     alloc: Global,
     out: &mut Vec<u8>,

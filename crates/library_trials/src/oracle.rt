@@ -1,4 +1,5 @@
-//! The minimum of a cover by an oracle: by the cover itself, or by one that refuses each question.
+//! Cases of cover minimization by an oracle: by the cover itself, or by `Refusing`, an oracle that
+//! refuses each question and so shows what is done with a refusal.
 
 use crate::rows::put_made;
 use cover_min::{Oracle, OracleFault, prime_irredundant};
@@ -54,14 +55,14 @@ impl<R: Row> Oracle<R> for Refusing {
     }
 }
 
-/// Puts the minimum of a cover by the cover itself.
+/// Appends the minimum of a cover by the cover itself.
 pub fn put_least<R: Row>(alloc: Global, out: &mut Vec<u8>, f: &Cover<R>) -> Result<(), CaseFault> {
     let mut oracle = TiedCover::new(f.copy(alloc)?, Vec::new(alloc));
     let least = prime_irredundant(alloc, f.copy(alloc)?, &mut oracle);
     put_made(alloc, out, &least)
 }
 
-/// Puts the minimum of a cover by an oracle that refuses each question.
+/// Appends the minimum of a cover by an oracle that refuses each question.
 pub fn put_refused<R: Row>(
     alloc: Global,
     out: &mut Vec<u8>,

@@ -1,12 +1,12 @@
-//! A store, a source and a sink in memory, by their traits alone: each has its calls made in a
-//! fixed order.
+//! Cases of a store, a source and a sink in memory, used through their traits alone: each gets a
+//! fixed list of calls, one of which fails as planned.
 
 use crate::puts::put_value;
 use sis_outside::{MemSink, MemSource, MemStore, Sink, Source, Store};
 use std::alloc::Global;
 use trial_cases::CaseFault;
 
-/// Puts what is answered by a store that has a file `old`; its third load or save fails behind two
+/// Appends the answers of a store that has a file `old`; its third load or save fails after two
 /// bytes.
 pub fn put_store(alloc: Global, out: &mut Vec<u8>) -> Result<(), CaseFault> {
     let mut store = MemStore::new(alloc);
@@ -15,7 +15,7 @@ pub fn put_store(alloc: Global, out: &mut Vec<u8>) -> Result<(), CaseFault> {
     use_store(alloc, out, &mut store)
 }
 
-/// Puts what a store answers to two saves and loads of a file, and to loads of an older one.
+/// Appends the answers of a store to two saves and loads of a file, and to loads of an older one.
 fn use_store<S: Store>(alloc: Global, out: &mut Vec<u8>, store: &mut S) -> Result<(), CaseFault> {
     put_value(alloc, out, &store.save("new", b"abc"))?;
     put_value(alloc, out, &store.load(alloc, "new", 3))?;
@@ -25,8 +25,8 @@ fn use_store<S: Store>(alloc: Global, out: &mut Vec<u8>, store: &mut S) -> Resul
     put_value(alloc, out, &store.load(alloc, "older", 9))
 }
 
-/// Puts what is answered by a source of five bytes that gives two at once at most; its second take
-/// fails behind one byte.
+/// Appends the answers of a source of five bytes that gives at most two at once; its second take
+/// fails after one byte.
 pub fn put_source(alloc: Global, out: &mut Vec<u8>) -> Result<(), CaseFault> {
     let mut source = MemSource::new(alloc, b"abcde")?;
     source.limit_pieces(2);
@@ -34,7 +34,7 @@ pub fn put_source(alloc: Global, out: &mut Vec<u8>) -> Result<(), CaseFault> {
     use_source(alloc, out, &mut source)
 }
 
-/// Puts what a source answers to four takes.
+/// Appends the answers of a source to four takes.
 fn use_source<I: Source>(
     alloc: Global,
     out: &mut Vec<u8>,
@@ -47,7 +47,8 @@ fn use_source<I: Source>(
     put_value(alloc, out, &source.take(alloc, 9))
 }
 
-/// Puts what is answered by a sink whose second put fails behind two bytes, and what it then has.
+/// Appends the answers of a sink whose second put fails after two bytes, and its contents after
+/// that.
 pub fn put_sink(alloc: Global, out: &mut Vec<u8>) -> Result<(), CaseFault> {
     let mut sink = MemSink::new(alloc);
     sink.fail_at(1, 2)?;
@@ -55,7 +56,7 @@ pub fn put_sink(alloc: Global, out: &mut Vec<u8>) -> Result<(), CaseFault> {
     put_value(alloc, out, &sink.written())
 }
 
-/// Puts what a sink answers to three puts.
+/// Appends the answers of a sink to three puts.
 fn use_sink<O: Sink>(alloc: Global, out: &mut Vec<u8>, sink: &mut O) -> Result<(), CaseFault> {
     put_value(alloc, out, &sink.put(b"ab"))?;
     put_value(alloc, out, &sink.put(b"cdef"))?;

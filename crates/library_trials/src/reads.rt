@@ -1,8 +1,9 @@
-//! The circuits, networks, libraries and names that a case is about.
+//! Reads the circuits, networks, libraries and names that a case is about. A text that is none of
+//! these is a bad case; a circuit or library that is returned is proved to be sound.
 
 ghost use Rattle.std.specs.Prelude.{IfOk};
-ghost use Rattle.circuit_model.specs.Soundness.{IsSound as IsSoundCircuit};
-ghost use Rattle.genlib_format.specs.Soundness.{IsSound as IsSoundLibrary};
+ghost use Rattle.circuit_model.specs.Soundness.{IsSound};
+ghost use Rattle.genlib_format.specs.Soundness.{IsSoundGates};
 
 use blif_read::ReadFault as CircuitFault;
 use circuit_model::{Circuit, Names, Spec};
@@ -14,9 +15,9 @@ use sis_base::Sequence;
 use std::alloc::{AllocError, Global};
 use trial_cases::CaseFault;
 
-/// The library of a text; a bad case where the text is none.
+/// The library of a text; a bad case if the text is not one.
 pub fn library(alloc: Global, text: &[u8]) -> Result<Library, CaseFault>
-    ensures { IfOk result IsSoundLibrary }
+    ensures { IfOk result IsSoundGates }
 {
     match genlib_format::read(alloc, text) {
         Ok(library) => Ok(library),
@@ -25,9 +26,9 @@ pub fn library(alloc: Global, text: &[u8]) -> Result<Library, CaseFault>
     }
 }
 
-/// The circuit of a text; a bad case where the text is none.
+/// The circuit of a text; a bad case if the text is not one.
 pub fn circuit(alloc: Global, text: &[u8]) -> Result<Circuit, CaseFault>
-    ensures { IfOk result IsSoundCircuit }
+    ensures { IfOk result IsSound }
 {
     match blif_read::read(alloc, text, None) {
         Ok(Spec::Circuit(circuit)) => Ok(circuit),
@@ -43,7 +44,7 @@ pub fn network(alloc: Global, text: &[u8]) -> Result<Network<PlainRow>, CaseFaul
     Ok(Network::from_circuit(alloc, circuit)?)
 }
 
-/// The names of one character each of a word; none where it is `.`.
+/// The names of one character each of a word; none if it is `.`.
 pub fn names(alloc: Global, word: &str) -> Result<Names, AllocError> {
     let mut made = Sequence::new(alloc);
     if word != "." {

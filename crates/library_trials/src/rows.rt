@@ -1,5 +1,5 @@
-//! Rows and covers as texts: a row is written by a character for each place, `1`, `0` or `-`, with
-//! `/` behind it, a cover by its width, `:`, and its rows.
+//! Rows and covers as texts. A row has a character for each column, `1`, `0` or `-`, and a `/`
+//! after it. A cover is its width, a `:` and its rows; rows of another width are left out.
 
 use crate::puts::put_text;
 use alg_div::row_of;
@@ -8,8 +8,8 @@ use std::alloc::{AllocError, Global};
 use std::fmt::Debug;
 use trial_cases::{CaseFault, number_of, put_number, put_shown};
 
-/// The literals that characters say, with a stroke behind them or without; a dash for any other
-/// than `0` and `1`.
+/// The literals of characters, with a stroke after them or without; a dash for any other than `0`
+/// and `1`.
 fn literals(alloc: Global, text: &str) -> Result<Vec<Option<bool>>, AllocError> {
     let mut made = Vec::new(alloc);
     for byte in text.strip_suffix('/').unwrap_or(text).bytes() {
@@ -22,7 +22,7 @@ fn literals(alloc: Global, text: &str) -> Result<Vec<Option<bool>>, AllocError> 
     Ok(made)
 }
 
-/// Puts those rows of a text behind a cover that are of its width.
+/// Appends to a cover those rows of a text that are of its width.
 fn push_rows<R: Row>(alloc: Global, cover: &mut Cover<R>, text: &str) -> Result<(), AllocError> {
     for part in text.split_terminator('/') {
         let made: R = row_of(alloc, literals(alloc, part)?.as_slice())?;
@@ -33,7 +33,7 @@ fn push_rows<R: Row>(alloc: Global, cover: &mut Cover<R>, text: &str) -> Result<
     Ok(())
 }
 
-/// The cover that a text says.
+/// The cover of a text.
 pub fn cover<R: Row>(alloc: Global, text: &str) -> Result<Cover<R>, CaseFault> {
     let (width, rest) = text.split_once(':').ok_or(CaseFault::Bad)?;
     let mut cover = Cover::new(alloc, number_of(width)?);
@@ -41,7 +41,7 @@ pub fn cover<R: Row>(alloc: Global, text: &str) -> Result<Cover<R>, CaseFault> {
     Ok(cover)
 }
 
-/// Puts a row, with a stroke behind it.
+/// Appends a row, with a stroke after it.
 fn put_row<R: Row>(out: &mut Vec<u8>, row: &R) -> Result<(), AllocError> {
     for place in 0..row.width() {
         out.push(match row.at(place) {
@@ -54,7 +54,7 @@ fn put_row<R: Row>(out: &mut Vec<u8>, row: &R) -> Result<(), AllocError> {
     Ok(())
 }
 
-/// Puts a cover on a line.
+/// Appends a cover on a line.
 pub fn put_cover<R: Row>(
     alloc: Global,
     out: &mut Vec<u8>,
@@ -68,7 +68,7 @@ pub fn put_cover<R: Row>(
     put_text(out, b"")
 }
 
-/// Puts a cover that was to be made, or why there is none.
+/// Appends a cover that was to be made, or why there is none.
 pub fn put_made<R: Row, E: Debug + Drop>(
     alloc: Global,
     out: &mut Vec<u8>,
@@ -83,7 +83,7 @@ pub fn put_made<R: Row, E: Debug + Drop>(
     }
 }
 
-/// Puts a row that was to be made, on a line.
+/// Appends a row that was to be made, on a line.
 pub fn put_made_row<R: Row>(
     out: &mut Vec<u8>,
     made: Result<R, AllocError>,

@@ -1,4 +1,5 @@
-//! Lines, words, numbers and scripts.
+//! Cases of sis_text and sis_script: lines, words, numbers and scripts, each line as its number, a
+//! colon and its words.
 
 use crate::puts::{put_text, put_value};
 use line_words::put_word;
@@ -7,7 +8,7 @@ use sis_text::{Decimal, Line, bytes_at, logical_lines, script_pieces, texts_at, 
 use std::alloc::Global;
 use trial_cases::{Case, CaseFault, put_number};
 
-/// Puts the answer to a case of sis_text or sis_script.
+/// Appends the answer to a case of sis_text or sis_script.
 pub fn answer(
     alloc: Global,
     out: &mut Vec<u8>,
@@ -24,7 +25,7 @@ pub fn answer(
     }
 }
 
-/// Puts lines, each as its number, a colon, and its words with a blank before each.
+/// Appends lines, each as its number, a colon, and its words with a blank before each.
 fn put_lines(
     alloc: Global,
     out: &mut Vec<u8>,
@@ -42,7 +43,7 @@ fn put_lines(
     Ok(())
 }
 
-/// Puts the number that the first word of a text writes; `none` where it writes none.
+/// Appends the number that the first word of a text denotes; `none` if it denotes none.
 fn put_decimal(alloc: Global, out: &mut Vec<u8>, text: &[u8]) -> Result<(), CaseFault> {
     let found = words(alloc, text)?;
     let first = match found.as_slice() {

@@ -1,4 +1,5 @@
-//! The gates of a cover as lines, and the area and number of all.
+//! The gates of a cover as lines, and the total area and number of gates. An input of a gate is the
+//! name of a leaf, or the number of a gate in brackets.
 
 use crate::puts::{put_text, put_value};
 use genlib_format::Library;
@@ -8,7 +9,7 @@ use subject_tree::Leaves;
 use tree_cover::{Signal, WrittenCover};
 use trial_cases::{CaseFault, put_number};
 
-/// Puts a line for each gate of a cover, and what drives the root.
+/// Appends a line for each gate of a cover, and what drives the root.
 pub fn put_tiles(
     alloc: Global,
     out: &mut Vec<u8>,
@@ -30,7 +31,8 @@ pub fn put_tiles(
     put_text(out, b"")
 }
 
-/// Puts a blank and a signal: the name of a leaf, or the number of a gate of the cover in brackets.
+/// Appends a blank and a signal: the name of a leaf, or the number of a gate of the cover in
+/// brackets.
 fn put_signal(
     alloc: Global,
     out: &mut Vec<u8>,
@@ -51,7 +53,7 @@ fn put_signal(
     }
 }
 
-/// Puts the area and the number of all gates.
+/// Appends the area and the number of all gates.
 pub fn put_totals(
     alloc: Global,
     out: &mut Vec<u8>,

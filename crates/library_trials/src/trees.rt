@@ -1,8 +1,14 @@
-//! The trees of circuits, the patterns of libraries, and covers of the former by the latter.
+//! Cases of technology mapping: the subject trees of circuits, the patterns of libraries, and
+//! covers of the trees by the patterns.
+//!
+//! A case has a library, a circuit, or a library, a line `and` and a circuit. The answer has the
+//! number of patterns of each gate, the roots with the sizes of their trees, or the covers with
+//! their area and number of gates. The calls are those of pattern_set, subject_tree and tree_cover;
+//! `cover_trees` is called only if the library covers all trees.
 
 ghost use Rattle.std.specs.Prelude.{◌≡◌, ◌<◌, ◌≤◌, ℕ, length, IfOk};
-ghost use Rattle.circuit_model.specs.Soundness.{IsSound as IsSoundCircuit};
-ghost use Rattle.genlib_format.specs.Soundness.{IsSound as IsSoundLibrary};
+ghost use Rattle.circuit_model.specs.Soundness.{IsSound};
+ghost use Rattle.genlib_format.specs.Soundness.{IsSoundGates};
 ghost use Rattle.subject_tree.specs.Trees.{size_of};
 ghost use Rattle.subject_tree.specs.Arenas.{tree_at};
 ghost use Rattle.tree_cover.specs.Candidates.{IsLibrary};
@@ -21,7 +27,7 @@ use tree_cover::library_laws::sound_libraries_cover_trees;
 use tree_cover::{Choices, best, cells, library_patterns, matches, write_cover};
 use trial_cases::{Case, CaseFault, text_of};
 
-/// Puts the answer to a case of a library, of a circuit, or of a library and a circuit behind it.
+/// Appends the answer to a case of a library, of a circuit, or of a library followed by a circuit.
 pub fn answer(alloc: Global, out: &mut Vec<u8>, case: &Case<'_>) -> Result<(), CaseFault> {
     let lines = case.lines.as_slice();
     match case.word(0) {
@@ -34,15 +40,15 @@ pub fn answer(alloc: Global, out: &mut Vec<u8>, case: &Case<'_>) -> Result<(), C
     }
 }
 
-/// Puts for each gate of a library its name and how many patterns it has, and whether the library
-/// covers all trees.
+/// Appends for each gate of a library its name and how many patterns it has, and whether the
+/// library covers all trees.
 fn put_patterns(alloc: Global, out: &mut Vec<u8>, lines: &[&str]) -> Result<(), CaseFault> {
     let library = library(alloc, text_of(alloc, lines)?.as_slice())?;
     let cells = cells(alloc, &library)?;
     put_counts(alloc, out, &library, &patterns(alloc, cells.as_slice())?)
 }
 
-/// Puts for each gate its name and how many patterns it has, and whether all trees are covered.
+/// Appends for each gate its name and how many patterns it has, and whether all trees are covered.
 fn put_counts(
     alloc: Global,
     out: &mut Vec<u8>,
@@ -55,7 +61,7 @@ fn put_counts(
     put_value(alloc, out, &covers_all(patterns))
 }
 
-/// Puts a word and a number.
+/// Appends a word and a number.
 fn put_counted(
     alloc: Global,
     out: &mut Vec<u8>,
@@ -67,7 +73,7 @@ fn put_counted(
     put_value(alloc, out, &number)
 }
 
-/// Puts to which trees the first two pins are bound where a pin matches a leaf.
+/// Appends the trees to which the first two pins are bound when a pin matches a leaf.
 #[tactic(auto, using(crate::proofs::Changes::pin_is_below))]
 fn put_matches(alloc: Global, out: &mut Vec<u8>) -> Result<(), CaseFault> {
     let mut arena = Arena::new(alloc);
@@ -80,14 +86,15 @@ fn put_matches(alloc: Global, out: &mut Vec<u8>) -> Result<(), CaseFault> {
 
 /// The forest of a circuit.
 fn forest(alloc: Global, circuit: &Circuit) -> Result<Forest, ForestFault>
-    requires { IsSoundCircuit circuit.now }
+    requires { IsSound circuit.now }
     ensures { IfOk result (λ forest. (n : ℕ) → n < length forest.arena → size_of
         (tree_at forest.arena n) ≤ MAX_VERTICES) }
 {
     forest_of(alloc, circuit)
 }
 
-/// Puts each root of a circuit's forest with the size of its tree, or how many vertices there are.
+/// Appends each root of a circuit's forest with the size of its tree, or how many vertices there
+/// are.
 fn put_forest(
     alloc: Global,
     out: &mut Vec<u8>,
@@ -102,7 +109,7 @@ fn put_forest(
     }
 }
 
-/// Puts each root of a forest with the size of its tree.
+/// Appends each root of a forest with the size of its tree.
 fn put_roots(alloc: Global, out: &mut Vec<u8>, forest: &Forest) -> Result<(), CaseFault> {
     let sizes = forest.arena.sizes(alloc)?;
     for root in &forest.roots {
@@ -112,8 +119,8 @@ fn put_roots(alloc: Global, out: &mut Vec<u8>, forest: &Forest) -> Result<(), Ca
     Ok(())
 }
 
-/// Puts the covers of a circuit's trees by the gates of a library, each gate on a line where all is
-/// told, and their area and number together; or why there are none.
+/// Appends the covers of a circuit's trees by the gates of a library, each gate on a line if
+/// `is_whole`, and their total area and number; or why there are none.
 fn put_cover(
     alloc: Global,
     out: &mut Vec<u8>,
@@ -129,7 +136,7 @@ fn put_cover(
     cover_circuit(alloc, out, &library, &circuit, is_whole)
 }
 
-/// Puts the covers of a circuit's trees.
+/// Appends the covers of a circuit's trees.
 fn cover_circuit(
     alloc: Global,
     out: &mut Vec<u8>,
@@ -137,8 +144,8 @@ fn cover_circuit(
     circuit: &Circuit,
     is_whole: bool,
 ) -> Result<(), CaseFault>
-    requires library { IsSoundLibrary library.now }
-    requires circuit { IsSoundCircuit circuit.now }
+    requires library { IsSoundGates library.now }
+    requires circuit { IsSound circuit.now }
 {
     sound_libraries_cover_trees();
     let patterns = library_patterns(alloc, library)?;
@@ -148,7 +155,7 @@ fn cover_circuit(
     }
 }
 
-/// Puts the covers of the trees of a circuit, where the library covers all trees.
+/// Appends the covers of the trees of a circuit, if the library covers all trees.
 fn cover_trees(
     alloc: Global,
     out: &mut Vec<u8>,
@@ -158,7 +165,7 @@ fn cover_trees(
     is_whole: bool,
 ) -> Result<(), CaseFault>
     requires patterns { IsLibrary patterns.now.arena patterns.now.gates }
-    requires circuit { IsSoundCircuit circuit.now }
+    requires circuit { IsSound circuit.now }
 {
     match forest(alloc, circuit) {
         Ok(forest) => cover_forest(alloc, out, library, patterns, &forest, is_whole),
@@ -166,7 +173,7 @@ fn cover_trees(
     }
 }
 
-/// Puts the covers of the trees of a forest.
+/// Appends the covers of the trees of a forest.
 fn cover_forest(
     alloc: Global,
     out: &mut Vec<u8>,
@@ -183,7 +190,7 @@ fn cover_forest(
     put_covers(alloc, out, library, forest, &choices, is_whole)
 }
 
-/// Puts the covers that choices make.
+/// Appends the covers of some choices.
 fn put_covers(
     alloc: Global,
     out: &mut Vec<u8>,

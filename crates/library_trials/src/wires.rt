@@ -1,17 +1,22 @@
-//! Tables by themselves, who reads what, and circuits whose signals change places.
+//! Cases of single tables, of fanouts, and of circuits in which signals are substituted.
+//!
+//! `put_tables` renames the inputs of a circuit's tables and prints what calls of circuit_tables
+//! and net_wires answer; `put_readers` keeps a list of readers and asks who reads a signal;
+//! `put_aliases` exchanges two signals of a circuit, one of them complemented, and replaces and
+//! adds constant tables (net_readers, net_wires).
 
 use crate::puts::{put_circuit, put_table, put_text, put_value};
 use crate::reads::{circuit, names};
 use circuit_model::{Name, Table};
-use circuit_tables::{fold_table, is_tidy_table, tidied_table};
+use circuit_tables::{is_tidy_table, merge_repeated_inputs, tidied_table};
 use line_words::name_of;
-use net_readers::Readers;
+use net_readers::Fanouts;
 use net_wires::{AliasedTables, constant_table, rows_over};
 use sis_base::{Copied, Whole};
 use std::alloc::Global;
 use trial_cases::{Case, CaseFault};
 
-/// Puts the answer to a case of the tables of a circuit, whose inputs take the names of a word.
+/// Appends the answer to a case of the tables of a circuit, whose inputs get the names of a word.
 pub fn put_tables(
     alloc: Global,
     out: &mut Vec<u8>,
@@ -27,24 +32,24 @@ pub fn put_tables(
     Ok(())
 }
 
-/// Puts the answer about a table whose inputs take the names of a word.
+/// Appends the answer about a table whose inputs get the names of a word.
 fn put_of_table(
     alloc: Global,
     out: &mut Vec<u8>,
     case: &Case<'_>,
     table: &Table,
 ) -> Result<(), CaseFault> {
-    // A whole, so that letting it go is one call.
+    // Wrapped in a `Whole`, so that dropping it is one call.
     let mut renamed = Whole {
         it: table.copy(alloc)?,
     };
     renamed.it.inputs = names(alloc, case.word(2))?;
     match case.word(1) {
-        "fold_table" => put_table(
+        "merge_repeated_inputs" => put_table(
             alloc,
             out,
             &Whole {
-                it: fold_table(alloc, renamed.into_it())?,
+                it: merge_repeated_inputs(alloc, renamed.into_it())?,
             }
             .it,
         ),
@@ -66,10 +71,10 @@ fn put_of_table(
     }
 }
 
-/// Puts whether a signal is read, how many places read it, and which, where the place 0 read the
-/// names of a word and then those of the third, and the place 1 those of the second.
+/// Appends whether a signal is read, how many readers it has, and which. Reader 0 read the names of
+/// a word and then those of the third, reader 1 those of the second.
 pub fn put_readers(alloc: Global, out: &mut Vec<u8>, case: &Case<'_>) -> Result<(), CaseFault> {
-    let mut readers = Readers::of_none(alloc);
+    let mut readers = Fanouts::of_none(alloc);
     tell_readers(alloc, &mut readers, case)?;
     let name = name_of(alloc, case.word(4).as_bytes())?;
     put_value(alloc, out, &readers.has_readers(&name))?;
@@ -77,8 +82,8 @@ pub fn put_readers(alloc: Global, out: &mut Vec<u8>, case: &Case<'_>) -> Result<
     put_value(alloc, out, &readers.places(alloc, &name)?)
 }
 
-/// Tells who reads what.
-fn tell_readers(alloc: Global, readers: &mut Readers, case: &Case<'_>) -> Result<(), CaseFault> {
+/// Records who reads what.
+fn tell_readers(alloc: Global, readers: &mut Fanouts, case: &Case<'_>) -> Result<(), CaseFault> {
     let before = names(alloc, case.word(1))?;
     readers.add(alloc, 0, before.as_slice())?;
     readers.add(alloc, 1, names(alloc, case.word(2))?.as_slice())?;
@@ -87,8 +92,8 @@ fn tell_readers(alloc: Global, readers: &mut Readers, case: &Case<'_>) -> Result
     Ok(())
 }
 
-/// Puts the circuit of a text in which two signals changed places, the first turned over, the first
-/// table gave place to the constant 1, and the constant 0 was added.
+/// Appends the circuit of a text in which two signals are exchanged, the first complemented, the
+/// first table replaced by the constant 1, and the constant 0 added.
 pub fn put_aliases(
     alloc: Global,
     out: &mut Vec<u8>,
@@ -111,8 +116,8 @@ pub fn put_aliases(
     )
 }
 
-/// Two signals change places; puts who reads the first one then, and the first table once that is
-/// changed.
+/// Exchanges two signals; appends who reads the first one then, and the first table after that
+/// change.
 fn exchange(
     alloc: Global,
     out: &mut Vec<u8>,
@@ -132,7 +137,7 @@ fn exchange(
     }
 }
 
-/// The first table gives place to the constant 1, and the constant 0 is added.
+/// Replaces the first table by the constant 1, and adds the constant 0.
 fn change_first(alloc: Global, aliased: &mut AliasedTables, name: &Name) -> Result<(), CaseFault> {
     if aliased.len() > 0 {
         let constant = constant_table(alloc, name.copy(alloc)?, true)?;

@@ -1,6 +1,6 @@
-//! The program: it makes the real store, input and outputs, hands them to the top call with the
-//! words of the command line, and ends with its status. What a real file or stream holds is trusted
-//! and not proved.
+//! The program: it makes the real store, input and outputs, passes them to the top call with the
+//! words of the command line, and ends with its status. What a real file or stream contains is
+//! trusted and not proved.
 #![tactic(auto)]
 
 use sis_adapters::{RealStore, StdSink, StdSource, behind_name, words_of};
@@ -12,8 +12,8 @@ use std::env::Env;
 use std::io::ErrorKind;
 use std::process::ExitCode;
 
-/// The program's name and the words of the command line; where the arguments are not text, a name
-/// and one word that is not taken.
+/// The program's name and the words of the command line; if the arguments are not text, a name and
+/// one word that is not accepted.
 fn words<R: Env + AllocGlobal>(rt: &R) -> Result<Vec<Word>, AllocError> {
     let alloc = rt.alloc();
     match env::args(rt) {

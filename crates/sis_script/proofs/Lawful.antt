@@ -92,7 +92,8 @@ unfolding parse
 bad_stays_bad [] slots words more bad = bad_words (fill slots words) (fill slots (words ++ more)) (fill_bad slots words more) bad
 bad_stays_bad (option ∷ options) slots words more bad = at_bad Front (option ∷ options) slots words more bad
 
--- What holds of all that words give, by the words: at their end, behind an option without a value, behind one with a value, and behind its value.
+-- What holds of all results of the grammar, by the words: at their end, after an option without a
+-- value, after one with a value, and after its value.
 
 module _ (slots : List Slot) (Holds : Place → List OptionForm → Given → Type 0)
     (ends : (options : List OptionForm) (words : List (List ℕ)) (values : List Value) → Ok values ≡ fill slots words → Holds Front options (record { options = []; words = values }))

@@ -1,4 +1,4 @@
--- Words that may stand for a file.
+-- Words that may name a file.
 use Rattle.std.proofs.Common.{◌≡◌, ℕ, Bool, true, false, Some, None, List, refl, if◌then◌else◌}
 use Rattle.std.specs.Str.{IsUtf8, is_utf8}
 use Rattle.std.proofs.lemmas.Str.{IsUtf8-from_is_utf8, is_utf8-from_IsUtf8}
@@ -12,7 +12,7 @@ not_text bytes no_text = cases (is_utf8 bytes) refl
     cases true e = absurd (no_text (IsUtf8-from_is_utf8 bytes e))
     cases false e = e
 
--- text that begins with no `-` may stand for a file
+-- text that does not begin with `-` may name a file
 pub file_text : (bytes word : List ℕ) → begins_with 45 bytes ≡ false → IsUtf8 bytes → word ≡ bytes →
     Some word ≡ (if is_file_word bytes then Some bytes else None)
 file_text bytes word dash text same = let is_text = is_utf8-from_IsUtf8 bytes text in rw (is_text, dash, same) refl

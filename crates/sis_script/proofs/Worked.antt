@@ -135,7 +135,7 @@ decomposes : op_of (codes "decomp" ∷ []) ≡ Change Decomp
 unfolding op_of op_by form_named number_given parse fill
 decomposes = refl
 
--- words that lack, are one too many, or are of another kind
+-- words that are missing, are one too many, or are of another kind
 
 file_lacks : op_of (codes "read_blif" ∷ []) ≡ Bad MissingWord
 unfolding op_of op_by form_named parse fill

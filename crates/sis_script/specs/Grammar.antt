@@ -1,7 +1,7 @@
--- The grammar that all commands share: options first, in any order and each at most once, then the other words.
--- Source: the SIS manual's command language (UCB/ERL M92/41), whose commands are `name [-a] [-l VALUE] WORD ..`. The
--- words behind a command's name are judged from left to right, and the first that is wrong counts; that a word lacks
--- is found behind the last.
+-- The grammar that all commands share: options first, in any order and each at most once, then the
+-- other words. Source: the SIS manual's command language (UCB/ERL M92/41), whose commands are `name
+-- [-a] [-l VALUE] WORD ..`. The words after a command's name are judged from left to right, and the
+-- first wrong one counts; a missing word is found after the last.
 use Rattle.std.specs.Prelude.{ℕ, Bool, true, false, not, ◌&&◌, ◌==◌, Option, Some, None, Result, Ok, Err, List, [], ◌∷◌, bytes_eq, filter, find, if◌then◌else◌}
 use Rattle.sis_text.specs.Words.{begins_with}
 use Rattle.sis_script.specs.Kinds.{value_of}
@@ -16,7 +16,8 @@ use Rattle.sis_script.specs.declared.grammar.Slot.{Slot}
 use Rattle.sis_script.specs.declared.grammar.Slot.TheVariants.{Needed, Optional}
 use Rattle.sis_script.specs.declared.grammar.Given.{Given}
 
--- what a word gives, in front of what the words behind it give; a word that does not fit counts before all behind it
+-- the value of a word, put before those of the words after it; a word that does not fit counts
+-- before all after it
 abbrev pub with_word : Option Value → Result (List Value) ScriptFault → Result (List Value) ScriptFault
 with_word None rest = Err BadOption
 with_word (Some value) (Ok values) = Ok (value ∷ values)
@@ -27,12 +28,13 @@ abbrev pub kind_of : Slot → Kind
 kind_of (Needed kind) = kind
 kind_of (Optional kind) = kind
 
--- whether the first slot has to be filled
+-- whether the first slot must be filled
 abbrev pub lacks_word : List Slot → Bool
 lacks_word (Needed kind ∷ slots) = true
 lacks_word slots = false
 
--- Words fill slots in order. A word past the last slot is a bad option; a needed slot that stays empty lacks a word.
+-- Words fill slots in order. A word past the last slot is a bad option; a needed slot that stays
+-- empty is a missing word.
 unfoldable pub fill : List Slot → List (List ℕ) → Result (List Value) ScriptFault
 fill slots [] = if lacks_word slots then Err MissingWord else Ok []
 fill [] (word ∷ words) = Err BadOption
@@ -44,23 +46,25 @@ asks_integer (Needed Integer ∷ slots) = true
 asks_integer (Optional Integer ∷ slots) = true
 asks_integer slots = false
 
--- words where an option may stand, of which the first is none: it begins with `-` only where an integer is asked for
+-- words where an option may come, of which the first is not one: it may begin with `-` only if an
+-- integer is asked for
 abbrev pub fill_front : List Slot → List (List ℕ) → Result (List Value) ScriptFault
 fill_front slots [] = fill slots []
 fill_front slots (word ∷ words) =
     if begins_with 45 word && not (asks_integer slots) then Err BadOption else fill slots (word ∷ words)
 
--- what words give that stand behind all options
+-- the values of words that come after all options
 abbrev pub without_options : Result (List Value) ScriptFault → Result Given ScriptFault
 without_options (Ok values) = Ok (record { options = []; words = values })
 without_options (Err fault) = Err fault
 
--- an option in front of what the words behind it give
+-- an option, put before what the words after it give
 abbrev pub with_option : OptionGiven → Result Given ScriptFault → Result Given ScriptFault
 with_option option (Ok given) = Ok (record { options = option ∷ given.options; words = given.words })
 with_option option (Err fault) = Err fault
 
--- an option with its value in front of what the words behind it give; a value that does not fit counts before all behind it
+-- an option with its value, put before what the words after it give; a value that does not fit
+-- counts before all after it
 abbrev pub with_value : ℕ → Option Value → Result Given ScriptFault → Result Given ScriptFault
 with_value letter None rest = Err BadOption
 with_value letter (Some value) rest = with_option (record { letter = letter; value = Some value }) rest
@@ -77,12 +81,13 @@ option_of options word = find (is_option word) options
 abbrev pub without : ℕ → List OptionForm → List OptionForm
 without letter options = filter (λ option. not (option.letter == letter)) options
 
--- where a word stands: where an option may stand, or behind an option that asks for a value
+-- the position of a word: where an option may come, or after an option that requires a value
 pub data Place : Type 0 where
   Front : Place
   Behind : (letter : ℕ) → (kind : Kind) → Place
 
--- What words give where these options may still come and these slots are to be filled. Each option may come once.
+-- What words give if these options may still come and these slots are to be filled. Each option may
+-- come once.
 unfoldable pub parse_at : Place → List OptionForm → List Slot → List (List ℕ) → Result Given ScriptFault
 parse_at Front options slots [] = without_options (fill_front slots [])
 parse_at (Behind letter kind) options slots [] = Err MissingWord
@@ -95,8 +100,8 @@ parse_at Front options slots (word ∷ words) = elim (option_of options word) [
   ]
 ]
 
--- What the words behind a command's name give, by the options that it has and the slots for its other words. Where it
--- has no options, no word stands where an option may.
+-- What the words after a command's name give, by its options and the slots for its other words. If
+-- it has no options, all words go to the slots.
 unfoldable pub parse : List OptionForm → List Slot → List (List ℕ) → Result Given ScriptFault
 parse [] slots words = without_options (fill slots words)
 parse (option ∷ options) slots words = parse_at Front (option ∷ options) slots words

@@ -1,6 +1,7 @@
--- The kinds of words that a command may ask for, and what a word of each kind gives.
--- Source: the SIS manual's command language (UCB/ERL M92/41), where a word that begins with `-` is an option. That
--- numbers are decimal digits as they stand, and that a word of another kind is a bad option, is this program's choice.
+-- The kinds of words that a command may require, and the value of a word of each kind. Source: the
+-- SIS manual's command language (UCB/ERL M92/41), where a word that begins with `-` is an option.
+-- That numbers are plain decimal digits, and that a word of another kind is a bad option, is this
+-- program's choice.
 use Rattle.std.specs.Prelude.{ℕ, ◌-◌, ◌^◌, Bool, not, ◌&&◌, nat_le, nat_lt, Option, Some, None, option_map, List, length, drop, ℤ, pos, neg_ℤ, if◌then◌else◌, bytes_eq, codes}
 use Rattle.std.specs.Str.{is_utf8}
 use Rattle.std.specs.List.{list_all}
@@ -13,7 +14,7 @@ use Rattle.sis_script.specs.declared.kinds.Kind.TheVariants as kind
 use Rattle.sis_script.specs.declared.kinds.Value.{Value}
 use Rattle.sis_script.specs.declared.kinds.Value.TheVariants as value
 
--- a word that may stand for a file: text that does not begin as an option does
+-- a word that may name a file: text that does not begin as an option does
 abbrev pub is_file_word : List ℕ → Bool
 is_file_word word = is_utf8 word && not (begins_with 45 word)
 
@@ -21,12 +22,12 @@ is_file_word word = is_utf8 word && not (begins_with 45 word)
 abbrev pub are_digits : List ℕ → Bool
 are_digits word = nat_lt 0 (length word) && list_all is_digit word
 
--- the number that digits write, where it is within these bounds
+-- the number that digits denote, if it is within these bounds
 unfoldable pub number_within : ℕ → ℕ → List ℕ → Option ℕ
 number_within least most word =
     if are_digits word && (nat_le least (number_of word) && nat_le (number_of word) most) then Some (number_of word) else None
 
--- the integer of 32 bits that digits write, or digits behind a `-`
+-- the integer of 32 bits that digits denote, or digits after a `-`
 unfoldable pub integer_of : List ℕ → Option ℤ
 integer_of word =
     if begins_with 45 word
@@ -40,7 +41,7 @@ style_of word =
     else if bytes_eq word (codes "onehot") then Some style.OneHot
     else None
 
--- what a word gives where a word of this kind is asked for; nothing where it is of another kind
+-- the value of a word if a word of this kind is required; none if it is of another kind
 unfoldable pub value_of : Kind → List ℕ → Option Value
 value_of kind.File word = if is_file_word word then Some (value.File word) else None
 value_of kind.Name word = Some (value.Name word)

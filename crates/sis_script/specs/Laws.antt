@@ -1,5 +1,5 @@
--- What holds of all that words give, in the grammar's own words.
--- Source: the SIS manual's command language (UCB/ERL M92/41).
+-- What holds of all results of the grammar. Source: the SIS manual's command language (UCB/ERL
+-- M92/41).
 use Rattle.std.specs.Prelude.{◌≡◌, ◌≢◌, ℕ, ◌^◌, ◌≤◌, true, false, Ok, Err, List, [], ◌∷◌, ◌++◌, All, pos, neg_ℤ, ◌≤ℤ◌, ◌<ℤ◌}
 use Rattle.std.specs.Str.{is_utf8}
 use Rattle.sis_text.specs.Words.{begins_with}
@@ -14,12 +14,12 @@ use Rattle.sis_script.specs.declared.grammar.OptionGiven.{OptionGiven}
 use Rattle.sis_script.specs.declared.grammar.Slot.{Slot}
 use Rattle.sis_script.specs.declared.grammar.Given.{Given}
 
--- no option has a letter that another one before it has
+-- no option has the letter of an earlier one
 unfoldable pub AreOnce : List OptionGiven → Type 0
 AreOnce [] = Unit {0}
 AreOnce (option ∷ options) = All (λ other. other.letter ≢ option.letter) options × AreOnce options
 
--- what words give holds each option at most once
+-- the result of parsing has each option at most once
 abbrev pub OptionsComeOnce : Type 0
 OptionsComeOnce =
     (options : List OptionForm) (slots : List Slot) (words : List (List ℕ)) (given : Given) → parse options slots words ≡ Ok given → AreOnce given.options
@@ -34,18 +34,19 @@ Fits kind.NoComplement value.NoComplement = Unit {0}
 Fits kind.Style (value.Style named) = Unit {0}
 Fits kind value = ⊥
 
--- values fill slots: each is of its slot's kind, there are no more of them than slots, and no needed slot stays empty
+-- values fill slots: each is of its slot's kind, there are no more of them than slots, and no
+-- needed slot stays empty
 unfoldable pub FitSlots : List Slot → List Value → Type 0
 FitSlots slots [] = lacks_word slots ≡ false
 FitSlots [] (value ∷ values) = ⊥
 FitSlots (slot ∷ slots) (value ∷ values) = Fits (kind_of slot) value × FitSlots slots values
 
--- what words give fills the slots
+-- the other words of a command fill its slots
 abbrev pub WordsFitSlots : Type 0
 WordsFitSlots =
     (options : List OptionForm) (slots : List Slot) (words : List (List ℕ)) (given : Given) → parse options slots words ≡ Ok given → FitSlots slots given.words
 
--- what is bad stays bad, whatever words stand behind it
+-- a bad option stays one, whatever words follow
 abbrev pub BadStaysBad : Type 0
 BadStaysBad =
     (options : List OptionForm) (slots : List Slot) (words more : List (List ℕ)) → parse options slots words ≡ Err BadOption →

@@ -1,7 +1,7 @@
--- The commands of a script: one list of all of them, and what the words of a command make of it.
--- Source: the SIS manual's command language (UCB/ERL M92/41): `;` and line ends separate commands,
--- blanks separate words, and `#` begins a comment. There are no quotes or escapes. Grammar.antt
--- says how words are judged by the options and slots of their command.
+-- The commands of a script: one list of all of them, and which command words give. Source: the SIS
+-- manual's command language (UCB/ERL M92/41): `;` and line ends separate commands, blanks separate
+-- words, and `#` begins a comment. There are no quotes or escapes. Grammar.antt says how words are
+-- judged by the options and slots of their command.
 use Rattle.std.specs.Prelude.{ℕ, ◌==◌, Bool, is_some, Option, Some, None, Result, Ok, Err, List, [], ◌∷◌, bytes_eq, codes, find, min, option_map, unwrap_or, if◌then◌else◌}
 use Rattle.sis_text.specs.Entries.{Entry}
 use Rattle.sis_script.specs.Bounds.{most_rows, usual_rows, least_inputs, most_inputs, usual_inputs, most_seed, least_tables, most_tables}
@@ -24,8 +24,8 @@ use Rattle.sis_script.specs.declared.grammar.Slot.{Slot}
 use Rattle.sis_script.specs.declared.grammar.Slot.TheVariants.{Needed, Optional}
 use Rattle.sis_script.specs.declared.grammar.Given.{Given}
 
--- a command of the shell: its word, its options, the slots for its other words, and what it becomes
--- by the words that are given
+-- a command of the shell: its word, its options, the slots for its other words, and the operation
+-- that the given words make
 pub record Form : Type 0 where
   pub word : List ℕ
   pub options : List OptionForm
@@ -59,7 +59,7 @@ valued letter kind = record { letter = letter; kind = Some kind }
 abbrev pub bare : ℕ → OptionForm
 bare letter = record { letter = letter; kind = None }
 
--- the first of the words that are no options, if there is one
+-- the first of the words that are not options, if there is one
 abbrev pub first_word : Given → Option Value
 first_word given = elim given.words [ [] ↦ None | value ∷ values ↦ Some value ]
 
@@ -68,7 +68,7 @@ abbrev pub file_of : Option Value → Option (List ℕ)
 file_of (Some (value.File file)) = Some file
 file_of word = None
 
--- the name that a word is
+-- the name in a word
 abbrev pub name_of : Option Value → Option (List ℕ)
 name_of (Some (value.Name name)) = Some name
 name_of word = None
@@ -77,16 +77,16 @@ name_of word = None
 abbrev pub file_in : Given → Option (List ℕ)
 file_in given = file_of (first_word given)
 
--- the name that the first word is
+-- the name in the first word
 abbrev pub name_in : Given → Option (List ℕ)
 name_in given = name_of (first_word given)
 
--- a command that needs a word; where its slot is needed, the grammar has refused words without it
+-- a command that needs a word; if its slot is needed, the grammar has refused words without it
 abbrev pub needed : Option Op → Op
 needed None = Bad MissingWord
 needed (Some op) = op
 
--- the number that a value is, if there is one
+-- the number in a value, if there is one
 abbrev pub number_in : Option Value → Option ℕ
 number_in (Some (value.Number number)) = Some number
 number_in other = None
@@ -104,23 +104,23 @@ number_of (Some option) = number_in option.value
 unfoldable pub number_given : ℕ → List OptionGiven → Option ℕ
 number_given letter options = number_of (option_given letter options)
 
--- `eliminate` with the most rows that it allows, by the threshold that it needs
+-- `eliminate` with the greatest number of rows that it allows, by the threshold that it needs
 abbrev pub eliminate_by : ℕ → Option Value → Op
 eliminate_by rows (Some (value.Integer threshold)) = Change (change.Eliminate threshold rows)
 eliminate_by rows other = Bad MissingWord
 
--- `eliminate`: the most rows that it allows are the number of `-l`. The cap changes nothing, since
--- the grammar lets no greater number pass; it says that the number is within its type.
+-- `eliminate`: `-l` gives the greatest number of rows that it allows. The cap changes nothing,
+-- since the grammar lets no greater number pass; it says that the number is within its type.
 abbrev pub eliminate_op : Given → Op
 eliminate_op given =
     eliminate_by (min (unwrap_or (number_given letter_l given.options) usual_rows) most_rows)
     (first_word given)
 
--- the inputs that the option of a letter allows (capped as the rows of `eliminate` are)
+-- the number of inputs that the option of a letter allows (capped like the rows of `eliminate`)
 abbrev pub inputs_given : ℕ → List OptionGiven → ℕ
 inputs_given letter options = min (unwrap_or (number_given letter options) usual_inputs) most_inputs
 
--- `tech_decomp`: the inputs of products and of sums are the numbers of `-a` and `-o`
+-- `tech_decomp`: `-a` and `-o` give the inputs of products and of sums
 abbrev pub tech_decomp_op : Given → Op
 tech_decomp_op given =
     Change (change.TechDecomp (inputs_given letter_a given.options)
@@ -134,12 +134,12 @@ generate_by other = Bad MissingWord
 abbrev pub generate_op : Given → Op
 generate_op given = generate_by given.words
 
--- the style of state codes that a value names; the usual one where there is none
+-- the style of state codes in a value; the default if there is none
 abbrev pub style_in : Option Value → Style
 style_in (Some (value.Style named)) = named
 style_in other = style.Natural
 
--- `state_assign`: the machine's network, its states coded in the style that the first word names
+-- `state_assign`: the machine's network, its states coded in the style of the first word
 abbrev pub state_assign_op : Given → Op
 state_assign_op given = StateAssign (style_in (first_word given))
 
@@ -156,21 +156,21 @@ write_op given =
 abbrev pub map_op : Given → Op
 map_op given = Map (is_given letter_s given)
 
--- a command of its word alone
+-- a command that is one word
 abbrev pub plain : List ℕ → Op → Form
 plain word op = record { word = word; options = []; slots = []; becomes = λ given. op }
 
--- a command with one option, which is taken and asks for nothing else
+-- a command with one option, which is accepted and has no other effect
 abbrev pub plain_with : List ℕ → OptionForm → Op → Form
 plain_with word option op =
     record { word = word; options = option ∷ []; slots = []; becomes = λ given. op }
 
--- a command of one other word
+-- a command with one other word
 abbrev pub taking : List ℕ → Slot → (Given → Op) → Form
 taking word slot becomes =
     record { word = word; options = []; slots = slot ∷ []; becomes = becomes }
 
--- a command of a file, which it needs
+-- a command with a file, which it needs
 abbrev pub of_file : List ℕ → (List ℕ → Op) → Form
 of_file word op =
     taking word (Needed kind.File) (λ given. needed (option_map op (file_in given)))
@@ -179,12 +179,12 @@ of_file word op =
 abbrev pub to_file : List ℕ → (Option (List ℕ) → Op) → Form
 to_file word op = taking word (Optional kind.File) (λ given. op (file_in given))
 
--- a command of a name, which it needs
+-- a command with a name, which it needs
 abbrev pub of_name : List ℕ → (List ℕ → Op) → Form
 of_name word op =
     taking word (Needed kind.Name) (λ given. needed (option_map op (name_in given)))
 
--- a command of one name, if one is given, and else of all
+-- a command for one name, if one is given, and otherwise for all
 abbrev pub of_any_name : List ℕ → (Option (List ℕ) → Op) → Form
 of_any_name word op = taking word (Optional kind.Name) (λ given. op (name_in given))
 
@@ -237,7 +237,7 @@ mapping = record {
   becomes = map_op;
 }
 
--- the commands of the shell, but for `echo`, which takes any words
+-- the commands of the shell, except `echo`, which takes any words
 abbrev pub forms : List Form
 forms =
     plain (codes "quit") Quit
@@ -274,12 +274,12 @@ forms =
 unfoldable pub form_named : List ℕ → Option Form
 form_named word = find (λ (form : Form). bytes_eq word form.word) forms
 
--- a command by what its words give; words with a fault refuse it
+-- a command by what its words give; a fault in the words refuses it
 abbrev pub op_given : (Given → Op) → Result Given ScriptFault → Op
 op_given becomes (Ok given) = becomes given
 op_given becomes (Err fault) = Bad fault
 
--- a command by its other words, if its first word is one
+-- a command by its form and its other words; unknown if there is no form
 abbrev pub op_by_form : Option Form → List (List ℕ) → Op
 op_by_form None words = Bad BadCommand
 op_by_form (Some form) words = op_given form.becomes (parse form.options form.slots words)

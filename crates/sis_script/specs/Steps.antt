@@ -1,6 +1,5 @@
--- How options are taken off the front of words, one at a time. It serves the private functions that
--- take them; no public clause cites it.
--- Source: the grammar of this crate, of which these are the steps.
+-- How options are taken off the front of words, one at a time. Only private functions use it; no
+-- public clause cites it. Source: the grammar of this crate, of which these are the steps.
 use Rattle.std.specs.Prelude.{ℕ, Option, Some, None, Result, Ok, Err, List, [], ◌∷◌}
 use Rattle.sis_script.specs.Kinds.{value_of}
 use Rattle.sis_script.specs.Grammar.{option_of}
@@ -15,7 +14,7 @@ abbrev pub first_option : List OptionForm → List (List ℕ) → Option OptionF
 first_option options [] = None
 first_option options (word ∷ words) = option_of options word
 
--- how many words an option takes behind it
+-- how many words an option takes after itself
 abbrev pub width_of : Option Kind → ℕ
 width_of None = 0
 width_of (Some kind) = 1
@@ -25,7 +24,7 @@ abbrev pub value_or_fault : Option Value → Result (Option Value) ScriptFault
 value_or_fault None = Err BadOption
 value_or_fault (Some value) = Ok (Some value)
 
--- the value that an option takes from the words behind it, if it takes one
+-- the value that an option takes from the words after it, if it takes one
 abbrev pub value_behind : Option Kind → List (List ℕ) → Result (Option Value) ScriptFault
 value_behind None words = Ok None
 value_behind (Some kind) [] = Err MissingWord

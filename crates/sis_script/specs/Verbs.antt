@@ -1,6 +1,6 @@
--- What the rows of the code's table of commands mean. It serves the private functions that use the
--- table; no public clause cites it.
--- Source: the definition's list (Script.antt), whose words these are.
+-- What the rows of the code's table of commands mean. Only the private functions that use the table
+-- need it; no public clause cites it. Source: the definition's list (Script.antt), whose words
+-- these are.
 use Rattle.std.specs.Prelude.{ℕ, Option, List, bytes_eq, find, option_map}
 use Rattle.sis_script.specs.Script.{Form, needed, file_in, name_in, generate_op, eliminate_op, map_op, state_assign_op, tech_decomp_op, write_op}
 use Rattle.sis_script.specs.declared.command.Op.{Op}

@@ -1,4 +1,10 @@
-//! The commands of a script.
+//! The commands of a script, as values: `Op` with its words, `Change` for the commands that make a
+//! new network, and the faults of words.
+//!
+//! After the SIS manual's command language (UCB/ERL M92/41). Words are kept as they were read: a
+//! file name is text (`Word`), a signal name is any bytes (`RawWord`). A command with wrong words
+//! is an `Op::Bad`, which is refused when the script reaches it. Which words make which command is
+//! defined in `specs/Script.antt`.
 
 use sis_base::{Name, Sequence};
 use sis_text::Word;
@@ -11,11 +17,11 @@ pub type RawWords = Sequence<RawWord>;
 /// What a command does, with its words as they were read.
 #[derive(Debug, Drop)]
 pub enum Op {
-    /// Puts its words on the output, as a line.
+    /// Prints its words as a line.
     Echo(RawWords),
     /// Ends the run.
     Quit,
-    /// Reads a file as a circuit.
+    /// Reads a file as a circuit or a machine.
     ReadBlif(Word),
     /// Reads a file as a machine.
     ReadKiss(Word),
@@ -23,29 +29,29 @@ pub enum Op {
     ReadLibrary(Word),
     /// Makes the circuit of a seed and a number of tables.
     Generate(u64, u64),
-    /// Writes the network to a file, or to the output where no file is named.
+    /// Writes the network to a file, or to the output if no file is named.
     WriteBlif(Option<Word>),
-    /// Writes the machine to a file, or to the output where no file is named.
+    /// Writes the machine to a file, or to the output if no file is named.
     WriteKiss(Option<Word>),
-    /// Writes the mapped netlist to a file, or to the output where no file is named.
+    /// Writes the mapped netlist to a file, or to the output if no file is named.
     WriteNetlist(Option<Word>),
     /// Maps the network by the library; prints a line for each tree, or the total alone.
     Map(bool),
-    /// Prints how large the network is.
+    /// Prints the size of the network.
     PrintStats,
-    /// Prints the table of a name, or all tables where none is named.
+    /// Prints the table of a name, or all tables if none is named.
     Print(Option<RawWord>),
     /// Prints the latches.
     PrintLatch,
-    /// Prints the factored form of the table of a name, or of all tables where none is named.
+    /// Prints the factored form of the table of a name, or of all tables if none is named.
     PrintFactor(Option<RawWord>),
     /// Prints the kernels of the table of a name.
     PrintKernel(RawWord),
     /// Changes the network.
     Change(Change),
-    /// Makes the network of the machine, its states coded in this style.
+    /// Makes the network of the machine, with its states coded in this style.
     StateAssign(Style),
-    /// Takes the last change of the network back.
+    /// Undoes the last change of the network.
     Undo,
     /// Runs the commands of a file.
     Source(Word),
@@ -53,34 +59,34 @@ pub enum Op {
     Bad(ScriptFault),
 }
 
-/// A command that makes a new network of the one that is held.
+/// A command that makes a new network from the current one.
 #[derive(Clone, Copy, Debug, PartialEq, Eq)]
 pub enum Change {
-    /// Takes constants, single inputs and what is not needed out of it.
+    /// Removes constants, tables of a single input, and what is not needed.
     Sweep,
-    /// Takes inner tables of a value up to this number into their readers, where no reader comes to
-    /// more rows than this.
+    /// Eliminates inner tables of a value up to this number into their fanouts, unless a fanout
+    /// would get more rows than this.
     Eliminate(i32, u16),
-    /// Takes all inner tables into their readers.
+    /// Eliminates all inner tables into their fanouts.
     Collapse,
-    /// Makes each table minimal where its inputs' tables leave points free.
+    /// Minimizes each table, with don't-cares from the tables of its inputs.
     Simplify,
-    /// Makes each table minimal under all its don't-cares, one table after the other.
+    /// Minimizes each table under all its don't-cares, one table after the other.
     FullSimplify,
-    /// Makes tables of sums of two cubes and of products of two literals, as long as that saves
+    /// Extracts sums of two cubes and products of two literals as new tables, as long as that saves
     /// literals.
     Fx,
-    /// Makes tables of kernels, as long as that saves literals.
+    /// Extracts kernels as new tables, as long as that saves literals.
     Gkx,
-    /// Makes tables of cubes that rows share, as long as that saves literals.
+    /// Extracts cubes that rows share as new tables, as long as that saves literals.
     Gcx,
-    /// Divides tables by others that stand already, as long as that saves literals.
+    /// Divides tables by other existing tables, as long as that saves literals.
     Resub,
-    /// Takes literals that rows of a table share out of them: what else these rows have becomes a
+    /// Factors literals that rows of a table share out of them: the rest of these rows becomes a
     /// table of its own.
     Decomp,
-    /// Makes each table a product of at most so many literals, or a sum of at most so many of one
-    /// literal each.
+    /// Makes each table a product of at most so many literals, or a sum of at most so many rows of
+    /// one literal each.
     TechDecomp(u16, u16),
 }
 
@@ -98,13 +104,13 @@ pub enum Style {
 pub enum ScriptFault {
     /// Its first word is no command.
     BadCommand,
-    /// A word does not fit its place, or is one too many.
+    /// A word does not fit its slot, or is one too many.
     BadOption,
-    /// Each word fits its place, and a word that is needed lacks.
+    /// Each word fits its slot, but a needed word is missing.
     MissingWord,
 }
 
-/// A command and the line of the script on which it stands, from 1.
+/// A command and its line in the script, from 1.
 #[derive(Debug, Drop)]
 pub struct Command {
     pub line: usize,

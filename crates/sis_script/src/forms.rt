@@ -1,9 +1,9 @@
 //! The table of commands: for each its word, its options, the slots for its other words, its verb.
 //!
 //! After the commands of the SIS manual (UCB/ERL M92/41). The table is the list `forms` of
-//! `specs/Script`, row for row: `form_named` looks a word up, and is proved to find what the list
-//! has. A new command whose words say nothing of the change that it makes is a variant of `Change`,
-//! a line of the list and a row of the table.
+//! `specs/Script.antt`, row for row: `form_named` looks a word up and is proved to find what the
+//! list has. A new command whose words say nothing more of the change that it makes is a variant of
+//! `Change`, a line of the list and a row of the table.
 
 ghost use Rattle.std.specs.Prelude.{◌≡◌, option_map};
 ghost use Rattle.sis_script.specs.Script.{form_named};
@@ -14,23 +14,23 @@ use crate::grammar::{OptionForm, Slot};
 use crate::kinds::Kind;
 use sis_base::limits::{MAX_INPUTS, MAX_ROWS};
 
-/// The most rows that `eliminate` can be told to allow in a table.
+/// The greatest number of rows that `eliminate` can be asked to allow in a table.
 pub(crate) const MOST_ROWS: u64 = MAX_ROWS as u64;
-/// The most rows that `eliminate` allows in a table where nothing is said.
+/// The number of rows that `eliminate` allows in a table by default.
 pub(crate) const USUAL_ROWS: u64 = 1_000;
-/// The fewest inputs to which `tech_decomp` can be told to keep a table.
+/// The least number of inputs to which `tech_decomp` can be asked to limit a table.
 const LEAST_INPUTS: u64 = 2;
-/// The most inputs to which `tech_decomp` can be told to keep a table.
+/// The greatest number of inputs to which `tech_decomp` can be asked to limit a table.
 pub(crate) const MOST_INPUTS: u64 = MAX_INPUTS as u64;
-/// The inputs to which `tech_decomp` keeps a table where nothing is said.
+/// The number of inputs to which `tech_decomp` limits a table by default.
 pub(crate) const USUAL_INPUTS: u64 = 2;
 
-/// The fewest tables of the circuit that `gen` makes.
+/// The least number of tables of the circuit that `gen` makes.
 const LEAST_TABLES: u64 = 8;
-/// The most tables of the circuit that `gen` makes.
+/// The greatest number of tables of the circuit that `gen` makes.
 pub const MOST_TABLES: u64 = 20_000;
 
-/// What a command becomes by what its words give.
+/// The operation that a command becomes by what its words give.
 #[derive(Clone, Copy)]
 pub(crate) enum Verb {
     Quit,
@@ -55,7 +55,7 @@ pub(crate) enum Verb {
     Map,
 }
 
-/// A command: its word, its options, the slots for its other words, and what these make of it.
+/// A command: its word, its options, the slots for its other words, and its verb.
 #[derive(Clone, Copy)]
 pub(crate) struct CommandForm {
     pub(crate) word: &'static [u8],
@@ -140,7 +140,7 @@ macro_rules! form {
     };
 }
 
-/// The commands, but for `echo`, which takes any words.
+/// The commands, except `echo`, which takes any words.
 const FORMS: &[CommandForm] = &[
     form!(b"quit", &[], &[], Verb::Quit),
     form!(b"read_blif", &[], &[FILE], Verb::ReadBlif),

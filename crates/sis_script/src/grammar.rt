@@ -3,8 +3,8 @@
 //!
 //! After the command language of the SIS manual (UCB/ERL M92/41). A command is given by its
 //! options, each with its letter and perhaps a kind of value, and by the slots for its other words.
-//! Promised: `parse` answers just what `specs/Grammar` says that the words give, or the fault that
-//! it says; its only error is want of memory.
+//! `parse` returns exactly the values that `specs/Grammar.antt` defines, or the fault that it
+//! defines; its only error is want of memory.
 
 ghost use Rattle.std.specs.Prelude.{◌≡◌, ◌==◌, not, map, filter, drop, find, [], ◌∷◌, IfOk, Some, None};
 ghost use Rattle.sis_text.specs.Words.{bytes_at};
@@ -43,12 +43,12 @@ pub(crate) struct OptionGiven {
     pub(crate) value: Option<Value>,
 }
 
-/// The place of a word that is no option.
+/// The slot of a word that is not an option.
 #[derive(Clone, Copy)]
 pub(crate) enum Slot {
-    /// A word of this kind has to stand there.
+    /// A word of this kind must come here.
     Needed(Kind),
-    /// A word of this kind may stand there.
+    /// A word of this kind may come here.
     Optional(Kind),
 }
 
@@ -74,7 +74,7 @@ fn kind_of(slot: Slot) -> Kind
     }
 }
 
-/// What stands behind the first `count` items.
+/// The items after the first `count`.
 #[tactic(auto, using(std::proofs::lemmas::List::drop_min, std::proofs::lemmas::Grind::common_steps))]
 fn skip<T>(count: usize, items: &[T]) -> &[T]
     ensures { result.now ≡ drop count items.now }
@@ -82,7 +82,7 @@ fn skip<T>(count: usize, items: &[T]) -> &[T]
     &items[count.min(items.len())..]
 }
 
-/// Whether the first slot has to be filled.
+/// Whether the first slot must be filled.
 fn lacks_word(slots: &[Slot]) -> bool
     ensures { result ≡ lacks_word slots.now }
 {
@@ -92,7 +92,7 @@ fn lacks_word(slots: &[Slot]) -> bool
     }
 }
 
-/// What words give that are to fill slots.
+/// The values of words that are to fill slots, or the fault.
 fn fill(
     alloc: Global,
     slots: &[Slot],
@@ -130,7 +130,7 @@ fn asks_integer(slots: &[Slot]) -> bool
     }
 }
 
-/// What words give that are to fill slots where an option may stand, the first of which is none.
+/// The values of words that are to fill slots, if an option may come and the first word is not one.
 fn fill_front(
     alloc: Global,
     slots: &[Slot],
@@ -176,7 +176,7 @@ fn first_option(options: &[OptionForm], source: &[u8], words: &[Span]) -> Option
     }
 }
 
-/// How many words an option takes behind it.
+/// How many words an option takes after itself.
 fn width_of(kind: Option<Kind>) -> usize
     ensures { result ≡ width_of kind }
 {
@@ -197,7 +197,7 @@ fn without(alloc: Global, letter: u8, options: &[OptionForm]) -> Result<Vec<Opti
         .collect(alloc)
 }
 
-/// The value of an option, from the words behind it.
+/// The value of an option, from the words after it.
 fn value_behind(
     alloc: Global,
     kind: Option<Kind>,
@@ -219,7 +219,7 @@ fn value_behind(
     }
 }
 
-/// What words give where these options may come and these slots are to be filled.
+/// What words give if these options may come and these slots are to be filled.
 fn parse_front(
     alloc: Global,
     options: &[OptionForm],
@@ -254,8 +254,8 @@ fn parse_front(
     }
 }
 
-/// What the words behind a command's name give, by the options that it has and the slots for its
-/// other words; the first fault where they do not fit. An error only for want of memory.
+/// What the words after a command's name give, by its options and the slots for its other words;
+/// the first fault if they do not fit.
 #[tactic(auto, unfolding(crate::specs::Grammar::parse))]
 pub(crate) fn parse(
     alloc: Global,

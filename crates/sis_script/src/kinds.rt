@@ -1,16 +1,17 @@
-//! The kinds of words that a command may ask for, and what a word of each kind gives.
+//! The kinds of words that a command may require, and the value of a word of each kind.
 //!
-//! After the command language of the SIS manual (UCB/ERL M92/41). Promised: a word gives just what
-//! `specs/Kinds` says; the only error is want of memory.
+//! After the command language of the SIS manual (UCB/ERL M92/41). `value_of` returns exactly the
+//! value that `specs/Kinds.antt` defines, or none if the word is of another kind. A `File` is UTF-8
+//! text that does not begin with `-`; numbers are decimal digits within their bounds, and an
+//! integer fits 32 bits.
 
 ghost use Rattle.std.specs.Prelude.{◌≡◌, ◌+◌, ◌-◌, ◌*◌, ◌^◌, ◌<◌, ◌≤◌, min, IfOk, IfSome, Some, None, if◌then◌else◌, true, length};
-ghost use Rattle.std.specs.List.{list_all};
-ghost use Rattle.sis_text.specs.Decimals.{is_digit, number_of};
+ghost use Rattle.sis_text.specs.Decimals.{number_of};
 ghost use Rattle.sis_text.specs.Words.{begins_with};
 ghost use Rattle.sis_script.specs.Kinds.{are_digits, integer_of, is_file_word, number_within, style_of, value_of};
 
 use crate::command::{RawWord, Style};
-use sis_text::Word;
+use sis_text::{Word, are_digits as all_digits};
 use std::alloc::{AllocError, Global};
 
 /// What a word may be.
@@ -24,7 +25,7 @@ pub(crate) enum Kind {
     Number(u64, u64),
     /// Decimal digits, or a `-` and decimal digits, of an integer of 32 bits.
     Integer,
-    /// The word `nocomp`, by which no complement is to be made.
+    /// The word `nocomp`: no complement is computed.
     NoComplement,
     /// The word `natural` or `onehot`, a style of state codes.
     Style,
@@ -51,7 +52,7 @@ pub(crate) fn begins_with_dash(word: &[u8]) -> bool
     }
 }
 
-/// The word that may stand for a file, if these bytes are one.
+/// The word that names a file, if these bytes are one.
 fn file_word(alloc: Global, bytes: &[u8]) -> Result<Option<Word>, AllocError>
     ensures { IfOk result (λ word. word ≡
         (if is_file_word bytes.now then Some bytes.now else None)) }
@@ -72,13 +73,6 @@ pub(crate) fn raw_word(alloc: Global, bytes: &[u8]) -> Result<RawWord, AllocErro
     RawWord::from_slice(alloc, bytes)
 }
 
-/// Whether a byte is a decimal digit.
-fn is_digit(byte: u8) -> bool
-    ensures { result ≡ is_digit byte }
-{
-    b'0' <= byte && byte <= b'9'
-}
-
 /// The number that digits write, or the greatest of 128 bits where it is above that.
 fn capped_number(digits: &[u8]) -> u128
     ensures { result ≡ min (number_of digits.now) (2 ^ 128 - 1) }
@@ -92,13 +86,6 @@ fn capped_number(digits: &[u8]) -> u128
     number
 }
 
-/// Whether all bytes are decimal digits.
-fn all_digits(word: &[u8]) -> bool
-    ensures { result ≡ list_all is_digit word.now }
-{
-    word.iter().all(|byte| is_digit(*byte))
-}
-
 /// Whether there are decimal digits and nothing else.
 fn are_digits(word: &[u8]) -> bool
     ensures { result ≡ are_digits word.now }
@@ -106,7 +93,7 @@ fn are_digits(word: &[u8]) -> bool
     !word.is_empty() && all_digits(word)
 }
 
-/// The number that digits write, where it is within these bounds.
+/// The number that digits denote, if it is within these bounds.
 #[tactic(auto, using(crate::proofs::Numbers::found_within), unfolding(crate::specs::Kinds::number_within))]
 fn number_within(least: u64, most: u64, word: &[u8]) -> Option<u64>
     ensures value { result ≡ number_within least most word.now }
@@ -123,7 +110,7 @@ fn number_within(least: u64, most: u64, word: &[u8]) -> Option<u64>
     }
 }
 
-/// The integer of 32 bits that digits write, or digits behind a `-`.
+/// The integer of 32 bits that digits denote, or digits after a `-`.
 #[tactic(auto, unfolding(crate::specs::Kinds::integer_of))]
 fn integer_of(word: &[u8]) -> Option<i32>
     ensures { result ≡ integer_of word.now }
@@ -137,7 +124,7 @@ fn integer_of(word: &[u8]) -> Option<i32>
     }
 }
 
-/// The style of state codes that a word names, if it names one.
+/// The style of state codes that a word names, if any.
 fn style_of(word: &[u8]) -> Option<Style>
     ensures { result ≡ style_of word.now }
 {
@@ -150,7 +137,7 @@ fn style_of(word: &[u8]) -> Option<Style>
     }
 }
 
-/// What a word gives where a word of this kind is asked for.
+/// The value of a word if a word of this kind is required.
 #[tactic(auto, unfolding(crate::specs::Kinds::value_of))]
 pub(crate) fn value_of(alloc: Global, kind: Kind, word: &[u8]) -> Result<Option<Value>, AllocError>
     ensures { IfOk result (λ value. value ≡ value_of kind word.now) }

@@ -1,9 +1,9 @@
 //! The commands of a script.
 //!
 //! The command language is that of SIS (UCB/ERL M92/41) without quoting: `;` and line ends separate
-//! commands, blanks separate words, and `#` begins a comment. `specs/Script` lists the commands,
-//! each with its options and the slots for its other words. Promised: `commands` returns just the
-//! commands of that definition, each with its line; the only error is want of memory.
+//! commands, blanks separate words, and `#` begins a comment. `specs/Script.antt` lists the
+//! commands, each with its options and the slots for its other words. `commands` returns exactly
+//! the commands of that definition, each with its line.
 #![tactic(auto)]
 
 mod command;

@@ -1,4 +1,10 @@
-//! The commands of a script, each by its words.
+//! The commands of a script, each from its words.
+//!
+//! After the SIS manual's command language (UCB/ERL M92/41), without quotes or escapes. `commands`
+//! splits the script into pieces (`script_pieces` of sis_text), looks up the form of the first word
+//! of each and parses the other words by its options and slots. The result is exactly `map
+//! command_of` of the pieces (`specs/Script.antt`), each command with its line. Reading never fails
+//! for the words: a wrong piece becomes a command that is refused when it is reached.
 
 ghost use Rattle.std.specs.Prelude.{◌≡◌, min, unwrap_or, map, option_map, IfOk, Some};
 ghost use Rattle.sis_text.specs.Words.{bytes_at};
@@ -48,7 +54,7 @@ fn raw_words(alloc: Global, source: &[u8], words: &[Span]) -> Result<RawWords, A
     Ok(made)
 }
 
-/// The first of the words that are no options, if there is one.
+/// The first of the words that are not options, if there is one.
 fn first_word(given: Given) -> Option<Value>
     ensures { result ≡ first_word given }
 {
@@ -70,7 +76,7 @@ fn file_in(given: Given) -> Option<Word>
     }
 }
 
-/// The name that the first word is.
+/// The name in the first word.
 fn name_in(given: Given) -> Option<RawWord>
     ensures { result ≡ name_in given }
 {
@@ -80,7 +86,7 @@ fn name_in(given: Given) -> Option<RawWord>
     }
 }
 
-/// A command that needs a word, which the grammar has refused without it.
+/// A command that needs a word; the grammar has refused words without it.
 fn needed(op: Option<Op>) -> Op
     ensures { result ≡ needed op }
 {
@@ -90,7 +96,7 @@ fn needed(op: Option<Op>) -> Op
     }
 }
 
-/// The number that a value is, if there is one.
+/// The number in a value, if there is one.
 fn number_in(value: &Option<Value>) -> Option<u64>
     ensures { result ≡ number_in value.now }
 {
@@ -118,7 +124,7 @@ fn number_given(letter: u8, options: &[OptionGiven]) -> Option<u64>
     }
 }
 
-/// `eliminate`, by its threshold and the most rows that it allows.
+/// `eliminate`, by its threshold and the greatest number of rows that it allows.
 fn eliminate_op(given: Given) -> Op
     ensures { result ≡ eliminate_op given }
 {
@@ -130,7 +136,7 @@ fn eliminate_op(given: Given) -> Op
     }
 }
 
-/// The inputs that the option of a letter allows.
+/// The number of inputs that the option of a letter allows.
 fn inputs_given(letter: u8, options: &[OptionGiven]) -> u16
     ensures { result ≡ inputs_given letter options.now }
 {
@@ -158,7 +164,7 @@ fn generate_op(given: Given) -> Op
     }
 }
 
-/// The style of state codes that a value names; the usual one where there is none.
+/// The style of state codes in a value; the default if there is none.
 fn style_in(value: Option<Value>) -> Style
     ensures { result ≡ style_in value }
 {
@@ -291,9 +297,9 @@ fn commands_of(alloc: Global, source: &[u8], pieces: &[Line]) -> Result<Commands
     Ok(found)
 }
 
-/// The commands of a script, in order: lines are cut before the first `#` and separated at `;`,
-/// words at blanks. Words that are no command, or do not fit theirs, are a command that is refused
-/// when it is reached. An error only for want of memory.
+/// The commands of a script, in order: lines are cut before the first `#` and split at `;`, words
+/// at blanks. Words that are no command, or do not fit theirs, become a command that is refused
+/// when it is reached.
 pub fn commands(alloc: Global, script: &[u8]) -> Result<Commands, AllocError>
     ensures { IfOk result (λ commands. commands ≡ map command_of (script_entries_of script.now)) }
 {

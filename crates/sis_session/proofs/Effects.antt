@@ -1,4 +1,4 @@
--- What is held behind a command that is done, and what a command saves or puts.
+-- What is held after a command that is done, and what a command saves or prints.
 use Rattle.std.proofs.Common.{◌≡◌, ℕ, ◌≤◌, Bool, true, false, List, [], ◌∷◌, refl, sym, ap, subst, ◌∙◌, inl, inr, arith}
 use Rattle.std.proofs.lemmas.Bool.Decides.{nat_tests}
 use Rattle.std.specs.Prelude.{Option, Some, None, Result, Ok, Err, nat_le, nat_lt, if◌then◌else◌}
@@ -22,12 +22,12 @@ use Rattle.blif_read.proofs.WhatIsRead.{spec_sound}
 use Rattle.blif_read.specs.Limits.{IsSoundSpec}
 use Rattle.blif_read.specs.Reader.{read_lines}
 use Rattle.circuit_model.specs.MachineBehaviors.{of_machine, of_spec}
-use Rattle.circuit_model.specs.MachineSoundness.{IsSound as IsSoundMachine}
-use Rattle.circuit_model.specs.MachineText.{text_of as machine_text_of}
+use Rattle.circuit_model.specs.MachineSoundness.{IsSoundMachine}
+use Rattle.circuit_model.specs.MachineText.{machine_text_of}
 use Rattle.circuit_model.specs.declared.machine.Machine.{Machine}
 use Rattle.circuit_model.specs.declared.machine.Spec.{Spec}
 use Rattle.circuit_model.specs.declared.machine.Spec.TheVariants as asked
-use Rattle.kiss_format.specs.Reader.{read_lines as machine_lines_read}
+use Rattle.kiss_format.specs.Reader.{read_machine_lines}
 use Rattle.kiss_format.proofs.Sound.{read_sound}
 use Rattle.kiss_format.specs.declared.fault.KissFault.{KissFault}
 use Rattle.genlib_format.specs.Reader.{library_of}
@@ -59,12 +59,12 @@ use Rattle.state_code.specs.Codes.{leaf_count}
 use Rattle.state_code.specs.Codes.{codes_of}
 use Rattle.state_code.specs.Encoded.{encoded}
 use Rattle.sis_session.specs.Replies.{codes_text}
-use Rattle.state_code.specs.declared.codes.Style.{Style as Coding}
+use Rattle.state_code.specs.declared.codes.Style.{Style}
 use Rattle.state_code.proofs.CircuitSound.{encoded_sound}
 use Rattle.state_code.proofs.CircuitValues.{encoded_refines}
 use Rattle.sis_session.specs.Commands.{Blif, ChangedBy, Changes, ChangesNetwork, EncodesMachine, Ends, coding_of, encoded_reply, Form, Format, FormPlans, Generates, IsWrong, Kiss, MakesNetlist, MappedBy, Plans, Reads, ReadsLibrary, Replies, Sources, StaysTold, TakesBack, Tells, TheMachine, TheNetlist, TheNetwork, Writes, Written, OfSpec, OfNetlist, blif_read, circuit_of, commands_in, form_of, kiss_read, last_read, library_held, machine_of, netlist_of, network_of, part_of, read_by, reply_with, spec_held, spec_in, undo_outcome, written_text}
 use Rattle.netlist.specs.Lines.{netlist_text_of}
-use Rattle.genlib_format.specs.Soundness.{IsSound as IsSoundGates}
+use Rattle.genlib_format.specs.Soundness.{IsSoundGates}
 use Rattle.map_net.specs.Mapping.{IsMapped}
 use Rattle.map_net.proofs.MappedNets.{mapped_parted, mapped_refines, mapped_sound}
 use Rattle.sis_session.specs.Keeping.{RefinesSpec, MachineRefines, HasMapped, IsMappedFrom, IsMapping, IsRefined, IsTextOf, IsWriting, TellsAreas, WritesTo}
@@ -78,7 +78,7 @@ use Rattle.sis_session.specs.declared.refusal.Refusal.{Refusal}
 use Rattle.sis_session.specs.declared.refusal.Refusal.TheVariants as refusal
 use Rattle.sis_session.proofs.GeneratedCircuits.{circuit_sound}
 
--- what is held has a property where an outcome is to do something, and behind a plan that ends done
+-- what is held has a property if an outcome is to do something, and after a plan that ends done
 abbrev Leaves : (Held → Type 0) → Outcome → Type 0
 Leaves is (Does held next) = is held
 Leaves is (Refuses why) = Unit {0}
@@ -163,7 +163,7 @@ sound_spec : (library : Option Library) (bytes : List ℕ) (read : Spec) → rea
 sound_spec library bytes read reads = spec_sound library (entries_of bytes) read (proper_words bytes) reads
 
 -- and so is a machine
-sound_machine : (bytes : List ℕ) (machine : Machine) → machine_lines_read (entries_of bytes) ≡ Ok machine → IsSoundMachine machine
+sound_machine : (bytes : List ℕ) (machine : Machine) → read_machine_lines (entries_of bytes) ≡ Ok machine → IsSoundMachine machine
 sound_machine bytes machine reads = read_sound (entries_of bytes) machine (proper_words bytes) reads
 
 -- a circuit that was just read refines itself, and so does a machine
@@ -199,7 +199,7 @@ no_netlist library network = record { each = λ netlist is. absurd (none netlist
     none : (netlist : Netlist) → None ≡ Some netlist → ⊥
     none netlist is = cc
 
--- what is held behind a file that was read
+-- what is held after a file was read
 circuit_held : (held : Held) (circuit : Circuit) → IsSound circuit
     → IsRefined (Some (asked.Circuit circuit)) (with_read held circuit)
 circuit_held held circuit sound = record {
@@ -227,7 +227,7 @@ circuit_in held name bytes read (Ok one) reads is =
     let same : one ≡ read = cc in subst IsSoundSpec same (sound_spec held.library bytes one reads)
 circuit_in held name bytes read (Err fault) reads is = cc
 
-machine_in : (name bytes : List ℕ) (read : Spec) (answer : Result Machine KissFault) → machine_lines_read (entries_of bytes) ≡ answer
+machine_in : (name bytes : List ℕ) (read : Spec) (answer : Result Machine KissFault) → read_machine_lines (entries_of bytes) ≡ answer
     → kiss_read name answer ≡ Ok read → IsSoundSpec read
 machine_in name bytes read (Ok machine) reads is =
     let same : asked.Machine machine ≡ read = cc in subst IsSoundSpec same (sound_machine bytes machine reads)
@@ -235,7 +235,7 @@ machine_in name bytes read (Err fault) reads is = cc
 
 sound_in : (format : Format) (held : Held) (name bytes : List ℕ) (read : Spec) → spec_in format held name bytes ≡ Ok read → IsSoundSpec read
 sound_in Blif held name bytes read is = circuit_in held name bytes read (read_lines held.library (entries_of bytes)) refl is
-sound_in Kiss held name bytes read is = machine_in name bytes read (machine_lines_read (entries_of bytes)) refl is
+sound_in Kiss held name bytes read is = machine_in name bytes read (read_machine_lines (entries_of bytes)) refl is
 
 spec_leaves : (held : Held) (answer : Result Spec Refusal)
     → ((read : Spec) → answer ≡ Ok read → IsSoundSpec read)
@@ -332,7 +332,7 @@ changed_ok spec held change (Some old) reply there refined (Ok new, changes, is)
 changed_ok spec held change (Some old) reply there refined (Err why, changes, is) = subst (OnOkReply (λ h. IsRefined spec h)) (sym is) tt
 
 -- the network of a machine that is held refines what that refines
-encoded_leads : (spec : Option Spec) (coding : Coding) (machine : Machine)
+encoded_leads : (spec : Option Spec) (coding : Style) (machine : Machine)
     → leaf_count coding machine ≤ MAX_INPUTS → MachineRefines spec (Some machine)
     → RefinesSpec spec (Some (encoded coding machine))
 encoded_leads spec coding machine narrow before circuit same =
@@ -364,7 +364,7 @@ encoded_held spec held (Some old) new there refined is = record {
   previous_netlist = refined.netlist;
 }
 
-encoded_by_ok : (spec : Option Spec) (held : Held) (coding : Coding) (machine : Machine)
+encoded_by_ok : (spec : Option Spec) (held : Held) (coding : Style) (machine : Machine)
     (small : Bool) → nat_le (leaf_count coding machine) MAX_INPUTS ≡ small
     → IsRefined spec held → MachineRefines spec (Some machine)
     → OnOkReply (λ h. IsRefined spec h) (if small then Ok (record {
@@ -376,7 +376,7 @@ encoded_by_ok spec held coding machine true narrow refined refines =
     (encoded_leads spec coding machine (grind (arith, nat_tests)) refines)
 encoded_by_ok spec held coding machine false wide refined refines = tt
 
-encoded_ok : (spec : Option Spec) (held : Held) (coding : Coding) (there : Option Machine)
+encoded_ok : (spec : Option Spec) (held : Held) (coding : Style) (there : Option Machine)
     → held.machine ≡ there → IsRefined spec held
     → OnOkReply (λ h. IsRefined spec h) (encoded_reply coding held there)
 encoded_ok spec held coding None is refined = tt
@@ -500,7 +500,7 @@ refined_nothing spec = record {
   previous_netlist = no_netlist None None;
 }
 
--- what a plan saves, and what it puts
+-- what a plan saves, and what it prints
 abbrev IsSave : List ℕ → List ℕ → Plan → Type 0
 IsSave name bytes (Saves to sent outcome) = (name ≡ to) × (bytes ≡ sent)
 IsSave name bytes (Quiet outcome) = ⊥
@@ -529,7 +529,7 @@ goes_put (Saves to sent outcome) call ending goes = absurd goes
 goes_put (Puts reply outcome) call ending goes = goes.0
 goes_put (Takes used) call ending goes = absurd goes
 
--- a reply that is put is not saved
+-- a reply that is printed is not saved
 replies_save_nothing : (text : List ℕ) (outcome : Outcome) (name bytes : List ℕ) → IsSave name bytes (replies text outcome) → ⊥
 replies_save_nothing [] outcome name bytes saves = saves
 replies_save_nothing (byte ∷ rest) outcome name bytes saves = saves
@@ -655,7 +655,7 @@ pub put_step : (depth : ℕ) (held : Held) (op : Op) (call : PutCall) (ending : 
 put_step depth held op call ending writing (by_plan plan planned goes) = form_puts depth held (form_of op) plan call.piece writing planned (goes_put plan call ending goes)
 put_step depth held op call ending writing (no_memory none cut) = cc
 
--- what `map` puts tells the areas of its netlist
+-- what `map` prints is the areas of its netlist
 mapped_puts : (held : Held) (brief : Bool) (network : Option Circuit) (library : Option Library)
     (reply : Result Reply Refusal) (piece : List ℕ) → held.network ≡ network
     → held.library ≡ library → MappedBy brief held network library reply

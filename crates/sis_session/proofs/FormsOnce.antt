@@ -1,5 +1,5 @@
--- What is told of a table is one text: its factored form is one, and two lists of all its kernels
--- in rising order are one.
+-- What is printed of a table is one text: its factored form is unique, and two lists of all its
+-- kernels in rising order are equal.
 use Rattle.std.proofs.Common.{◌≡◌, ℕ, List, [], ◌∷◌, ◌++◌, flat_map, refl, sym, ap, ◌∙◌, subst, inl, inr, Ordering, Less, Equal}
 use Rattle.std.specs.Cmp.{IsTotalOrder}
 use Rattle.std.specs.Prelude.{Bool, Option, length}

@@ -39,7 +39,7 @@ pub both_alone : {S O : Type 0} (goes : S → StoreCall → S → Type 0) (puts 
     → Did plans AskedNone AskedNone ending → Did plans (Follows goes store store) (Follows puts out out) ending
 both_alone goes puts plans store out ending h = out_alone goes plans (Follows puts out out) store ending (store_alone puts plans AskedNone out ending h)
 
--- nothing was asked, by a plan that asks nothing, or since memory was wanting before
+-- nothing was asked, by a plan that asks nothing, or since memory ran out before
 pub quiet_did : (plans : Plan → Type 0) (outcome : Outcome) (ending : Ending) → plans (Quiet outcome) → Comes outcome ending → Did plans AskedNone AskedNone ending
 quiet_did plans outcome ending is comes = record { asked = Nothing; steps = by_plan (Quiet outcome) is comes; store_went = refl; out_went = refl; input_kept = refl }
 
@@ -57,12 +57,12 @@ loaded_did goes name used old new bytes ending h comes = record {
   input_kept = refl;
 }
 
--- memory may be wanting before any outcome
+-- memory may run out before any outcome
 pub wanting : (outcome : Outcome) → Comes outcome (Cut failed.Memory)
 wanting (Does held next) = inr refl
 wanting (Refuses why) = inr refl
 
--- memory was wanting behind an answer that is no failure
+-- memory ran out after an answer that is not a failure
 wanting_loaded : (name : List ℕ) (used : List ℕ → Outcome) (answer : Result (List ℕ) LoadFault) → load_failed answer ≡ false → ComesLoaded name used answer (Cut failed.Memory)
 wanting_loaded name used (Ok bytes) h = wanting (used bytes)
 wanting_loaded name used (Err load.Missing) h = inr refl
@@ -112,7 +112,7 @@ unloaded_did goes name used old new fault.SinkFault h = absurd h
 unloaded_did goes name used old new fault.Memory h =
     by_load goes name used old new h.0 _ h.2 (wanting_loaded name used h.0 h.1)
 
--- what is told was put
+-- the text was printed
 pub put_sent : {O : Type 0} (puts : O → PutCall → O → Type 0) (held : Held) (text : List ℕ) (old new : O) (answer : Result Next StepFault)
     → HasPut puts text old answer new → Did (λ plan. plan ≡ sends None (reply_with held (Ok text))) AskedNone (Follows puts old new) (ended answer held)
 put_sent puts held [] old new answer h = record {
@@ -146,7 +146,7 @@ put_sent puts held (byte ∷ bytes) old new (Err fault.Memory) h = record {
   input_kept = refl;
 }
 
--- what is told was saved
+-- the text was saved
 save_sent : {S : Type 0} (goes : S → StoreCall → S → Type 0) (held : Held) (name text : List ℕ) (old new : S) (answer : Result Next StepFault)
     → HasSaved goes name text old answer new → Did (λ plan. plan ≡ sends (Some name) (reply_with held (Ok text))) (Follows goes old new) AskedNone (ended answer held)
 save_sent goes held name text old new (Ok next) h = record {
@@ -173,7 +173,7 @@ save_sent goes held name text old new (Err fault.Memory) h = record {
   input_kept = refl;
 }
 
--- behind a put or a save no script comes
+-- after a put or a save no script comes
 pub put_nests : {O : Type 0} (puts : O → PutCall → O → Type 0) (depth : ℕ) (text : List ℕ) (old new : O) (answer : Result Next StepFault)
     → HasPut puts text old answer new → IfOk answer (NestsBelow depth)
 put_nests puts depth [] old new answer h = subst (λ a. IfOk a (NestsBelow depth)) (sym h.0) tt
@@ -185,7 +185,7 @@ pub save_nests : {S : Type 0} (goes : S → StoreCall → S → Type 0) (depth :
 save_nests goes depth name text old new (Ok next) h = subst (NestsBelow depth) (sym h.0) tt
 save_nests goes depth name text old new (Err why) h = tt
 
--- the same of a text of which it is said that it is what is told
+-- the same for a text that is known to be the one to print
 pub text_put : {O : Type 0} (puts : O → PutCall → O → Type 0) (held : Held) (what : Result (List ℕ) Refusal) (text : List ℕ) (old new : O) (answer : Result Next StepFault)
     → what ≡ Ok text → HasPut puts text old answer new → Did (λ plan. plan ≡ sends None (reply_with held what)) AskedNone (Follows puts old new) (ended answer held)
 text_put puts held what text old new answer is h =
@@ -196,7 +196,7 @@ pub text_saved : {S : Type 0} (goes : S → StoreCall → S → Type 0) (held : 
 text_saved goes held what name text old new answer is h =
     subst (λ w. Did (λ plan. plan ≡ sends (Some name) (reply_with held w)) (Follows goes old new) AskedNone (ended answer held)) (sym is) (save_sent goes held name text old new answer h)
 
--- nothing was sent, since nothing is told
+-- nothing was written, since there is no text
 refused_sent : (held : Held) (file : Option (List ℕ)) (what : Result (List ℕ) Refusal) (why : Refusal) → what ≡ Err why → sends file (reply_with held what) ≡ Quiet (Refuses why)
 refused_sent held None what why is = ap (λ w. sends None (reply_with held w)) is
 refused_sent held (Some name) what why is = ap (λ w. sends (Some name) (reply_with held w)) is
@@ -219,20 +219,20 @@ pub did_as : (plans more : Plan → Type 0) (store : List StoreCall → Type 0) 
 did_as plans more store out ending more_so h =
     record { asked = h.asked; steps = steps_as plans more h.asked ending more_so h.steps; store_went = h.store_went; out_went = h.out_went; input_kept = h.input_kept }
 
--- a text was put, and it is one that may be told
+-- a text was printed, and it is one that may be printed
 told_put : {O : Type 0} (puts : O → PutCall → O → Type 0) (held : Held) (tells : Result (List ℕ) Refusal → Type 0) (text : List ℕ) (old new : O) (answer : Result Next StepFault)
     → tells (Ok text) → HasPut puts text old answer new → Did (Replies (StaysTold held tells)) AskedNone (Follows puts old new) (ended answer held)
 told_put puts held tells text old new answer may h =
     did_as (λ plan. plan ≡ sends None (reply_with held (Ok text))) (Replies (StaysTold held tells)) AskedNone (Follows puts old new) (ended answer held) (λ plan is. (reply_with held (Ok text), (Ok text, may, refl), is)) (put_sent puts held text old new answer h)
 
--- nothing was put, since a refusal is told, or for want of memory
+-- nothing was printed, because of a refusal, or for want of memory
 untold_by : (held : Held) (tells : Result (List ℕ) Refusal → Type 0) (why : StepFault) → IsToldBy tells (Err why) → Did (Replies (StaysTold held tells)) AskedNone AskedNone (faulted why)
 untold_by held tells (fault.Refused why) h = quiet_did (Replies (StaysTold held tells)) (Refuses why) (Refused why) (Err why, (Err why, h, refl), refl) (inl refl)
 untold_by held tells fault.StoreFault h = absurd h
 untold_by held tells fault.SinkFault h = absurd h
 untold_by held tells fault.Memory h = wanting_did (Replies (StaysTold held tells))
 
--- what may be told was put, or handed on
+-- a text that may be printed was printed, or the fault was passed on
 pub told_did : {O : Type 0} (puts : O → PutCall → O → Type 0) (held : Held) (tells : Result (List ℕ) Refusal → Type 0) (told : Result (Vec ℕ) StepFault) (old new : O)
     (answer : Result Next StepFault) → IsToldBy tells told → HasToldPut puts told old answer new → Did (Replies (StaysTold held tells)) AskedNone (Follows puts old new) (ended answer held)
 told_did puts held tells (Ok text) old new answer may h = told_put puts held tells text.items old new answer may h

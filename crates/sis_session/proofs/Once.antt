@@ -16,8 +16,8 @@ use Rattle.circuit_model.specs.declared.circuit.Table.{Table}
 use Rattle.sis_session.proofs.FormsOnce.{factor_line_once, factor_lines_once, kernel_lines_once}
 use Rattle.circuit_laws.proofs.Chains.{chain_same}
 use Rattle.net_wires.specs.Rules.{sweep_step}
-use Rattle.alg_tables.specs.declared.taking.TakeFault.{TakeFault as TableFault}
-use Rattle.alg_tables.specs.declared.taking.TakeFault.TheVariants.{CubeLimit, TooWide, Memory}
+use Rattle.alg_tables.specs.declared.taking.ComposeFault.{ComposeFault as TableFault}
+use Rattle.alg_tables.specs.declared.taking.ComposeFault.TheVariants.{CubeLimit, TooWide, Memory}
 use Rattle.net_elim.specs.Eliminating.{eliminate_step}
 use Rattle.net_elim.specs.Collapsing.{collapse_refusal}
 use Rattle.sdc_simplify.specs.Simplified.{simplify_refusal}
@@ -38,7 +38,7 @@ use Rattle.sis_script.specs.declared.command.Change.TheVariants as changing
 use Rattle.sis_script.specs.declared.command.Op.{Op}
 use Rattle.sis_script.specs.declared.command.Op.TheVariants as command
 use Rattle.circuit_model.specs.Soundness.{IsSound}
-use Rattle.genlib_format.specs.Soundness.{IsSound as IsSoundGates}
+use Rattle.genlib_format.specs.Soundness.{IsSoundGates}
 use Rattle.map_net.specs.Mapping.{Maps}
 use Rattle.map_net.specs.declared.mapping.MapFault.{MapFault}
 use Rattle.map_net.specs.declared.mapping.MapFault.TheVariants as unmapped
@@ -53,7 +53,7 @@ use Rattle.sis_session.specs.declared.refusal.Failed.TheVariants as failed
 use Rattle.sis_session.specs.declared.refusal.Refusal.{Refusal}
 use Rattle.sis_session.specs.declared.refusal.Refusal.TheVariants as refusal
 
--- two endings are one, or memory was wanting
+-- two endings are equal, or memory ran out
 abbrev pub AreOne : Ending → Ending → Type 0
 AreOne one other = (one ≡ other) ⊎ ((one ≡ Cut failed.Memory) ⊎ (other ≡ Cut failed.Memory))
 
@@ -328,7 +328,7 @@ mapped_once brief held (Some circuit) (Some gates) (Err why) (Err other)
     (sym is ∙ ap refusal_of (reason_same reason reason' why other is is'
     (maps_once circuit gates sound known (Err reason) (Err reason') declines declines')) ∙ is'))
 
--- what is told by a relation is one thing
+-- a relation that allows at most one answer
 IsOne : (Result (List ℕ) Refusal → Type 0) → Type 0
 IsOne tells = (what other : Result (List ℕ) Refusal) → tells what → tells other → what ≡ other
 
@@ -381,7 +381,7 @@ unfolding IsOne
 kernel_once name None what other h k = h ∙ sym k
 kernel_once name (Some table) what other h k = kernels_once name table what other h k
 
--- a form that tells, tells one thing
+-- a form that prints, prints one text
 TellsOnce : Form → Type 0
 TellsOnce (Tells tells) = (held : Held) → IsOne (tells held)
 TellsOnce other = Unit {0}
@@ -424,7 +424,7 @@ pub plans_once : (depth : ℕ) (held : Held) (op : Op) (plan plan' : Plan)
 plans_once depth held op plan plan' h k =
     form_once depth held (form_of op) plan plan' (tells_once op) h k
 
--- a plan that refuses a function that is too big comes to that, or memory is wanting
+-- a plan that refuses a function that is too big ends in that, or memory runs out
 pub big_ends : (plan : Plan) (asked : Asked) (ending : Ending) → PlansTooBig plan
     → Goes plan asked ending → EndsEarly ending
 big_ends plan asked ending (name, is) goes =

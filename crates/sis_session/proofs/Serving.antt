@@ -22,7 +22,7 @@ use Rattle.sis_session.proofs.Stepping.{narrow_reply}
 use Rattle.sis_base.specs.declared.limits.TheConstants.{MAX_INPUTS}
 use Rattle.state_code.specs.Codes.{leaf_count}
 use Rattle.circuit_model.specs.declared.machine.Machine.{Machine}
-use Rattle.state_code.specs.declared.codes.Style.{Style as Coding}
+use Rattle.state_code.specs.declared.codes.Style.{Style}
 use Rattle.sis_session.specs.Commands.{Blif, ChangedBy, Changes, ChangesNetwork, EncodesMachine, Ends, coding_of, encoded_reply, FactorsTold, FactorTold, Form, Format, FormPlans, Generates, IsWrong, Just, KernelsOf, KernelsTold, KernelTold, Kiss, Plans, Reads, ReadsLibrary, Replies, Sources, StaysTold, TakesBack, TheMachine, TheNetlist, TheNetwork, Written, OfSpec, OfNetlist, MakesNetlist, MappedBy, Declines, ToldBy, Writes, circuit_of, commands_in, form_of, latches_told, library_held, machine_of, netlist_of, named_told, network_of, reply_with, source_plan, spec_held, spec_in, stats_told, tables_told, text_of_written, undo_outcome, written_text}
 use Rattle.sis_session.specs.Keeping.{Allows, HasBytes, HasNeeds, HasNetwork, IsAnswered, IsServed}
 use Rattle.sis_session.specs.Plan.{MAX_DEPTH, Asked, Nothing, OnStore, OnOut, OnInput, Comes, ComesPut, Cut, Done, Ending, Goes, Loads, Outcome, Does, Refuses, Plan, Quiet, Puts, Reply, Saves, Steps, by_plan, no_memory, replies, sends}
@@ -93,7 +93,7 @@ replied_works form held may plan gives (reply, h, is) =
     let (one, same) = gives reply h in
     subst (Works held form) (sym is) (subst (λ r. Works held form (sends None r)) (sym same) (sends_works form held None one))
 
--- a text is told
+-- a text is printed
 Gives : (Result (List ℕ) Refusal → Type 0) → Type 0
 Gives tells = (what : Result (List ℕ) Refusal) → tells what → (text : List ℕ) × (what ≡ Ok text)
 
@@ -146,7 +146,7 @@ change_gives held change (Some circuit) old there allows reply (Err why, changes
     let same : old ≡ circuit = cc in absurd (allows why (subst (λ (c : Circuit). Changes change c (Err why)) (sym same) changes))
 
 -- a machine's network that is not too wide is made
-encoding_works : (form : Form) (held : Held) (coding : Coding) (there : Option Machine)
+encoding_works : (form : Form) (held : Held) (coding : Style) (there : Option Machine)
     (machine : Machine) → there ≡ Some machine → leaf_count coding machine ≤ MAX_INPUTS
     → Works held form (sends None (encoded_reply coding held there))
 encoding_works form held coding there machine is narrow =
@@ -197,7 +197,7 @@ library_works depth held name plan is =
     by : (bytes : List ℕ) (ending : Ending) → HasBytes held (ReadsLibrary name) bytes → Comes (library_held held name (library_of bytes)) ending → IsDone ending
     by bytes ending (library, reads) comes = does_done (with_library held library) Go ending (subst (λ r. Comes (library_held held name r) ending) reads comes)
 
--- what tells of the network tells a text where there is one
+-- a command that prints of the network has a text if there is a network
 told_of_network : (form : Form) (held : Held) (tells : Circuit → Result (List ℕ) Refusal → Type 0) (circuit : Circuit) (plan : Plan) → held.network ≡ Some circuit → Gives (tells circuit)
     → Replies (StaysTold held (ToldBy tells held.network)) plan → Works held form plan
 told_of_network form held tells circuit plan there gives is =

@@ -14,9 +14,9 @@ use Rattle.sis_base.specs.declared.limits.TheConstants.{MAX_INPUTS}
 use Rattle.state_code.specs.Codes.{leaf_count}
 use Rattle.state_code.specs.Codes.{codes_of}
 use Rattle.state_code.specs.Encoded.{encoded}
-use Rattle.state_code.specs.declared.codes.Style.{Style as Coding}
+use Rattle.state_code.specs.declared.codes.Style.{Style}
 use Rattle.circuit_model.specs.Soundness.{IsSound}
-use Rattle.genlib_format.specs.Soundness.{IsSound as IsSoundGates}
+use Rattle.genlib_format.specs.Soundness.{IsSoundGates}
 use Rattle.map_net.specs.Mapping.{Maps}
 use Rattle.sis_session.specs.Replies.{codes_text, map_text}
 use Rattle.sis_session.specs.Commands.{Blif, ChangedBy, MappedBy, Replies, encoded_by, encoded_reply, reply_with, blif_read, commands_in, library_held, reply_changed, source_plan, spec_held, spec_in, undo_outcome}
@@ -76,7 +76,7 @@ library_comes held held' name answer library reads is =
 pub read_comes : (held held' : Held) (name bytes : List ℕ) → HasRead bytes held (Ok tt) held' → Comes (spec_held held (spec_in Blif held name bytes)) (Done held' Go)
 read_comes held held' name bytes (read, reads, is) = spec_comes held held' (spec_in Blif held name bytes) read (ap (blif_read name) reads) is
 
--- a file was loaded, where its name and its bytes are lent as text and slice
+-- a file was loaded, with its name and its bytes borrowed as text and slice
 pub used_did : {S : Type 0} (goes : S → StoreCall → S → Type 0) (used : List ℕ → Outcome) (name text shown : List ℕ) (old new : S) (bytes : Vec ℕ) (ending : Ending)
     → text ≡ name → shown ≡ bytes.items → HasLoaded goes text old (Ok bytes) new → Comes (used shown) ending
     → Did (λ plan. plan ≡ Loads name used) (Follows goes old new) AskedNone ending
@@ -111,8 +111,8 @@ no_network_did held change network none =
     subst (λ n. Did (Replies (ChangedBy held change n)) AskedNone AskedNone (Refused refusal.NoNetwork)) (sym none)
     (quiet_did (Replies (ChangedBy held change None)) (Refuses refusal.NoNetwork) (Refused refusal.NoNetwork) (Err refusal.NoNetwork, refl, refl) (inl refl))
 
--- the machine's network was made, and its codes were put
-pub narrow_reply : (coding : Coding) (held : Held) (machine : Machine)
+-- the machine's network was made, and its codes were printed
+pub narrow_reply : (coding : Style) (held : Held) (machine : Machine)
     → leaf_count coding machine ≤ MAX_INPUTS
     → encoded_by coding held machine
     ≡ Ok (record {
@@ -123,7 +123,7 @@ narrow_reply coding held machine narrow =
     let yes : nat_le (leaf_count coding machine) MAX_INPUTS ≡ true = grind (arith, nat_tests) in
     rw yes refl
 
-wide_reply : (coding : Coding) (held : Held) (machine : Machine)
+wide_reply : (coding : Style) (held : Held) (machine : Machine)
     → MAX_INPUTS < leaf_count coding machine
     → encoded_by coding held machine
     ≡ Err (refusal.TooWide machine.name (leaf_count coding machine))
@@ -131,7 +131,7 @@ wide_reply coding held machine wide =
     let no : nat_le (leaf_count coding machine) MAX_INPUTS ≡ false = grind (arith, nat_tests) in
     rw no refl
 
-pub encoded_did : {O : Type 0} (puts : O → PutCall → O → Type 0) (coding : Coding) (held : Held)
+pub encoded_did : {O : Type 0} (puts : O → PutCall → O → Type 0) (coding : Style) (held : Held)
     (there : Option Machine) (machine : Machine) (text : List ℕ) (old new : O)
     (answer : Result Next StepFault) → there ≡ Some machine
     → leaf_count coding machine ≤ MAX_INPUTS → text ≡ codes_text (codes_of coding machine)
@@ -150,8 +150,8 @@ encoded_did {O} puts coding held there machine text old new answer is narrow sam
     left : Held
     left = with_encoded held held.network (encoded coding machine)
 
--- it was not made, and nothing was put
-pub unencoded_did : {O : Type 0} (puts : O → PutCall → O → Type 0) (coding : Coding) (held : Held)
+-- it was not made, and nothing was printed
+pub unencoded_did : {O : Type 0} (puts : O → PutCall → O → Type 0) (coding : Style) (held : Held)
     (there : Option Machine) (machine : Machine) (out : O) (why : StepFault) → there ≡ Some machine
     → IsEncoded coding machine (Err why)
     → Did (λ plan. plan ≡ sends None (encoded_reply coding held there)) AskedNone
@@ -172,7 +172,7 @@ unencoded_did {O} puts coding held there machine out why is h =
     by fault.SinkFault k = absurd k
     by fault.Memory k = wanting_did plans
 
-pub no_machine_did : {O : Type 0} (puts : O → PutCall → O → Type 0) (coding : Coding) (held : Held)
+pub no_machine_did : {O : Type 0} (puts : O → PutCall → O → Type 0) (coding : Style) (held : Held)
     (there : Option Machine) (out : O) → there ≡ None
     → Did (λ plan. plan ≡ sends None (encoded_reply coding held there)) AskedNone
     (Follows puts out out) (Refused refusal.NoMachine)
@@ -183,7 +183,7 @@ no_machine_did puts coding held there out none =
     (Refuses refusal.NoMachine) (Refused refusal.NoMachine)
     (sym (ap (λ m. sends None (encoded_reply coding held m)) none)) (inl refl))
 
--- the network's netlist was made, and its areas were put
+-- the network's netlist was made, and its areas were printed
 pub mapped_did : {O : Type 0} (puts : O → PutCall → O → Type 0) (brief : Bool) (held : Held)
     (network : Option Circuit) (library : Option Library) (circuit : Circuit) (gates : Library)
     (netlist : Netlist) (text : List ℕ) (old new : O) (answer : Result Next StepFault)
@@ -213,7 +213,7 @@ mapped_did {O} puts brief held network library circuit gates netlist text old ne
     left : Held
     left = with_mapped held netlist
 
--- it was not made, and nothing was put
+-- it was not made, and nothing was printed
 pub unmapped_did : {O : Type 0} (puts : O → PutCall → O → Type 0) (brief : Bool) (held : Held)
     (network : Option Circuit) (library : Option Library) (circuit : Circuit) (gates : Library)
     (out : O) (why : StepFault) → network ≡ Some circuit → library ≡ Some gates → IsSound circuit

@@ -1,6 +1,6 @@
--- What every command keeps of what is held, what is written of it, what a command needs so that it
--- is done, and when it has one outcome. Source: the SIS manual (UCB/ERL M92/41), the commands one
--- by one; that each network refines what was read last is the project's own promise.
+-- What every command keeps true of what is held and of what is written, what a command needs so
+-- that it is done, and when it has one outcome. Source: the SIS manual (UCB/ERL M92/41), the
+-- commands one by one; that each network refines what was read last is the project's own promise.
 use Rattle.std.specs.Prelude.{◌≡◌, ◌⊎◌, ℕ, Bool, ◌<◌, ◌≤◌, Option, Some, None, unwrap_or, Result, Ok, Err, List, []}
 use Rattle.sis_outside.specs.Calls.{Load, Save}
 use Rattle.circuit_model.specs.Behaviors.{Behavior, RefinesAs}
@@ -8,8 +8,8 @@ use Rattle.circuit_model.specs.Runs.{of_circuit, Refines}
 use Rattle.circuit_model.specs.Soundness.{IsSound}
 use Rattle.circuit_model.specs.Text.{text_of}
 use Rattle.circuit_model.specs.MachineBehaviors.{of_machine, of_spec}
-use Rattle.circuit_model.specs.MachineSoundness.{IsSound as IsSoundMachine}
-use Rattle.circuit_model.specs.MachineText.{text_of as machine_text_of}
+use Rattle.circuit_model.specs.MachineSoundness.{IsSoundMachine}
+use Rattle.circuit_model.specs.MachineText.{machine_text_of}
 use Rattle.circuit_model.specs.declared.machine.Machine.{Machine}
 use Rattle.circuit_model.specs.declared.machine.Spec.{Spec}
 use Rattle.circuit_model.specs.declared.machine.Spec.TheVariants as spec
@@ -35,20 +35,20 @@ use Rattle.sis_session.specs.declared.refusal.Failed.TheVariants as failed
 use Rattle.sis_session.specs.declared.refusal.Refusal.{Refusal}
 use Rattle.sis_session.specs.declared.refusal.Refusal.TheVariants as refusal
 
--- a circuit that is held is sound and refines what was read last
+-- a current circuit is sound and refines what was read last
 abbrev pub RefinesSpec : Option Spec → Option Circuit → Type 0
 RefinesSpec spec held =
     (circuit : Circuit) → held ≡ Some circuit
     → (read : Spec) × (spec ≡ Some read) × IsSound circuit × RefinesAs (of_spec read) (of_circuit circuit)
 
--- a machine that is held is sound and refines what was read last
+-- a current machine is sound and refines what was read last
 abbrev pub MachineRefines : Option Spec → Option Machine → Type 0
 MachineRefines spec held =
     (machine : Machine) → held ≡ Some machine
     → (read : Spec) × (spec ≡ Some read) × IsSoundMachine machine × RefinesAs (of_spec read) (of_machine machine)
 
--- a netlist is that of the network beside it, by the library that is held; it is sound, its circuit
--- refines the network, and the areas of its trees are those of its gates
+-- a netlist is that of this network, by the current library; it is sound, its circuit refines the
+-- network, and the areas of its trees are those of its gates
 pub record IsMappedFrom (library : Option Library) (network : Option Circuit) (netlist : Netlist)
     : Type 0 where
   pub gates : Library
@@ -60,7 +60,7 @@ pub record IsMappedFrom (library : Option Library) (network : Option Circuit) (n
   pub refines : Refines circuit (circuit_of gates netlist)
   pub parted : ArePartedBy gates netlist.trees netlist.gates
 
--- so is one that is held
+-- the same for a current netlist, if there is one
 pub record HasMapped (library : Option Library) (network : Option Circuit) (held : Option Netlist)
     : Type 0 where
   pub each : (netlist : Netlist) → held ≡ Some netlist → IsMappedFrom library network netlist
@@ -83,13 +83,13 @@ IsTextOf held (OfSpec (spec.Machine machine)) bytes =
 IsTextOf held (OfNetlist netlist) bytes =
     (held.netlist ≡ Some netlist) × (bytes ≡ netlist_text_of netlist)
 
--- where a netlist is written, it is the mapped one of the network that is held
+-- if a netlist is written, it is the mapped one of the current network
 abbrev pub IsOfHeld : Held → Written → Type 0
 IsOfHeld held (OfSpec written) = Unit {0}
 IsOfHeld held (OfNetlist netlist) = IsMappedFrom held.library held.network netlist
 
--- the behavior of what is written; that of a netlist by the library that is held (by one without
--- gates where there is none)
+-- the behavior of what is written; that of a netlist by the current library (by one without gates
+-- if there is none)
 abbrev pub behavior_of : Held → Written → Behavior
 behavior_of held (OfSpec written) = of_spec written
 behavior_of held (OfNetlist netlist) = of_circuit (circuit_of (unwrap_or held.library []) netlist)
@@ -111,7 +111,7 @@ abbrev pub IsMapping : Form → Type 0
 IsMapping (MakesNetlist brief) = Unit {0}
 IsMapping other = ⊥
 
--- these bytes tell the areas of a mapped netlist of the network that is held
+-- these bytes are the areas of a mapped netlist of the current network
 abbrev pub TellsAreas : Held → List ℕ → Type 0
 TellsAreas held bytes = (brief : Bool) × (netlist : Netlist) × (bytes ≡ map_text brief netlist)
     × IsMappedFrom held.library held.network netlist
@@ -129,7 +129,7 @@ abbrev pub HasTable : Option Circuit → List ℕ → Type 0
 HasTable network name =
     (circuit : Circuit) × (network ≡ Some circuit) × (table : Table) × (driver circuit.tables name ≡ Some table)
 
--- there is a network, and a table of the name in it that has no more kernels than are listed
+-- there is a network, and in it a table of the name with no more kernels than are listed
 abbrev pub HasKernels : Option Circuit → List ℕ → Type 0
 HasKernels network name =
     (circuit : Circuit) × (network ≡ Some circuit) × (table : Table) × (driver circuit.tables name ≡ Some table)
@@ -139,10 +139,10 @@ HasKernels network name =
 abbrev pub Allows : Change → Circuit → Type 0
 Allows change circuit = (why : Refusal) → Changes change circuit (Err why) → ⊥
 
--- what a command needs of what is held: its words fit, its scripts are not nested too deep; the
--- network, the previous one or the machine and the table that it names are there, with no more
--- kernels than are listed; the machine's network is not too wide; the netlist is there, or the
--- library, with nothing against a netlist; and nothing refuses the change
+-- What a command needs of what is held: its words fit, and its scripts are not nested too deep; the
+-- network, the previous one or the machine is there, and the table that it names, with no more
+-- kernels than are listed. The machine's network is not too wide. The netlist is there, or the
+-- library, with nothing against a netlist; and nothing refuses the change.
 abbrev pub HasNeeds : ℕ → Held → Op → Type 0
 HasNeeds depth held (command.WriteBlif file) = HasNetwork held.network
 HasNeeds depth held (command.WriteKiss file) = HasMachine held.machine
@@ -183,29 +183,29 @@ IsAnswered held form (OnStore (Save name bytes answer)) = answer ≡ Ok tt
 IsAnswered held form (OnOut call) = call.answer ≡ Ok tt
 IsAnswered held form (OnInput calls) = Unit {0}
 
--- a command has what it needs so that it is done
+-- a command has what it needs to be done
 abbrev pub IsServed : ℕ → Held → Op → Asked → Type 0
 IsServed depth held op asked = HasNeeds depth held op × IsAnswered held (form_of op) asked
 
--- some function is too big: for which signal of a network that comes, and whether, may depend on
--- how functions are made
+-- some function is too big: for which signal of a network, and whether this happens, may depend on
+-- how functions are built
 abbrev pub RefusesTooBig : {A : Type 0} → Result A Refusal → Type 0
 RefusesTooBig answer = (name : List ℕ) × (answer ≡ Err (refusal.TooBig name))
 
--- a change makes one thing of each network, but where a function is too big
+-- a change has one result for each network, unless a function is too big
 abbrev pub ChangesOnce : Change → Type 0
 ChangesOnce change =
     (old : Circuit) (one other : Result Circuit Refusal) → Changes change old one → Changes change old other
     → (one ≡ other) ⊎ (RefusesTooBig one ⊎ RefusesTooBig other)
 
--- two plans are one, but where a function is too big
+-- two plans are equal, unless a function is too big
 abbrev pub PlansTooBig : Plan → Type 0
 PlansTooBig plan = (name : List ℕ) × (plan ≡ Quiet (Refuses (refusal.TooBig name)))
 
 abbrev pub AreOnePlan : Plan → Plan → Type 0
 AreOnePlan plan other = (plan ≡ other) ⊎ (PlansTooBig plan ⊎ PlansTooBig other)
 
--- two endings are one, but where memory was wanting or a function is too big
+-- two endings are equal, unless memory ran out or a function is too big
 abbrev pub EndsTooBig : Ending → Type 0
 EndsTooBig ending = (name : List ℕ) × (ending ≡ Refused (refusal.TooBig name))
 

@@ -1,5 +1,5 @@
--- What the calls below a step promise, each by cases on its answer. No public clause stands on
--- these definitions but that of `load` and of the session's `read` and `undo`. Source: the
+-- What the calls inside a step promise, each by cases on its answer. The only public clauses over
+-- these definitions are those of `load` and of the session's `read` and `undo`. Source: the
 -- project's own rule: an answer names what failed, and only a command that is done changes what is
 -- held.
 use Rattle.std.specs.Prelude.{◌≡◌, ℕ, ◌<◌, ◌≤◌, Bool, true, false, List, [], ◌∷◌, Option, Some, None, Result, Ok, Err}
@@ -19,7 +19,7 @@ use Rattle.sis_script.specs.declared.command.Change.{Change}
 use Rattle.circuit_model.specs.declared.machine.Machine.{Machine}
 use Rattle.state_code.specs.Codes.{codes_of}
 use Rattle.state_code.specs.Encoded.{encoded}
-use Rattle.state_code.specs.declared.codes.Style.{Style as Coding}
+use Rattle.state_code.specs.declared.codes.Style.{Style}
 use Rattle.sis_base.specs.declared.limits.TheConstants.{MAX_INPUTS}
 use Rattle.state_code.specs.Codes.{leaf_count}
 use Rattle.map_net.specs.Mapping.{Maps}
@@ -41,7 +41,7 @@ use Rattle.sis_session.specs.declared.refusal.StepFault.TheVariants as fault
 abbrev pub AskedNone : {C : Type 0} → List C → Type 0
 AskedNone calls = calls ≡ []
 
--- a file was loaded by one call: its bytes, or why there are none; memory may be wanting behind any
+-- a file was loaded by one call: its bytes, or why there are none; memory may run out after any
 -- answer but a failure
 abbrev pub HasLoaded : {S : Type 0} → (S → StoreCall → S → Type 0) → List ℕ → S → Result (Vec ℕ) StepFault → S → Type 0
 HasLoaded goes name old (Ok bytes) new = goes old (Load name MAX_BYTES (Ok bytes.items)) new
@@ -60,7 +60,7 @@ HasSaved goes name bytes old (Err fault.StoreFault) new = goes old (Save name by
 HasSaved goes name bytes old (Err fault.Memory) new = goes old (Save name bytes (Err save.Memory)) new
 HasSaved goes name bytes old (Err other) new = ⊥
 
--- a reply was put by one call; none was needed where it is empty
+-- a reply was written by one call; none was needed if it is empty
 abbrev pub HasPut : {S : Type 0} → (S → PutCall → S → Type 0) → List ℕ → S → Result Next StepFault → S → Type 0
 HasPut goes [] old answer new = (answer ≡ Ok Go) × (new ≡ old)
 HasPut goes (byte ∷ bytes) old (Ok next) new = (next ≡ Go) × goes old (record { piece = byte ∷ bytes; answer = Ok tt }) new
@@ -68,29 +68,29 @@ HasPut goes (byte ∷ bytes) old (Err fault.SinkFault) new = goes old (record { 
 HasPut goes (byte ∷ bytes) old (Err fault.Memory) new = goes old (record { piece = byte ∷ bytes; answer = Err put.Memory }) new
 HasPut goes (byte ∷ bytes) old (Err other) new = ⊥
 
--- a text, or a refusal, may be told; or memory was wanting
+-- a text, or a refusal, may be printed; or memory ran out
 abbrev pub IsToldBy : (Result (List ℕ) Refusal → Type 0) → Result (Vec ℕ) StepFault → Type 0
 IsToldBy tells (Ok text) = tells (Ok text.items)
 IsToldBy tells (Err (fault.Refused why)) = tells (Err why)
 IsToldBy tells (Err fault.Memory) = Unit {0}
 IsToldBy tells (Err other) = ⊥
 
--- a text is what is told, or the refusal is; or memory was wanting
+-- the text is what is printed, or the refusal is; or memory ran out
 abbrev pub IsTold : Result (List ℕ) Refusal → Result (Vec ℕ) StepFault → Type 0
 IsTold told = IsToldBy (λ what. told ≡ what)
 
--- what a command tells was put by one call; what it does not tell is handed on
+-- a text was printed by one call; a fault is passed on, and nothing is printed
 abbrev pub HasToldPut : {S : Type 0} → (S → PutCall → S → Type 0) → Result (Vec ℕ) StepFault → S → Result Next StepFault → S → Type 0
 HasToldPut goes (Ok text) old answer new = HasPut goes text.items old answer new
 HasToldPut goes (Err why) old answer new = (answer ≡ Err why) × (new ≡ old)
 
--- what reading a circuit or a machine from bytes leaves, by the library that is held
+-- the effect of reading a circuit or a machine from bytes, by the current library
 abbrev pub HasRead : List ℕ → Held → Result (Unit {0}) ReadFault → Held → Type 0
 HasRead bytes old (Ok done) new = (read : Spec) × (read_lines old.library (entries_of bytes) ≡ Ok read) × (new ≡ with_spec old read)
 HasRead bytes old (Err (reading.Fault why)) new = (read_lines old.library (entries_of bytes) ≡ Err why) × (new ≡ old)
 HasRead bytes old (Err reading.Memory) new = new ≡ old
 
--- a network, or a refusal, may be made; or memory was wanting
+-- a network, or a refusal, may be made; or memory ran out
 abbrev pub IsMadeBy : (Result Circuit Refusal → Type 0) → Result Circuit StepFault → Type 0
 IsMadeBy makes (Ok new) = makes (Ok new)
 IsMadeBy makes (Err (fault.Refused why)) = makes (Err why)
@@ -101,9 +101,9 @@ IsMadeBy makes (Err other) = ⊥
 abbrev pub IsChanged : Change → Circuit → Result Circuit StepFault → Type 0
 IsChanged change old = IsMadeBy (Changes change old)
 
--- the network of a machine was made, with the text that tells its codes; or its inputs and state
--- bits are too many; or memory was wanting
-abbrev pub IsEncoded : Coding → Machine → Result CodedNetwork StepFault → Type 0
+-- the network of a machine was made, with the text of its codes; or its inputs and state bits are
+-- too many; or memory ran out
+abbrev pub IsEncoded : Style → Machine → Result CodedNetwork StepFault → Type 0
 IsEncoded coding machine (Ok made) =
     (leaf_count coding machine ≤ MAX_INPUTS) × (made.network ≡ encoded coding machine)
     × (made.text.items ≡ codes_text (codes_of coding machine))
@@ -119,8 +119,8 @@ IsDeclined reason (fault.Refused why) = refusal_of reason ≡ Some why
 IsDeclined reason fault.Memory = Unit {0}
 IsDeclined reason other = ⊥
 
--- the netlist of a network was made, with the text that tells its areas; or there is a reason
--- against it; or memory was wanting
+-- the netlist of a network was made, with the text of its areas; or there is a reason against it;
+-- or memory ran out
 abbrev pub IsNetlisted : Bool → Circuit → Library → Result ToldNetlist StepFault → Type 0
 IsNetlisted brief circuit library (Ok made) =
     Maps circuit library (Ok made.netlist) × (made.text.items ≡ map_text brief made.netlist)
@@ -128,7 +128,7 @@ IsNetlisted brief circuit library (Err (fault.Refused why)) = Declines circuit l
 IsNetlisted brief circuit library (Err fault.Memory) = Unit {0}
 IsNetlisted brief circuit library (Err other) = ⊥
 
--- what an undo leaves: whether there was a previous network, and then the exchange
+-- the effect of an undo: whether there was a previous network, and if so the exchange
 abbrev pub Undoes : Option Circuit → Held → Bool → Held → Type 0
 Undoes None old undone new = (undone ≡ false) × (new ≡ old)
 Undoes (Some circuit) old undone new = (undone ≡ true) × (new ≡ with_exchanged old)

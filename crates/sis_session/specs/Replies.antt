@@ -18,12 +18,12 @@ use Rattle.sis_session.specs.declared.refusal.Refusal.{Refusal}
 use Rattle.sis_session.specs.declared.refusal.Refusal.TheVariants.{Script, Nested, NoNetwork, NoMachine, NoLibrary, NotMapped, NothingToUndo, NoSignal, CubeLimit, TooWide, NodeLimit, KernelLimit, TooBig, NoInverter, NoNand, TreeLimit, Missing, TooLong, Blif, Kiss, Lib, LongScript}
 use Rattle.sis_session.specs.declared.texts.Stats.{Stats}
 
--- words as a line, with one blank between
+-- words as a line, separated by one blank
 unfoldable pub echo_line : List (List ℕ) → List ℕ
 echo_line [] = codes "\n"
 echo_line (word ∷ words) = word ++ (flat_map spaced words ++ codes "\n")
 
--- how large a circuit is, in numbers
+-- the size of a circuit, in numbers
 unfoldable pub stats_of : Circuit → Stats
 stats_of circuit = record { sizes = sizes_of circuit; lits = literals_of circuit }
 
@@ -34,11 +34,11 @@ numbers_line name stats =
     ++ (codes " nodes=" ++ (decimal stats.sizes.tables ++ (codes " latches=" ++ (decimal stats.sizes.latches
     ++ (codes " lits=" ++ (decimal stats.lits ++ (codes " dc=" ++ (decimal stats.sizes.dont_cares ++ codes "\n"))))))))))))
 
--- how large a circuit is, behind its name
+-- the size of a circuit, after its name
 abbrev pub stats_line : Circuit → List ℕ
 stats_line circuit = numbers_line circuit.name (stats_of circuit)
 
--- the bits of a code, with a blank before them; nothing where there are none
+-- the bits of a code, with a blank before them; nothing if there are none
 abbrev pub code_bits : List Bool → List ℕ
 code_bits [] = []
 code_bits (bit ∷ bits) = spaced (map (λ each. character (tri_of each)) (bit ∷ bits))
@@ -56,18 +56,18 @@ unfoldable pub tree_line : TreeFigure → List ℕ
 tree_line tree =
     codes "tree " ++ (tree.name ++ (codes " area=" ++ (decimal_text tree.figure ++ codes "\n")))
 
--- an area, and how many gates there are
+-- an area, and the number of gates
 unfoldable pub total_text : ℕ → ℕ → List ℕ
 total_text area gates =
     codes "total area=" ++ (decimal_text area
     ++ (codes " gates=" ++ (decimal gates ++ codes "\n")))
 
--- the area of all trees of a netlist, and how many gates it has
+-- the area of all trees of a netlist, and its number of gates
 abbrev pub total_line : Mapped → List ℕ
 total_line mapped =
     total_text (sum_by (λ (tree : TreeFigure). tree.figure) mapped.trees) (length mapped.gates)
 
--- what `map` puts: a line for each tree unless it is brief, and the total
+-- what `map` prints: a line for each tree unless it is brief, and the total
 abbrev pub map_text : Bool → Mapped → List ℕ
 map_text true mapped = total_line mapped
 map_text false mapped = flat_map tree_line mapped.trees ++ total_line mapped
@@ -78,7 +78,7 @@ script_fault_text BadCommand = codes "unknown command"
 script_fault_text BadOption = codes "bad option"
 script_fault_text MissingWord = codes "missing word"
 
--- what is wrong with a file, behind its name
+-- what is wrong with a file, after its name
 abbrev pub file_text : List ℕ → List ℕ → List ℕ
 file_text file what = file ++ (codes ": " ++ what)
 

@@ -1,6 +1,6 @@
 -- What a session holds between two commands, what it read last, and what it writes. Source: the SIS
 -- manual (UCB/ERL M92/41): a shell has one current network, finite-state machine, library and
--- mapped netlist, and `undo` takes back the last change.
+-- mapped netlist, and `undo` undoes the last change.
 use Rattle.std.specs.Prelude.{Option, Some, None, List}
 use Rattle.circuit_model.specs.declared.circuit.Circuit.{Circuit}
 use Rattle.circuit_model.specs.declared.machine.Machine.{Machine}
@@ -27,7 +27,7 @@ pub record Held : Type 0 where
   pub netlist : Option Netlist
   pub previous_netlist : Option Netlist
 
--- the parts, where they are there
+-- these parts, each if it is there
 abbrev pub parts_held : Option Circuit → Option Circuit → Option Machine → Option Library
     → Option Netlist → Option Netlist → Held
 parts_held network previous machine library netlist previous_netlist = record {
@@ -43,17 +43,17 @@ parts_held network previous machine library netlist previous_netlist = record {
 abbrev pub nothing_held : Held
 nothing_held = parts_held None None None None None None
 
--- a circuit that was read becomes the network; but for the library nothing else is held, and there
--- is nothing to take back
+-- a circuit that was read becomes the network; except for the library nothing else is held, and
+-- there is nothing to undo
 abbrev pub with_read : Held → Circuit → Held
 with_read held circuit = record held { network = Some circuit; previous = None; machine = None; netlist = None; previous_netlist = None }
 
--- a machine that was read is held; but for the library nothing else is, and there is nothing to
--- take back
+-- a machine that was read is held; except for the library nothing else is, and there is nothing to
+-- undo
 abbrev pub with_machine : Held → Machine → Held
 with_machine held machine = record held { network = None; previous = None; machine = Some machine; netlist = None; previous_netlist = None }
 
--- what a file of a circuit or a machine says is held
+-- the circuit or machine of a file is held
 abbrev pub with_spec : Held → Spec → Held
 with_spec held (spec.Circuit circuit) = with_read held circuit
 with_spec held (spec.Machine machine) = with_machine held machine
@@ -68,8 +68,8 @@ held_spec None (Some machine) = Some (spec.Machine machine)
 abbrev pub with_library : Held → Library → Held
 with_library held library = record held { library = Some library; netlist = None; previous_netlist = None }
 
--- a new network in place of the one that is held, which becomes the previous one with its netlist;
--- the new one has none
+-- a new network replaces the current one, which becomes the previous one with its netlist; the new
+-- one has none
 abbrev pub with_changed : Held → Circuit → Held
 with_changed held new = record held { network = Some new; previous = held.network; netlist = None; previous_netlist = held.netlist }
 
@@ -77,13 +77,13 @@ with_changed held new = record held { network = Some new; previous = held.networ
 abbrev pub with_mapped : Held → Netlist → Held
 with_mapped held netlist = record held { netlist = Some netlist }
 
--- the network of a machine in place of the one that is held: as any new network, where one is; else
--- the previous one stays as it was
+-- the network of a machine replaces the current one: like any new network, if there is one;
+-- otherwise the previous one stays as it was
 abbrev pub with_encoded : Held → Option Circuit → Circuit → Held
 with_encoded held None new = record held { network = Some new; netlist = None }
 with_encoded held (Some old) new = with_changed held new
 
--- the network and its netlist change places with the previous ones
+-- the network and its netlist are exchanged with the previous ones
 abbrev pub with_exchanged : Held → Held
 with_exchanged held =
     record held { network = held.previous; previous = held.network; netlist = held.previous_netlist; previous_netlist = held.netlist }

@@ -14,11 +14,11 @@ use Rattle.genlib_format.specs.declared.fault.LibFault.TheVariants as library
 use Rattle.genlib_format.specs.declared.fault.LimitKind.{LimitKind as LibraryLimit}
 use Rattle.genlib_format.specs.declared.fault.LimitKind.TheVariants as library_limit
 
--- what is wrong with a line, behind its number
+-- what is wrong with a line, after its number
 unfoldable pub line_text : ℕ → List ℕ → List ℕ
 line_text line what = codes "line " ++ (decimal line ++ (codes ": " ++ what))
 
--- a limit that is passed: what it is on, and what was reached
+-- a limit that is exceeded: what it is on, and what was reached
 unfoldable pub limit_text : List ℕ → ℕ → List ℕ
 limit_text kind reached = codes "limit " ++ (kind ++ (codes " " ++ decimal reached))
 
@@ -51,7 +51,7 @@ kiss_text (kiss.NoReset name) = codes "no reset " ++ name
 kiss_text kiss.NoRows = codes "no rows"
 kiss_text (kiss.Limit kind reached) = limit_text (kiss_limit_word kind) reached
 
--- a fault of a file of a circuit, or of one that says a machine
+-- a fault of a file of a circuit, or of one that describes a machine
 unfoldable pub blif_text : BlifFault → List ℕ
 blif_text (blif.UnknownWord line) = line_text line (codes "unknown word")
 blif_text (blif.BadArity line) = line_text line (codes "bad arity")

@@ -1,7 +1,7 @@
--- What is told of a table as algebra: its factored form in a line, and its kernels, one in a line.
--- Source: the SIS manual (UCB/ERL M92/41), `print_factor` and `print_kernel`; Brayton, Rudell,
--- Sangiovanni-Vincentelli and Wang, "MIS: A Multiple-Level Logic Optimization System" (1987), for
--- both forms. What `print_factor` says of a table whose rows are those where it is 0 is the
+-- What is printed of a table as algebra: its factored form on a line, and its kernels, one on a
+-- line. Source: the SIS manual (UCB/ERL M92/41), `print_factor` and `print_kernel`; Brayton,
+-- Rudell, Sangiovanni-Vincentelli and Wang, "MIS: A Multiple-Level Logic Optimization System"
+-- (1987), for both forms. What `print_factor` prints of a table whose rows give its off-set is the
 -- project's own: the form is that of the rows, so it is the form of the complement.
 use Rattle.std.specs.Prelude.{◌≡◌, ℕ, Bool, Option, List, [], ◌∷◌, ◌++◌, length, map, flat_map, codes}
 use Rattle.circuit_model.specs.declared.circuit.Table.{Table}
@@ -15,8 +15,8 @@ use Rattle.sis_base.specs.declared.limits.TheConstants.{MAX_KERNELS}
 abbrev pub cubes_of : Table → List (List (Option Bool))
 cubes_of table = map places_of table.rows
 
--- a table and a form of its rows: the table's name, with `!` before it where the rows say when it
--- is 0, and the form
+-- a table and a form of its rows: the table's name, with `!` before it if the rows say when it is
+-- 0, and the form
 unfoldable pub form_line : Table → Form → List ℕ
 form_line table form = literal_text table.phase table.output ++ (codes " = " ++ (form_text table.inputs form ++ codes "\n"))
 

@@ -1,8 +1,9 @@
-//! What the commands tell that print tables as algebra: factored forms and kernels.
+//! What the commands print of tables as algebra: factored forms and kernels.
 //!
-//! The texts are made by `factors` and `kernels`; here stands which tables are told, in the order
-//! of the network, and what is refused. The forms of a table are a choice, so each call promises a
-//! relation from the network to what is told or refused, and not one text.
+//! After `print_factor` and `print_kernel` of SIS (UCB/ERL M92/41). `factors` and `kernels` make
+//! the texts; this module chooses the tables, in the order of the network, and refuses a name
+//! without a table or a table with too many kernels. A factored form is a choice, so each call
+//! promises a relation from the network to the text or the refusal, and not one text.
 
 ghost use Rattle.std.specs.Prelude.{◌≡◌};
 ghost use Rattle.circuit_model.specs.Values.{driver};
@@ -44,7 +45,7 @@ fn all_factors(alloc: Global, network: &Network<PlainRow>) -> Result<Vec<u8>, St
     Ok(factor_lines(alloc, circuit.tables.as_slice())?)
 }
 
-/// What `print_factor` puts.
+/// What `print_factor` prints.
 pub fn print_factor(
     alloc: Global,
     network: &Option<Network<PlainRow>>,
@@ -83,7 +84,7 @@ fn named_kernels(
     }
 }
 
-/// What `print_kernel` puts.
+/// What `print_kernel` prints.
 pub fn print_kernel(
     alloc: Global,
     network: &Option<Network<PlainRow>>,

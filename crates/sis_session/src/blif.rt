@@ -1,4 +1,5 @@
-//! What is wrong with a file of a circuit.
+//! The texts of the faults of circuit files: `blif_text` of `specs/Texts.antt`, byte for byte. If
+//! memory runs out, the output stays as it was.
 
 ghost use Rattle.std.specs.Prelude.{◌≡◌, ◌++◌, OnOk, OnErr};
 ghost use Rattle.sis_session.specs.Texts.{blif_limit_word, blif_text};
@@ -20,7 +21,7 @@ fn limit_word(kind: LimitKind) -> &'static [u8]
     }
 }
 
-/// Puts a fault of a file of a circuit. An error only for want of memory; then nothing is put.
+/// Appends the text of a fault of a circuit file. On an error the output stays as it was.
 #[tactic(auto, unfolding(crate::specs::Texts::blif_text), using(std::proofs::lemmas::Grind::common_steps))]
 pub fn put_blif_fault(out: &mut Vec<u8>, alloc: Global, fault: &BlifFault) -> Result<(), AllocError>
     ensures ok { OnOk result (out.new.items ≡ out.old.items ++ blif_text fault.now) }

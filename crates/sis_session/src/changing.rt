@@ -1,8 +1,10 @@
-//! What the commands make of the network that change it: a new one beside the old one, within the
-//! bounds in which literals are counted.
+//! The commands that change the network: each makes a new network and leaves the old one.
 //!
-//! The old one stays as it was where a command is refused, and is kept for `undo` where it is done.
-//! `change_network` is the one call that the session makes; here faults become refusals.
+//! The new network keeps the bounds within which literals are counted (`HasBounds`). If a command
+//! is refused, the old network stays; if it is done, the session keeps the old one for `undo`.
+//! `change_network` is the one call that the session makes: it turns the faults of the libraries
+//! into refusals, and its answer is one of those that `Changes` of `specs/Commands.antt` allows, or
+//! want of memory.
 
 ghost use Rattle.std.specs.Prelude.{◌≡◌, IfOk};
 ghost use Rattle.circuit_laws.specs.Chains.{Chain};
@@ -42,7 +44,7 @@ fn eliminated(
     eliminate(alloc, network, threshold, rows as usize)
 }
 
-/// A network after collapse, or the refusal of a table that cannot take another one in.
+/// A network after collapse, or the refusal of a table into which another cannot be eliminated.
 fn collapsed(alloc: Global, network: &Network<PlainRow>) -> Result<Network<PlainRow>, StepFault>
     requires { HasBounds network.now }
     ensures changes { IsChanged Collapse network.now result }
@@ -71,8 +73,8 @@ fn simplified(alloc: Global, network: &Network<PlainRow>) -> Result<Network<Plai
     }
 }
 
-/// A network after full simplification, or the refusal of a table whose list of rows is too long,
-/// or of which a function is too big.
+/// A network after full simplification, or the refusal of a table in whose turn a list of rows is
+/// too long or a function is too big.
 fn fully_simplified(
     alloc: Global,
     network: &Network<PlainRow>,
@@ -91,7 +93,7 @@ fn fully_simplified(
 }
 
 /// A network after extraction by a rule, or the refusal of a table with too many kernels, or of one
-/// table more.
+/// more table.
 fn extracted(
     alloc: Global,
     network: &Network<PlainRow>,
@@ -111,7 +113,7 @@ fn extracted(
     }
 }
 
-/// A network after decomposition by a rule, or the refusal where there is no room.
+/// A network after decomposition by a rule, or the refusal if there is no room.
 fn decomposed(
     alloc: Global,
     network: &Network<PlainRow>,
@@ -128,7 +130,7 @@ fn decomposed(
     }
 }
 
-/// What a change makes of a network: a new one beside it.
+/// The new network that a change makes; the old one stays.
 pub fn change_network(
     alloc: Global,
     network: &Network<PlainRow>,

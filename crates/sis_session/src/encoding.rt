@@ -1,7 +1,12 @@
-//! What `state_assign` makes of a machine: its network, and the lines that tell the codes.
+//! `state_assign`: the network of a machine, and the lines that print its codes.
+//!
+//! The network is `encoded` of state_code for the coding that the style names; the text has a line
+//! `code STATE BITS` for each state (`specs/Replies.antt`). A machine whose inputs and state bits
+//! are more than `MAX_INPUTS` is refused. The network keeps the bounds within which literals are
+//! counted.
 
 ghost use Rattle.std.specs.Prelude.{◌≡◌, ◌++◌, IfOk, OnOk, flat_map, map};
-ghost use Rattle.circuit_model.specs.MachineSoundness.{IsSound as IsSoundMachine};
+ghost use Rattle.circuit_model.specs.MachineSoundness.{IsSoundMachine};
 ghost use Rattle.net_core.specs.Reads.{HasBounds};
 ghost use Rattle.sis_session.specs.Commands.{coding_of};
 ghost use Rattle.sis_session.specs.Methods.{IsEncoded};
@@ -17,7 +22,7 @@ use sis_script::Style;
 use state_code::{Code, CodeFault, Style as Coding, assign};
 use std::alloc::{AllocError, Global};
 
-/// The network of a machine, and the text that tells its codes.
+/// The network of a machine, and the text of its codes.
 #[derive(Drop)]
 pub struct CodedNetwork {
     pub network: Network<PlainRow>,
@@ -41,7 +46,7 @@ fn bit_character(bit: bool) -> u8
     if bit { b'1' } else { b'0' }
 }
 
-/// Puts bits. Where memory is wanting, some may stand.
+/// Appends bits. On an error some may have been appended.
 fn put_bits(out: &mut Vec<u8>, bits: &[bool]) -> Result<(), AllocError>
     ensures { OnOk result (out.new.items
         ≡ out.old.items ++ map (λ bit. character (tri_of bit)) bits.now) }
@@ -52,7 +57,7 @@ fn put_bits(out: &mut Vec<u8>, bits: &[bool]) -> Result<(), AllocError>
     Ok(())
 }
 
-/// Puts the line of a code. Where memory is wanting, a part of it may stand.
+/// Appends the line of a code. On an error a part of it may have been appended.
 #[tactic(auto, unfolding(crate::specs::Replies::code_line), using(std::proofs::lemmas::Grind::common_steps))]
 fn put_code(out: &mut Vec<u8>, code: &Code) -> Result<(), AllocError>
     ensures { OnOk result (out.new.items ≡ out.old.items ++ code_line code.now) }
@@ -67,7 +72,7 @@ fn put_code(out: &mut Vec<u8>, code: &Code) -> Result<(), AllocError>
     Ok(())
 }
 
-/// The text that tells codes, a line for each; an error only for want of memory.
+/// The text of codes, a line for each.
 #[tactic(auto, using(std::proofs::lemmas::Grind::common_steps))]
 fn codes_text(alloc: Global, codes: &[Code]) -> Result<Vec<u8>, AllocError>
     ensures { IfOk result (λ text. text.items ≡ codes_text codes.now) }
@@ -80,7 +85,7 @@ fn codes_text(alloc: Global, codes: &[Code]) -> Result<Vec<u8>, AllocError>
 }
 
 /// The network of a machine whose states are coded in a style, and the text of the codes; refused
-/// where its inputs and state bits are too many.
+/// if its inputs and state bits are too many.
 pub fn encoded(alloc: Global, machine: &Machine, style: Style) -> Result<CodedNetwork, StepFault>
     requires { IsSoundMachine machine.now }
     ensures encoded { IsEncoded (coding_of style) machine.now result }

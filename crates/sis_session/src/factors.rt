@@ -1,4 +1,5 @@
-//! The lines of factored forms.
+//! The lines of factored forms: `NAME = FORM`, with `!` before the name if the rows give the
+//! off-set (`specs/Told.antt`). Each row of a table must have a character for each input.
 
 ghost use Rattle.std.specs.Prelude.{◌≡◌, ◌++◌, ◌∷◌, [], List, length, codes, IfOk, OnOk};
 ghost use Rattle.std.specs.List.{AllByRecursion};
@@ -12,7 +13,7 @@ ghost use Rattle.sis_session.specs.Told.{cubes_of, IsFactorLine, AreFactorLines}
 use alg_factor::factor;
 use circuit_model::Table as Written;
 use cube_cover::PlainRow;
-use net_core::Table;
+use net_core::CoverTable;
 use std::alloc::{AllocError, Global};
 
 // The text of the factored form of a table's rows.
@@ -22,7 +23,7 @@ fn form_of(alloc: Global, written: &Written) -> Result<Vec<u8>, AllocError>
     ensures { IfOk result (λ text. (form : Form) × IsFactored (cubes_of written.now) form
         × (text.items ≡ form_text written.now.inputs form)) }
 {
-    let table = Table::<PlainRow>::from_written(alloc, written)?;
+    let table = CoverTable::<PlainRow>::from_written(alloc, written)?;
     let factored = factor(alloc, &table.cover)?;
     let text = factored.print(alloc, written.inputs.as_slice())?;
     Ok(text)
@@ -45,8 +46,7 @@ fn line_of(alloc: Global, written: &Written, form: &[u8]) -> Result<Vec<u8>, All
     Ok(line)
 }
 
-/// The line of a table's factored form, each of whose rows has a character for each input; an error
-/// only for want of memory.
+/// The line of a table's factored form, each of whose rows has a character for each input.
 #[tactic(auto, unfolding(crate::specs::Told::form_line))]
 pub fn factor_line(alloc: Global, written: &Written) -> Result<Vec<u8>, AllocError>
     requires { HasCharacters (length written.now.inputs) written.now.rows }
@@ -57,7 +57,7 @@ pub fn factor_line(alloc: Global, written: &Written) -> Result<Vec<u8>, AllocErr
     Ok(line)
 }
 
-// Puts the line of one more table behind those of some.
+// Appends the line of one more table to those of the tables before it.
 fn put_line(alloc: Global, text: &mut Vec<u8>, table: &Written) -> Result<(), AllocError>
     requires { IsShaped table.now }
     ensures { OnOk result ((before : List TheTable) → AreFactorLines before text.old.items
@@ -68,7 +68,7 @@ fn put_line(alloc: Global, text: &mut Vec<u8>, table: &Written) -> Result<(), Al
     Ok(())
 }
 
-/// The lines of the factored forms of tables, in order; an error only for want of memory.
+/// The lines of the factored forms of tables, in order.
 pub fn factor_lines(alloc: Global, tables: &[Written]) -> Result<Vec<u8>, AllocError>
     requires { AllByRecursion IsShaped tables.now }
     ensures { IfOk result (λ text. AreFactorLines tables.now text.items) }

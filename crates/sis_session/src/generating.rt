@@ -8,8 +8,8 @@ use circuit_model::Circuit;
 use sis_script::MOST_TABLES;
 use std::alloc::{AllocError, Global};
 
-/// The circuit of a seed and a number of tables, or of as many tables as it may have at most; an
-/// error only for want of memory.
+/// The circuit of a seed and a number of tables, or of the greatest number of tables if that is
+/// less.
 pub fn circuit_of(alloc: Global, seed: u64, tables: u64) -> Result<Circuit, AllocError>
     ensures { IfOk result (λ circuit. circuit ≡ circuit_of seed tables) }
 {

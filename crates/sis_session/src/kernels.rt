@@ -1,4 +1,5 @@
-//! The lines of kernels.
+//! The lines of kernels, one kernel on a line as the sum of its cubes (`specs/Told.antt`). A table
+//! with more than `MAX_KERNELS` kernels is refused.
 
 ghost use Rattle.std.specs.Prelude.{◌≡◌, ◌++◌, ℕ, List, length, map, flat_map, IfOk, OnOk};
 ghost use Rattle.std.specs.Result.{IsErrOf};
@@ -11,12 +12,12 @@ ghost use Rattle.sis_session.specs.Told.{AreKernelLines, HasManyKernels, cubes_o
 
 use alg_factor::sum_text;
 use alg_kernel::{KernelFault, kernels};
-use circuit_model::{Name, Table as Written};
+use circuit_model::{Name, Table};
 use cube_cover::{Cover, PlainRow};
-use net_core::Table;
+use net_core::CoverTable;
 use std::alloc::{AllocError, Global};
 
-// The lines of some covers over inputs, as sums of their cubes.
+// The lines of covers over inputs, as sums of their cubes.
 fn lines_of(
     alloc: Global,
     names: &[Name],
@@ -37,7 +38,7 @@ fn lines_of(
 
 // The kernels of a table's rows.
 #[tactic(auto, unfolding(net_core::specs::Tables::covered))]
-fn kernels_of(alloc: Global, written: &Written) -> Result<Vec<Cover<PlainRow>>, KernelFault>
+fn kernels_of(alloc: Global, written: &Table) -> Result<Vec<Cover<PlainRow>>, KernelFault>
     requires { HasCharacters (length written.now.inputs) written.now.rows }
     ensures kernels { IfOk result (λ found. AreKernels (length written.now.inputs)
         (cubes_of written.now) (rows_in found.items)) }
@@ -46,15 +47,15 @@ fn kernels_of(alloc: Global, written: &Written) -> Result<Vec<Cover<PlainRow>>, 
     ensures refused { HasManyKernels written.now → IfOk result (λ found. ⊥) }
     ensures over { IsErrOf result KernelFault.KernelLimit → HasManyKernels written.now }
 {
-    match Table::<PlainRow>::from_written(alloc, written) {
+    match CoverTable::<PlainRow>::from_written(alloc, written) {
         Ok(table) => kernels(alloc, &table.cover),
         Err(_) => Err(KernelFault::Memory),
     }
 }
 
-/// The lines of a table's kernels, each of whose rows has a character for each input. More than
-/// `MAX_KERNELS` kernels are refused by `KernelLimit`; else an error only for want of memory.
-pub fn kernel_lines(alloc: Global, written: &Written) -> Result<Vec<u8>, KernelFault>
+/// The lines of a table's kernels, each of whose rows has a character for each input. `KernelLimit`
+/// if there are more than `MAX_KERNELS` kernels.
+pub fn kernel_lines(alloc: Global, written: &Table) -> Result<Vec<u8>, KernelFault>
     requires { HasCharacters (length written.now.inputs) written.now.rows }
     ensures lines { IfOk result (λ text. AreKernelLines written.now text.items) }
     ensures refused { HasManyKernels written.now → IfOk result (λ text. ⊥) }

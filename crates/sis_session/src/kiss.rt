@@ -1,4 +1,5 @@
-//! What is wrong with a table of a machine.
+//! The texts of the faults of machine tables: `kiss_text` of `specs/Texts.antt`, byte for byte. If
+//! memory runs out, the output stays as it was.
 
 ghost use Rattle.std.specs.Prelude.{◌≡◌, ◌++◌, OnOk, OnErr, codes, decimal};
 ghost use Rattle.sis_session.specs.Texts.{kiss_limit_word, kiss_text};
@@ -18,7 +19,7 @@ fn limit_word(kind: LimitKind) -> &'static [u8]
     }
 }
 
-/// Puts which rows clash. An error only for want of memory; then nothing is put.
+/// Appends which rows clash. On an error the output stays as it was.
 #[tactic(auto, using(std::proofs::lemmas::Grind::common_steps))]
 fn put_clash(
     out: &mut Vec<u8>,
@@ -35,7 +36,7 @@ fn put_clash(
     out.extend_from_slice(text.as_bytes())
 }
 
-/// Puts a fault of a table of a machine. An error only for want of memory; then nothing is put.
+/// Appends the text of a fault of a machine's table. On an error the output stays as it was.
 #[tactic(auto, unfolding(crate::specs::Texts::kiss_text), using(std::proofs::lemmas::Grind::common_steps))]
 pub fn put_kiss_fault(out: &mut Vec<u8>, alloc: Global, fault: &KissFault) -> Result<(), AllocError>
     ensures ok { OnOk result (out.new.items ≡ out.old.items ++ kiss_text fault.now) }

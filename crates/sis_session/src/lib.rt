@@ -1,20 +1,21 @@
 //! The session: what is held between two commands, and one step of the command machine.
 //!
-//! The commands are those of SIS (UCB/ERL M92/41) that stand so far. Each has a plan
-//! (`specs/Commands`): at most one call on the outside, and what comes of its answer. Promised: a
-//! step goes by a plan of its command (`specs/Plan`), it makes just the call that the plan says,
-//! over every outside, and every answer but `Ok` leaves the session as it was; a script that comes
-//! next is nested no deeper than it may be. Laws over steps (`laws`): what is held refines what was
-//! read last, nothing is saved but the text of the network, the netlist or the machine, a command
-//! that has what it needs is done (`specs/Keeping`), and it ends in one way, but where memory is
-//! wanting or a function is too big.
+//! The commands are those of SIS (UCB/ERL M92/41) that are implemented so far. Each has a plan
+//! (`specs/Commands.antt`): at most one call on the outside, and what follows from its answer. A
+//! step goes by a plan of its command (`specs/Plan.antt`) and makes exactly the call that the plan
+//! says, over every outside. Every answer but `Ok` leaves the session as it was, and a script that
+//! comes next is nested no deeper than allowed.
 //!
-//! Rooms: `session` (what is held, and the step), `printing` (what commands tell), `algebra` (what
-//! they tell of tables as algebra, by the lines of `factors` and `kernels`, `specs/Told`),
-//! `changing` (what they make of the network), `encoding` and `mapping` (what they make of the
-//! machine, and of the network by gates), `outside` (the calls on files and output), `texts` (what
-//! is printed), `refusal`. What is wrong with a file is told by `blif`, `kiss` and `library`: just
-//! the one text of the fault (`specs/Texts`), in the project's own words.
+//! Laws over steps (`laws`, `specs/Keeping.antt`): what is held refines what was read last; nothing
+//! is saved but the text of the network, the netlist or the machine; a command that has what it
+//! needs is done; and a command ends in one way, unless memory runs out or a function is too big.
+//!
+//! Modules: `session` (what is held, and the step), `printing` (what commands print), `algebra`
+//! (what they print of tables as algebra, by the lines of `factors` and `kernels`,
+//! `specs/Told.antt`), `changing` (what they make of the network), `encoding` and `mapping` (what
+//! they make of the machine, and of the network by gates), `outside` (the calls on files and
+//! output), `texts` (what is printed), `refusal`. What is wrong with a file is described by `blif`,
+//! `kiss` and `library`: one text for each fault (`specs/Texts.antt`), in the project's own words.
 #![tactic(auto)]
 
 mod algebra;

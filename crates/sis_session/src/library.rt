@@ -1,4 +1,5 @@
-//! What is wrong with a file of gates.
+//! The texts of the faults of library files: `library_text` of `specs/Texts.antt`, byte for byte.
+//! If memory runs out, the output stays as it was.
 
 ghost use Rattle.std.specs.Prelude.{◌≡◌, ◌++◌, OnOk, OnErr};
 ghost use Rattle.sis_session.specs.Texts.{library_limit_word, library_text};
@@ -19,7 +20,7 @@ fn limit_word(kind: LimitKind) -> &'static [u8]
     }
 }
 
-/// Puts a fault of a file of gates. An error only for want of memory; then nothing is put.
+/// Appends the text of a fault of a library file. On an error the output stays as it was.
 #[tactic(auto, unfolding(crate::specs::Texts::library_text), using(std::proofs::lemmas::Grind::common_steps))]
 pub fn put_library_fault(
     out: &mut Vec<u8>,

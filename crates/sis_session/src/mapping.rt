@@ -1,8 +1,13 @@
-//! What `map` makes of the network: its netlist by the library, and the text that tells areas.
+//! `map`: the netlist of the network by the library, and the text that prints its areas.
+//!
+//! The netlist is one that `Maps` of map_net allows, or the reason against it becomes a refusal.
+//! The text has a line `tree NAME area=AREA` for each tree, unless it is brief, and a line with the
+//! total area and the number of gates (`map_text` of `specs/Replies.antt`). Areas are decimal
+//! numbers with six digits after the point. The library must be sound.
 
 ghost use Rattle.std.specs.Prelude.{◌≡◌, ◌++◌, ◌^◌, ◌<◌, IfOk, OnOk, codes, decimal, flat_map, sum_by};
-ghost use Rattle.genlib_format.specs.Soundness.{IsSound as IsSoundLibrary};
-ghost use Rattle.netlist.specs.declared.mapped.TreeFigure.{TreeFigure as TheTreeFigure};
+ghost use Rattle.genlib_format.specs.Soundness.{IsSoundGates};
+ghost use Rattle.netlist.specs.declared.mapped.TreeFigure.{TreeFigure};
 ghost use Rattle.sis_session.specs.Methods.{IsDeclined, IsNetlisted};
 ghost use Rattle.sis_text.specs.Decimals.{decimal_text};
 ghost use Rattle.sis_session.specs.Replies.{map_text, total_text, tree_line};
@@ -16,14 +21,14 @@ use netlist::{Mapped, TreeFigure};
 use sis_text::Decimal;
 use std::alloc::{AllocError, Global};
 
-/// A netlist, and the text that tells its areas.
+/// A netlist, and the text of its areas.
 #[derive(Drop)]
 pub struct ToldNetlist {
     pub netlist: Mapped,
     pub text: Vec<u8>,
 }
 
-/// Puts an area. Where memory is wanting, a part of it may stand.
+/// Appends an area. On an error a part of it may have been appended.
 #[tactic(auto, using(std::proofs::lemmas::Grind::common_steps))]
 fn put_area(out: &mut Vec<u8>, alloc: Global, area: u128) -> Result<(), AllocError>
     ensures { OnOk result (out.new.items ≡ out.old.items ++ decimal_text area) }
@@ -32,7 +37,7 @@ fn put_area(out: &mut Vec<u8>, alloc: Global, area: u128) -> Result<(), AllocErr
     out.extend_from_slice(text.as_slice())
 }
 
-/// Puts the line of a tree. Where memory is wanting, a part of it may stand.
+/// Appends the line of a tree. On an error a part of it may have been appended.
 #[tactic(auto, unfolding(crate::specs::Replies::tree_line), using(std::proofs::lemmas::Grind::common_steps))]
 fn put_tree(out: &mut Vec<u8>, alloc: Global, tree: &TreeFigure) -> Result<(), AllocError>
     ensures { OnOk result (out.new.items ≡ out.old.items ++ tree_line tree.now) }
@@ -45,7 +50,7 @@ fn put_tree(out: &mut Vec<u8>, alloc: Global, tree: &TreeFigure) -> Result<(), A
     Ok(())
 }
 
-/// Puts a line for each tree. Where memory is wanting, a part may stand.
+/// Appends a line for each tree. On an error a part may have been appended.
 #[tactic(auto, using(std::proofs::lemmas::Grind::common_steps))]
 fn put_trees(out: &mut Vec<u8>, alloc: Global, trees: &[TreeFigure]) -> Result<(), AllocError>
     ensures { OnOk result (out.new.items ≡ out.old.items ++ flat_map tree_line trees.now) }
@@ -58,8 +63,8 @@ fn put_trees(out: &mut Vec<u8>, alloc: Global, trees: &[TreeFigure]) -> Result<(
 
 /// The area of all trees.
 fn total_area(trees: &[TreeFigure]) -> u128
-    requires { sum_by (λ (tree : TheTreeFigure). tree.figure) trees.now < 2 ^ 128 }
-    ensures { result ≡ sum_by (λ (tree : TheTreeFigure). tree.figure) trees.now }
+    requires { sum_by (λ (tree : TreeFigure). tree.figure) trees.now < 2 ^ 128 }
+    ensures { result ≡ sum_by (λ (tree : TreeFigure). tree.figure) trees.now }
 {
     let mut total = 0;
     for tree in trees {
@@ -68,7 +73,7 @@ fn total_area(trees: &[TreeFigure]) -> u128
     total
 }
 
-/// Puts how many gates there are. Where memory is wanting, nothing stands.
+/// Appends the number of gates.
 #[tactic(auto, using(std::proofs::lemmas::Grind::common_steps))]
 fn put_gates(out: &mut Vec<u8>, alloc: Global, gates: usize) -> Result<(), AllocError>
     ensures { OnOk result (out.new.items
@@ -78,7 +83,7 @@ fn put_gates(out: &mut Vec<u8>, alloc: Global, gates: usize) -> Result<(), Alloc
     out.extend_from_slice(text.as_bytes())
 }
 
-/// Puts an area and the number of gates. Where memory is wanting, a part may stand.
+/// Appends an area and the number of gates. On an error a part may have been appended.
 #[tactic(auto, unfolding(crate::specs::Replies::total_text), using(std::proofs::lemmas::Grind::common_steps))]
 fn put_total(out: &mut Vec<u8>, alloc: Global, area: u128, gates: usize) -> Result<(), AllocError>
     ensures { OnOk result (out.new.items ≡ out.old.items ++ total_text area gates) }
@@ -88,10 +93,10 @@ fn put_total(out: &mut Vec<u8>, alloc: Global, area: u128, gates: usize) -> Resu
     put_gates(out, alloc, gates)
 }
 
-/// The text that tells the areas of a netlist; an error only for want of memory.
+/// The text of the areas of a netlist.
 #[tactic(auto, using(std::proofs::lemmas::Grind::common_steps))]
 fn map_text(alloc: Global, netlist: &Mapped, brief: bool) -> Result<Vec<u8>, AllocError>
-    requires { sum_by (λ (tree : TheTreeFigure). tree.figure) netlist.now.trees < 2 ^ 128 }
+    requires { sum_by (λ (tree : TreeFigure). tree.figure) netlist.now.trees < 2 ^ 128 }
     ensures { IfOk result (λ text. text.items ≡ map_text brief netlist.now) }
 {
     let area = total_area(netlist.trees.as_slice());
@@ -103,7 +108,7 @@ fn map_text(alloc: Global, netlist: &Mapped, brief: bool) -> Result<Vec<u8>, All
     Ok(text)
 }
 
-/// A reason against a netlist.
+/// A reason against a netlist as the fault of a step.
 fn declined(fault: MapFault) -> StepFault
     ensures { IsDeclined fault result }
 {
@@ -116,15 +121,15 @@ fn declined(fault: MapFault) -> StepFault
     }
 }
 
-/// The netlist of a network by a library, and the text that tells its areas; or the first reason
-/// against it.
+/// The netlist of a network by a library, and the text of its areas; or the first reason against
+/// it.
 pub fn netlisted(
     alloc: Global,
     network: &Network<PlainRow>,
     library: &Library,
     brief: bool,
 ) -> Result<ToldNetlist, StepFault>
-    requires { IsSoundLibrary library.now }
+    requires { IsSoundGates library.now }
     ensures { IsNetlisted brief network.now library.now result }
 {
     match map(alloc, network, library) {

@@ -1,8 +1,8 @@
 //! The calls that a step makes on the outside.
 //!
-//! Each is parted from what is done with its answer, so that its contract says which call was made
-//! and how it ended, over every object of its kind. What a command tells is handed in as it was
-//! made, or as the reason why it was not: then nothing is asked of the outside.
+//! Each is separate from what is done with its answer, so that its contract says which call was
+//! made and how it ended, over every object of its kind. What a command prints is passed in as its
+//! text, or as the reason why there is none; in that case nothing is asked of the outside.
 
 ghost use Rattle.std.specs.Prelude.{◌≡◌, ◌≤◌, IfOk, List, ℕ, Result, length};
 ghost use Rattle.sis_outside.specs.Calls.{Follows};
@@ -10,7 +10,7 @@ ghost use Rattle.sis_session.specs.Commands.{reply_with, source_plan};
 ghost use Rattle.sis_session.specs.Methods.{AskedNone, HasLoaded, HasPut, HasSaved, HasToldPut, IsTold};
 ghost use Rattle.sis_session.specs.Plan.{Did, MAX_BYTES, NestsBelow, ended, sends};
 ghost use Rattle.sis_session.specs.State.{Held};
-ghost use Rattle.sis_session.specs.declared.refusal.Refusal.{Refusal as TheRefusal};
+ghost use Rattle.sis_session.specs.declared.refusal.Refusal.{Refusal};
 
 use crate::refusal::{Next, Refusal, StepFault};
 use crate::session::{MAX_BYTES, MAX_DEPTH};
@@ -19,7 +19,8 @@ use sis_script::commands;
 use sis_text::Word;
 use std::alloc::Global;
 
-/// Loads a file of at most 67,108,864 bytes; no file and a file that is too long are refusals.
+/// Loads a file of at most 67,108,864 bytes; a missing file and a file that is too long are
+/// refusals.
 pub fn load<S: Store>(alloc: Global, name: &str, store: &mut S) -> Result<Vec<u8>, StepFault>
     ensures loaded { HasLoaded S.calls name.now store.old result store.new }
     ensures within { IfOk result (λ bytes. length bytes.items ≤ MAX_BYTES) }
@@ -48,7 +49,7 @@ fn save<S: Store>(store: &mut S, name: &str, bytes: &[u8]) -> Result<Next, StepF
     }
 }
 
-/// Puts a reply, unless it is empty.
+/// Writes a reply, unless it is empty.
 pub fn put<O: Sink>(out: &mut O, reply: &[u8]) -> Result<Next, StepFault>
     ensures { HasPut O.calls reply.now out.old result out.new }
 {
@@ -62,8 +63,11 @@ pub fn put<O: Sink>(out: &mut O, reply: &[u8]) -> Result<Next, StepFault>
     }
 }
 
-/// Puts what a command tells, or hands on why it tells nothing.
-pub fn put_told<O: Sink>(told: Result<Vec<u8>, StepFault>, out: &mut O) -> Result<Next, StepFault>
+/// Prints a text, or passes the fault on and prints nothing.
+pub fn print_reply<O: Sink>(
+    told: Result<Vec<u8>, StepFault>,
+    out: &mut O,
+) -> Result<Next, StepFault>
     ensures put { HasToldPut O.calls told out.old result out.new }
     ensures nests { (depth : ℕ) → IfOk result (NestsBelow depth) }
 {
@@ -73,15 +77,14 @@ pub fn put_told<O: Sink>(told: Result<Vec<u8>, StepFault>, out: &mut O) -> Resul
     }
 }
 
-/// Sends what a command tells to a file, or to the output where none is named; or hands on why it
-/// tells nothing.
-pub fn send_told<S: Store, O: Sink>(
+/// Writes a text to a file, or to the output if none is named; or passes the fault on.
+pub fn write_reply<S: Store, O: Sink>(
     told: Result<Vec<u8>, StepFault>,
     file: &Option<Word>,
     store: &mut S,
     out: &mut O,
 ) -> Result<Next, StepFault>
-    ensures did { (held : Held) (what : Result (List ℕ) TheRefusal) → IsTold what told
+    ensures did { (held : Held) (what : Result (List ℕ) Refusal) → IsTold what told
         → Did (λ plan. plan ≡ sends file.now (reply_with held what))
         (Follows S.calls store.old store.new) (Follows O.calls out.old out.new)
         (ended result held) }
@@ -97,8 +100,7 @@ pub fn send_told<S: Store, O: Sink>(
     }
 }
 
-/// Loads a file as a script of commands that come next; refused where too many scripts stand round
-/// it.
+/// Loads a file as a script whose commands come next; refused if scripts are nested too deep.
 pub fn source<S: Store>(
     alloc: Global,
     name: &Word,

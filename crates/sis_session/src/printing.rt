@@ -1,8 +1,9 @@
-//! What the commands tell that print or write.
+//! The texts of the commands that print or write.
 //!
-//! A text is made whole before the outside is asked for anything, so that a command that fails
-//! leaves nothing half printed, and a command that prints is one function here and one arm of the
-//! step.
+//! A text is complete before the outside is asked for anything, so that a command that is refused,
+//! or runs out of memory, prints nothing. A command that prints is one function here and one arm of
+//! `step`. Each answer is the text that `specs/Commands.antt` defines, a refusal that it defines,
+//! or want of memory.
 
 ghost use Rattle.std.specs.Prelude.{◌≡◌, Ok, flat_map, IfSome};
 ghost use Rattle.sis_base.specs.Written.{lines_text};
@@ -25,14 +26,14 @@ use sis_base::Copied;
 use sis_script::{RawWord, RawWords};
 use std::alloc::Global;
 
-/// What `echo` puts.
+/// What `echo` prints.
 pub fn echo(alloc: Global, words: &RawWords) -> Result<Vec<u8>, StepFault>
     ensures { IsTold (Ok (echo_line words.now)) result }
 {
     Ok(echo_text(alloc, words.as_slice())?)
 }
 
-/// How large a network is; takes no memory.
+/// The size of a network; takes no memory.
 #[tactic(auto, unfolding(crate::specs::Replies::stats_of))]
 pub fn stats_of(network: &Network<PlainRow>) -> Stats
     requires { HasBounds network.now }
@@ -44,7 +45,7 @@ pub fn stats_of(network: &Network<PlainRow>) -> Stats
     }
 }
 
-/// What `print_stats` puts.
+/// What `print_stats` prints.
 pub fn print_stats(alloc: Global, network: &Option<Network<PlainRow>>) -> Result<Vec<u8>, StepFault>
     requires { IfSome network.now HasBounds }
     ensures { IsToldBy (ToldBy (Just stats_told) network.now) result }
@@ -80,7 +81,7 @@ fn all_text(alloc: Global, network: &Network<PlainRow>) -> Result<Vec<u8>, StepF
     Ok(tables_text(alloc, circuit.tables.as_slice())?)
 }
 
-/// What `print` puts.
+/// What `print` prints.
 pub fn print(
     alloc: Global,
     network: &Option<Network<PlainRow>>,
@@ -97,7 +98,7 @@ pub fn print(
     }
 }
 
-/// What `print_latch` puts.
+/// What `print_latch` prints.
 pub fn print_latch(alloc: Global, network: &Option<Network<PlainRow>>) -> Result<Vec<u8>, StepFault>
     ensures { IsToldBy (ToldBy (Just latches_told) network.now) result }
 {
@@ -108,7 +109,7 @@ pub fn print_latch(alloc: Global, network: &Option<Network<PlainRow>>) -> Result
     Ok(latches_text(alloc, &circuit.timing, circuit.latches.as_slice())?)
 }
 
-/// What `write_blif` sends.
+/// What `write_blif` writes.
 pub fn network_text(
     alloc: Global,
     network: &Option<Network<PlainRow>>,
@@ -123,7 +124,7 @@ pub fn network_text(
     Ok(text)
 }
 
-/// What `write_blif -n` sends.
+/// What `write_blif -n` writes.
 pub fn netlist_told(alloc: Global, netlist: &Option<Mapped>) -> Result<Vec<u8>, StepFault>
     ensures { IsTold (written_text (netlist_of netlist.now)) result }
 {
@@ -135,7 +136,7 @@ pub fn netlist_told(alloc: Global, netlist: &Option<Mapped>) -> Result<Vec<u8>, 
     Ok(text)
 }
 
-/// What `write_kiss` sends.
+/// What `write_kiss` writes.
 pub fn machine_told(alloc: Global, machine: &Option<Machine>) -> Result<Vec<u8>, StepFault>
     ensures { IsTold (written_text (machine_of machine.now)) result }
 {

@@ -1,11 +1,12 @@
-//! Texts put one behind the other.
+//! Texts appended to one another, and the texts of a line's fault and of a limit. A call that runs
+//! out of memory leaves the output as it was.
 
 ghost use Rattle.std.specs.Prelude.{◌≡◌, ◌++◌, take, OnOk, OnErr};
 ghost use Rattle.sis_session.specs.Texts.{limit_text, line_text};
 
 use std::alloc::{AllocError, Global};
 
-/// What a put answered; where that is an error, only the first `len` bytes stay.
+/// The answer of an append; if that is an error, the output is cut back to its first `len` bytes.
 pub(crate) fn cut_on_error(
     out: &mut Vec<u8>,
     len: usize,
@@ -21,7 +22,7 @@ pub(crate) fn cut_on_error(
     put
 }
 
-/// Puts two texts. An error only for want of memory; then nothing is put.
+/// Appends two texts. On an error the output stays as it was.
 #[tactic(auto, using(std::proofs::lemmas::Grind::common_steps))]
 pub fn put_two(out: &mut Vec<u8>, first: &[u8], second: &[u8]) -> Result<(), AllocError>
     ensures ok { OnOk result (out.new.items ≡ out.old.items ++ (first.now ++ second.now)) }
@@ -33,7 +34,7 @@ pub fn put_two(out: &mut Vec<u8>, first: &[u8], second: &[u8]) -> Result<(), All
     cut_on_error(out, len, put)
 }
 
-/// Puts three texts. An error only for want of memory; then nothing is put.
+/// Appends three texts. On an error the output stays as it was.
 #[tactic(auto, using(std::proofs::lemmas::Grind::common_steps))]
 pub fn put_three(
     out: &mut Vec<u8>,
@@ -51,7 +52,7 @@ pub fn put_three(
     cut_on_error(out, len, put)
 }
 
-/// Puts what is wrong with a line. An error only for want of memory; then nothing is put.
+/// Appends what is wrong with a line. On an error the output stays as it was.
 #[tactic(auto, unfolding(crate::specs::Texts::line_text), using(std::proofs::lemmas::Grind::common_steps))]
 pub fn put_line(
     out: &mut Vec<u8>,
@@ -66,7 +67,7 @@ pub fn put_line(
     put_two(out, head.as_bytes(), what)
 }
 
-/// Puts which limit is passed. An error only for want of memory; then nothing is put.
+/// Appends which limit is exceeded. On an error the output stays as it was.
 #[tactic(auto, unfolding(crate::specs::Texts::limit_text), using(std::proofs::lemmas::Grind::common_steps))]
 pub fn put_limit(
     out: &mut Vec<u8>,

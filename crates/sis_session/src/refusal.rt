@@ -1,8 +1,9 @@
 //! How a step ends: what comes next, or why it was not done.
 //!
-//! A refusal has its cause in what is held, in the words or in what was told of a file; its line is
-//! told, and a run may go on behind it. A failure of an object, or want of memory, cuts a run
-//! short. They are kept apart by type, since different things are promised of them.
+//! A refusal has its cause in what is held, in the words of the command or in the contents of a
+//! file; it is reported on a line, and a run may go on after it. A failure of an object of the
+//! outside, or want of memory, cuts a run short. The two are separate types because different
+//! things are promised of them.
 
 use blif_lines::BlifFault;
 use genlib_format::LibFault;
@@ -11,12 +12,12 @@ use sis_script::{Commands, RawWord, ScriptFault};
 use sis_text::Word;
 use std::alloc::AllocError;
 
-/// How a script goes on behind a command that is done.
+/// How a script goes on after a command that is done.
 #[derive(Debug, Drop)]
 pub enum Next {
     /// With the next command.
     Go,
-    /// Not at all: its end has come.
+    /// Not at all: the script has ended.
     Quit,
     /// With these commands, and then with the next one.
     Script(Commands),
@@ -29,11 +30,11 @@ pub enum Failed {
     Store,
     /// A take of the input failed.
     Input,
-    /// A put on the output failed.
+    /// A write on the output failed.
     Out,
-    /// A put on the error output failed.
+    /// A write on the error output failed.
     Err,
-    /// Memory was wanting.
+    /// Memory ran out.
     Memory,
 }
 
@@ -42,7 +43,7 @@ pub enum Failed {
 pub enum Refusal {
     /// Its words are wrong.
     Script(ScriptFault),
-    /// It would stand in more scripts than may be nested.
+    /// Its script would be nested deeper than allowed.
     Nested,
     /// There is no network.
     NoNetwork,
@@ -56,25 +57,25 @@ pub enum Refusal {
     NothingToUndo,
     /// No table has this name.
     NoSignal(RawWord),
-    /// What would come into the table of this name has too many rows.
+    /// When the turn of the table of this name came, it or a list of its rows was too long.
     CubeLimit(RawWord),
     /// The table of this name would have so many inputs, which are too many.
     TooWide(RawWord, usize),
-    /// There would be more tables and latches than may stand.
+    /// There would be more tables and latches than allowed.
     NodeLimit,
     /// The table of this name has more kernels than are listed.
     KernelLimit(RawWord),
-    /// In the turn of the table of this name a function is too big.
+    /// When the turn of the table of this name came, a function was too big.
     TooBig(RawWord),
     /// No gate that is used is an inverter.
     NoInverter,
     /// No gate that is used is a NAND of two pins.
     NoNand,
-    /// The trees of the network have more vertices than they may.
+    /// The trees of the network have more vertices than allowed.
     TreeLimit,
     /// There is no file of this name.
     Missing(Word),
-    /// The file of this name is longer than is read.
+    /// The file of this name is longer than the limit.
     TooLong(Word),
     /// The file of this name has a fault as a circuit.
     Blif(Word, BlifFault),
@@ -82,7 +83,7 @@ pub enum Refusal {
     Kiss(Word, KissFault),
     /// The file of this name has a fault as a library.
     Lib(Word, LibFault),
-    /// The script as a whole is longer than is run; no command is refused so.
+    /// The script as a whole is longer than the limit; no command is refused so.
     LongScript,
 }
 
@@ -94,7 +95,7 @@ pub enum StepFault {
     StoreFault,
     /// The output failed, and its count of faults rose.
     SinkFault,
-    /// Memory was wanting.
+    /// Memory ran out.
     Memory,
 }
 

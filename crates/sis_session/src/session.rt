@@ -1,11 +1,11 @@
 //! The session: what is held between two commands, and one step of the command machine.
 //!
-//! Only `Ok` changes what is held. What a command makes is made first and told to the outside next;
+//! Only `Ok` changes what is held. What a command makes is made first and sent to the outside next;
 //! it is moved in last, when nothing can fail any more. A relation of each trait of the outside
 //! says what one call with its answer may do to the object. `Steps` says by cases on a command's
-//! plan what it asked and how it ended; `step` adds that each object went by just those calls
-//! (`Did`). The methods below it promise a computing form, by cases on the plan and the ending, so
-//! that no witness has to be found in them.
+//! plan what it asked and how it ended; `step` adds that each object went by exactly those calls
+//! (`Did`). The methods that `step` calls promise a form that computes, by cases on the plan and
+//! the ending, so that no witness has to be found in them.
 
 ghost use Rattle.std.specs.Prelude.{◌≡◌, ◌<◌, ℕ, IfOk, IfSome, OnOk, OnErr, option_map};
 ghost use Rattle.sis_outside.specs.Calls.{Follows};
@@ -19,14 +19,14 @@ ghost use Rattle.genlib_format.specs.Reader.{library_of};
 ghost use Rattle.circuit_model.specs.Counts.{IsWithinLimits};
 ghost use Rattle.net_core.specs.Reads.{HasBounds};
 ghost use Rattle.circuit_model.specs.Soundness.{IsSound};
-ghost use Rattle.circuit_model.specs.MachineSoundness.{IsSound as IsSoundMachine};
+ghost use Rattle.circuit_model.specs.MachineSoundness.{IsSoundMachine};
 
 use crate::algebra::{print_factor, print_kernel};
 use crate::changing::change_network;
 use crate::encoding::{CodedNetwork, encoded};
 use crate::generating::circuit_of;
 use crate::mapping::{ToldNetlist, netlisted};
-use crate::outside::{load, put, put_told, send_told, source};
+use crate::outside::{load, print_reply, put, source, write_reply};
 use crate::printing::{
     echo, machine_told, netlist_told, network_text, print, print_latch, print_stats, stats_of,
 };
@@ -45,17 +45,17 @@ use std::alloc::{AllocError, Global};
 use std::marker::Model;
 use std::mem;
 
-/// The longest file and the longest script that is read, in bytes.
+/// The length of the longest file and the longest script that is read, in bytes.
 pub const MAX_BYTES: usize = 67_108_864;
 
-/// The most scripts that may stand round one another.
+/// The greatest depth of nested scripts.
 pub const MAX_DEPTH: u32 = 16;
 
 /// How large a function may be: different inner nodes of its reduced decision tree.
 pub const MAX_FUNCTION: usize = 1_048_575;
 
 /// What is held between two commands: the network, and the one before its last change, which both
-/// keep the bounds in which literals are counted, each with its netlist; the machine and the
+/// keep the bounds within which literals are counted, each with its netlist; the machine and the
 /// library, which are sound.
 #[derive(Drop)]
 pub struct Session {
@@ -70,7 +70,7 @@ pub struct Session {
 impl Model for Session {
     ghost use Rattle.std.specs.Prelude.{IfSome};
     ghost use Rattle.blif_lines.specs.Libraries.{IsSoundLibrary};
-    ghost use Rattle.circuit_model.specs.MachineSoundness.{IsSound as IsSoundMachine};
+    ghost use Rattle.circuit_model.specs.MachineSoundness.{IsSoundMachine};
     ghost use Rattle.net_core.specs.Reads.{HasBounds};
     ghost use Rattle.sis_session.specs.State.{Held, parts_held};
 
@@ -98,7 +98,7 @@ impl Session {
         }
     }
 
-    /// Lets both netlists go.
+    /// Drops both netlists.
     fn drop_netlists(&mut self)
         ensures { self.new ≡ record self.old { netlist = None; previous_netlist = None } }
     {
@@ -106,7 +106,7 @@ impl Session {
         self.previous_netlist = None;
     }
 
-    /// Holds a circuit that was read as the network.
+    /// Makes a circuit that was read the network.
     #[tactic(auto, using(net_core::proofs::Bounds::bounds_read))]
     fn hold_circuit(&mut self, alloc: Global, circuit: Circuit) -> Result<(), AllocError>
         requires sound { IsSound circuit }
@@ -121,7 +121,7 @@ impl Session {
         Ok(())
     }
 
-    /// Holds the circuit of a seed and a number of tables as one that was read.
+    /// Makes the circuit of a seed and a number of tables the network, like one that was read.
     fn hold_generated(&mut self, alloc: Global, seed: u64, tables: u64) -> Result<(), AllocError>
         ensures ok { OnOk result (self.new ≡ with_read self.old (circuit_of seed tables)) }
         ensures err { OnErr result (self.new ≡ self.old) }
@@ -130,7 +130,7 @@ impl Session {
         self.hold_circuit(alloc, circuit)
     }
 
-    /// Holds a machine that was read.
+    /// Makes a machine that was read the current one.
     fn hold_machine(&mut self, machine: Machine)
         requires { IsSoundMachine machine }
         ensures { self.new ≡ with_machine self.old machine }
@@ -141,7 +141,7 @@ impl Session {
         self.drop_netlists();
     }
 
-    /// Reads bytes as the network or the machine, by the library that is held; after an error the
+    /// Reads bytes as the network or the machine, by the current library; after an error the
     /// session is as before.
     pub fn read(&mut self, alloc: Global, bytes: &[u8]) -> Result<(), ReadFault>
         ensures { HasRead bytes.now self.old result self.new }
@@ -153,7 +153,7 @@ impl Session {
         Ok(())
     }
 
-    /// How large the network is, if there is one; takes no memory.
+    /// The size of the network, if there is one; takes no memory.
     pub fn stats(&self) -> Option<Stats>
         ensures { result ≡ option_map stats_of self.now.network }
     {
@@ -163,8 +163,8 @@ impl Session {
         }
     }
 
-    /// Takes the last change back, where there was one: the network and the previous one change
-    /// places, with their netlists; takes no memory.
+    /// Undoes the last change, if there was one: the network and the previous one are exchanged,
+    /// with their netlists. Takes no memory.
     pub fn undo(&mut self) -> bool
         ensures { Undoes self.old.previous self.old result self.new }
     {
@@ -290,7 +290,7 @@ impl Session {
         Ok(Next::Go)
     }
 
-    /// Changes the network, and keeps the one before as the previous one.
+    /// Changes the network, and keeps the old one as the previous one.
     fn change(&mut self, alloc: Global, change: Change) -> Result<Next, StepFault>
         ensures did { Did (Replies
             (ChangedBy self.old change self.old.network)) AskedNone AskedNone
@@ -306,8 +306,8 @@ impl Session {
         Ok(Next::Go)
     }
 
-    /// Holds the network of the machine, and the one before as the previous one, where there was
-    /// one.
+    /// Makes the network of the machine current, and keeps the old one as the previous one, if
+    /// there was one.
     fn hold_encoded(&mut self, network: Network<PlainRow>)
         requires { HasBounds network }
         ensures { self.new ≡ with_encoded self.old self.old.network network }
@@ -320,7 +320,7 @@ impl Session {
         }
     }
 
-    /// Makes the network of the machine, tells its codes, and then holds it.
+    /// Makes the network of the machine, prints its codes, and then makes it current.
     fn state_assign<O: Sink>(
         &mut self,
         alloc: Global,
@@ -345,7 +345,7 @@ impl Session {
         }
     }
 
-    /// Makes a netlist of the network by the library, tells its areas, and then holds it.
+    /// Makes a netlist of the network by the library, prints its areas, and then makes it current.
     fn map<O: Sink>(&mut self, alloc: Global, brief: bool, out: &mut O) -> Result<Next, StepFault>
         ensures did { Did (Replies (MappedBy brief self.old self.old.network self.old.library))
             AskedNone (Follows O.calls out.old out.new) (ended result self.new) }
@@ -369,7 +369,7 @@ impl Session {
         }
     }
 
-    /// Takes the last change back, or is refused where there is none.
+    /// Undoes the last change, or is refused if there is none.
     fn undo_or_refuse(&mut self) -> Result<Next, StepFault>
         ensures did { Did (λ plan. plan ≡ Quiet
             (undo_outcome self.old self.old.previous)) AskedNone AskedNone (ended result self.new) }
@@ -382,8 +382,8 @@ impl Session {
         }
     }
 
-    /// One step of the command machine; `depth` is the number of sourced scripts round the command.
-    /// After an error the session is as before.
+    /// One step of the command machine; `depth` is the number of sourced scripts around the
+    /// command. After an error the session is as before.
     pub fn step<S: Store, O: Sink>(
         &mut self,
         alloc: Global,
@@ -399,22 +399,32 @@ impl Session {
         ensures nests { IfOk result (NestsBelow depth) }
     {
         match &command.op {
-            Op::Echo(words) => put_told(echo(alloc, words), out),
+            Op::Echo(words) => print_reply(echo(alloc, words), out),
             Op::Quit => Ok(Next::Quit),
             Op::ReadBlif(name) => self.read_blif(alloc, name, store),
             Op::ReadKiss(name) => self.read_kiss(alloc, name, store),
             Op::ReadLibrary(name) => self.read_library(alloc, name, store),
             Op::Generate(seed, tables) => self.generate(alloc, *seed, *tables),
-            Op::WriteBlif(file) => send_told(network_text(alloc, &self.network), file, store, out),
-            Op::WriteKiss(file) => send_told(machine_told(alloc, &self.machine), file, store, out),
+            Op::WriteBlif(file) => write_reply(
+                network_text(alloc, &self.network),
+                file,
+                store,
+                out,
+            ),
+            Op::WriteKiss(file) => write_reply(
+                machine_told(alloc, &self.machine),
+                file,
+                store,
+                out,
+            ),
             Op::WriteNetlist(file) => {
-                send_told(netlist_told(alloc, &self.netlist), file, store, out)
+                write_reply(netlist_told(alloc, &self.netlist), file, store, out)
             }
-            Op::PrintStats => put_told(print_stats(alloc, &self.network), out),
-            Op::Print(name) => put_told(print(alloc, &self.network, name), out),
-            Op::PrintLatch => put_told(print_latch(alloc, &self.network), out),
-            Op::PrintFactor(name) => put_told(print_factor(alloc, &self.network, name), out),
-            Op::PrintKernel(name) => put_told(print_kernel(alloc, &self.network, name), out),
+            Op::PrintStats => print_reply(print_stats(alloc, &self.network), out),
+            Op::Print(name) => print_reply(print(alloc, &self.network, name), out),
+            Op::PrintLatch => print_reply(print_latch(alloc, &self.network), out),
+            Op::PrintFactor(name) => print_reply(print_factor(alloc, &self.network, name), out),
+            Op::PrintKernel(name) => print_reply(print_kernel(alloc, &self.network, name), out),
             Op::Change(change) => self.change(alloc, *change),
             Op::StateAssign(style) => self.state_assign(alloc, *style, out),
             Op::Map(brief) => self.map(alloc, *brief, out),

@@ -1,8 +1,8 @@
-//! The texts that the program prints: replies, lines of refusals and of faults.
+//! The texts that the program prints: replies, and the lines of refusals and errors.
 //!
-//! Each stands here once and is promised byte by byte (`specs/Replies`), so that a script may rely
-//! on what it reads. The texts of faults in files are those of `blif`, `kiss` and `library`. A put
-//! for which memory is wanting leaves what it was lent as it was.
+//! Each text is here once and is promised byte for byte (`specs/Replies.antt`), so that a script
+//! may rely on what it reads. The texts of faults in files are in `blif`, `kiss` and `library`. A
+//! call that runs out of memory leaves the output as it was.
 
 ghost use Rattle.std.specs.Prelude.{◌≡◌, ◌++◌, flat_map, codes, decimal, IfOk, OnOk, OnErr};
 ghost use Rattle.sis_base.specs.Written.{spaced};
@@ -28,7 +28,7 @@ use sis_script::{RawWord, ScriptFault};
 use sis_text::Word;
 use std::alloc::{AllocError, Global};
 
-/// How large a network is, in numbers.
+/// The size of a network, in numbers.
 #[derive(Clone, Copy)]
 pub struct Stats {
     pub sizes: Sizes,
@@ -36,7 +36,7 @@ pub struct Stats {
     pub lits: u128,
 }
 
-/// Words as a line, with one blank between; an error only for want of memory.
+/// Words as a line, separated by one blank.
 #[tactic(auto, unfolding(crate::specs::Replies::echo_line), using(std::proofs::lemmas::Grind::common_steps))]
 pub fn echo_text(alloc: Global, words: &[RawWord]) -> Result<Vec<u8>, AllocError>
     ensures { IfOk result (λ text. text.items ≡ echo_line words.now) }
@@ -50,7 +50,7 @@ pub fn echo_text(alloc: Global, words: &[RawWord]) -> Result<Vec<u8>, AllocError
     Ok(text)
 }
 
-/// Puts words, each with a blank before it.
+/// Appends words, each with a blank before it.
 #[tactic(auto, using(std::proofs::lemmas::Grind::common_steps))]
 fn put_spaced(out: &mut Vec<u8>, words: &[RawWord]) -> Result<(), AllocError>
     ensures ok { OnOk result (out.new.items ≡ out.old.items ++ flat_map spaced words.now) }
@@ -66,7 +66,7 @@ fn put_spaced(out: &mut Vec<u8>, words: &[RawWord]) -> Result<(), AllocError>
     Ok(())
 }
 
-/// Puts the numbers of the ports and the tables.
+/// Appends the numbers of the ports and the tables.
 #[tactic(auto, using(std::proofs::lemmas::Grind::common_steps))]
 fn put_first_counts(out: &mut Vec<u8>, alloc: Global, stats: Stats) -> Result<(), AllocError>
     ensures ok { OnOk result (out.new.items ≡ out.old.items
@@ -83,7 +83,7 @@ fn put_first_counts(out: &mut Vec<u8>, alloc: Global, stats: Stats) -> Result<()
     out.extend_from_slice(text.as_bytes())
 }
 
-/// Puts the numbers of the latches, the literals and the don't-care tables.
+/// Appends the numbers of the latches, the literals and the don't-care tables.
 #[tactic(auto, using(std::proofs::lemmas::Grind::common_steps))]
 fn put_last_counts(out: &mut Vec<u8>, alloc: Global, stats: Stats) -> Result<(), AllocError>
     ensures ok { OnOk result (out.new.items ≡ out.old.items
@@ -100,8 +100,8 @@ fn put_last_counts(out: &mut Vec<u8>, alloc: Global, stats: Stats) -> Result<(),
     out.extend_from_slice(text.as_bytes())
 }
 
-/// A name and how large its network is, as a line: inputs, outputs, tables, latches, literals,
-/// don't-care tables. An error only for want of memory.
+/// A name and the size of its network, as a line: inputs, outputs, tables, latches, literals,
+/// don't-care tables.
 #[tactic(auto, unfolding(crate::specs::Replies::numbers_line), using(std::proofs::lemmas::Grind::common_steps))]
 pub fn stats_text(alloc: Global, name: &[u8], stats: Stats) -> Result<Vec<u8>, AllocError>
     ensures { IfOk result (λ text. text.items ≡ numbers_line name.now stats) }
@@ -125,7 +125,7 @@ fn script_fault_text(fault: ScriptFault) -> &'static [u8]
     }
 }
 
-/// Puts a text.
+/// Appends a text.
 #[tactic(auto, using(std::proofs::lemmas::Grind::common_steps))]
 fn put_text(out: &mut Vec<u8>, text: &[u8]) -> Result<(), AllocError>
     ensures ok { OnOk result (out.new.items ≡ out.old.items ++ text.now) }
@@ -134,7 +134,7 @@ fn put_text(out: &mut Vec<u8>, text: &[u8]) -> Result<(), AllocError>
     out.extend_from_slice(text)
 }
 
-/// Puts the name of a file and what is wrong with it as a circuit.
+/// Appends the name of a file and what is wrong with it as a circuit.
 #[tactic(auto, using(std::proofs::lemmas::Grind::common_steps))]
 fn put_circuit_fault(
     out: &mut Vec<u8>,
@@ -152,7 +152,7 @@ fn put_circuit_fault(
     cut_on_error(out, len, put)
 }
 
-/// Puts the name of a file and what is wrong with it as a machine.
+/// Appends the name of a file and what is wrong with it as a machine.
 #[tactic(auto, using(std::proofs::lemmas::Grind::common_steps))]
 fn put_machine_fault(
     out: &mut Vec<u8>,
@@ -170,7 +170,7 @@ fn put_machine_fault(
     cut_on_error(out, len, put)
 }
 
-/// Puts the name of a file and what is wrong with it as a library.
+/// Appends the name of a file and what is wrong with it as a library.
 #[tactic(auto, using(std::proofs::lemmas::Grind::common_steps))]
 fn put_gates_fault(
     out: &mut Vec<u8>,
@@ -188,7 +188,7 @@ fn put_gates_fault(
     cut_on_error(out, len, put)
 }
 
-/// Puts how many inputs the table of a name would have.
+/// Appends the number of inputs that the table of a name would have.
 #[tactic(auto, using(std::proofs::lemmas::Grind::common_steps))]
 fn put_width(
     out: &mut Vec<u8>,
@@ -204,7 +204,7 @@ fn put_width(
     put_two(out, head.as_bytes(), name.as_slice())
 }
 
-/// Puts why a command is refused.
+/// Appends why a command is refused.
 #[tactic(auto, unfolding(crate::specs::Replies::refusal_text), using(std::proofs::lemmas::Grind::common_steps))]
 fn put_refusal(out: &mut Vec<u8>, alloc: Global, refusal: &Refusal) -> Result<(), AllocError>
     ensures ok { OnOk result (out.new.items ≡ out.old.items ++ refusal_text refusal.now) }
@@ -245,7 +245,7 @@ fn put_refusal(out: &mut Vec<u8>, alloc: Global, refusal: &Refusal) -> Result<()
     }
 }
 
-/// Puts the head of a line on the error output: the line of the script.
+/// Appends the beginning of a line on the error output: the line of the script.
 #[tactic(auto, using(std::proofs::lemmas::Grind::common_steps))]
 fn put_head(out: &mut Vec<u8>, alloc: Global, line: usize) -> Result<(), AllocError>
     ensures ok { OnOk result (out.new.items
@@ -256,8 +256,7 @@ fn put_head(out: &mut Vec<u8>, alloc: Global, line: usize) -> Result<(), AllocEr
     out.extend_from_slice(text.as_bytes())
 }
 
-/// The line on the error output for a command of this line that is refused; an error only for want
-/// of memory.
+/// The line on the error output for a refused command of this line.
 #[tactic(auto, unfolding(crate::specs::Replies::refusal_line, crate::specs::Replies::error_line), using(std::proofs::lemmas::Grind::common_steps))]
 pub fn refusal_text(alloc: Global, line: usize, refusal: &Refusal) -> Result<Vec<u8>, AllocError>
     ensures { IfOk result (λ text. text.items ≡ refusal_line line refusal.now) }
@@ -269,7 +268,7 @@ pub fn refusal_text(alloc: Global, line: usize, refusal: &Refusal) -> Result<Vec
     Ok(text)
 }
 
-/// The line on the error output with this text; an error only for want of memory.
+/// The line on the error output with this text.
 #[tactic(auto, unfolding(crate::specs::Replies::error_line), using(std::proofs::lemmas::Grind::common_steps))]
 pub fn error_text(alloc: Global, line: usize, text: &str) -> Result<Vec<u8>, AllocError>
     ensures { IfOk result (λ made. made.items ≡ error_line line text.now) }

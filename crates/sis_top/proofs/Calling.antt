@@ -74,7 +74,7 @@ line_wanting line (Some call) status e = by call.answer e.1
     by (Err put.Failed) d = inr (inr d)
     by (Err put.Memory) d = inr (inr d)
 
--- memory was wanting before the script was begun
+-- memory ran out before the script was begun
 run_wanting : (goes_on : Bool) (script : TheScript) (store : List StoreCall → Type 0) (input : List TakeCall → Type 0) (out err : List PutCall → Type 0) (status : Status)
     → store [] → input [] → out [] → HasEndLine (failure_line (record { line = 0; what = failed.Memory })) Memory err status → IsRun goes_on script store input out err status
 run_wanting goes_on script store input out err status stored took sent line = record {

@@ -1,4 +1,4 @@
--- A script that reads a good file, tells of it and writes it is served.
+-- A script that reads a good file, prints its size and writes it is served.
 use Rattle.std.proofs.Common.{◌≡◌, ℕ, ◌≤◌, List, [], ◌∷◌, ◌++◌, refl, sym, ap, subst, ◌∙◌, inl, inr, length, map, arith}
 use Rattle.std.specs.Prelude.{◌⊎◌, Bool, false, Option, Some, None, Result, Ok, Err, codes}
 use Rattle.std.specs.Str.{is_utf8, chars}
@@ -97,7 +97,7 @@ file_ends name text held (OnStore (Save saved sent answer)) ending h = save_ends
 file_ends name text held (OnOut call) ending h = absurd h
 file_ends name text held (OnInput calls) ending h = absurd h
 
--- what is asked by a command that puts or saves is answered, or not
+-- what is asked by a command that prints or saves is answered, or not
 put_served : (depth : ℕ) (held : Held) (op : Op) (answer : Result (Unit {0}) PutFault) → (answer ≡ Ok tt) ⊎ ((fault : PutFault) × (answer ≡ Err fault))
 put_served depth held op (Ok done) = inl refl
 put_served depth held op (Err fault) = inr (fault, refl)
@@ -281,7 +281,7 @@ module _ (goes_on : Bool) (files : Files) (left bytes : List ℕ) (circuit : Cir
   write_served (OnOut call) ending (by_plan plan p g) = absurd (subst (λ (x : Plan). Goes x (OnOut call) ending) p g)
   write_served (OnInput calls) ending steps = inl ((circuit, refl), tt)
 
-  -- behind each turn the next machine stands, or nothing is due
+  -- each turn leads to the next machine, or to one with nothing due
   after_first_turn : (turn : Turn) → IsTurn first turn → (turn.asked ≡ Nothing) × ((after goes_on first turn ≡ second) ⊎ ((after goes_on first turn).todo ≡ []))
   unfolding first second IsCut
   after_first_turn turn is = let asks = begun_asks turn.asked turn.ending is.0 in (asks.0, by asks.1)

@@ -106,7 +106,7 @@ turn_unfailed goes_on machine turn t h =
     let asked = steps_unfailed (WorkPlans machine.held t.due.work) turn.asked turn.ending (ending_uncut goes_on machine t.due turn.ending turn.told e) t.steps in
     record { store = asked.0; input = asked.1; out = asked.2; err = told_unfailed goes_on machine t.due t.due.line turn.ending turn.told t.told e }
 
--- behind a turn the machine goes on, or it was cut short and nothing is due
+-- after a turn the machine goes on, or it was cut short and nothing is due
 abbrev pub IsStopped : Machine → Type 0
 IsStopped machine = (stop : Stop) × (machine.cut ≡ Some stop) × (machine.todo ≡ [])
 

@@ -207,7 +207,7 @@ turn_faithful saved put goes_on machine turn t refined = record {
       turn_areas put machine t.due.work turn.asked turn.ending depth op call t.steps (same_work t.due.work (Run depth op) (sym t.first ∙ w)) mapping e;
 }
 
--- what is held behind a turn is refined
+-- what is held after a turn is refined
 turn_refined : Kept → (goes_on : Bool) (machine : Machine) (turn : Turn) → Took goes_on machine turn → IsRefined machine.spec machine.held
     → IsRefined (after goes_on machine turn).spec (after goes_on machine turn).held
 turn_refined kept goes_on machine turn t refined =

@@ -93,7 +93,7 @@ call_fault (Some options) store input out err status {A} {B} {C} {D} a b c d cal
 pub rose_by : (rose : Bool) (before now : ℕ) → rose ≡ true → Counted rose before now → Rose before now
 rose_by rose before now e h = subst (λ (r : Bool). Counted r before now) e h
 
--- a status that tells the usage comes of words that are not taken
+-- the status Usage means words that are not accepted
 usage_cut : (what : Failed) → status_cut what ≡ Usage → ⊥
 usage_cut failed.Store e = cc
 usage_cut failed.Input e = cc

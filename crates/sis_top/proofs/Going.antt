@@ -62,7 +62,7 @@ went (Takes used) (OnOut call) ending h = absurd h
 pub goes_as : (plan other : Plan) (asked same : Asked) (ending : Ending) → plan ≡ other → asked ≡ same → Goes other same ending → Goes plan asked ending
 goes_as plan other asked same ending e d h = subst (λ (p : Plan). Goes p asked ending) (sym e) (subst (λ (a : Asked). Goes other a ending) (sym d) h)
 
--- memory may be wanting behind any outcome
+-- memory may run out after any outcome
 pub comes_wanting : (outcome : Outcome) → Comes outcome (Cut failed.Memory)
 comes_wanting (Does held next) = inr refl
 comes_wanting (Refuses why) = inr refl

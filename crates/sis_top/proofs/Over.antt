@@ -1,4 +1,4 @@
--- Two whole runs over the same told files, neither of them cut short, are one.
+-- Two whole runs over the same shown files, neither of them cut short, are equal.
 use Rattle.std.proofs.Common.{◌≡◌, ℕ, ◌+◌, List, [], ◌∷◌, ◌++◌, length, refl, sym, ap, subst, ◌∙◌, arith}
 use Rattle.std.specs.Prelude.{Bool, Option, Some, None, Result, Ok, Err}
 use Rattle.std.specs.List.{AllByRecursion}
@@ -10,7 +10,7 @@ use Rattle.sis_outside.specs.declared.store.SaveFault.{SaveFault}
 use Rattle.sis_outside.specs.declared.store.SaveFault.TheVariants as save
 use Rattle.sis_outside.specs.declared.sink.PutFault.{PutFault}
 use Rattle.sis_outside.specs.declared.sink.PutFault.TheVariants as put
-use Rattle.sis_session.specs.Plan.{Outcome, Plan, Quiet, Loads, Saves, Puts, Takes, Asked, Nothing, OnStore, OnOut, OnInput as FromInput, Ending, Done, Refused, Cut, ComesLoaded, ComesPut, ComesSaved, Goes, Steps, by_plan, no_memory, on_input, on_store}
+use Rattle.sis_session.specs.Plan.{Outcome, Plan, Quiet, Loads, Saves, Puts, Takes, Asked, Nothing, OnStore, OnOut, OnInput, Ending, Done, Refused, Cut, ComesLoaded, ComesPut, ComesSaved, Goes, Steps, by_plan, no_memory, on_input, on_store}
 use Rattle.sis_session.specs.declared.refusal.Failed.{Failed}
 use Rattle.sis_top.specs.declared.status.Stop.{Stop}
 use Rattle.sis_top.specs.Machine.{Due, Machine, Turn, WorkPlans, IsTold, IsTurnOf, Runs, after, after_ending, after_first, after_refusal, cut_at, told_cut}
@@ -90,7 +90,7 @@ put_answered outcome (Err put.Memory) ending told uncut h = absurd (subst (λ (x
 goes_answered : (plan : Plan) (asked : Asked) (ending : Ending) (told : Option PutCall) → IsUncut ending told → Goes plan asked ending → IsAnswered asked
 unfolding IsAnswered
 goes_answered plan Nothing ending told uncut h = tt
-goes_answered plan (FromInput calls) ending told uncut h = tt
+goes_answered plan (OnInput calls) ending told uncut h = tt
 goes_answered (Loads file used) (OnStore (Load name max answer)) ending told uncut h = load_answered file used answer ending told uncut h.2
 goes_answered (Saves file sent outcome) (OnStore (Save name bytes answer)) ending told uncut h = save_answered outcome answer ending told uncut h.2
 goes_answered (Puts reply outcome) (OnOut call) ending told uncut h = put_answered outcome call.answer ending told uncut h.1
@@ -155,14 +155,14 @@ unfolding Leaves
 first_leaves files last Nothing more h = (files, refl, h)
 first_leaves files last (OnStore call) more h = h
 first_leaves files last (OnOut call) more h = (files, refl, h)
-first_leaves files last (FromInput calls) more h = (files, refl, h)
+first_leaves files last (OnInput calls) more h = (files, refl, h)
 
 first_within : (asked : Asked) (more : List StoreCall) → AllByRecursion IsStoreWithin (on_store asked ++ more) → Within asked × AllByRecursion IsStoreWithin more
 unfolding Within
 first_within Nothing more h = (tt, h)
 first_within (OnStore call) more h = h
 first_within (OnOut call) more h = (tt, h)
-first_within (FromInput calls) more h = (tt, h)
+first_within (OnInput calls) more h = (tt, h)
 
 same_answers : (files later last : Files) (one other : Asked) → IsAnswered one → IsAnswered other → Leaves files one later → Leaves files other last → Within one → Within other
     → TakesAlike (on_input one) (on_input other) → AnswersAlike one other
@@ -170,7 +170,7 @@ unfolding IsAnswered Leaves Within
 same_answers files later last Nothing Nothing a b h k w v takes = tt
 same_answers files later last Nothing (OnStore call) a b h k w v takes = tt
 same_answers files later last Nothing (OnOut call) a b h k w v takes = tt
-same_answers files later last Nothing (FromInput calls) a b h k w v takes = tt
+same_answers files later last Nothing (OnInput calls) a b h k w v takes = tt
 same_answers files later last (OnStore call) Nothing a b h k w v takes = tt
 same_answers files later last (OnStore (Load name max answer)) (OnStore (Load name' max' answer')) a b h k w v takes =
     λ n m.
@@ -181,15 +181,15 @@ same_answers files later last (OnStore (Load name max answer)) (OnStore (Save na
 same_answers files later last (OnStore (Save name bytes answer)) (OnStore (Load name' max' answer')) a b h k w v takes = tt
 same_answers files later last (OnStore (Save name bytes answer)) (OnStore (Save name' bytes' answer')) a b h k w v takes = λ n m. a ∙ sym b
 same_answers files later last (OnStore call) (OnOut other) a b h k w v takes = tt
-same_answers files later last (OnStore call) (FromInput calls) a b h k w v takes = tt
+same_answers files later last (OnStore call) (OnInput calls) a b h k w v takes = tt
 same_answers files later last (OnOut call) Nothing a b h k w v takes = tt
 same_answers files later last (OnOut call) (OnStore other) a b h k w v takes = tt
 same_answers files later last (OnOut call) (OnOut other) a b h k w v takes = λ p. a ∙ sym b
-same_answers files later last (OnOut call) (FromInput calls) a b h k w v takes = tt
-same_answers files later last (FromInput calls) Nothing a b h k w v takes = tt
-same_answers files later last (FromInput calls) (OnStore other) a b h k w v takes = tt
-same_answers files later last (FromInput calls) (OnOut other) a b h k w v takes = tt
-same_answers files later last (FromInput calls) (FromInput others) a b h k w v takes = takes
+same_answers files later last (OnOut call) (OnInput calls) a b h k w v takes = tt
+same_answers files later last (OnInput calls) Nothing a b h k w v takes = tt
+same_answers files later last (OnInput calls) (OnStore other) a b h k w v takes = tt
+same_answers files later last (OnInput calls) (OnOut other) a b h k w v takes = tt
+same_answers files later last (OnInput calls) (OnInput others) a b h k w v takes = takes
 
 -- and leaves the same files
 same_files : (files later last : Files) (asked : Asked) → IsAnswered asked → Leaves files asked later → Leaves files asked last → later ≡ last
@@ -199,7 +199,7 @@ same_files files later last (OnStore (Load name max answer)) a h k = h.0 ∙ sym
 same_files files later last (OnStore (Save name bytes (Ok done))) a h k = h ∙ sym k
 same_files files later last (OnStore (Save name bytes (Err fault))) a h k = cc
 same_files files later last (OnOut call) a h k = h ∙ sym k
-same_files files later last (FromInput calls) a h k = h ∙ sym k
+same_files files later last (OnInput calls) a h k = h ∙ sym k
 
 -- the lines of refusals
 put_whole : (answer : Result (Unit {0}) PutFault) → told_cut (Some (record { piece = []; answer = answer })) ≡ None → answer ≡ Ok tt
@@ -223,7 +223,7 @@ turn_lines : (machine : Machine) (todo : List Due) (one other : Turn) → IsUncu
 turn_lines machine [] one other u v h k = absurd h
 turn_lines machine (due ∷ rest) one other u v h k = same_lines due.line one.ending other.ending one.told other.told u v h.1 k.1
 
--- takes in front, and behind the same ones
+-- takes in front of the same ones, and after them
 takes_front : (ones others more less : List TakeCall) → TakesAlike (ones ++ more) (others ++ less) → TakesAlike ones others
 takes_front [] [] more less h = tt
 takes_front [] (other ∷ others) more less h = tt

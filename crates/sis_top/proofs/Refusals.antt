@@ -104,7 +104,7 @@ work_cause held (Begin script) asked why missed counted (by_plan plan p g) =
 work_cause held (Begin script) asked why missed counted (no_memory a e) = cc
 work_cause held (Run depth op) asked why missed counted steps = (asked, held, steps)
 
--- a turn among some was refused, and its line was put
+-- a turn among some was refused, and its line was written
 record Refusing (turns : List Turn) : Type 0 where
   due : Due
   why : Refusal
@@ -211,7 +211,7 @@ run_refusing goes_on from to (turn ∷ turns) runs start end whole =
     step later (inr stopped) =
         absurd (some_none stopped.0 (sym stopped.1 ∙ ap (λ (m : Machine). m.cut) (sym (stopped_runs goes_on (after goes_on from turn) to turns stopped runs.1)) ∙ whole))
 
--- a status that tells a refusal comes of a run that was not cut short
+-- the status Refused means a run that was not cut short
 cut_refused : (what : Failed) (given : Result (Unit {0}) PutFault) → unless_memory (status_cut what) given ≡ answer.Refused → ⊥
 cut_refused failed.Store (Ok done) e = cc
 cut_refused failed.Input (Ok done) e = cc

@@ -38,7 +38,7 @@ cut_same : (what other : Failed) → Cut what ≡ Cut other → what ≡ other
 unfolding what_of
 cut_same what other e = ap what_of e
 
--- memory was wanting, or this object failed, and this tells it
+-- memory ran out, or this object failed, and the answer says so
 abbrev Names : Failed → Failed → Bool → Type 0
 Names what object counted = (what ≡ failed.Memory) ⊎ ((what ≡ object) × (counted ≡ true))
 

@@ -1,4 +1,4 @@
--- A call whose turns are served is done, unless something fails or memory is wanting.
+-- A call whose turns are served is done, unless something fails or memory runs out.
 use Rattle.std.proofs.Common.{◌≡◌, ℕ, List, [], ◌∷◌, ◌++◌, refl, sym, ap, subst, ◌∙◌, inl, inr}
 use Rattle.std.specs.Prelude.{◌⊎◌, Bool, false, Option, Some, None, Result, Ok, Err, flat_map}
 use Rattle.std.proofs.lemmas.List.{append_assoc}

@@ -28,7 +28,7 @@ settled_done goes_on machine due held next todo new before err went at e = recor
   lands = (refl, ap (λ (all : List Due). todo_after (deeper due.work) next (rest_of all)) at.1 ∙ sym e, at.2, at.3);
 }
 
--- memory was wanting for what is due
+-- memory ran out for what is due
 pub settled_wanting : (goes_on : Bool) (machine : Machine) (due : Due) (held : Held) (next : Next) (line : ℕ) (what : Failed) (err : List PutCall → Type 0)
     → err [] → due.line ≡ line → what ≡ failed.Memory → HasSettled goes_on machine due (Done held next) err (IsCutAt (record { line = line; what = what }))
 settled_wanting goes_on machine due held next line what err went e is = record {
@@ -59,7 +59,7 @@ answered_err : (cut : Option Failed) (what : Failed) → IsAnswer cut (Err what)
 answered_err None what h = cc
 answered_err (Some other) what h = cc
 
--- a refusal was told
+-- a refusal was reported
 pub settled_told : (goes_on : Bool) (machine : Machine) (due : Due) (held : Held) (why : Refusal) (todo new : List Due) (before : Bool) (line : ℕ) (err : List PutCall → Type 0)
     → HasTold line why err (Ok tt) → due.line ≡ line → IsAt machine.held (due ∷ todo) before machine → machine.held ≡ held → new ≡ (if goes_on then todo else [])
     → HasSettled goes_on machine due (Refused why) err (IsAt held new true)
@@ -73,7 +73,7 @@ settled_told goes_on machine due held why todo new before line err told e at sam
       (same, ap (λ (all : List Due). if goes_on then rest_of all else []) at.1 ∙ sym left, refl, at.3);
 }
 
--- a refusal could not be told
+-- a refusal could not be reported
 pub settled_untold : (goes_on : Bool) (machine : Machine) (due : Due) (why : Refusal) (what : Failed) (line : ℕ) (err : List PutCall → Type 0)
     → HasTold line why err (Err what) → due.line ≡ line
     → HasSettled goes_on machine due (Refused why) err (IsCutAt (record { line = line; what = what }))

@@ -9,7 +9,7 @@ use Rattle.sis_outside.specs.declared.source.TakeFault.{TakeFault}
 use Rattle.sis_outside.specs.declared.source.TakeFault.TheVariants as take
 use Rattle.sis_script.specs.declared.command.Op.{Op}
 use Rattle.sis_session.specs.Commands.{Plans}
-use Rattle.sis_session.specs.Plan.{MAX_BYTES, Outcome, Plan, Quiet, Loads, Saves, Puts, Takes, Asked, Nothing, OnStore, OnOut, OnInput as FromInput, Ending, Done, Refused, Cut, ComesPiece, ComesTaken, Goes, Steps, by_plan, no_memory}
+use Rattle.sis_session.specs.Plan.{MAX_BYTES, Outcome, Plan, Quiet, Loads, Saves, Puts, Takes, Asked, Nothing, OnStore, OnOut, OnInput, Ending, Done, Refused, Cut, ComesPiece, ComesTaken, Goes, Steps, by_plan, no_memory}
 use Rattle.sis_session.specs.State.{Held}
 use Rattle.sis_session.specs.declared.refusal.Failed.TheVariants as failed
 use Rattle.sis_session.specs.declared.refusal.Refusal.{Refusal}
@@ -26,7 +26,7 @@ work_once : Once → (held : Held) (work : Work) (plan other : Plan) → WorkPla
 work_once law held (Run depth op) plan other h k = law depth held op plan other h k
 work_once law held (Begin script) plan other h k = inl (h ∙ sym k)
 
--- memory was not wanting
+-- memory did not run out
 Whole : Ending → Type 0
 Whole ending = ending ≡ Cut failed.Memory → ⊥
 
@@ -68,7 +68,7 @@ quiet_asked : (outcome : Outcome) (asked : Asked) (ending : Ending) → Goes (Qu
 quiet_asked outcome Nothing ending h = refl
 quiet_asked outcome (OnStore call) ending h = absurd h
 quiet_asked outcome (OnOut call) ending h = absurd h
-quiet_asked outcome (FromInput calls) ending h = absurd h
+quiet_asked outcome (OnInput calls) ending h = absurd h
 
 loads_asked : (name : List ℕ) (used : List ℕ → Outcome) (asked : Asked) (ending : Ending) → Goes (Loads name used) asked ending
     → (given : Result (List ℕ) LoadFault) × (asked ≡ OnStore (Load name MAX_BYTES given))
@@ -77,7 +77,7 @@ loads_asked name used (OnStore (Load file max given)) ending h =
     (given, ap (λ (n : List ℕ). OnStore (Load n max given)) h.0 ∙ ap (λ (m : ℕ). OnStore (Load name m given)) h.1)
 loads_asked name used (OnStore (Save file sent given)) ending h = absurd h
 loads_asked name used (OnOut call) ending h = absurd h
-loads_asked name used (FromInput calls) ending h = absurd h
+loads_asked name used (OnInput calls) ending h = absurd h
 
 saves_asked : (name bytes : List ℕ) (outcome : Outcome) (asked : Asked) (ending : Ending) → Goes (Saves name bytes outcome) asked ending
     → (given : Result (Unit {0}) SaveFault) × (asked ≡ OnStore (Save name bytes given))
@@ -86,7 +86,7 @@ saves_asked name bytes outcome (OnStore (Load file max given)) ending h = absurd
 saves_asked name bytes outcome (OnStore (Save file sent given)) ending h =
     (given, ap (λ (n : List ℕ). OnStore (Save n sent given)) h.0 ∙ ap (λ (b : List ℕ). OnStore (Save name b given)) h.1)
 saves_asked name bytes outcome (OnOut call) ending h = absurd h
-saves_asked name bytes outcome (FromInput calls) ending h = absurd h
+saves_asked name bytes outcome (OnInput calls) ending h = absurd h
 
 puts_asked : (reply : List ℕ) (outcome : Outcome) (asked : Asked) (ending : Ending) → Goes (Puts reply outcome) asked ending
     → (call : PutCall) × (asked ≡ OnOut call) × (call.piece ≡ reply)
@@ -94,15 +94,15 @@ puts_asked reply outcome Nothing ending h = absurd h
 puts_asked reply outcome (OnStore (Load file max given)) ending h = absurd h
 puts_asked reply outcome (OnStore (Save file sent given)) ending h = absurd h
 puts_asked reply outcome (OnOut call) ending h = (call, refl, h.0)
-puts_asked reply outcome (FromInput calls) ending h = absurd h
+puts_asked reply outcome (OnInput calls) ending h = absurd h
 
 takes_asked : (used : List ℕ → Outcome) (asked : Asked) (ending : Ending) → Goes (Takes used) asked ending
-    → (calls : List TakeCall) × (asked ≡ FromInput calls) × ComesTaken used [] calls ending
+    → (calls : List TakeCall) × (asked ≡ OnInput calls) × ComesTaken used [] calls ending
 takes_asked used Nothing ending h = absurd h
 takes_asked used (OnStore (Load file max given)) ending h = absurd h
 takes_asked used (OnStore (Save file sent given)) ending h = absurd h
 takes_asked used (OnOut call) ending h = absurd h
-takes_asked used (FromInput calls) ending h = (calls, refl, h)
+takes_asked used (OnInput calls) ending h = (calls, refl, h)
 
 same_put : (one other : PutCall) → one.piece ≡ other.piece → one.answer ≡ other.answer → one ≡ other
 same_put one other piece given =
@@ -132,7 +132,7 @@ same_asked (Puts reply outcome) one other ending ended w v h k alike =
 same_asked (Takes used) one other ending ended w v h k alike =
     let (calls, e, t) = takes_asked used one ending h in
     let (calls', d, u) = takes_asked used other ended k in
-    e ∙ ap FromInput (same_takes used [] calls calls' ending ended w v t u (alike_as one other (FromInput calls) (FromInput calls') e d alike)) ∙ sym d
+    e ∙ ap OnInput (same_takes used [] calls calls' ending ended w v t u (alike_as one other (OnInput calls) (OnInput calls') e d alike)) ∙ sym d
 
 same_ending : (one other : Ending) → Whole one → Whole other → (one ≡ other) ⊎ ((one ≡ Cut failed.Memory) ⊎ (other ≡ Cut failed.Memory)) → one ≡ other
 unfolding Whole

@@ -78,7 +78,7 @@ taken_long takes old new text taking long = no_more takes old new text (Err unre
 not_below : (a b : ℕ) → ltb a b ≡ false → b ≤ a
 not_below a b e = grind arith
 
--- memory was wanting behind a piece
+-- memory ran out after a piece
 pub taken_short : {I : Type 0} (takes : I → TakeCall → I → Type 0) (old new : I) (text : List ℕ) → IsTaking (Follows takes old new) text
     → HasTaken (Follows takes old new) (Err unread.Memory)
 taken_short takes old new text taking = no_more takes old new text (Err unread.Memory) taking (λ used ending h. by used ending h (ltb MAX_BYTES (length text)) refl)

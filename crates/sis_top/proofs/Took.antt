@@ -4,7 +4,7 @@ use Rattle.std.specs.Prelude.{Bool, Option, Some, None}
 use Rattle.sis_session.specs.Plan.{Steps}
 use Rattle.sis_top.specs.Machine.{Due, Machine, Turn, WorkPlans, IsTurn, IsTurnOf, IsTold, after, after_ending, after_first, next_work}
 
--- the work that was due, what it did, and the machine behind the turn
+-- the work item that was due, what it did, and the machine after the turn
 pub record Took (goes_on : Bool) (machine : Machine) (turn : Turn) : Type 0 where
   pub due : Due
   pub first : next_work machine.todo ≡ Some due.work

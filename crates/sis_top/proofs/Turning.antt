@@ -66,7 +66,7 @@ run_ended goes_on from store input out err stood stands run so = record {
   lands = so run.to run.lands;
 }
 
--- the first turn, and a run behind it
+-- the first turn, and a run after it
 pub run_begun : {S O E : Type 0} (goes_on : Bool) (script : TheScript) (stores : S → StoreCall → S → Type 0) (outs : O → PutCall → O → Type 0) (errs : E → PutCall → E → Type 0)
     (s0 s1 s2 : S) (o0 o2 : O) (e0 e1 e2 : E) (input : List TakeCall → Type 0) (ended : Ending) (stood stands : Machine → Type 0)
     → HasBegun (begin_plan nothing_held script) (Follows stores s0 s1) input ended

@@ -46,11 +46,11 @@ failure_text failed.Memory = codes "no memory"
 abbrev pub failure_line : Stop → List ℕ
 failure_line stop = error_line stop.line (failure_text stop.what)
 
--- the line that tells how the program is used
+-- the line that says how the program is used
 abbrev pub usage_line : List ℕ
 usage_line = codes "sis: usage: sis [-k] [-f FILE | -c TEXT]\n"
 
--- the puts of a line, if it was put
+-- the writes of a line, if it was written
 abbrev pub puts_of : Option PutCall → List PutCall
 puts_of None = []
 puts_of (Some call) = call ∷ []
@@ -69,16 +69,16 @@ out_calls turns = flat_map (λ turn. on_out turn.asked) turns
 abbrev pub err_calls : List Turn → List PutCall
 err_calls turns = flat_map (λ turn. puts_of turn.told) turns
 
--- these bytes are faithful at a machine: they are the text of what it holds, a netlist that of the
--- network that it holds, and that refines what was read last
+-- these bytes are faithful at a machine: they are the text of what it holds, a netlist that of its
+-- network, and that refines what was read last
 abbrev pub AreFaithful : Machine → List ℕ → Type 0
 AreFaithful machine bytes =
     (written : Written) × IsTextOf machine.held written bytes × IsOfHeld machine.held written
     × (read : Spec) × (machine.spec ≡ Some read)
     × RefinesAs (of_spec read) (behavior_of machine.held written)
 
--- what a turn saves is faithful, whatever the save answers, and so is what a command puts that
--- writes; what `map` puts tells the areas of a mapped netlist of the network
+-- what a turn saves is faithful, whatever the save answers, and so is what a writing command puts
+-- on the output; what `map` prints is the areas of a mapped netlist of the network
 pub record IsFaithful (machine : Machine) (turn : Turn) : Type 0 where
   pub saved : (name bytes : List ℕ) (answer : Result (Unit {0}) SaveFault)
       → turn.asked ≡ OnStore (Save name bytes answer) → AreFaithful machine bytes
@@ -87,19 +87,19 @@ pub record IsFaithful (machine : Machine) (turn : Turn) : Type 0 where
   pub areas : (depth : ℕ) (op : Op) (call : PutCall) → next_work machine.todo ≡ Some (Run depth op)
       → IsMapping (form_of op) → turn.asked ≡ OnOut call → TellsAreas machine.held call.piece
 
--- the status of a call, unless memory was wanting in the put of its last line
+-- the status of a call, unless memory ran out in the write of its last line
 abbrev pub unless_memory : Status → Result (Unit {0}) PutFault → Status
 unless_memory status (Ok done) = status
 unless_memory status (Err put.Failed) = status
 unless_memory status (Err put.Memory) = Memory
 
--- a call ends with a line and a status: the line was put, whole or in part as the put answers, or
--- memory was wanting for it
+-- a call ends with a line and a status: the line was written, whole or in part as the answer says,
+-- or memory ran out for it
 abbrev pub EndsWith : List ℕ → Status → Option PutCall → Status → Type 0
 EndsWith line ends (Some call) status = (call.piece ≡ line) × (status ≡ unless_memory ends call.answer)
 EndsWith line ends None status = status ≡ Memory
 
--- the status of a run that was not cut short, by whether a work was refused
+-- the status of a run that was not cut short, by whether a work item was refused
 abbrev pub status_of : Bool → Status
 status_of true = Refused
 status_of false = Done
@@ -112,19 +112,19 @@ status_cut failed.Input = Fault
 status_cut failed.Out = Fault
 status_cut failed.Err = Fault
 
--- how a call ends whose run came to its end, by what cut the run short: it is told by a last line
+-- how a call ends whose run came to its end, by what cut the run short, which a last line reports
 abbrev pub Ends : Option Stop → Bool → Option PutCall → Status → Type 0
 Ends None refused last status = (last ≡ None) × (status ≡ status_of refused)
 Ends (Some stop) refused last status = EndsWith (failure_line stop) (status_cut stop.what) last status
 
--- all was done, or something failed, or memory was wanting
+-- all was done, or something failed, or memory ran out
 abbrev pub IsDoneBut : Status → Type 0
 IsDoneBut status = (status ≡ Done) ⊎ ((status ≡ Fault) ⊎ (status ≡ Memory))
 
 -- A call that runs a script: some turns are a run from its begin to its end, after which nothing is
--- due; each object of the outside went by just the calls of these turns, the error output by that
--- of the last line behind them; all that was written is faithful; and where each turn is served,
--- nothing was refused.
+-- due; each object of the outside went by exactly the calls of these turns, the error output also
+-- by the write of the last line after them; all that was written is faithful; and if each turn is
+-- served, nothing was refused.
 pub record IsRun (goes_on : Bool) (script : TheScript) (store : List StoreCall → Type 0) (input : List TakeCall → Type 0) (out err : List PutCall → Type 0) (status : Status) : Type 0 where
   pub turns : List Turn
   pub end : Machine
@@ -139,8 +139,8 @@ pub record IsRun (goes_on : Bool) (script : TheScript) (store : List StoreCall �
   pub faithful : AtEach goes_on IsFaithful (begun script) turns
   pub served : AtEach goes_on IsServedTurn (begun script) turns → IsDoneBut status
 
--- A call whose words are not taken: the line is put that tells how the program is used, or memory
--- was wanting before that; nothing else is asked of the outside.
+-- A call whose words are not accepted: the usage line is written, or memory ran out before that;
+-- nothing else is asked of the outside.
 pub record IsUnused (store : List StoreCall → Type 0) (input : List TakeCall → Type 0) (out err : List PutCall → Type 0) (status : Status) : Type 0 where
   pub last : Option PutCall
   pub ends : EndsWith usage_line Usage last status
@@ -173,14 +173,14 @@ pub record NamesFault (rose : Failed → Type 0) (err : List PutCall → Type 0)
   pub went : err (lines ++ last ∷ [])
   pub names : last.piece ≡ failure_line stop
 
--- why a work was refused: a script that is a file is missing, which was counted, or too long; a
--- script that is a text or the input is too long; a command is refused for its own reasons
+-- why a work item was refused: a script that is a file is missing, which was counted, or too long;
+-- a script that is a text or the input is too long; a command is refused for its own reasons
 abbrev pub CauseOf : Type 0 → Work → Refusal → Type 0
 CauseOf missed (Begin (InFile name)) why = ((why ≡ Missing name) × missed) ⊎ (why ≡ TooLong name)
 CauseOf missed (Begin script) why = why ≡ LongScript
 CauseOf missed (Run depth op) why = (asked : Asked) × (held : Held) × Steps (Plans depth held op) asked (RefusedFor why)
 
--- A refusal names its cause: some line on the error output is that of a work that was refused.
+-- A refusal names its cause: some line on the error output is that of a work item that was refused.
 pub record NamesRefusal (missed : Type 0) (err : List PutCall → Type 0) : Type 0 where
   pub due : Due
   pub why : Refusal

@@ -1,7 +1,7 @@
--- What follows for whole calls: no call failed where a call ended with its run; over files that are
--- told, a run whose turns are served is done; and two runs whose equal requests are answered the
--- same are one, but for want of memory and functions that are too big.
--- Source: the project's own promise.
+-- What follows for whole calls: no call failed if the call ended with its run; over files that are
+-- shown, a run whose turns are served is done; and two runs whose equal requests are answered the
+-- same are equal, unless memory runs out or a function is too big. Source: the project's own
+-- promise.
 use Rattle.std.specs.Prelude.{◌≡◌, ◌≤◌, ℕ, Bool, Option, Some, None, List, [], ◌∷◌, ◌++◌, length, Result, Ok, codes}
 use Rattle.std.specs.List.{AllByRecursion}
 use Rattle.sis_outside.specs.Calls.{StoreCall, Load, Save, TakeCall, PutCall, FilesGo, LeftGoes, Follows, IsStoreWithin}
@@ -34,8 +34,8 @@ abbrev pub AsksInput : Option TheOptions → Type 0
 AsksInput None = ⊥
 AsksInput (Some options) = options.script ≡ OnInput
 
--- over these files, and over this input where the script is taken off it, each turn that the
--- machine may come to is served
+-- over these files, and over this input if the script is taken off it, each turn that the machine
+-- can reach is served
 abbrev pub AreServed : Bool → TheScript → Files → List ℕ → Type 0
 AreServed goes_on script files left =
     (turns : List Turn) (machine : Machine) (turn : Turn)
@@ -44,17 +44,17 @@ AreServed goes_on script files left =
     → (script ≡ OnInput → (after : List ℕ) × Follows LeftGoes left after (input_calls (turns ++ turn ∷ [])))
     → IsServedTurn machine turn
 
--- where that is so, all is done, unless something fails or memory is wanting
+-- if that is so, all is done, unless something fails or memory runs out
 abbrev pub Completes : Option TheOptions → Files → List ℕ → Status → Type 0
 Completes None files left status = Unit {0}
 Completes (Some options) files left status =
     AreServed options.keep options.script files left → IsDoneBut status
 
--- a script that reads a circuit, tells of it and writes it
+-- a script that reads a circuit, prints its size and writes it
 abbrev pub copying : List ℕ
 copying = codes "read_blif a; print_stats; write_blif b"
 
--- over files in which a good circuit stands, such a script is served
+-- over files with a good circuit, such a script is served
 abbrev pub CopiesAreServed : Type 0
 CopiesAreServed =
     (goes_on : Bool) (files : Files) (left bytes : List ℕ) (circuit : Circuit)
@@ -66,7 +66,7 @@ CopiesAreServed =
 pub record HasFitted (turn : Turn) : Type 0 where
   pub fits : EndsTooBig turn.ending → ⊥
 
--- memory was not wanting in a turn, nor for the line of its refusal; and no function was too big
+-- memory did not run out in a turn, nor for the line of its refusal; and no function was too big
 pub record HasRoom (turn : Turn) : Type 0 where
   pub whole : turn.ending ≡ Cut NoMemory → ⊥
   pub told : (why : Refusal) → turn.ending ≡ Ended why → turn.told ≡ None → ⊥
@@ -102,8 +102,8 @@ AreAlike (one ∷ ones) (other ∷ others) =
     AnswersAlike one.asked other.asked × LinesAlike one.told other.told × AreAlike ones others
 AreAlike ones others = Unit {0}
 
--- some turns are a whole run of a script over files that are told: nothing is due behind it,
--- nothing cut it short, no function was too big, the files went by its calls, and each load kept
+-- some turns are a whole run of a script over files that are shown: nothing is due after it,
+-- nothing cut it short, no function was too big, the files went by its calls, and each load is
 -- within what was asked for
 pub record IsRunOver (goes_on : Bool) (script : TheScript) (files : Files) (turns : List Turn) : Type 0 where
   pub end : Machine

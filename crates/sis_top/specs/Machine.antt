@@ -1,7 +1,7 @@
--- The command machine: what stands between two turns, one turn, and a run as a list of turns.
--- Source: the SIS manual (UCB/ERL M92/41): the commands of a script are done one after the other,
--- and `source` has those of a file done before the rest. That a refusal ends a run that is not to
--- go on behind it is the project's own rule.
+-- The command machine: its state between two turns, one turn, and a run as a list of turns. Source:
+-- the SIS manual (UCB/ERL M92/41): the commands of a script are done one after the other, and
+-- `source` does those of a file before the rest. That a refusal ends a run that is not asked to go
+-- on is the project's own rule.
 use Rattle.std.specs.Prelude.{◌≡◌, ℕ, ◌+◌, Bool, true, false, Option, Some, None, List, [], ◌∷◌, ◌++◌, map, length, nat_le, Result, Ok, Err, if◌then◌else◌}
 use Rattle.sis_outside.specs.Calls.{PutCall}
 use Rattle.sis_outside.specs.declared.sink.PutFault.{PutFault}
@@ -21,19 +21,19 @@ use Rattle.sis_session.specs.declared.refusal.Next.TheVariants as next
 use Rattle.sis_session.specs.declared.refusal.Refusal.TheVariants.{LongScript}
 use Rattle.sis_top.specs.declared.status.Stop.{Stop}
 
--- what is to be done: the script is begun for which the words of the command line ask, or a command
--- is run, with so many sourced scripts round it
+-- a work item: beginning the script that the words of the command line ask for, or running a
+-- command inside so many sourced scripts
 pub data Work : Type 0 where
   Begin : (script : TheScript) → Work
   Run : (depth : ℕ) (op : Op) → Work
 
--- a work that is due, with its line in its script; a script is begun on line 0
+-- a work item that is due, with its line in its script; a script is begun on line 0
 pub record Due : Type 0 where
   pub line : ℕ
   pub work : Work
 
--- what stands between two turns: what is held, what was read last, whether a work was refused, what
--- cut the run short, and what is due, the next in front
+-- the state between two turns: what is held, what was read last, whether a work item was refused,
+-- what cut the run short, and what is due, the next in front
 pub record Machine : Type 0 where
   pub held : Held
   pub spec : Option Spec
@@ -55,34 +55,34 @@ begun script = record {
 abbrev pub begins : Held → List ℕ → Outcome
 begins held text = Does held (next.Script (commands_in text))
 
--- the plan by which a script is begun: a file is loaded, a text is taken as it stands unless it is
--- longer than is run, and the input is taken to its end
+-- the plan by which a script is begun: a file is loaded, a text is taken as it is unless it is
+-- longer than the limit, and the input is taken to its end
 abbrev pub begin_plan : Held → TheScript → Plan
 begin_plan held (InFile name) = Loads name (begins held)
 begin_plan held (AsText text) =
     Quiet (if nat_le (length text) MAX_BYTES then begins held text else Refuses LongScript)
 begin_plan held OnInput = Takes (begins held)
 
--- the plans of a work
+-- the plans of a work item
 abbrev pub WorkPlans : Held → Work → Plan → Type 0
 WorkPlans held (Begin script) plan = plan ≡ begin_plan held script
 WorkPlans held (Run depth op) plan = Plans depth held op plan
 
--- A turn: what the work that is due asked of the outside, with the answers, how it ended, and the
--- put of the line of its refusal.
+-- A turn: what the next work item asked of the outside, with the answers, how it ended, and the
+-- write of the line of its refusal.
 pub record Turn : Type 0 where
   pub asked : Asked
   pub ending : Ending
   pub told : Option PutCall
 
--- a refusal is told by its line, unless memory was wanting for the line; nothing else is told
+-- a refusal is reported by its line, unless memory ran out for the line; nothing else is reported
 abbrev pub IsTold : ℕ → Ending → Option PutCall → Type 0
 IsTold line (Refused why) (Some call) = call.piece ≡ refusal_line line why
 IsTold line (Refused why) None = Unit {0}
 IsTold line (Done held next) told = told ≡ None
 IsTold line (Cut what) told = told ≡ None
 
--- a turn of a machine with these works due: the first of them goes by one of its plans
+-- a turn of a machine with these work items due: the first of them goes by one of its plans
 abbrev pub IsTurnOf : Machine → List Due → Turn → Type 0
 IsTurnOf machine [] turn = ⊥
 IsTurnOf machine (due ∷ rest) turn =
@@ -92,55 +92,55 @@ IsTurnOf machine (due ∷ rest) turn =
 abbrev pub IsTurn : Machine → Turn → Type 0
 IsTurn machine turn = IsTurnOf machine machine.todo turn
 
--- how deep the commands stand that a work makes due
+-- the nesting depth of the commands that a work item makes due
 abbrev pub deeper : Work → ℕ
 deeper (Begin script) = 0
 deeper (Run depth op) = depth + 1
 
--- the works of a script's commands, at a depth
+-- the work items of a script's commands, at a depth
 abbrev pub dues : ℕ → List Command → List Due
 dues depth commands =
     map (λ command. record { line = command.line; work = Run depth command.op }) commands
 
--- what is due behind a work that is done, before the rest: a script's commands, at a depth; nothing
--- at all behind `quit`
+-- what is due after a work item that is done, before the rest: a script's commands, at a depth;
+-- nothing at all after `quit`
 abbrev pub todo_after : ℕ → Next → List Due → List Due
 todo_after depth next.Go rest = rest
 todo_after depth next.Quit rest = []
 todo_after depth (next.Script commands) rest = dues depth commands ++ rest
 
--- what was read last behind a work that is done, after which this is held
+-- what was read last after a work item that is done, with this held after it
 abbrev pub spec_after : Work → Held → Option Spec → Option Spec
 spec_after (Begin script) held spec = spec
 spec_after (Run depth op) held spec = last_read op held spec
 
--- what the put of a refusal's line cuts the run short by
+-- how the write of a refusal's line cuts the run short
 abbrev pub put_cut : Result (Unit {0}) PutFault → Option Failed
 put_cut (Ok done) = None
 put_cut (Err put.Failed) = Some failed.Err
 put_cut (Err put.Memory) = Some failed.Memory
 
--- the same where memory may have been wanting for the line
+-- the same if memory may have run out for the line
 abbrev pub told_cut : Option PutCall → Option Failed
 told_cut None = Some failed.Memory
 told_cut (Some call) = put_cut call.answer
 
--- what is due behind the first work
+-- what is due after the first work item
 abbrev pub rest_of : List Due → List Due
 rest_of [] = []
 rest_of (due ∷ rest) = rest
 
--- the machine where it is cut short on a line
+-- the machine, cut short on a line
 abbrev pub cut_at : Machine → ℕ → Failed → Machine
 cut_at machine line what = record machine { cut = Some (record { line = line; what = what }); todo = [] }
 
--- the machine behind a refusal that was told, or for which the line could not be put
+-- the machine after a refusal that was reported, or whose line could not be written
 abbrev pub after_refusal : Bool → Machine → ℕ → Option Failed → Machine
 after_refusal goes_on machine line None =
     record machine { refused = true; todo = if goes_on then rest_of machine.todo else [] }
 after_refusal goes_on machine line (Some what) = cut_at machine line what
 
--- the machine behind a work that ended so
+-- the machine after a work item that ended so
 abbrev pub after_ending : Bool → Machine → Due → Ending → Option PutCall → Machine
 after_ending goes_on machine due (Done held next) told =
     record machine {
@@ -151,12 +151,12 @@ after_ending goes_on machine due (Done held next) told =
 after_ending goes_on machine due (Refused why) told = after_refusal goes_on machine due.line (told_cut told)
 after_ending goes_on machine due (Cut what) told = cut_at machine due.line what
 
--- the machine behind a turn of the first of these works
+-- the machine after a turn of the first of these work items
 abbrev pub after_first : Bool → Machine → List Due → Turn → Machine
 after_first goes_on machine [] turn = machine
 after_first goes_on machine (due ∷ rest) turn = after_ending goes_on machine due turn.ending turn.told
 
--- the machine behind a turn
+-- the machine after a turn
 abbrev pub after : Bool → Machine → Turn → Machine
 after goes_on machine turn = after_first goes_on machine machine.todo turn
 
@@ -171,7 +171,7 @@ AtEach goes_on holds machine [] = Unit {0}
 AtEach goes_on holds machine (turn ∷ turns) =
     holds machine turn × AtEach goes_on holds (after goes_on machine turn) turns
 
--- the work that is due next, if there is one
+-- the work item that is due next, if there is one
 abbrev pub next_work : List Due → Option Work
 next_work [] = None
 next_work (due ∷ rest) = Some due.work

@@ -1,5 +1,5 @@
--- Which fault stands for an error of clap, by its kind. Source: the project's own rule: each error
--- in the words is Usage, and want of memory is told apart.
+-- Which fault an error of clap becomes, by its kind. Source: the project's own rule: each error in
+-- the words is Usage, and want of memory is separate.
 use Rattle.clap.specs.declared.error.kind.ErrorKind.{ErrorKind}
 use Rattle.clap.specs.declared.error.kind.ErrorKind.TheVariants as kind
 use Rattle.sis_top.specs.declared.options.WordsFault.{WordsFault}

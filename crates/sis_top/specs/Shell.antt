@@ -1,7 +1,7 @@
 -- The command line of the shell, as the crate `clap` sees it. Source: the SIS manual (UCB/ERL
--- M92/41): the program takes a script by `-f FILE` or commands by `-c TEXT`; `-k` (go on behind a
--- refused command) is this project's own. How words are parted into flags and values is clap's,
--- whose own function of a command and its words is taken as it stands.
+-- M92/41): the program takes a script by `-f FILE` or commands by `-c TEXT`; `-k` (go on after a
+-- refused command) is this project's own. How words are split into flags and values is clap's,
+-- whose own function of a command and its words is used as it is.
 use Rattle.std.specs.Prelude.{◌≡◌, ◌⊎◌, Option, Some, None, List, [], codes, true}
 use Rattle.clap.specs.Words.{App, Rule, Text, fault_of, first_of, matches_of, new_app, new_rule, with_rule}
 use Rattle.clap.specs.declared.builder.action.ArgAction.TheVariants.{Set, SetTrue}
@@ -28,11 +28,11 @@ text_rule = record (new_rule (codes "text")) { short = Some 99; action = Some Se
 abbrev pub shell : App
 shell = with_rule (with_rule (with_rule bare keep_rule) file_rule) text_rule
 
--- the value that the words give an argument, if they give one
+-- the value of an argument in the words, if they give one
 abbrev pub value_of : Text → List Text → Option Text
 value_of argument words = first_of argument (matches_of shell words)
 
--- the words are taken: clap has no fault in them, and `-f` and `-c` do not both stand
+-- the words are accepted: clap finds no fault in them, and `-f` and `-c` are not both given
 pub record AreTaken (words : List Text) : Type 0 where
   pub fit : fault_of shell words ≡ []
   pub one_script : (value_of (codes "file") words ≡ None) ⊎ (value_of (codes "text") words ≡ None)

@@ -1,7 +1,8 @@
-//! The script that the words ask for, begun: its commands come next.
+//! Begins the script that the words ask for: its commands come next.
 //!
-//! It stands in a word, in a file or on the input; all three come to one text, of no more bytes
-//! than are run, that one call cuts into commands.
+//! The script is in a word, in a file or on the input. All three give one text, no longer than
+//! `MAX_BYTES`, which one call splits into commands (`begin_plan` of `specs/Machine.antt`). A
+//! longer text is refused.
 
 ghost use Rattle.std.specs.Prelude.{◌≤◌, IfOk, length, nat_le, if◌then◌else◌};
 ghost use Rattle.sis_outside.specs.Calls.{Follows};

@@ -1,7 +1,7 @@
-//! Why a work was not done.
+//! Why a work item was not done.
 //!
-//! A step's own fault tells more than a run asks: here a refusal stands beside all that cuts a run
-//! short, also what no step can meet, such as an input that fails.
+//! A step's own fault says more than a run needs. Here a refusal is one case, and all that cuts a
+//! run short is the other, including what no step can meet, such as a failing input.
 
 ghost use Rattle.std.specs.Prelude.{◌≡◌};
 ghost use Rattle.sis_session.specs.Plan.{faulted};
@@ -9,14 +9,14 @@ ghost use Rattle.sis_top.specs.Code.{halted};
 
 use sis_session::{Failed, Refusal, StepFault};
 
-/// Why a work was not done: it was refused, or cut short.
+/// Why a work item was not done: it was refused, or cut short.
 #[derive(Debug, Drop)]
 pub enum Halt {
     Refused(Refusal),
     Cut(Failed),
 }
 
-/// What a step's fault says of its work.
+/// What a step's fault means for its work item.
 pub fn halt_by(fault: StepFault) -> Halt
     ensures { halted result ≡ faulted fault }
 {

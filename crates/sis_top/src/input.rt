@@ -1,8 +1,8 @@
-//! The script on the input.
+//! Takes the script off the input.
 //!
-//! An answer to a take may have fewer bytes than were asked for, so it is asked until none comes.
-//! No more than one byte past the longest script is taken: by that byte it is known that the script
-//! is too long, and an input without an end is refused.
+//! A take may return fewer bytes than were asked for, so the input is asked until it returns none.
+//! At most one byte past the longest script is taken. That byte shows that the script is too long,
+//! and so an input without an end is refused.
 
 ghost use Rattle.std.specs.Prelude.{◌≤◌, IfOk, length};
 ghost use Rattle.sis_outside.specs.Calls.{Follows};
@@ -16,15 +16,15 @@ use std::alloc::Global;
 /// Why the input gives no script.
 #[derive(Clone, Copy, Debug, PartialEq, Eq)]
 pub enum Unread {
-    /// It has more bytes than are run.
+    /// It is longer than the limit.
     TooLong,
     /// A take failed.
     Failed,
-    /// Memory was wanting.
+    /// Memory ran out.
     Memory,
 }
 
-/// Takes what is left of the input, to its end, but no more than one byte past the longest script.
+/// Takes the rest of the input, but no more than one byte past the longest script.
 pub fn take_script<I: Source>(alloc: Global, input: &mut I) -> Result<Vec<u8>, Unread>
     ensures taken { HasTaken (Follows I.calls input.old input.new) result }
     ensures within { IfOk result (λ text. length text.items ≤ longest) }

@@ -15,8 +15,8 @@ ghost use Rattle.sis_top.specs.Served.{IsServedTurn};
 
 use sis_session::{commands_have_one_plan, served_commands_are_done, steps_keep_refinement};
 
-/// A law, no work: what is held is sound and refines what was read last at every machine that a
-/// script's turns come to.
+/// What is held is sound and refines what was read last, at every machine that a script's turns
+/// reach.
 pub fn runs_keep_refinement()
     ensures { (goes_on : Bool) (script : TheScript) (turns : List Turn) (to : Machine)
         → Runs goes_on (begun script) turns to → IsRefined to.spec to.held }
@@ -24,7 +24,7 @@ pub fn runs_keep_refinement()
     steps_keep_refinement();
 }
 
-/// A law, no work: a run each turn of which is served refuses nothing.
+/// A run each turn of which is served refuses nothing.
 pub fn served_runs_refuse_nothing()
     ensures { (goes_on : Bool) (script : TheScript) (turns : List Turn) (end : Machine)
         → Runs goes_on (begun script) turns end
@@ -33,9 +33,9 @@ pub fn served_runs_refuse_nothing()
     served_commands_are_done();
 }
 
-/// A law, no work: where equal requests get equal answers there is one list of turns. Two whole
-/// runs of a script, in which memory was not wanting and no function was too big, are one if no
-/// request that both made was answered in two ways.
+/// If equal requests get equal answers, there is one list of turns. Two whole runs of a script in
+/// which memory did not run out and no function was too big are equal, if no request that both made
+/// was answered in two ways.
 pub fn runs_are_one()
     ensures { (goes_on : Bool) (script : TheScript) (one other : List Turn) (end last : Machine)
         → Runs goes_on (begun script) one end → Runs goes_on (begun script) other last
@@ -46,9 +46,9 @@ pub fn runs_are_one()
     commands_have_one_plan();
 }
 
-/// A law, no work: two whole runs of a script over the same told files, neither of them cut short
-/// and none of their functions too big, are one, where takes of the same bounds off the input gave
-/// the same pieces.
+/// Two whole runs of a script over the same shown files, neither of them cut short and none of
+/// their functions too big, are equal, if takes of the same bounds off the input gave the same
+/// pieces.
 pub fn told_runs_are_one()
     ensures { (goes_on : Bool) (script : TheScript) (files : Files) (one other : List Turn)
         → IsRunOver goes_on script files one → IsRunOver goes_on script files other
@@ -58,9 +58,9 @@ pub fn told_runs_are_one()
     commands_have_one_plan();
 }
 
-/// A law, no work: where a file `a` holds a circuit that is read without a fault and is no longer
-/// than is read, `read_blif a; print_stats; write_blif b` is served, whatever is on the input. So
-/// by the clause `complete` of `run_sis` it is done, unless something fails or memory is wanting.
+/// If a file `a` has a circuit that is read without a fault and is no longer than the limit, then
+/// `read_blif a; print_stats; write_blif b` is served, whatever is on the input. So by the clause
+/// `complete` of `run_sis` it is done, unless something fails or memory runs out.
 pub fn copies_are_served()
     ensures { CopiesAreServed }
 {}

@@ -1,4 +1,5 @@
-//! What the words ask for, and why they may not be read.
+//! The options that the words of the command line give, and why they may give none: the words are
+//! not accepted (`Usage`), or memory ran out.
 
 use clap::Error;
 use clap::error::ErrorKind;
@@ -15,10 +16,10 @@ pub enum ScriptFrom<'a> {
     Input,
 }
 
-/// What the words ask for.
+/// The options that the words ask for.
 #[derive(Clone, Copy, Debug, PartialEq, Eq)]
 pub struct Options<'a> {
-    /// Whether the run goes on behind a refused command.
+    /// Whether the run goes on after a refused command.
     pub keep: bool,
     pub script: ScriptFrom<'a>,
 }
@@ -26,9 +27,9 @@ pub struct Options<'a> {
 /// Why the words give no options.
 #[derive(Clone, Copy, Debug, PartialEq, Eq)]
 pub enum WordsFault {
-    /// They are not taken.
+    /// They are not accepted.
     Usage,
-    /// Memory was wanting.
+    /// Memory ran out.
     Memory,
 }
 

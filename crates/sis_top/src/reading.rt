@@ -1,4 +1,5 @@
-//! The words, read.
+//! Reads the words of the command line by the crate `clap`. The options are those of `options_of`
+//! in `specs/Asked.antt`, and Usage is answered exactly if there are none.
 
 ghost use Rattle.std.specs.Prelude.{◌≡◌, IfOk, Err, option_map, codes};
 ghost use Rattle.clap.specs.Words.{first_value, found_of};
@@ -11,7 +12,7 @@ use clap::ArgMatches;
 use sis_text::Word;
 use std::alloc::Global;
 
-/// Whether a flag stands, by its value.
+/// Whether a flag is given, by its value.
 fn is_set(value: Option<&str>) -> bool
     ensures { result ≡ is_set (option_map (λ text. text.now) value.entry) }
 {
@@ -21,7 +22,7 @@ fn is_set(value: Option<&str>) -> bool
     }
 }
 
-/// Where the script is, by the values of `-f` and `-c`; nowhere with both.
+/// Where the script is, by the values of `-f` and `-c`; none if both are given.
 fn script_by<'a>(file: Option<&'a str>, text: Option<&'a str>) -> Option<ScriptFrom<'a>>
     ensures { option_map script_in result ≡ script_by (option_map (λ name. name.now) file.entry)
         (option_map (λ word. word.now) text.entry) }
@@ -34,7 +35,7 @@ fn script_by<'a>(file: Option<&'a str>, text: Option<&'a str>) -> Option<ScriptF
     }
 }
 
-/// The options, by what clap found.
+/// The options, from what clap found.
 fn options_by<'a>(matches: &ArgMatches<'a>) -> Option<Options<'a>>
     ensures { option_map options_in result ≡ options_by (first_value (found_of matches.now)
         (codes "keep")) (first_value (found_of matches.now) (codes "file")) (first_value
@@ -45,8 +46,8 @@ fn options_by<'a>(matches: &ArgMatches<'a>) -> Option<Options<'a>>
     Some(Options { keep, script })
 }
 
-/// Reads the words behind the program's name. Usage exactly where clap does not take them or both
-/// `-f` and `-c` stand; besides, memory may be wanting.
+/// Reads the words after the program's name. Usage exactly if clap does not accept them or both
+/// `-f` and `-c` are given; otherwise only memory may run out.
 pub fn read_words<'a>(alloc: Global, words: &'a [Word]) -> Result<Options<'a>, WordsFault>
     ensures answers { Answers (options_of words.entry.now) result }
     ensures taken { IfOk result (λ _. AreTaken words.entry.now) }

@@ -1,11 +1,11 @@
-//! The run: the works that are due, one after the other, each a step of the session; a refusal puts
-//! its line on the error output.
+//! The run: the work items that are due, one after the other, each a step of the session; a refusal
+//! writes its line on the error output.
 //!
-//! `take_turn` makes a turn of one step; the loop's invariant is that some turns led from the begin
-//! to a machine at which this is held and due. The measure is the sum of a weight of the works: a
-//! script has fewer commands than the weight grows for each level of nesting. What holds of all
-//! runs (faithful turns, what is kept, served runs, one run) are lemmas over the definitions alone,
-//! and stand on the session's laws over one step: so a new command leaves the run as it is.
+//! `take_turn` makes a turn of one step. The loop's invariant is that some turns led from the start
+//! to a machine with what is held and due now. The measure is the sum of a weight of the work
+//! items: a script has fewer commands than the weight grows for each level of nesting. What holds
+//! of all runs (faithful turns, what is kept, served runs, one run) are lemmas over the definitions
+//! alone, and rest on the session's laws over one step: so a new command leaves the run as it is.
 
 ghost use Rattle.std.specs.Prelude.{◌≡◌, ◌≤◌, ◌<◌, ◌+◌, ◌-◌, ◌++◌, ◌∷◌, ◌||◌, [], Bool, OnErr, OnOk, IfErr, IfOk, reverse, if◌then◌else◌};
 ghost use Rattle.sis_outside.specs.Calls.{Follows};
@@ -15,7 +15,7 @@ ghost use Rattle.sis_session.specs.Methods.{AskedNone};
 ghost use Rattle.sis_session.specs.Plan.{Did};
 ghost use Rattle.sis_session.specs.State.{Held};
 ghost use Rattle.sis_session.specs.declared.refusal.Failed.TheVariants as failed;
-ghost use Rattle.sis_top.specs.Code.{Fits, HasEnded, HasRun, HasSettled, HasTold, HasTurned, IsAt, Lands, LandsAt, added_weight, ended_as, heft, weight};
+ghost use Rattle.sis_top.specs.Code.{Fits, HasEnded, HasRun, HasSettled, HasTold, HasTurned, IsAt, Lands, LandsAt, added_weight, ended_as, measure, weight};
 ghost use Rattle.sis_top.specs.Machine.{Due as TheDue, Machine, begun, deeper, dues, todo_after};
 
 use crate::Options;
@@ -28,7 +28,7 @@ use sis_session::{Failed, Next, Refusal, Session, refusal_text};
 use std::alloc::Global;
 use std::marker::Model;
 
-/// A command that is due, and the number of sourced scripts that it stands in.
+/// A command that is due, and the number of sourced scripts around it.
 #[derive(Drop)]
 pub struct Due {
     command: Command,
@@ -46,7 +46,7 @@ impl Model for Due {
     ghost invariant = { λ d. d.depth ≤ 16 };
 }
 
-/// Puts the line of a refusal on the error output.
+/// Writes the line of a refusal on the error output.
 fn tell<E: Sink>(alloc: Global, line: usize, why: &Refusal, err: &mut E) -> Result<(), Failed>
     ensures { HasTold line why.now (Follows E.calls err.old err.new) result }
 {
@@ -60,7 +60,7 @@ fn tell<E: Sink>(alloc: Global, line: usize, why: &Refusal, err: &mut E) -> Resu
     }
 }
 
-/// Puts a script's commands on top of what is due, the first uppermost.
+/// Pushes a script's commands on the stack of what is due, the first on top.
 fn push_commands(depth: u32, commands: Commands, todo: &mut Vec<Due>) -> Result<(), Failed>
     requires { depth ≤ 16 }
     ensures ok { OnOk result (reverse todo.new.items ≡ dues depth commands
@@ -76,7 +76,7 @@ fn push_commands(depth: u32, commands: Commands, todo: &mut Vec<Due>) -> Result<
     Ok(())
 }
 
-/// Makes due what comes behind a work that is done: the rest, nothing at all, or a script's
+/// Makes due what comes after a work item that is done: the rest, nothing at all, or a script's
 /// commands and the rest.
 fn follow(depth: u32, next: Next, todo: &mut Vec<Due>) -> Result<(), Failed>
     requires { Fits depth next }
@@ -94,7 +94,7 @@ fn follow(depth: u32, next: Next, todo: &mut Vec<Due>) -> Result<(), Failed>
     }
 }
 
-/// Leaves what is due behind a refusal: nothing, unless the run goes on.
+/// Keeps what is due after a refusal: nothing, unless the run goes on.
 fn keep_due(goes_on: bool, todo: &mut Vec<Due>)
     ensures { reverse todo.new.items ≡ (if goes_on then reverse todo.old.items else []) }
 {
@@ -103,8 +103,8 @@ fn keep_due(goes_on: bool, todo: &mut Vec<Due>)
     }
 }
 
-/// Settles a work by how it ended: a script's commands become due, nothing more is due behind
-/// `quit`, and a refusal is told. Whether it was refused, or what cuts the run short.
+/// Settles a work item by how it ended: a script's commands become due, nothing more is due after
+/// `quit`, and a refusal is reported. Returns whether it was refused, or what cuts the run short.
 fn settle<E: Sink>(
     alloc: Global,
     goes_on: bool,
@@ -155,7 +155,7 @@ fn run_command<S: Store, O: Sink>(
         (ended_as result session.new) }
     ensures err { OnErr result (session.old ≡ session.new) }
     ensures fits { IfOk result (Fits (depth + 1)) }
-    ensures lighter { added_weight (depth + 1) result < heft (16 - depth) }
+    ensures lighter { added_weight (depth + 1) result < measure (16 - depth) }
 {
     match session.step(alloc, command, depth, store, out) {
         Ok(next) => Ok(next),
@@ -163,7 +163,7 @@ fn run_command<S: Store, O: Sink>(
     }
 }
 
-/// Takes one turn: runs the work that is due, and settles it.
+/// Takes one turn: runs the work item that is due, and settles it.
 fn take_turn<S: Store, O: Sink, E: Sink>(
     alloc: Global,
     goes_on: bool,
@@ -193,15 +193,15 @@ fn take_turn<S: Store, O: Sink, E: Sink>(
     }
 }
 
-/// Whether a work was refused now or before.
+/// Whether a work item was refused now or before.
 fn was_refused(now: bool, before: bool) -> bool
     ensures { result ≡ (now || before) }
 {
     now || before
 }
 
-/// Runs what is due, to its end; `refused` tells whether a work was refused before. Whether one was
-/// refused in the end, or what cut the run short.
+/// Runs what is due, to its end; `before` says whether a work item was refused before. Returns
+/// whether one was refused in all, or what cut the run short.
 fn run_due<S: Store, O: Sink, E: Sink>(
     alloc: Global,
     goes_on: bool,
@@ -226,7 +226,8 @@ fn run_due<S: Store, O: Sink, E: Sink>(
     Ok(refused)
 }
 
-/// Runs the script that the words ask for. Whether a work was refused, or what cut the run short.
+/// Runs the script that the words ask for. Returns whether a work item was refused, or what cut the
+/// run short.
 pub fn run<S: Store, I: Source, O: Sink, E: Sink>(
     alloc: Global,
     options: Options<'_>,

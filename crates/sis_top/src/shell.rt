@@ -7,7 +7,7 @@ ghost use Rattle.sis_top.specs.Shell.{shell};
 use clap::{Arg, ArgAction, Command};
 use std::alloc::{AllocError, Global};
 
-/// The command that takes the shell's words. Its first word is an argument already.
+/// The command that takes the shell's words. The first word is already an argument.
 pub fn shell_command<'a>(alloc: Global) -> Result<Command<'a>, AllocError>
     ensures { IfOk result (λ command. app_of command ≡ shell) }
 {

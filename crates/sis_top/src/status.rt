@@ -1,7 +1,7 @@
-//! How a call of the program ended, and the number that a shell sees.
+//! How a call of the program ended, and its exit status.
 //!
-//! Behind a refusal a run may have gone on, where it was asked to; behind a failure or want of
-//! memory no later command was done.
+//! After a refusal a run may have gone on, if it was asked to. After a failure or want of memory no
+//! later command was done.
 
 ghost use Rattle.std.specs.Prelude.{◌≡◌};
 ghost use Rattle.sis_top.specs.Call.{code_of};
@@ -15,11 +15,11 @@ pub enum Status {
     Done,
     /// A command was refused, or the script is missing or too long.
     Refused,
-    /// The words of the command line are not taken.
+    /// The words of the command line are not accepted.
     Usage,
-    /// A load, a save, a take or a put failed.
+    /// A load, a save, a take or a write failed.
     Fault,
-    /// Memory was wanting.
+    /// Memory ran out.
     Memory,
 }
 
@@ -38,7 +38,7 @@ impl Status {
     }
 }
 
-/// What cut a run short, and the line of the work at which it did; 0 where the script was not
+/// What cut a run short, and the line of the work item at which it did; 0 if the script was not
 /// begun.
 #[derive(Clone, Copy, Debug, PartialEq, Eq)]
 pub struct Stop {

@@ -1,10 +1,10 @@
 //! The top call: the words of the command line, the run of the script that they ask for, and the
 //! last line.
 //!
-//! It is laid in three calls: one that makes the turns and promises how each object went
-//! (`run_words`), one that adds what each tells and counts, which follows from the calls by the law
-//! of each trait (`stores_went`, `sources_went`, `sinks_went`), and one that states all of it.
-//! `run_recorded` says of objects that record their calls what their lists are.
+//! It is built of three calls. `run_words` makes the turns and promises how each object went.
+//! `run_counted` adds what each object shows and counts, which follows from the calls by the law of
+//! each trait (`stores_went`, `sources_went`, `sinks_went`). `run_sis` states all of it.
+//! `run_recorded` says what the lists of objects that record their calls contain.
 
 ghost use Rattle.std.specs.Prelude.{◌≡◌, IsTrue, None};
 ghost use Rattle.sis_outside.specs.Calls.{Follows, SinkWent, SourceWent, StoreWent};
@@ -42,7 +42,7 @@ fn failure_text(what: Failed) -> &'static str
     }
 }
 
-/// The status of a run that was not cut short, by whether a work was refused.
+/// The status of a run that was not cut short, by whether a work item was refused.
 fn status_of(refused: bool) -> Status
     ensures { result ≡ status_of refused }
 {
@@ -63,7 +63,8 @@ fn status_cut(what: Failed) -> Status
     }
 }
 
-/// Puts the last line of a call, which ends so unless memory is wanting for the line.
+/// Writes the last line of a call, and returns the status that the call ends with unless memory
+/// runs out for the line.
 fn put_end<E: Sink>(line: &[u8], ends: Status, err: &mut E) -> Status
     ensures { HasEndLine line.now ends (Follows E.calls err.old err.new) result }
 {
@@ -74,7 +75,7 @@ fn put_end<E: Sink>(line: &[u8], ends: Status, err: &mut E) -> Status
     }
 }
 
-/// Puts the last line of a run that was cut short, and answers the status.
+/// Writes the last line of a run that was cut short, and returns the status.
 fn tell_stop<E: Sink>(alloc: Global, stop: Stop, err: &mut E) -> Status
     ensures { HasEndLine (failure_line stop) (status_cut stop.what)
         (Follows E.calls err.old err.new) result }
@@ -85,7 +86,7 @@ fn tell_stop<E: Sink>(alloc: Global, stop: Stop, err: &mut E) -> Status
     put_end(line.as_slice(), status_cut(stop.what), err)
 }
 
-/// Puts the line that tells how the program is used, and answers the status.
+/// Writes the usage line, and returns the status.
 fn tell_usage<E: Sink>(err: &mut E) -> Status
     ensures { HasEndLine usage_line status.Usage (Follows E.calls err.old err.new) result }
 {
@@ -118,7 +119,7 @@ fn run_options<S: Store, I: Source, O: Sink, E: Sink>(
     }
 }
 
-/// Runs the script that the words ask for, or tells how the program is used.
+/// Runs the script that the words ask for, or says how the program is used.
 fn run_words<S: Store, I: Source, O: Sink, E: Sink>(
     alloc: Global,
     words: &[Word],
@@ -145,7 +146,7 @@ fn run_words<S: Store, I: Source, O: Sink, E: Sink>(
     }
 }
 
-/// The same, and what each object tells and counts.
+/// The same, with what each object shows and counts.
 fn run_counted<S: Store, I: Source, O: Sink, E: Sink>(
     alloc: Global,
     words: &[Word],
@@ -178,12 +179,12 @@ fn run_counted<S: Store, I: Source, O: Sink, E: Sink>(
 }
 
 /// Does all that the program does: reads the words of the command line, runs the script that they
-/// ask for over the files, and puts replies on the output and refusals on the error output. The
-/// script is a file, a word, or what stands on the input.
+/// ask for over the files, and writes replies on the output and refusals on the error output. The
+/// script is a file, a word, or the input.
 ///
-/// The call is some turns of the command machine, and each object of the outside went by just the
-/// calls of these turns, whether it tells its contents or not; what is told, counted and missed
-/// follows for each object by itself. Want of memory may be answered at any time.
+/// The call is a list of turns of the command machine, and each object of the outside went by
+/// exactly the calls of these turns, whether it shows its contents or not; what is shown, counted
+/// and missed follows for each object by itself. Want of memory may be answered at any time.
 pub fn run_sis<S: Store, I: Source, O: Sink, E: Sink>(
     alloc: Global,
     words: &[Word],
@@ -192,24 +193,24 @@ pub fn run_sis<S: Store, I: Source, O: Sink, E: Sink>(
     out: &mut O,
     err: &mut E,
 ) -> Status
-    // The call is a run of the command machine, over every outside: each object went by just the
+    // The call is a run of the command machine, over every outside: each object went by exactly the
     // calls of its turns, and each text that it writes is that of what is held, and that refines
     // what was read last.
     ensures call { IsCall (options_of words.now) (Follows S.calls store.old store.new)
         (Follows I.calls input.old input.new) (Follows O.calls out.old out.new)
         (Follows E.calls err.old err.new) result }
 
-    // It follows for what each object tells and counts: files and bytes that are told went by these
-    // calls, and each count rose just where one of them was counted.
+    // It follows for what each object shows and counts: files and bytes that are shown went by
+    // these calls, and each count rose exactly if one of them was counted.
     ensures told { IsCall (options_of words.now)
         (StoreWent S.tells S.files S.faults S.misses store.old store.new)
         (SourceWent I.tells I.left I.faults input.old input.new)
         (SinkWent O.tells O.written O.faults out.old out.new)
         (SinkWent E.tells E.written E.faults err.old err.new) result }
 
-    // It follows by the status: where the run came to its end, nothing failed; a fault names the
-    // object that failed, whose count rose; a refusal names the work that was refused, and a script
-    // that is missing was counted; and usage is told where the words are not taken.
+    // It follows by the status: if the run came to its end, nothing failed; a fault names the
+    // object that failed, whose count rose; a refusal names the work item that was refused, and a
+    // script that is missing was counted; and Usage is answered only if the words are not accepted.
     ensures unfailed { HasEnding result → (S.faults store.new ≡ S.faults store.old)
         × (I.faults input.new ≡ I.faults input.old)
         × (O.faults out.new ≡ O.faults out.old) × (E.faults err.new ≡ E.faults err.old) }
@@ -226,8 +227,8 @@ pub fn run_sis<S: Store, I: Source, O: Sink, E: Sink>(
     ensures sure { NeverFails S.faults → NeverFails I.faults → NeverFails O.faults
         → NeverFails E.faults → result ≡ status.Fault → ⊥ }
 
-    // Where the files are told, and the input too if the script stands on it, and each turn that a
-    // run may come to is served, all is done, unless something fails or memory is wanting.
+    // If the files are shown, and the input too if the script is on it, and each turn that a run
+    // can reach is served, all is done, unless something fails or memory runs out.
     ensures complete { IsTrue (S.tells store.old) → (AsksInput (options_of words.now)
         → IsTrue (I.tells input.old))
         → Completes (options_of words.now) (S.files store.old) (I.left input.old) result }
@@ -235,8 +236,8 @@ pub fn run_sis<S: Store, I: Source, O: Sink, E: Sink>(
     run_counted(alloc, words, store, input, out, err)
 }
 
-/// The same over objects that record their calls: where memory was not wanting for a record, it
-/// grew by just the calls of the run's turns on its object.
+/// The same over objects that record their calls: unless memory ran out for a record, it grew by
+/// exactly the calls of the run's turns on its object.
 pub fn run_recorded<S: Store, I: Source, O: Sink, E: Sink>(
     alloc: Global,
     words: &[Word],

@@ -2,8 +2,8 @@
 
 ghost use Rattle.sis_top.specs.Usual.{AreAskedFor, AreRefused};
 
-/// The words that write options down, each value joined to its letter or behind it, are taken and
-/// ask for just those.
+/// The words that write options down, each value joined to its letter or in the next word, are
+/// accepted and ask for exactly those.
 pub fn options_are_asked_for()
     ensures { AreAskedFor }
 {}

@@ -1,4 +1,10 @@
-//! Calls of the whole program.
+//! Cases `call`: calls of the whole program on the words of a case.
+//!
+//! `answer` builds the outside from the parts that all cases share and from the case's own, runs
+//! `run_sis` on the words, and prints the status, both outputs, the files that were saved and the
+//! other files that changed. `call` is the run alone, for the other kinds of cases. A case
+//! `recorded` is here too: a fixed script over objects that record their calls, with the lists of
+//! these calls.
 
 use crate::outside::Outside;
 use crate::parts::{Part, parts, put_bytes, string_of};
@@ -10,7 +16,7 @@ use sis_top::{Status, run_recorded, run_sis};
 use std::alloc::{AllocError, Global};
 use trial_cases::{Case, CaseFault, put_line, unescaped};
 
-/// Puts the answer to a case of a call.
+/// Appends the answer to a case of a call.
 pub fn answer(
     alloc: Global,
     out: &mut Vec<u8>,
@@ -21,7 +27,7 @@ pub fn answer(
     put_call(alloc, out, case.head, shared, own.as_slice())
 }
 
-/// Puts the answer to a call, over what is said of the outside by the parts of all cases and of its own.
+/// Appends the answer to a call, with the outside that the parts of all cases and its own describe.
 fn put_call(
     alloc: Global,
     out: &mut Vec<u8>,
@@ -33,7 +39,7 @@ fn put_call(
     put_call_over(alloc, out, head, &mut outside, shared, own)
 }
 
-/// Puts the answer to a call over an outside to which nothing was said yet.
+/// Appends the answer to a call over a new outside.
 fn put_call_over(
     alloc: Global,
     out: &mut Vec<u8>,
@@ -50,7 +56,8 @@ fn put_call_over(
     put_changed(alloc, out, &outside.store, own)
 }
 
-/// Calls the program on the words of a case: those of its first line, and behind the last of them what stands right below.
+/// Calls the program on the words of a case: those of its first line, the last of them with the
+/// lines directly below it.
 pub fn call(
     alloc: Global,
     head: &str,
@@ -64,7 +71,7 @@ pub fn call(
     Ok(run(alloc, words.as_slice(), outside))
 }
 
-/// Puts the words of a line behind others; what stands right below belongs to the last of them.
+/// Appends the words of a line; the lines directly below belong to the last of them.
 fn put_words(
     alloc: Global,
     words: &mut Vec<Word>,
@@ -83,7 +90,7 @@ fn put_words(
     put_word(alloc, words, bytes)
 }
 
-/// Puts the words before the last one behind others.
+/// Appends the words before the last one.
 fn put_front(alloc: Global, words: &mut Vec<Word>, front: &str) -> Result<(), CaseFault> {
     for text in front.split('|') {
         let bytes = unescaped(alloc, text)?;
@@ -92,7 +99,7 @@ fn put_front(alloc: Global, words: &mut Vec<Word>, front: &str) -> Result<(), Ca
     Ok(())
 }
 
-/// Puts what stands right below the first line behind a text.
+/// Appends the lines directly below the first line to a text.
 fn put_below(alloc: Global, text: &mut Vec<u8>, own: &[Part<'_>]) -> Result<(), CaseFault> {
     match own.first() {
         Some(below) => put_bytes(alloc, text, below.lines.as_slice()),
@@ -100,7 +107,7 @@ fn put_below(alloc: Global, text: &mut Vec<u8>, own: &[Part<'_>]) -> Result<(), 
     }
 }
 
-/// Puts the word that some bytes are behind others.
+/// Appends the word of some bytes.
 fn put_word(alloc: Global, words: &mut Vec<Word>, bytes: Vec<u8>) -> Result<(), CaseFault> {
     let text = string_of(bytes)?;
     words.push(Word::new(alloc, text.as_str())?)?;
@@ -119,7 +126,7 @@ fn run(alloc: Global, words: &[Word], outside: &mut Outside) -> Status {
     )
 }
 
-/// Puts what is told of a call: its status, what was put on both outputs, and what was saved.
+/// Appends the result of a call: its status, what was written on both outputs, and what was saved.
 pub fn put_told(
     alloc: Global,
     out: &mut Vec<u8>,
@@ -135,13 +142,13 @@ pub fn put_told(
     Ok(())
 }
 
-/// Puts a status and its number.
+/// Appends a status and its number.
 pub fn put_status(alloc: Global, out: &mut Vec<u8>, status: Status) -> Result<(), AllocError> {
     let line = format!(in alloc; "{status:?}, {}", status.code())?;
     put_line(out, line.as_bytes())
 }
 
-/// Puts the lines of a file that was saved behind its name.
+/// Appends the lines of a file that was saved, after its name.
 fn put_saved(
     alloc: Global,
     out: &mut Vec<u8>,
@@ -152,7 +159,7 @@ fn put_saved(
     put_file(out, mark.as_str(), store.files.file(name))
 }
 
-/// Puts a line for each file of some parts that was not to be saved and did not stay.
+/// Appends a line for each file of some parts that was not to be saved and changed.
 pub fn put_changed(
     alloc: Global,
     out: &mut Vec<u8>,
@@ -167,7 +174,7 @@ pub fn put_changed(
     Ok(())
 }
 
-/// Puts a line for the file of a part, unless it was to be saved, or is as it was.
+/// Appends a line for the file of a part, unless it was to be saved, or is unchanged.
 fn put_unless_it_stays(
     alloc: Global,
     out: &mut Vec<u8>,
@@ -184,14 +191,15 @@ fn put_unless_it_stays(
     put_change(out, name.as_str())
 }
 
-/// Puts the line for a file that did not stay.
+/// Appends the line for a file that changed.
 fn put_change(out: &mut Vec<u8>, name: &str) -> Result<(), CaseFault> {
     out.extend_from_slice(b"changed: ")?;
     put_line(out, name.as_bytes())?;
     Ok(())
 }
 
-/// Runs a script that sources a file, over objects that record their calls, and puts their lists.
+/// Runs a script that sources a file, over objects that record their calls, and appends their
+/// lists.
 pub fn put_recorded(alloc: Global, out: &mut Vec<u8>) -> Result<(), CaseFault> {
     let mut files = MemStore::new(alloc);
     files.put_file("s", b"echo hi".as_slice())?;

@@ -1,12 +1,11 @@
-//! Runs of which one call on the outside fails.
+//! Cases `failing`: runs in which one call on the outside fails.
 //!
-//! The parts that all cases share say, beside the files, which calls a run makes, in order: `@load
-//! LINE NAME`, `@save LINE NAME`, `@take LINE`, `@out LINE`, `@err LINE`, with the line of the
-//! command that makes it, and below the bytes that are saved, taken or put. A case `failing
-//! WORD|WORD|..` runs the program anew for each of these calls, which fails after none, half and
-//! all of its bytes. Counted are the runs that end as they have to: with Fault, a last line that
-//! says what failed, what the calls before wrote, and of the call that failed the bytes that
-//! passed. Of any other run both ends are told.
+//! The shared parts give the calls of a run, in order: `@load LINE NAME`, `@save LINE NAME`, `@take
+//! LINE`, `@out LINE`, `@err LINE`, with the line of the command, and below it the bytes that are
+//! saved, taken or written. A case `failing WORD|WORD|..` runs the program anew for each of these
+//! calls, which fails after none, half and all of its bytes. It counts the runs that end as they
+//! should: with Fault, a last line that says what failed, what the calls before wrote, and the
+//! bytes of the failed call that passed. For any other run it prints both ends.
 
 use crate::calls::{call, put_changed, put_told};
 use crate::outside::Outside;
@@ -17,7 +16,7 @@ use sis_top::Status;
 use std::alloc::Global;
 use trial_cases::{CaseFault, put_line, put_number};
 
-/// The object on which a part says a call; no word where it says none.
+/// The object of the call that a part describes; the empty word if it describes none.
 fn object_of(part: &Part<'_>) -> &'static str {
     match part.word(0) {
         "load" | "save" => "store",
@@ -28,7 +27,7 @@ fn object_of(part: &Part<'_>) -> &'static str {
     }
 }
 
-/// What the last line tells of an object that failed.
+/// What the last line says of an object that failed.
 fn failure_text(object: &str) -> &'static str {
     match object {
         "store" => "store failed",
@@ -48,7 +47,7 @@ fn calls_on(parts: &[Part<'_>], object: &str) -> usize {
     count
 }
 
-/// Makes the call that a part says, whatever it answers.
+/// Makes the call that a part describes, whatever it answers.
 fn make_call(alloc: Global, outside: &mut Outside, part: &Part<'_>) -> Result<(), CaseFault> {
     let bytes = part.text(alloc)?;
     match part.word(0) {
@@ -72,7 +71,7 @@ fn make_call(alloc: Global, outside: &mut Outside, part: &Part<'_>) -> Result<()
     Ok(())
 }
 
-/// A run whose last call fails: the words of its case, what is said of the outside, and the calls.
+/// A run whose last call fails: the words of its case, the parts, and the calls.
 #[derive(Clone, Copy)]
 struct Run<'h, 'p, 'q> {
     head: &'h str,
@@ -83,7 +82,7 @@ struct Run<'h, 'p, 'q> {
 }
 
 impl Run<'_, '_, '_> {
-    /// Makes the calls of the run, with the last line, and gives its status.
+    /// Makes the calls of the run and writes its last line, and returns its status.
     fn play(&self, alloc: Global, outside: &mut Outside) -> Result<Status, CaseFault> {
         for part in self.before {
             make_call(alloc, outside, part)?;
@@ -95,8 +94,7 @@ impl Run<'_, '_, '_> {
         Ok(Status::Fault)
     }
 
-    /// Puts how the run ends over an outside to which nothing was said yet, as it has to or as it
-    /// does.
+    /// Appends how the run ends over a new outside, as it should or as it does.
     fn put_end_over(
         &self,
         alloc: Global,
@@ -117,13 +115,13 @@ impl Run<'_, '_, '_> {
         put_changed(alloc, out, &outside.store, self.parts)
     }
 
-    /// Puts how the run ends.
+    /// Appends how the run ends.
     fn put_end(&self, alloc: Global, out: &mut Vec<u8>, has_to: bool) -> Result<(), CaseFault> {
         let mut outside = Outside::new(alloc)?;
         self.put_end_over(alloc, out, has_to, &mut outside)
     }
 
-    /// Whether the run ends as it has to; else puts both ends.
+    /// Whether the run ends as it should; if not, appends both ends.
     fn is_right(&self, alloc: Global, out: &mut Vec<u8>) -> Result<bool, CaseFault> {
         let start = out.len();
         self.put_end(alloc, out, true)?;
@@ -137,13 +135,13 @@ impl Run<'_, '_, '_> {
     }
 }
 
-/// How many bytes the call of a part is about.
+/// The number of bytes of the call of a part.
 fn size_of(alloc: Global, part: &Part<'_>) -> Result<usize, CaseFault> {
     let bytes = part.text(alloc)?;
     Ok(bytes.len())
 }
 
-/// How many of the three runs at whose last call these parts come end as they have to.
+/// How many of the three runs whose last call is that of this part end as they should.
 fn right_at(
     alloc: Global,
     out: &mut Vec<u8>,
@@ -170,7 +168,7 @@ fn right_at(
     Ok(count)
 }
 
-/// Puts the answer to a case of failing runs.
+/// Appends the answer to a case of failing runs.
 pub fn answer(
     alloc: Global,
     out: &mut Vec<u8>,

@@ -1,4 +1,4 @@
-//! Laws, each of which is a call that does nothing but end.
+//! Cases `laws`: calls of laws, each of which does nothing but return.
 
 use sis_session::{
     changes_have_one_outcome, commands_end_once, commands_have_one_plan, served_commands_are_done,
@@ -10,7 +10,7 @@ use sis_top::{
 };
 use trial_cases::{CaseFault, put_line};
 
-/// That the laws are called; an error only for want of memory.
+/// Calls the laws, and appends that they were called.
 pub fn answer(out: &mut Vec<u8>) -> Result<(), CaseFault> {
     steps_keep_refinement();
     what_is_held_is_written();

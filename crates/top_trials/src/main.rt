@@ -1,22 +1,22 @@
 //! Answers cases about calls of the whole program over files, an input and outputs in memory.
 //!
 //! A case `call WORD|WORD|..` is a call of the program on these words, as trial_cases writes texts;
-//! lines right below it stand behind the last word. Below them stand parts, each with a line that
-//! begins with `@` and the lines of a text: `@file NAME`, `@input` or, for pieces of at most so
-//! many bytes, `@input MOST`, and without a text `@fail OBJECT CALL PASSES` and `@want OBJECT
-//! CALL`: the call of this number, counted from 0, of `store`, `input`, `out` or `err` fails after
-//! so many bytes, or wants memory. The input stands before its failures. A line `%HH HH ..` of a
-//! text is the bytes of these hexadecimal numbers. A case `files` has parts for all cases behind
-//! it, up to the next `files`, and no answer.
+//! lines directly below it belong to the last word. Parts follow, each with a line that begins with
+//! `@` and the lines of a text: `@file NAME`, `@input` or, for pieces of at most so many bytes,
+//! `@input MOST`, and without a text `@fail OBJECT CALL PASSES` and `@want OBJECT CALL`: the call
+//! of this number, counted from 0, of `store`, `input`, `out` or `err` fails after so many bytes,
+//! or wants memory. The input comes before its failures. A line `%HH HH ..` of a text is the bytes
+//! of these hexadecimal numbers. A case `files` has parts for all cases after it, up to the next
+//! `files`, and no answer.
 //!
-//! Told are the status and its number, the lines put on the output behind `out: ` and on the error
-//! output behind `err: `, those of each file that the call saved behind its name, and the name of
-//! any other file that did not stay as it was. A `\` stands where a text ends without a line end. A
-//! case `failing` is calls in each of which one call on the outside fails (`failing`). A case
-//! `recorded` is a call over objects that record their calls, and tells their lists; a case `sure`
-//! is one over objects that never fail, a case `endless` one over an input without an end. A case
-//! `session` is calls on a session by itself, a case `laws` calls the laws. What is in `stdin` and
-//! `stdout` is worked out by hand from the definitions.
+//! The answer has the status and its number, the lines written on the output after `out: ` and on
+//! the error output after `err: `, those of each file that the call saved after its name, and the
+//! name of any other file that changed. A `\` marks a text that ends without a line end. A case
+//! `failing` is a series of calls in each of which one call on the outside fails (`failing`). A
+//! case `recorded` is a call over objects that record their calls, and prints their lists; a case
+//! `sure` is one over objects that never fail, a case `endless` one over an input without an end. A
+//! case `session` is calls on a session by itself, a case `laws` calls the laws. What is in `stdin`
+//! and `stdout` is worked out by hand from the definitions.
 #![tactic(auto)]
 
 mod calls;
@@ -35,7 +35,7 @@ use std::io;
 use std::io::{Read, Write};
 use trial_cases::{Case, CaseFault, begin_answer, cases, end_answer};
 
-/// Puts the answer to a case, over the parts that all calls share.
+/// Appends the answer to a case, with the parts that all calls share.
 fn answer(
     alloc: Global,
     out: &mut Vec<u8>,
@@ -54,7 +54,7 @@ fn answer(
     }
 }
 
-/// Puts a case and its answer.
+/// Appends a case and its answer.
 fn put_case(
     alloc: Global,
     out: &mut Vec<u8>,

@@ -1,5 +1,8 @@
-//! Calls of the program over other objects of the outside: such that never fail, and an input
-//! without an end.
+//! Cases `sure` and `endless`: calls of the program over other objects of the outside.
+//!
+//! `run_sure` runs it over objects that never fail; its clause says that the status is never that
+//! of a fault, which follows from the clause `sure` of `run_sis`. `Endless` is a source that always
+//! has one more byte, so the script on it is too long.
 
 ghost use Rattle.std.specs.Prelude.{◌≡◌, [], false};
 ghost use Rattle.sis_outside.specs.Calls.{SourceKeeps};
@@ -28,7 +31,7 @@ fn run_sure(
     run_sis(alloc, words, store, input, out, err)
 }
 
-/// Runs the script on an input that never fails, and puts what is told of it.
+/// Runs the script on an input that never fails, and appends the result.
 pub fn put_sure(alloc: Global, out: &mut Vec<u8>) -> Result<(), CaseFault> {
     let mut store = SureStore::new(alloc);
     store.put_file("a", b".model a\n.inputs x\n.outputs x\n.end\n".as_slice())?;
@@ -38,7 +41,7 @@ pub fn put_sure(alloc: Global, out: &mut Vec<u8>) -> Result<(), CaseFault> {
     Ok(())
 }
 
-/// Puts what is told of a call over a store and an input that never fail.
+/// Appends the result of a call over a store and an input that never fail.
 fn put_sure_call(
     alloc: Global,
     out: &mut Vec<u8>,
@@ -54,7 +57,7 @@ fn put_sure_call(
     put_sure_end(alloc, out, store, input)
 }
 
-/// Puts what a store and an input that never fail hold behind a call.
+/// Appends what a store and an input that never fail contain after a call.
 fn put_sure_end(
     alloc: Global,
     out: &mut Vec<u8>,
@@ -91,7 +94,7 @@ impl Source for Endless {
     }
 }
 
-/// Runs the script on an input without an end, and puts what is told of it.
+/// Runs the script on an input without an end, and appends the result.
 pub fn put_endless(alloc: Global, out: &mut Vec<u8>) -> Result<(), CaseFault> {
     let mut outside = Outside::new(alloc)?;
     let status = run_sis(

@@ -1,4 +1,9 @@
-//! What a call sees of the outside, as the parts of a case say it.
+//! The objects of the outside of a call, as the parts of a case describe them.
+//!
+//! `take_parts` does what each part says: a file in the store, a text on the input, a limit on its
+//! pieces, a call that fails after some bytes, or one that runs out of memory. A part that the
+//! trials do not know is a bad case. A part that describes a call of a run (`failing`) changes
+//! nothing here.
 
 use crate::parts::Part;
 use crate::wanting::{TrialStore, Wanting};
@@ -14,7 +19,7 @@ pub struct Outside {
     pub err: Wanting<MemSink>,
 }
 
-// By hand, so that letting them go is one call.
+// Written by hand, so that dropping them is one call.
 impl Drop for Outside {
     fn drop(self) {
         let Outside {
@@ -27,7 +32,7 @@ impl Drop for Outside {
 }
 
 impl Outside {
-    /// No file, no input, and no call that fails; an error only for want of memory.
+    /// No file, no input, and no call that fails.
     pub fn new(alloc: Global) -> Result<Self, AllocError> {
         let input = MemSource::new(alloc, b"")?;
         Ok(Outside {
@@ -46,7 +51,7 @@ impl Outside {
         Ok(())
     }
 
-    /// Does what a part says; one without a word, or that says a call of a run, says nothing.
+    /// Does what a part says; one without a word, or with a call of a run, says nothing.
     fn take_part(&mut self, alloc: Global, part: &Part<'_>) -> Result<(), CaseFault> {
         match part.word(0) {
             "" => Ok(()),
@@ -73,7 +78,7 @@ impl Outside {
         self.limit_pieces(part.word(1))
     }
 
-    /// Has no piece of the input be longer than a word says, if there is one.
+    /// Limits the pieces of the input to the length in a word, if there is one.
     fn limit_pieces(&mut self, word: &str) -> Result<(), CaseFault> {
         if word.is_empty() {
             return Ok(());
@@ -86,13 +91,13 @@ impl Outside {
         Ok(())
     }
 
-    /// Has a call of an object fail after so many bytes.
+    /// Plans that a call of an object fails after so many bytes.
     fn fail(&mut self, part: &Part<'_>) -> Result<(), CaseFault> {
         let call = number_of(part.word(2))?;
         self.fail_at(part.word(1), call, number_of(part.word(3))?)
     }
 
-    /// Has the call of this number of an object fail after so many bytes.
+    /// Plans that the call of this number of an object fails after so many bytes.
     pub fn fail_at(&mut self, object: &str, call: usize, passes: usize) -> Result<(), CaseFault> {
         match object {
             "store" => Ok(self.store.files.fail_at(call, passes)?),
@@ -103,7 +108,7 @@ impl Outside {
         }
     }
 
-    /// Has a call of an object want memory.
+    /// Plans that a call of an object wants memory.
     fn want(&mut self, part: &Part<'_>) -> Result<(), CaseFault> {
         let call = number_of(part.word(2))?;
         match part.word(1) {

@@ -1,15 +1,20 @@
 //! The parts of a case, and the texts in them.
+//!
+//! A part is a line that begins with `@` and the lines below it, up to the next such line; the
+//! lines before the first `@` are a part without a word. `put_bytes` gives the bytes of lines: a
+//! text of trial_cases, or after a `%` the bytes as hexadecimal numbers. A name or a number that
+//! does not fit is a bad case.
 
 use std::alloc::{AllocError, Global};
 use trial_cases::{CaseFault, text_of};
 
-/// A part of a case: what its first line says behind the `@`, and the lines below it.
+/// A part of a case: its first line after the `@`, and the lines below it.
 pub struct Part<'a> {
     pub head: &'a str,
     pub lines: Vec<&'a str>,
 }
 
-// By hand, so that letting a part go is one call.
+// Written by hand, so that dropping a part is one call.
 impl<'a> Drop for Part<'a> {
     fn drop(self) {
         let Part {
@@ -20,7 +25,7 @@ impl<'a> Drop for Part<'a> {
 }
 
 impl<'a> Part<'a> {
-    /// The word at a place of the first line; no word where there is none.
+    /// The word of an index of the first line; the empty one if there is none.
     pub fn word(&self, place: usize) -> &'a str {
         self.head.split_whitespace().nth(place).unwrap_or("")
     }
@@ -32,7 +37,7 @@ impl<'a> Part<'a> {
         Ok(bytes)
     }
 
-    /// The name of a file, which stands behind the first word.
+    /// The name of a file, which follows the first word.
     pub fn name(&self, alloc: Global) -> Result<String, CaseFault> {
         let (_file, name) = self.head.split_once(' ').ok_or(CaseFault::Bad)?;
         string_of(text_of(alloc, &[name])?)
@@ -60,7 +65,7 @@ pub fn parts<'a>(alloc: Global, lines: &[&'a str]) -> Result<Vec<Part<'a>>, Allo
     Ok(found)
 }
 
-/// Puts a part behind others.
+/// Appends a part to others.
 fn put_part<'a>(
     alloc: Global,
     found: &mut Vec<Part<'a>>,
@@ -72,7 +77,7 @@ fn put_part<'a>(
     Ok(())
 }
 
-/// Puts the bytes of lines, each of which is a text or behind a `%` its bytes as numbers.
+/// Appends the bytes of lines, each of which is a text, or after a `%` its bytes as numbers.
 pub fn put_bytes(alloc: Global, bytes: &mut Vec<u8>, lines: &[&str]) -> Result<(), CaseFault> {
     for line in lines {
         match line.strip_prefix("%") {
@@ -83,14 +88,14 @@ pub fn put_bytes(alloc: Global, bytes: &mut Vec<u8>, lines: &[&str]) -> Result<(
     Ok(())
 }
 
-/// Puts the bytes of a line that is a text.
+/// Appends the bytes of a line that is a text.
 fn put_text_of(alloc: Global, bytes: &mut Vec<u8>, line: &str) -> Result<(), CaseFault> {
     let text = text_of(alloc, &[line])?;
     bytes.extend_from_slice(text.as_slice())?;
     Ok(())
 }
 
-/// Puts the bytes of hexadecimal numbers.
+/// Appends the bytes of hexadecimal numbers.
 fn put_numbers(bytes: &mut Vec<u8>, numbers: &str) -> Result<(), CaseFault> {
     for number in numbers.split_whitespace() {
         let byte = u8::from_str_radix(number, 16).map_err(|_| CaseFault::Bad)?;

@@ -1,5 +1,8 @@
-//! A session by itself: calls that no command of a script makes. A line of a case is `read TEXT`, `stats`, `undo`, `load NAME`,
-//! `error LINE TEXT` or `long_script`.
+//! Cases `session`: calls on a session by itself, which no command of a script makes.
+//!
+//! A line of a case is `read TEXT`, `stats`, `undo`, `load NAME`, `error LINE TEXT` or
+//! `long_script`, up to the first part. The calls of a case share one session and one store; the
+//! answer has a line or a text for each call. Any other line is a bad case.
 
 use crate::outside::Outside;
 use crate::parts::{Part, parts};
@@ -11,7 +14,7 @@ use sis_text::Word;
 use std::alloc::{AllocError, Global};
 use trial_cases::{Case, CaseFault, number_of, put_line, unescaped};
 
-/// Puts the answer to a case of a session.
+/// Appends the answer to a case of a session.
 pub fn answer(
     alloc: Global,
     out: &mut Vec<u8>,
@@ -35,14 +38,14 @@ fn take_both(
     outside.take_parts(alloc, own)
 }
 
-/// Puts what the calls of lines answer, up to the first part.
+/// Appends the answers to the calls of lines, up to the first part.
 fn put_calls(
     alloc: Global,
     out: &mut Vec<u8>,
     lines: &[&str],
     store: &mut TrialStore,
 ) -> Result<(), CaseFault> {
-    // A whole, so that letting the session go is one call.
+    // Wrapped in a `Whole`, so that dropping the session is one call.
     let mut session = Whole { it: Session::new() };
     for line in lines {
         if line.starts_with("@") {
@@ -53,7 +56,7 @@ fn put_calls(
     Ok(())
 }
 
-/// Puts what the call of a line answers.
+/// Appends the answer to the call of a line.
 fn put_call(
     alloc: Global,
     out: &mut Vec<u8>,
@@ -73,13 +76,13 @@ fn put_call(
     }
 }
 
-/// Puts whether there was something to undo.
+/// Appends whether there was something to undo.
 fn put_undo(out: &mut Vec<u8>, undone: bool) -> Result<(), CaseFault> {
     put_line(out, if undone { b"true".as_slice() } else { b"false" })?;
     Ok(())
 }
 
-/// Puts the numbers of a network, or that there is none.
+/// Appends the numbers of a network, or that there is none.
 fn put_stats(alloc: Global, out: &mut Vec<u8>, stats: Option<Stats>) -> Result<(), CaseFault> {
     match stats {
         None => put_line(out, b"no network")?,
@@ -88,7 +91,7 @@ fn put_stats(alloc: Global, out: &mut Vec<u8>, stats: Option<Stats>) -> Result<(
     Ok(())
 }
 
-/// Puts the numbers of a network.
+/// Appends the numbers of a network.
 fn put_sizes(alloc: Global, out: &mut Vec<u8>, stats: &Stats) -> Result<(), AllocError> {
     let sizes = stats.sizes;
     let line = format!(in alloc;
@@ -98,20 +101,20 @@ fn put_sizes(alloc: Global, out: &mut Vec<u8>, stats: &Stats) -> Result<(), Allo
     put_line(out, line.as_bytes())
 }
 
-/// Puts the line of an error that is told with a number.
+/// Appends the line of an error that is given with a number.
 fn put_error(alloc: Global, out: &mut Vec<u8>, rest: &str) -> Result<(), CaseFault> {
     let (number, text) = rest.split_once(' ').ok_or(CaseFault::Bad)?;
     put_fault(alloc, out, number_of(number)?, text)
 }
 
-/// Puts the line of an error.
+/// Appends the line of an error.
 fn put_fault(alloc: Global, out: &mut Vec<u8>, line: usize, text: &str) -> Result<(), CaseFault> {
     let told = error_text(alloc, line, text)?;
     out.extend_from_slice(told.as_slice())?;
     Ok(())
 }
 
-/// Puts the line of a refusal.
+/// Appends the line of a refusal.
 fn put_refusal(
     alloc: Global,
     out: &mut Vec<u8>,
@@ -123,7 +126,7 @@ fn put_refusal(
     Ok(())
 }
 
-/// Reads a text into a session, and puts how that ended.
+/// Reads a text into a session, and appends how that ended.
 fn put_read(
     alloc: Global,
     out: &mut Vec<u8>,
@@ -138,19 +141,19 @@ fn put_read(
     }
 }
 
-/// Puts that a text was read.
+/// Appends that a text was read.
 fn put_done(out: &mut Vec<u8>) -> Result<(), CaseFault> {
     put_line(out, b"read")?;
     Ok(())
 }
 
-/// Puts what is wrong with a text.
+/// Appends what is wrong with a text.
 fn put_bad_file(alloc: Global, out: &mut Vec<u8>, fault: BlifFault) -> Result<(), CaseFault> {
     let refusal = Refusal::Blif(Word::new(alloc, "text")?, fault);
     put_refusal(alloc, out, 1, &refusal)
 }
 
-/// Puts the bytes of a file, or a line for why it has none.
+/// Appends the bytes of a file, or a line with the reason why it has none.
 fn put_load(
     alloc: Global,
     out: &mut Vec<u8>,
@@ -166,7 +169,7 @@ fn put_load(
     }
 }
 
-/// Puts a text as it is.
+/// Appends a text as it is.
 fn put_text(out: &mut Vec<u8>, text: &[u8]) -> Result<(), CaseFault> {
     out.extend_from_slice(text)?;
     Ok(())

@@ -1,4 +1,5 @@
-//! Texts as an answer shows them.
+//! Texts as an answer shows them: each line after a mark, a byte that is not printable as `\x` and
+//! two hexadecimal digits, and a `\` after a last line without a line end.
 
 use std::alloc::AllocError;
 use trial_cases::put_line;
@@ -6,7 +7,7 @@ use trial_cases::put_line;
 /// The digits of hexadecimal numbers.
 const DIGITS: [u8; 16] = *b"0123456789abcdef";
 
-/// Puts a byte of a line as a case writes it, or as a hexadecimal number behind `\x`.
+/// Appends a byte of a line as a case writes it, or as a hexadecimal number after `\x`.
 fn put_byte(told: &mut Vec<u8>, byte: u8) -> Result<(), AllocError> {
     let high = DIGITS[(byte / 16) as usize];
     let low = DIGITS[(byte % 16) as usize];
@@ -19,7 +20,7 @@ fn put_byte(told: &mut Vec<u8>, byte: u8) -> Result<(), AllocError> {
     }
 }
 
-/// Puts the lines of a text, each behind a mark; a `\` behind the last where its line end lacks.
+/// Appends the lines of a text, each after a mark; a `\` follows a last line without a line end.
 pub fn put_text(told: &mut Vec<u8>, mark: &str, text: &[u8]) -> Result<(), AllocError> {
     let mut begins = true;
     for byte in text {
@@ -40,7 +41,7 @@ pub fn put_text(told: &mut Vec<u8>, mark: &str, text: &[u8]) -> Result<(), Alloc
     }
 }
 
-/// Puts the lines of a file; one without bytes as a `\`, and none as `none`.
+/// Appends the lines of a file; one without bytes as a `\`, and a missing one as `none`.
 pub fn put_file(told: &mut Vec<u8>, mark: &str, file: Option<&[u8]>) -> Result<(), AllocError> {
     let text = file.unwrap_or(b"none\n");
     if text.is_empty() {

@@ -1,4 +1,9 @@
-//! Objects of the outside of which one call wants memory; the store keeps the names of what is saved.
+//! Objects of the outside one of whose calls wants memory: the test doubles of an allocation that
+//! fails.
+//!
+//! `Wanting` wraps a source or a sink; its contents and counts are those of the object inside, and
+//! each answer is within the promises of the trait. `TrialStore` does the same over a `MemStore`,
+//! and also keeps the names under which files were to be saved, each once.
 
 ghost use Rattle.std.specs.Prelude.{true};
 ghost use Rattle.sis_outside.specs.Calls.{SinkKeeps, SourceKeeps, StoreKeeps};
@@ -6,14 +11,15 @@ ghost use Rattle.sis_outside.specs.Calls.{SinkKeeps, SourceKeeps, StoreKeeps};
 use sis_outside::{LoadFault, MemStore, PutFault, SaveFault, Sink, Source, Store, TakeFault};
 use std::alloc::{AllocError, Global};
 
-/// Counts a call, and says whether it wants memory: `left` is how many calls come before the one that does.
+/// Counts a call, and returns whether it wants memory: `left` is how many calls come before the one
+/// that does.
 fn wants_memory(left: &mut Option<usize>) -> bool {
     let now = *left;
     *left = now.and_then(|count| count.checked_sub(1));
     now == Some(0)
 }
 
-/// A source or a sink of which a call may want memory.
+/// A source or a sink one of whose calls may want memory.
 #[derive(Drop)]
 pub struct Wanting<T> {
     pub object: T,
@@ -21,7 +27,7 @@ pub struct Wanting<T> {
 }
 
 impl<T> Wanting<T> {
-    /// An object no call of which wants memory.
+    /// An object none of whose calls wants memory.
     pub fn new(object: T) -> Self {
         Wanting { object, want: None }
     }
@@ -70,7 +76,7 @@ pub fn is_among(names: &[String], name: &str) -> bool {
     names.iter().any(|known| known.as_str() == name)
 }
 
-/// Puts a name behind names, unless it is among them; an error only for want of memory.
+/// Appends a name to names, unless it is among them.
 fn keep(alloc: Global, names: &mut Vec<String>, name: &str) -> Result<(), AllocError> {
     if !is_among(names.as_slice(), name) {
         names.push(String::from_str(alloc, name)?)?;
@@ -78,7 +84,8 @@ fn keep(alloc: Global, names: &mut Vec<String>, name: &str) -> Result<(), AllocE
     Ok(())
 }
 
-/// A store that keeps the names under which files were to be saved, each once, and of which a call may want memory.
+/// A store that keeps the names under which files were to be saved, each once, and one of whose
+/// calls may want memory.
 #[derive(Drop)]
 pub struct TrialStore {
     alloc: Global,

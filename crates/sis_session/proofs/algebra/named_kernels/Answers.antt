@@ -3,7 +3,7 @@ use Rattle.std.specs.Prelude.{Ok, Err}
 use Rattle.std.specs.Option.{option_map}
 use Rattle.circuit_model.specs.Soundness.{IsShaped}
 use Rattle.circuit_model.specs.Values.{driver}
-use Rattle.circuit_model.specs.declared.circuit.Table.{Table as Written}
+use Rattle.circuit_model.specs.declared.circuit.Table.{Table}
 use Rattle.circuit_laws.proofs.Drivers.{driver_all}
 use Rattle.net_core.specs.Tables.{HasCharacters, named}
 use Rattle.sis_session.specs.Told.{HasManyKernels}
@@ -16,13 +16,13 @@ pub kernel_lines-requires : goal.kernel_lines-requires
 kernel_lines-requires c =
     let found : driver c.args.network.now.tables c.args.name.now ≡ Some (named c.args.name.now c.in-Some.table.now) = c.table.ensures.driver ∙ ap (option_map (λ table. named c.args.name.now table.now)) c.in-Some.is in
     let shaped : IsShaped (named c.args.name.now c.in-Some.table.now) = driver_all IsShaped c.args.network.now.tables c.sound.ensures.shaped c.args.name.now _ found in
-    subst (λ (table : Written). HasCharacters (length table.inputs) table.rows) (sym c.in_ok-written.ensures) shaped.0
+    subst (λ (table : Table). HasCharacters (length table.inputs) table.rows) (sym c.in_ok-written.ensures) shaped.0
 
 pub returns-in-Ok : goal.returns-in-Ok
 returns-in-Ok c =
     let found : driver c.args.network.now.tables c.args.name.now ≡ Some (named c.args.name.now c.in-Some.table.now) = c.table.ensures.driver ∙ ap (option_map (λ table. named c.args.name.now table.now)) c.in-Some.is in
-    subst (λ (driven : Option Written). KernelTold c.args.name.now driven (Ok c.in-Ok.text.items)) (sym found)
-    (subst (λ (table : Written). KernelsOf c.args.name.now table (Ok c.in-Ok.text.items)) c.in_ok-written.ensures (c.in-Ok.ensures.lines, c.in-Ok.ensures.refused))
+    subst (λ (driven : Option Table). KernelTold c.args.name.now driven (Ok c.in-Ok.text.items)) (sym found)
+    (subst (λ (table : Table). KernelsOf c.args.name.now table (Ok c.in-Ok.text.items)) c.in_ok-written.ensures (c.in-Ok.ensures.lines, c.in-Ok.ensures.refused))
 
 pub returns-in-Err-KernelLimit : goal.returns-in-Err-KernelLimit
 returns-in-Err-KernelLimit c =
@@ -31,6 +31,6 @@ returns-in-Err-KernelLimit c =
     let which = c.in-Err-KernelLimit.field-0-is in
     let many : HasManyKernels c.in_ok-written.written = c.kernel_lines.ensures.over cc in
     let why : Refusal = KernelLimit c.in_ok-copy-in-Err-KernelLimit.field-0 in
-    subst (λ (driven : Option Written). KernelTold c.args.name.now driven (Err why)) (sym found)
-    (subst (λ (table : Written). KernelsOf c.args.name.now table (Err why)) c.in_ok-written.ensures
+    subst (λ (driven : Option Table). KernelTold c.args.name.now driven (Err why)) (sym found)
+    (subst (λ (table : Table). KernelsOf c.args.name.now table (Err why)) c.in_ok-written.ensures
     (ap (λ (name : List ℕ). KernelLimit name) c.in_ok-copy-in-Err-KernelLimit.ensures, many))

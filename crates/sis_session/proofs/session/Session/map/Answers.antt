@@ -1,6 +1,6 @@
 use Rattle.std.proofs.Common.{rules, ◌≡◌, Option, Ok, Err, ◌∙◌, ap, subst, sym}
 use Rattle.blif_lines.specs.Libraries.{IsSoundLibrary}
-use Rattle.genlib_format.specs.Soundness.{IsSound as IsSoundGates}
+use Rattle.genlib_format.specs.Soundness.{IsSoundGates}
 use Rattle.sis_session.specs.State.{Held, Library, parts_held}
 use Rattle.sis_session.proofs.Stepping.{mapped_did, no_circuit_did, no_library_did, unmapped_did}
 use Rattle.sis_session.proofs.session.Session.map.Goals as goal

@@ -9,7 +9,7 @@ use Rattle.sis_session.proofs.session.Session.step.Goals as goal
 
 pub returns-in-Echo-clause-did : goal.returns-in-Echo-clause-did
 returns-in-Echo-clause-did g c =
-    rw c.in-Echo.is (out_alone g.S.Store.calls _ _ c.args.store.now _ (told_did g.O.Sink.calls c.args.self.now _ _ _ _ _ c.echo.ensures c.put_told.ensures.put))
+    rw c.in-Echo.is (out_alone g.S.Store.calls _ _ c.args.store.now _ (told_did g.O.Sink.calls c.args.self.now _ _ _ _ _ c.echo.ensures c.print_reply.ensures.put))
 
 pub returns-in-Quit-clause-did : goal.returns-in-Quit-clause-did
 returns-in-Quit-clause-did g c =
@@ -37,36 +37,36 @@ returns-in-Generate-clause-did g c =
 
 pub returns-in-WriteBlif-clause-did : goal.returns-in-WriteBlif-clause-did
 returns-in-WriteBlif-clause-did g c =
-    rw (c.in-WriteBlif.is, ← c.self.view_is) (c.send_told.ensures.did _ _ c.network_text.ensures)
+    rw (c.in-WriteBlif.is, ← c.self.view_is) (c.write_reply.ensures.did _ _ c.network_text.ensures)
 
 pub returns-in-WriteKiss-clause-did : goal.returns-in-WriteKiss-clause-did
 returns-in-WriteKiss-clause-did g c =
-    rw (c.in-WriteKiss.is, ← c.self-in-WriteKiss.view_is) (c.send_told-in-WriteKiss.ensures.did _ _ c.machine_told.ensures)
+    rw (c.in-WriteKiss.is, ← c.self-in-WriteKiss.view_is) (c.write_reply-in-WriteKiss.ensures.did _ _ c.machine_told.ensures)
 
 pub returns-in-WriteNetlist-clause-did : goal.returns-in-WriteNetlist-clause-did
 returns-in-WriteNetlist-clause-did g c =
     rw (c.in-WriteNetlist.is, ← c.self-in-WriteNetlist.view_is)
-    (c.send_told-in-WriteNetlist.ensures.did _ _ c.netlist_told.ensures)
+    (c.write_reply-in-WriteNetlist.ensures.did _ _ c.netlist_told.ensures)
 
 pub returns-in-PrintStats-clause-did : goal.returns-in-PrintStats-clause-did
 returns-in-PrintStats-clause-did g c =
-    rw (c.in-PrintStats.is, ← c.self-in-PrintStats.view_is) (out_alone g.S.Store.calls _ _ c.args.store.now _ (told_did g.O.Sink.calls _ _ _ _ _ _ c.print_stats.ensures c.put_told-in-PrintStats.ensures.put))
+    rw (c.in-PrintStats.is, ← c.self-in-PrintStats.view_is) (out_alone g.S.Store.calls _ _ c.args.store.now _ (told_did g.O.Sink.calls _ _ _ _ _ _ c.print_stats.ensures c.print_reply-in-PrintStats.ensures.put))
 
 pub returns-in-Print-clause-did : goal.returns-in-Print-clause-did
 returns-in-Print-clause-did g c =
-    rw (c.in-Print.is, ← c.self-in-Print.view_is) (out_alone g.S.Store.calls _ _ c.args.store.now _ (told_did g.O.Sink.calls _ _ _ _ _ _ c.print.ensures c.put_told-in-Print.ensures.put))
+    rw (c.in-Print.is, ← c.self-in-Print.view_is) (out_alone g.S.Store.calls _ _ c.args.store.now _ (told_did g.O.Sink.calls _ _ _ _ _ _ c.print.ensures c.print_reply-in-Print.ensures.put))
 
 pub returns-in-PrintLatch-clause-did : goal.returns-in-PrintLatch-clause-did
 returns-in-PrintLatch-clause-did g c =
-    rw (c.in-PrintLatch.is, ← c.self-in-PrintLatch.view_is) (out_alone g.S.Store.calls _ _ c.args.store.now _ (told_did g.O.Sink.calls _ _ _ _ _ _ c.print_latch.ensures c.put_told-in-PrintLatch.ensures.put))
+    rw (c.in-PrintLatch.is, ← c.self-in-PrintLatch.view_is) (out_alone g.S.Store.calls _ _ c.args.store.now _ (told_did g.O.Sink.calls _ _ _ _ _ _ c.print_latch.ensures c.print_reply-in-PrintLatch.ensures.put))
 
 pub returns-in-PrintFactor-clause-did : goal.returns-in-PrintFactor-clause-did
 returns-in-PrintFactor-clause-did g c =
-    rw (c.in-PrintFactor.is, ← c.self-in-PrintFactor.view_is) (out_alone g.S.Store.calls _ _ c.args.store.now _ (told_did g.O.Sink.calls _ _ _ _ _ _ c.print_factor.ensures c.put_told-in-PrintFactor.ensures.put))
+    rw (c.in-PrintFactor.is, ← c.self-in-PrintFactor.view_is) (out_alone g.S.Store.calls _ _ c.args.store.now _ (told_did g.O.Sink.calls _ _ _ _ _ _ c.print_factor.ensures c.print_reply-in-PrintFactor.ensures.put))
 
 pub returns-in-PrintKernel-clause-did : goal.returns-in-PrintKernel-clause-did
 returns-in-PrintKernel-clause-did g c =
-    rw (c.in-PrintKernel.is, ← c.self-in-PrintKernel.view_is) (out_alone g.S.Store.calls _ _ c.args.store.now _ (told_did g.O.Sink.calls _ _ _ _ _ _ c.print_kernel.ensures c.put_told-in-PrintKernel.ensures.put))
+    rw (c.in-PrintKernel.is, ← c.self-in-PrintKernel.view_is) (out_alone g.S.Store.calls _ _ c.args.store.now _ (told_did g.O.Sink.calls _ _ _ _ _ _ c.print_kernel.ensures c.print_reply-in-PrintKernel.ensures.put))
 
 pub returns-in-Change-clause-did : goal.returns-in-Change-clause-did
 returns-in-Change-clause-did g c =
@@ -96,7 +96,7 @@ returns-in-Bad-clause-did g c =
     (quiet_did (Plans c.args.depth c.args.self.now (command.Bad c.in-Bad.fault)) (Refuses (refusal.Script c.in-Bad.fault)) (Refused (refusal.Script c.in-Bad.fault)) refl (inl refl)))
 
 pub returns-in-Echo-clause-nests : goal.returns-in-Echo-clause-nests
-returns-in-Echo-clause-nests g c = c.put_told.ensures.nests c.args.depth
+returns-in-Echo-clause-nests g c = c.print_reply.ensures.nests c.args.depth
 
 pub returns-in-Generate-clause-nests : goal.returns-in-Generate-clause-nests
 returns-in-Generate-clause-nests g c = c.generate.ensures.nests c.args.depth
@@ -105,28 +105,28 @@ pub returns-in-StateAssign-clause-nests : goal.returns-in-StateAssign-clause-nes
 returns-in-StateAssign-clause-nests g c = c.state_assign.ensures.nests c.args.depth
 
 pub returns-in-WriteBlif-clause-nests : goal.returns-in-WriteBlif-clause-nests
-returns-in-WriteBlif-clause-nests g c = c.send_told.ensures.nests c.args.depth
+returns-in-WriteBlif-clause-nests g c = c.write_reply.ensures.nests c.args.depth
 
 pub returns-in-WriteKiss-clause-nests : goal.returns-in-WriteKiss-clause-nests
-returns-in-WriteKiss-clause-nests g c = c.send_told-in-WriteKiss.ensures.nests c.args.depth
+returns-in-WriteKiss-clause-nests g c = c.write_reply-in-WriteKiss.ensures.nests c.args.depth
 
 pub returns-in-WriteNetlist-clause-nests : goal.returns-in-WriteNetlist-clause-nests
-returns-in-WriteNetlist-clause-nests g c = c.send_told-in-WriteNetlist.ensures.nests c.args.depth
+returns-in-WriteNetlist-clause-nests g c = c.write_reply-in-WriteNetlist.ensures.nests c.args.depth
 
 pub returns-in-Map-clause-nests : goal.returns-in-Map-clause-nests
 returns-in-Map-clause-nests g c = c.map.ensures.nests c.args.depth
 
 pub returns-in-PrintStats-clause-nests : goal.returns-in-PrintStats-clause-nests
-returns-in-PrintStats-clause-nests g c = c.put_told-in-PrintStats.ensures.nests c.args.depth
+returns-in-PrintStats-clause-nests g c = c.print_reply-in-PrintStats.ensures.nests c.args.depth
 
 pub returns-in-Print-clause-nests : goal.returns-in-Print-clause-nests
-returns-in-Print-clause-nests g c = c.put_told-in-Print.ensures.nests c.args.depth
+returns-in-Print-clause-nests g c = c.print_reply-in-Print.ensures.nests c.args.depth
 
 pub returns-in-PrintLatch-clause-nests : goal.returns-in-PrintLatch-clause-nests
-returns-in-PrintLatch-clause-nests g c = c.put_told-in-PrintLatch.ensures.nests c.args.depth
+returns-in-PrintLatch-clause-nests g c = c.print_reply-in-PrintLatch.ensures.nests c.args.depth
 
 pub returns-in-PrintFactor-clause-nests : goal.returns-in-PrintFactor-clause-nests
-returns-in-PrintFactor-clause-nests g c = c.put_told-in-PrintFactor.ensures.nests c.args.depth
+returns-in-PrintFactor-clause-nests g c = c.print_reply-in-PrintFactor.ensures.nests c.args.depth
 
 pub returns-in-PrintKernel-clause-nests : goal.returns-in-PrintKernel-clause-nests
-returns-in-PrintKernel-clause-nests g c = c.put_told-in-PrintKernel.ensures.nests c.args.depth
+returns-in-PrintKernel-clause-nests g c = c.print_reply-in-PrintKernel.ensures.nests c.args.depth

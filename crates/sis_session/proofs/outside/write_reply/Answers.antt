@@ -4,7 +4,7 @@ use Rattle.sis_outside.specs.Calls.{Follows}
 use Rattle.sis_session.specs.Commands.{reply_with}
 use Rattle.sis_session.specs.Plan.{sends}
 use Rattle.sis_session.proofs.Going.{both_alone, out_alone, put_nests, save_nests, store_alone, text_put, text_saved, untold_did}
-use Rattle.sis_session.proofs.outside.send_told.Goals as goal
+use Rattle.sis_session.proofs.outside.write_reply.Goals as goal
 
 pub returns-in-Err-clause-did : goal.returns-in-Err-clause-did
 returns-in-Err-clause-did g c = λ held what told.
