@@ -35,6 +35,7 @@ mod oracle;
 mod outside;
 mod puts;
 mod reads;
+mod row_kinds;
 mod rows;
 mod texts;
 mod tiles;
@@ -60,6 +61,7 @@ impl Trial for Calls {
             "functions" => functions::answer(alloc, out, case),
             "generate" => circuits::put_generated(alloc, out, case),
             "checks" => circuits::put_checks(alloc, out, case),
+            "row_literals" | "row_product" | "row_ends" => row_kinds::answer(alloc, out, case),
             "readers" => wires::put_readers(alloc, out, case),
             "map" => netlists::put_mapped(alloc, out, case),
             "patterns" | "matches" | "forest" | "vertices" | "cover" | "totals" => {

@@ -10,7 +10,7 @@ use trial_cases::{CaseFault, number_of, put_number, put_shown};
 
 /// The literals of characters, with a stroke after them or without; a dash for any other than `0`
 /// and `1`.
-fn literals(alloc: Global, text: &str) -> Result<Vec<Option<bool>>, AllocError> {
+pub fn literals(alloc: Global, text: &str) -> Result<Vec<Option<bool>>, AllocError> {
     let mut made = Vec::new(alloc);
     for byte in text.strip_suffix('/').unwrap_or(text).bytes() {
         made.push(match byte {
@@ -22,10 +22,15 @@ fn literals(alloc: Global, text: &str) -> Result<Vec<Option<bool>>, AllocError> 
     Ok(made)
 }
 
+/// The row of a text.
+pub fn row<R: Row>(alloc: Global, text: &str) -> Result<R, AllocError> {
+    row_of(alloc, literals(alloc, text)?.as_slice())
+}
+
 /// Appends to a cover those rows of a text that are of its width.
 fn push_rows<R: Row>(alloc: Global, cover: &mut Cover<R>, text: &str) -> Result<(), AllocError> {
     for part in text.split_terminator('/') {
-        let made: R = row_of(alloc, literals(alloc, part)?.as_slice())?;
+        let made: R = row(alloc, part)?;
         if made.width() == cover.width() {
             cover.push(made)?;
         }
@@ -83,11 +88,16 @@ pub fn put_made<R: Row, E: Debug + Drop>(
     }
 }
 
+/// Appends a row on a line.
+pub fn put_row_line<R: Row>(out: &mut Vec<u8>, row: &R) -> Result<(), CaseFault> {
+    put_row(out, row)?;
+    put_text(out, b"")
+}
+
 /// Appends a row that was to be made, on a line.
 pub fn put_made_row<R: Row>(
     out: &mut Vec<u8>,
     made: Result<R, AllocError>,
 ) -> Result<(), CaseFault> {
-    put_row(out, &made?)?;
-    put_text(out, b"")
+    put_row_line(out, &made?)
 }

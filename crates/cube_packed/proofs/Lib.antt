@@ -1,0 +1,4 @@
+pub mod PlaneBits
+pub mod PlaneLoops
+pub mod PlaneLanes
+pub mod PlaneLiterals

@@ -1,0 +1,6 @@
+use Rattle.std.proofs.Common.{take}
+use Rattle.cube_packed.proofs.PlaneLanes.{folded_apart}
+use Rattle.cube_packed.proofs.words.block_is_apart.Goals as goal
+
+pub returns : goal.returns
+returns c = folded_apart 0 (take 4 c.args.words.now) (take 4 c.args.others.now)
